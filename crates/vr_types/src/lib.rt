@@ -1,0 +1,25 @@
+// The words that every layer of the record manager shares: places, bytes and names of data sets, units of
+// recovery, requests, replies and refusals, and the number that each refusal shows. It stands on std alone.
+// It promises that each value built here is the list of bytes that it was built from, that a copy equals
+// what it was copied from, and that a data set name is taken exactly where the catalog's rules allow it.
+#![tactic(auto)]
+
+pub mod fault;
+pub mod makers;
+pub mod memory;
+pub mod name;
+pub mod reply;
+pub mod request;
+pub mod unit;
+pub mod values;
+pub mod words;
+
+pub use fault::{DeviceFault, Failed};
+pub use makers::{bytes, empty_place, number_place, place};
+pub use memory::OutOfMemory;
+pub use name::{NAME_LIMIT, Name, NameFault, dataset_name};
+pub use reply::{LockName, Refusal, Reply};
+pub use request::{FileRef, Find, Request};
+pub use unit::{AreaNo, Integrity, Kind, Mode, PartNo, StageKind, Unit};
+pub use values::{Bytes, Place};
+pub use words::Words;

@@ -1,0 +1,34 @@
+ghost use Rattle.std.specs.Prelude.{◌≡◌, ℕ, List, [], IfOk};
+ghost use Rattle.std.specs.Int.{to_be_bytes, w32};
+
+use crate::memory::OutOfMemory;
+use crate::values::{Bytes, Place};
+use std::alloc::Global;
+
+/// The place of these bytes.
+pub fn place(alloc: Global, from: &[u8]) -> Result<Place, OutOfMemory>
+    ensures { IfOk result (λ place. place ≡ from.now) }
+{
+    Ok(Place::from_vec(Vec::from_slice(alloc, from)?))
+}
+
+/// A copy of these bytes.
+pub fn bytes(alloc: Global, from: &[u8]) -> Result<Bytes, OutOfMemory>
+    ensures { IfOk result (λ bytes. bytes ≡ from.now) }
+{
+    Ok(Bytes::from_vec(Vec::from_slice(alloc, from)?))
+}
+
+/// The place of a relative byte address or a slot: four bytes, high byte first.
+pub fn number_place(alloc: Global, n: u32) -> Result<Place, OutOfMemory>
+    ensures { IfOk result (λ place. place ≡ to_be_bytes w32 n) }
+{
+    place(alloc, &n.to_be_bytes())
+}
+
+/// The empty place, with room for that many bytes.
+pub fn empty_place(alloc: Global, room: u32) -> Result<Place, OutOfMemory>
+    ensures { IfOk result (λ place. place ≡ []) }
+{
+    Ok(Place::from_vec(Vec::with_capacity(alloc, room as usize)?))
+}
