@@ -1,4 +1,4 @@
-use Rattle.std.proofs.Common.{ℕ, ◌+◌, get_or, ap, sym, ◌∙◌, below_more}
+use Rattle.std.proofs.Common.{◌+◌, get_or, ap, sym, ◌∙◌, below_more}
 use Rattle.vr_types.specs.Name.{fits_column}
 use Rattle.vr_types.proofs.Names.{column_at-dot, column_at-next, right_inside}
 use Rattle.vr_types.proofs.name.first_bad_byte.Goals as goal
