@@ -1,1 +1,4 @@
 pub mod Disk
+pub mod Entry
+pub mod History
+pub mod Kept

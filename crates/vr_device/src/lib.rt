@@ -5,5 +5,6 @@
 #![tactic(auto)]
 
 mod device;
+mod history;
 
 pub use device::BlockDevice;

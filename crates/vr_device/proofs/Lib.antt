@@ -1,0 +1,4 @@
+pub mod Choices
+pub mod Events
+pub mod Keeping
+pub mod Sizes

@@ -1,0 +1,56 @@
+-- The past of a device in memory, from which the images of every moment are told.
+use Rattle.std.specs.Prelude.{◌<◌, ◌≡◌, ℕ, List, [], ◌∷◌, ◌++◌, length, take}
+use Rattle.vr_types.specs.Image.{Block, Image, IsImage}
+use Rattle.vr_device.specs.Disk.{Disk, written, tried, synced, MayHold}
+
+-- a write of a block that succeeded, one that failed, a sync that succeeded
+pub data Event : Type 0 where
+  wrote : ℕ → Block → Event
+  failed : ℕ → Block → Event
+  forced : Event
+
+-- what an event makes of a disk
+abbrev pub after : Event → Disk → Disk
+after (wrote n bytes) disk = written disk n bytes
+after (failed n bytes) disk = tried disk n bytes
+after forced disk = synced disk
+
+-- what these events make of it, the first of them first
+abbrev pub after_all : List Event → Disk → Disk
+after_all [] disk = disk
+after_all (event ∷ events) disk = after_all events (after event disk)
+
+-- a disk on which these blocks are stable, and nothing was written
+abbrev pub fresh : Image → Disk
+fresh blocks = record { seen = blocks; stable = blocks; writes = [] }
+
+-- the bytes of a block, the blocks as the device was made, and each event since
+pub record Past : Type 0 where
+  pub size : ℕ
+  pub start : Image
+  pub events : List Event
+
+-- what the device holds
+abbrev pub disk_of : Past → Disk
+disk_of past = after_all past.events (fresh past.start)
+
+-- one more event
+abbrev pub with_event : Past → Event → Past
+with_event past event = record { size = past.size; start = past.start; events = past.events ++ event ∷ [] }
+
+-- what a crash may leave once the first t events have come
+abbrev pub ImageAt : Past → ℕ → Image → Type 0
+ImageAt past t = IsImage (length past.start) (MayHold (after_all (take t past.events) (fresh past.start)))
+
+-- a write of a block that there is, by as many bytes as a block has
+abbrev pub EventFits : ℕ → ℕ → Event → Type 0
+EventFits count size (wrote n bytes) = (n < count) × (length bytes ≡ size)
+EventFits count size (failed n bytes) = (n < count) × (length bytes ≡ size)
+EventFits count size forced = Unit {0}
+
+-- the writes among these events, the oldest first
+abbrev pub writes_in : List Event → List (ℕ × Block)
+writes_in [] = []
+writes_in (wrote n bytes ∷ events) = (n, bytes) ∷ writes_in events
+writes_in (failed n bytes ∷ events) = (n, bytes) ∷ writes_in events
+writes_in (forced ∷ events) = writes_in events
