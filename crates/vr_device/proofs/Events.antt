@@ -8,31 +8,11 @@ use Rattle.vr_types.specs.Moments.{During}
 use Rattle.vr_types.proofs.Moments.{during-none, during-weaken}
 use Rattle.vr_device.specs.Disk.{Disk, MayHold, IsWhole, written, tried, synced}
 use Rattle.vr_device.specs.History.{Event, wrote, failed, forced, after, after_all, fresh, Past, disk_of, ImageAt, with_event}
-use Rattle.vr_device.proofs.Choices.{IsReadable, IsReadable-written, IsReadable-tried, IsReadable-synced, MayHold-stable, image-written, image-synced}
+use Rattle.vr_device.specs.Told.{images-now}
 
 pub after_all-append : (xs ys : List Event) (disk : Disk) → after_all (xs ++ ys) disk ≡ after_all ys (after_all xs disk)
 after_all-append [] ys disk = refl
 after_all-append (x ∷ xs) ys disk = after_all-append xs ys (after x disk)
-
-IsReadable-after : (count : ℕ) (event : Event) (disk : Disk) → IsReadable count disk → IsReadable count (after event disk)
-IsReadable-after count (wrote n bytes) disk readable = IsReadable-written count disk n bytes readable
-IsReadable-after count (failed n bytes) disk readable = IsReadable-tried count disk n bytes readable
-IsReadable-after count forced disk readable = IsReadable-synced count disk readable
-
-IsReadable-after_all : (count : ℕ) (events : List Event) (disk : Disk) → IsReadable count disk → IsReadable count (after_all events disk)
-IsReadable-after_all count [] disk readable = readable
-IsReadable-after_all count (event ∷ events) disk readable = IsReadable-after_all count events (after event disk) (IsReadable-after count event disk readable)
-
--- what the device reads is an image that it may leave
-pub readable-of : (past : Past) → IsReadable (length past.start) (disk_of past)
-readable-of past = IsReadable-after_all (length past.start) past.events (fresh past.start) (record { length_is = refl; each = λ n below. MayHold-stable (fresh past.start) n })
-
--- the present moment's images are those of what the device holds
-pub images-now : (past : Past) (image : Image) → ImageAt past (length past.events) image → IsImage (length past.start) (MayHold (disk_of past)) image
-images-now past image left = subst (λ es. IsImage (length past.start) (MayHold (after_all es (fresh past.start))) image) (take_all (length past.events) past.events (omega arith)) left
-
-now-images : (past : Past) (image : Image) → IsImage (length past.start) (MayHold (disk_of past)) image → ImageAt past (length past.events) image
-now-images past image left = subst (λ es. IsImage (length past.start) (MayHold (after_all es (fresh past.start))) image) (sym (take_all (length past.events) past.events (omega arith))) left
 
 -- a call that adds nothing to the past
 pub during-same : {D : Type 0} (past_of : D → Past) (old new : D) (P : Image → Type 0) → past_of new ≡ past_of old → ((image : Image) → IsImage (length (past_of old).start) (MayHold (disk_of (past_of old))) image → P image)

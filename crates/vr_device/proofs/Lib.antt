@@ -1,4 +1,4 @@
-pub mod Choices
+pub mod Answering
 pub mod Events
 pub mod Keeping
 pub mod Sizes

@@ -5,7 +5,7 @@ use Rattle.std.proofs.lemmas.Bool.{cases_eq}
 use Rattle.vr_types.specs.Image.{Block, Image, block_at}
 use Rattle.vr_device.specs.Disk.{Disk, MayHold, IsWhole, written, tried, synced}
 use Rattle.vr_device.specs.History.{Event, wrote, failed, forced, after, after_all, fresh, Past, disk_of, EventFits}
-use Rattle.vr_device.proofs.Choices.{MayHold-written, MayHold-synced}
+use Rattle.vr_device.specs.Choices.{MayHold-written, MayHold-synced}
 
 pub record Sized (count size : ℕ) (disk : Disk) : Type 0 where
   pub length_is : length disk.seen ≡ count

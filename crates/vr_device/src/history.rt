@@ -1,6 +1,6 @@
 // What a device in memory holds and held: the blocks as it was made, the blocks as they are read, and each write and
 // each sync since.
-ghost use Rattle.std.specs.Prelude.{◌≡◌, ◌<◌, ◌^◌, ◌++◌, [], ◌∷◌, length, OnOk, OnErr, IfOk, All, ℕ, IsOk};
+ghost use Rattle.std.specs.Prelude.{◌≡◌, ◌<◌, ◌^◌, ◌++◌, [], ◌∷◌, length, OnOk, OnErr, IfOk, All, ℕ};
 ghost use Rattle.vr_types.specs.Image.{block_at};
 ghost use Rattle.vr_device.specs.Disk.{IsWhole};
 ghost use Rattle.vr_device.specs.History.{Past, disk_of, wrote, failed, forced, with_event};

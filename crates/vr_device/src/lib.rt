@@ -4,7 +4,10 @@
 // it with no content told.
 #![tactic(auto)]
 
+mod calls;
 mod device;
 mod history;
+mod memory;
 
 pub use device::BlockDevice;
+pub use memory::MemoryDevice;

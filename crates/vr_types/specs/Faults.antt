@@ -4,9 +4,13 @@ use Rattle.std.specs.Prelude.{◌≡◌, ◌≤◌, ℕ, ◌+◌, ◌-◌, ◌^�
 use Rattle.vr_types.specs.declared.fault.DeviceFault.{DeviceFault}
 use Rattle.vr_types.specs.declared.fault.DeviceFault.TheVariants.{Read, Write}
 
--- the count rose, unless it stands at its type's end
+-- one more, up to the end of the type
+abbrev pub raised : ℕ → ℕ
+raised count = min (count + 1) (2 ^ 64 - 1)
+
+-- the count rose, unless it stood at its type's end
 abbrev pub Rises : ℕ → ℕ → Type 0
-Rises before now = min (before + 1) (2 ^ 64 - 1) ≤ now
+Rises before now = raised before ≤ now
 
 -- an error is a fault that was counted, and an answer without one counts nothing
 abbrev pub CountsFault : {T E : Type 0} → ℕ → ℕ → Result T E → Type 0
