@@ -1,4 +1,5 @@
 pub mod Answering
+pub mod Choosing
 pub mod Events
 pub mod Keeping
 pub mod Sizes

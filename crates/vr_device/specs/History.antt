@@ -1,5 +1,5 @@
 -- The past of a device in memory, from which the images of every moment are told.
-use Rattle.std.specs.Prelude.{◌<◌, ◌≡◌, ℕ, List, [], ◌∷◌, ◌++◌, length, take}
+use Rattle.std.specs.Prelude.{◌<◌, ◌≡◌, ℕ, List, [], ◌∷◌, ◌++◌, ◌==◌, length, take, Option, Some, None, if◌then◌else◌}
 use Rattle.vr_types.specs.Image.{Block, Image, IsImage}
 use Rattle.vr_device.specs.Disk.{Disk, written, tried, synced, MayHold}
 
@@ -54,3 +54,19 @@ writes_in [] = []
 writes_in (wrote n bytes ∷ events) = (n, bytes) ∷ writes_in events
 writes_in (failed n bytes ∷ events) = (n, bytes) ∷ writes_in events
 writes_in (forced ∷ events) = writes_in events
+
+-- a write of a block below this count
+abbrev pub IsWithin : ℕ → Event → Type 0
+IsWithin count (wrote n bytes) = n < count
+IsWithin count (failed n bytes) = n < count
+IsWithin count forced = Unit {0}
+
+-- what an event wrote to block n, if it is a write of it
+abbrev pub content_of : Event → ℕ → Option Block
+content_of (wrote m bytes) n = if m == n then Some bytes else None
+content_of (failed m bytes) n = if m == n then Some bytes else None
+content_of forced n = None
+
+-- a device with these blocks on which nothing was written
+abbrev pub unwritten : ℕ → Image → Past
+unwritten size blocks = record { size = size; start = blocks; events = [] }

@@ -5,6 +5,7 @@
 #![tactic(auto)]
 
 mod calls;
+mod choice;
 mod device;
 mod history;
 mod memory;
