@@ -1,8 +1,10 @@
 -- One step of the loops over a device's past.
-use Rattle.std.proofs.Common.{◌≡◌, ◌<◌, ◌≤◌, ℕ, zero, suc, ◌+◌, List, [], ◌∷◌, ◌++◌, length, get_or, take, map, set, Vec, refl, sym, ap, subst, ◌∙◌, arith, rules, take-suc, add-one}
+use Rattle.std.proofs.Common.{◌≡◌, ◌⊎◌, ⊎_elim, ◌<◌, ◌≤◌, ◌-◌, ℕ, true, false, true≢false, Option, Some, None, Bor, is_none, is_some, option_copied, slice_get, drop, take_all, length-drop, zero, suc, ◌+◌, List, [], ◌∷◌, ◌++◌, length, get_or, take, map, set, Vec, refl, sym, ap, subst, ◌∙◌, arith, rules, take-suc, add-one}
 use Rattle.std.specs.List.{AllByRecursion}
 use Rattle.std.specs.declared.alloc.Global.{Global}
-use Rattle.std.proofs.lemmas.List.{map-append, take-map, map-set, take_more}
+use Rattle.std.proofs.lemmas.Option.{slice_get_cases}
+use Rattle.vr_types.specs.Image.{Block, Image, block_at}
+use Rattle.std.proofs.lemmas.List.{drop-map, map-append, take-map, map-set, take_more}
 use Rattle.vr_device.specs.Disk.{Disk}
 use Rattle.vr_device.specs.History.{Event, wrote, failed, forced, after, after_all, fresh, EventFits, IsWithin}
 use Rattle.vr_device.specs.Entry.{blocks_of, event_of, events_of}
@@ -53,3 +55,21 @@ pub seen-other : (entry : Entry) (disk : Disk) → ((n : ℕ) (bytes : Vec ℕ G
 seen-other (Wrote n bytes) disk not = absurd (not n bytes refl)
 seen-other (Failed n bytes) disk not = refl
 seen-other Forced disk not = refl
+
+-- what a history keeps, as the contents that a choice names
+pub since-is : (entries : List Entry) (k : ℕ) → events_of (take (length entries - k) (drop k entries)) ≡ drop k (events_of entries)
+since-is entries k = ap events_of (take_all (length entries - k) (drop k entries) (omega (arith, length-drop k entries))) ∙ sym (drop-map event_of k entries)
+
+pub named : (r : Option (Bor (List ℕ))) (xs : List Block) (k : ℕ) → option_copied r ≡ slice_get xs k → is_none r ≡ false → k < length xs
+named None xs k is some = absurd (true≢false some)
+named (Some b) xs k is some = ⊎_elim (λ found. found.1) (λ past. absurd (some_none (is ∙ past.1))) (slice_get_cases xs k).1
+  where
+    some_none : Some b.now ≡ None → ⊥
+    some_none e = true≢false (ap is_some e)
+
+pub unnamed : (r : Option (Bor (List ℕ))) (xs : List Block) (k : ℕ) → option_copied r ≡ slice_get xs k → is_none r ≡ true → length xs ≤ k
+unnamed (Some b) xs k is none = absurd (true≢false (sym none))
+unnamed None xs k is none = ⊎_elim (λ found. absurd (none_some found.0 (is ∙ found.2))) (λ past. past.0) (slice_get_cases xs k).1
+  where
+    none_some : (x : Block) → None ≡ Some x → ⊥
+    none_some x e = true≢false (sym (ap is_some e))

@@ -2,4 +2,5 @@ pub mod Answering
 pub mod Choosing
 pub mod Events
 pub mod Keeping
+pub mod Named
 pub mod Sizes

@@ -1,7 +1,7 @@
 -- The past of a device in memory, from which the images of every moment are told.
-use Rattle.std.specs.Prelude.{◌<◌, ◌≡◌, ℕ, List, [], ◌∷◌, ◌++◌, ◌==◌, length, take, Option, Some, None, if◌then◌else◌}
-use Rattle.vr_types.specs.Image.{Block, Image, IsImage}
-use Rattle.vr_device.specs.Disk.{Disk, written, tried, synced, MayHold}
+use Rattle.std.specs.Prelude.{◌<◌, ◌≡◌, ℕ, List, [], ◌∷◌, ◌++◌, ◌==◌, length, take, slice_get, slice_index, Option, Some, None, if◌then◌else◌}
+use Rattle.vr_types.specs.Image.{Block, Image, IsImage, block_at}
+use Rattle.vr_device.specs.Disk.{Disk, written, tried, synced, MayHold, contents_of}
 
 -- a write of a block that succeeded, one that failed, a sync that succeeded
 pub data Event : Type 0 where
@@ -70,3 +70,12 @@ content_of forced n = None
 -- a device with these blocks on which nothing was written
 abbrev pub unwritten : ℕ → Image → Past
 unwritten size blocks = record { size = size; start = blocks; events = [] }
+
+-- what a block may hold that held its content of `stable` before these events
+abbrev pub contents_from : Image → List Event → ℕ → List Block
+contents_from stable since n = block_at stable n ∷ contents_of (writes_in since) n
+
+-- blocks that hold, each, the content that the choice names
+pub record ArePicked (stable : Image) (since : List Event) (choice : List ℕ) (blocks : Image) : Type 0 where
+  pub length_is : length blocks ≡ length stable
+  pub each : (n : ℕ) → n < length stable → slice_get (contents_from stable since n) (slice_index choice n) ≡ Some (block_at blocks n)

@@ -1,8 +1,8 @@
 // The contents that a crash may leave in a block, found in a device's past.
-ghost use Rattle.std.specs.Prelude.{◌≡◌, ◌<◌, ◌∷◌, [], length, map, replicate, slice_get, option_copied, IfOk, OnOk};
+ghost use Rattle.std.specs.Prelude.{◌≡◌, ◌<◌, ◌^◌, ◌↔◌, IsTrue, ◌∷◌, ℕ, [], length, replicate, slice_index, slice_get, option_copied, IfOk, OnOk};
 ghost use Rattle.std.specs.List.{AllByRecursion};
 ghost use Rattle.vr_device.specs.Disk.{contents_of};
-ghost use Rattle.vr_device.specs.History.{after_all, fresh, writes_in, content_of, IsWithin};
+ghost use Rattle.vr_device.specs.History.{after_all, fresh, writes_in, content_of, contents_from, ArePicked, IsWithin};
 ghost use Rattle.vr_device.specs.Entry.{blocks_of, event_of, events_of};
 
 use crate::history::Entry;
@@ -48,6 +48,16 @@ pub(crate) fn content_at<'a>(stable: &'a [u8], since: &'a [Entry], n: u32, choic
     }
 }
 
+/// Whether the choice names a content of the block: it has a number for it, and so many contents were written.
+pub(crate) fn is_named(since: &[Entry], n: u32, choice: &[u32]) -> bool
+    ensures { IsTrue result ↔ ((n < length choice.now) × (slice_index choice.now n < length (contents_from [] (events_of since.now) n))) }
+{
+    match choice.get(n as usize) {
+        Some(number) => content_at(&[], since, n, *number).is_some(),
+        None => false,
+    }
+}
+
 /// Blocks of zeros.
 pub(crate) fn zero_blocks(alloc: Global, count: u32, size: u32) -> Result<Vec<Vec<u8>>, AllocError>
     ensures { IfOk result (λ blocks. blocks_of blocks.items ≡ replicate count (replicate size 0)) }
@@ -81,4 +91,19 @@ pub(crate) fn replay(alloc: Global, blocks: &mut [Vec<u8>], entries: &[Entry]) -
         }
     }
     Ok(())
+}
+
+/// The contents that a choice names, one for each of these blocks.
+pub(crate) fn pick(alloc: Global, stable: &[Vec<u8>], since: &[Entry], choice: &[u32]) -> Result<Vec<Vec<u8>>, AllocError>
+    requires count { length choice.now ≡ length stable.now }
+    requires count_fits { length stable.now < 2 ^ 32 }
+    requires fits { (n : ℕ) → n < length stable.now → slice_index choice.now n < length (contents_from (blocks_of stable.now) (events_of since.now) n) }
+    ensures { IfOk result (λ blocks. ArePicked (blocks_of stable.now) (events_of since.now) choice.now (blocks_of blocks.items)) }
+{
+    let mut blocks = Vec::new(alloc);
+    for n in 0..stable.len() {
+        let content = content_at(&stable[n], since, n as u32, choice[n]).unwrap();
+        blocks.push(content.to_vec(alloc)?)?;
+    }
+    Ok(blocks)
 }
