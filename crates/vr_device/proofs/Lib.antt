@@ -1,6 +1,7 @@
 pub mod Answering
 pub mod Choosing
 pub mod Events
+pub mod Images
 pub mod Keeping
 pub mod Named
 pub mod Sizes

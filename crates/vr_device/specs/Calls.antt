@@ -1,5 +1,5 @@
 -- Which calls of a device in memory fail, and what it counts.
-use Rattle.std.specs.Prelude.{◌⊎◌, ℕ, ◌≤◌, List, Option, Some, min, unwrap_or, Contains, IsSomeAnd}
+use Rattle.std.specs.Prelude.{◌⊎◌, ℕ, ◌≤◌, List, Option, Some, None, min, unwrap_or, Contains, IsSomeAnd}
 use Rattle.vr_types.specs.Faults.{raised}
 
 -- the reads, writes and syncs made so far; the numbers of the calls that fail, from 0, and the number from which on
@@ -11,6 +11,10 @@ pub record Calls : Type 0 where
   pub refused : ℕ
   pub read_faults : ℕ
   pub write_faults : ℕ
+
+-- no call was made, and those of these numbers fail
+abbrev pub uncalled : List ℕ → Calls
+uncalled fails = record { made = 0; fails = fails; stop = None; refused = 0; read_faults = 0; write_faults = 0 }
 
 -- the next call fails
 abbrev pub IsToFail : Calls → Type 0

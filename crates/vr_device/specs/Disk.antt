@@ -58,3 +58,7 @@ pub record IsMisfit (count : ℕ) (disk : Disk) (choice : List ℕ) (n : ℕ) : 
 pub record IsChosen (count : ℕ) (disk : Disk) (choice : List ℕ) (image : Image) : Type 0 where
   pub length_is : length image ≡ count
   pub each : (n : ℕ) → n < count → slice_get (choices_of disk n) (slice_index choice n) ≡ Some (block_at image n)
+
+-- some choice gives this image
+abbrev pub IsSomeChoice : ℕ → Disk → Image → Type 0
+IsSomeChoice count disk image = (choice : List ℕ) × IsFit count disk choice × IsChosen count disk choice image

@@ -1,6 +1,6 @@
 // Which calls of a device in memory fail, and what it counts.
 ghost use Rattle.std.specs.Prelude.{◌≡◌, ◌↔◌, IsTrue};
-ghost use Rattle.vr_device.specs.Calls.{IsToFail, counted, read_failed, write_failed, write_refused, stopped};
+ghost use Rattle.vr_device.specs.Calls.{IsToFail, uncalled, counted, read_failed, write_failed, write_refused, stopped};
 
 use std::marker::Model;
 
@@ -27,7 +27,7 @@ impl Model for Script {
 impl Script {
     /// A script in which the calls of these numbers fail, and no call was made.
     pub(crate) fn new(failing: Vec<u64>) -> Self
-        ensures { result ≡ record { made = 0; fails = failing.items; stop = None; refused = 0; read_faults = 0; write_faults = 0 } }
+        ensures { result ≡ uncalled failing.items }
     {
         Script {
             calls: 0,

@@ -74,6 +74,7 @@ impl History {
     pub(crate) fn size(&self) -> u32
         ensures size { result ≡ self.now.size }
         ensures whole { IsWhole (length self.now.start) self.now.size (disk_of self.now) }
+        ensures count { length self.now.start < 2 ^ 32 }
     {
         self.size
     }
@@ -153,7 +154,6 @@ impl History {
     fn stable_blocks(&self, alloc: Global) -> Result<Vec<Vec<u8>>, OutOfMemory>
         ensures stable { IfOk result (λ blocks. blocks_of blocks.items ≡ (disk_of self.now).stable) }
         ensures count { IfOk result (λ blocks. length blocks.items ≡ length self.now.start) }
-        ensures count_fits { length self.now.start < 2 ^ 32 }
     {
         let mut stable = copy_of_blocks(alloc, &self.start)?;
         replay(alloc, &mut stable, &self.entries[..self.stable_at])?;

@@ -11,4 +11,4 @@ mod history;
 mod memory;
 
 pub use device::BlockDevice;
-pub use memory::MemoryDevice;
+pub use memory::{ImageNo, MemoryDevice, memory_device};

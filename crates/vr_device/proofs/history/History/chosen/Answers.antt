@@ -1,6 +1,7 @@
 use Rattle.std.proofs.Common.{◌≡◌, ◌<◌, ℕ, length, ap, sym, ◌∙◌, arith}
 use Rattle.std.proofs.lemmas.List.{length-map}
 use Rattle.vr_device.specs.Entry.{blocks_of}
+use Rattle.vr_device.specs.History.{Past}
 use Rattle.vr_device.proofs.Named.{choices-long, picked-chosen}
 use Rattle.vr_device.proofs.history.History.chosen.Goals as goal
 
@@ -8,7 +9,7 @@ pub pick-requires-clause-count : goal.pick-requires-clause-count
 pick-requires-clause-count c = c.requires.length_is ∙ sym c.in_ok-stable.ensures.count ∙ ap length (sym c.deref.ensures.value)
 
 pub pick-requires-clause-count_fits : goal.pick-requires-clause-count_fits
-pick-requires-clause-count_fits c = omega (arith, ap length c.deref.ensures.value, c.in_ok-stable.ensures.count, c.in_ok-stable.ensures.count_fits)
+pick-requires-clause-count_fits c = omega (arith, ap length c.deref.ensures.value, c.in_ok-stable.ensures.count, c.self.invariant.count, length-map c.self.inside.start.items (λ b. b.items), ap (λ (p : Past). length p.start) c.self.view_is)
 
 pub pick-requires-clause-fits : goal.pick-requires-clause-fits
 pick-requires-clause-fits c n below =

@@ -24,6 +24,3 @@ returns-clause-count c =
     ap length (take_at c.replay.new.blocks (drop (length c.replay.new.blocks) c.in_ok-stable.stable.items) c.in_ok-stable.stable.len whole)
     ∙ same ∙ same-count c.in_ok-stable.stable.items c.self.inside.start.items (c.in_ok-stable.ensures ∙ ap blocks_of c.deref.ensures.value)
     ∙ sym (length-map c.self.inside.start.items (λ b. b.items)) ∙ ap (λ (p : Past). length p.start) c.self.view_is
-
-pub returns-clause-count_fits : goal.returns-clause-count_fits
-returns-clause-count_fits c = omega (arith, c.self.invariant.count, length-map c.self.inside.start.items (λ b. b.items), ap (λ (p : Past). length p.start) c.self.view_is)
