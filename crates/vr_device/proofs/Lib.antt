@@ -5,3 +5,4 @@ pub mod Images
 pub mod Keeping
 pub mod Named
 pub mod Sizes
+pub mod WriteThrough

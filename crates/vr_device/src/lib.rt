@@ -4,11 +4,15 @@
 // it with no content told.
 #![tactic(auto)]
 
+mod buffered;
 mod calls;
 mod choice;
 mod device;
 mod history;
 mod memory;
+mod through;
 
+pub use buffered::direct;
 pub use device::BlockDevice;
 pub use memory::{ImageNo, MemoryDevice, memory_device};
+pub use through::Direct;

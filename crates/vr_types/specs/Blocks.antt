@@ -7,8 +7,8 @@ use Rattle.vr_types.specs.Image.{Block, Image, IsImage, MayAlso, block_at}
 use Rattle.vr_types.specs.Moments.{During}
 
 -- each content that may be left now might have been left before
-abbrev pub AddsNone : (ℕ → Block → Type 0) → (ℕ → Block → Type 0) → Type 0
-AddsNone before now = (n : ℕ) (block : Block) → now n block → before n block
+abbrev pub AddsNone : ℕ → (ℕ → Block → Type 0) → (ℕ → Block → Type 0) → Type 0
+AddsNone count before now = (n : ℕ) (block : Block) → n < count → now n block → before n block
 
 -- a crash leaves the current content of each listed block, and no other
 abbrev pub Forced : List ℕ → Image → (ℕ → Block → Type 0) → Type 0
@@ -20,7 +20,7 @@ module _ {B : Type 0} (tells : Bool) (count size : B → ℕ) (cur : B → Image
     pub count_same : count new ≡ count old
     pub size_same : size new ≡ size old
     pub content : IsTrue tells → cur new ≡ cur old
-    pub adds_none : IsTrue tells → AddsNone (may old) (may new)
+    pub adds_none : IsTrue tells → AddsNone (count old) (may old) (may new)
     pub moments : IsTrue tells → During moment images old new (IsImage (count old) (may old))
 
   -- A call that puts these bytes into block n made `new` of `old`, whether it failed or not.
@@ -28,5 +28,5 @@ module _ {B : Type 0} (tells : Bool) (count size : B → ℕ) (cur : B → Image
     pub count_same : count new ≡ count old
     pub size_same : size new ≡ size old
     pub content : IsTrue tells → (cur new ≡ cur old) ⊎ (cur new ≡ slice_set (cur old) n bytes)
-    pub adds : IsTrue tells → AddsNone (MayAlso (may old) n bytes) (may new)
+    pub adds : IsTrue tells → AddsNone (count old) (MayAlso (may old) n bytes) (may new)
     pub moments : IsTrue tells → During moment images old new (IsImage (count old) (MayAlso (may old) n bytes))

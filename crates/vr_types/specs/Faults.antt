@@ -1,14 +1,14 @@
 -- When a device's answer may be a fault. A fault count is a number of 64 bits: it rises at each fault, and stands
 -- still at its type's end.
-use Rattle.std.specs.Prelude.{◌≡◌, ◌≤◌, ℕ, ◌+◌, ◌-◌, ◌^◌, ◌<◌, min, Result, OnOk, OnErr, IsErrOf}
+use Rattle.std.specs.Prelude.{◌≡◌, ◌≤◌, ℕ, ◌+◌, ◌-◌, ◌^◌, min, max, Result, OnOk, OnErr, IsErrOf}
 use Rattle.vr_types.specs.declared.fault.DeviceFault.{DeviceFault}
 use Rattle.vr_types.specs.declared.fault.DeviceFault.TheVariants.{Read, Write}
 
 -- one more, up to the end of the type
 abbrev pub raised : ℕ → ℕ
-raised count = min (count + 1) (2 ^ 64 - 1)
+raised count = max count (min (count + 1) (2 ^ 64 - 1))
 
--- the count rose, unless it stood at its type's end
+-- the count didn't fall, and rose unless it stood at its type's end
 abbrev pub Rises : ℕ → ℕ → Type 0
 Rises before now = raised before ≤ now
 
