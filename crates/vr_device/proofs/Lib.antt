@@ -3,6 +3,7 @@ pub mod Choosing
 pub mod Events
 pub mod Images
 pub mod Keeping
-pub mod Named
+pub mod Naming
+pub mod Selecting
 pub mod Sizes
 pub mod WriteThrough

@@ -5,4 +5,5 @@ pub mod Entry
 pub mod History
 pub mod Kept
 pub mod Memory
+pub mod Named
 pub mod Told

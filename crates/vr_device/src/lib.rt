@@ -10,9 +10,11 @@ mod choice;
 mod device;
 mod history;
 mod memory;
+mod named;
 mod through;
 
 pub use buffered::direct;
 pub use device::BlockDevice;
 pub use memory::{ImageNo, MemoryDevice, memory_device};
+pub use named::write_named;
 pub use through::Direct;

@@ -2,7 +2,7 @@ use Rattle.std.proofs.Common.{◌≡◌, ◌<◌, ℕ, length, ap, sym, ◌∙�
 use Rattle.std.proofs.lemmas.List.{length-map}
 use Rattle.vr_device.specs.Entry.{blocks_of}
 use Rattle.vr_device.specs.History.{Past}
-use Rattle.vr_device.proofs.Named.{choices-long, picked-chosen}
+use Rattle.vr_device.proofs.Selecting.{choices-long, picked-chosen}
 use Rattle.vr_device.proofs.history.History.chosen.Goals as goal
 
 pub pick-requires-clause-count : goal.pick-requires-clause-count

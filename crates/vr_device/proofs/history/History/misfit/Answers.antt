@@ -3,7 +3,7 @@ use Rattle.std.proofs.lemmas.Bool.{cases_lt}
 use Rattle.vr_device.specs.Disk.{choices_of, IsFit, IsMisfit}
 use Rattle.vr_device.specs.History.{Past, disk_of}
 use Rattle.std.proofs.lemmas.List.{length-map}
-use Rattle.vr_device.proofs.Named.{choices-long, each-next}
+use Rattle.vr_device.proofs.Selecting.{choices-long, each-next}
 use Rattle.vr_device.proofs.history.History.misfit.Goals as goal
 
 irrefl : (n : ℕ) → n < n → ⊥

@@ -2,7 +2,7 @@ use Rattle.std.proofs.Common.{◌≡◌, length, drop, ap, sym, ◌∙◌, arith
 use Rattle.std.proofs.lemmas.List.{length-map}
 use Rattle.vr_device.specs.Entry.{blocks_of}
 use Rattle.vr_device.specs.History.{Past}
-use Rattle.vr_device.proofs.Named.{stable-within, stable-is, same-count}
+use Rattle.vr_device.proofs.Selecting.{stable-within, stable-is, same-count}
 use Rattle.vr_device.proofs.history.History.stable_blocks.Goals as goal
 
 pub replay-requires : goal.replay-requires
