@@ -7,3 +7,4 @@ pub mod Kept
 pub mod Memory
 pub mod Named
 pub mod Told
+pub mod Untold

@@ -8,6 +8,7 @@ mod buffered;
 mod calls;
 mod choice;
 mod device;
+mod file;
 mod history;
 mod memory;
 mod named;
@@ -15,6 +16,7 @@ mod through;
 
 pub use buffered::direct;
 pub use device::BlockDevice;
+pub use file::FileDevice;
 pub use memory::{ImageNo, MemoryDevice, memory_device};
 pub use named::write_named;
 pub use through::Direct;
