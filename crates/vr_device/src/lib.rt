@@ -20,3 +20,6 @@ pub use file::FileDevice;
 pub use memory::{ImageNo, MemoryDevice, memory_device};
 pub use named::write_named;
 pub use through::Direct;
+
+#[cfg(test)]
+mod tests;
