@@ -11,10 +11,10 @@ use Rattle.vr_types.proofs.Moments.{during-weaken}
 use Rattle.vr_device.specs.Disk.{Disk, MayHold, MayHaveWritten, written, tried, synced}
 use Rattle.vr_device.specs.Choices.{MayHold-written, MayHold-synced}
 
-module _ {D : Type 0} (tells : Bool) (count width : D → ℕ) (disk : D → Disk) (moment : D → ℕ) (images : D → ℕ → Image → Type 0) (old new : D) (counts : count new ≡ count old) (widths : width new ≡ width old) where
+module _ {D : Type 0} (tells : Bool) (count size : D → ℕ) (disk : D → Disk) (moment : D → ℕ) (images : D → ℕ → Image → Type 0) (old new : D) (counts : count new ≡ count old) (widths : size new ≡ size old) where
   -- a read or a sync
   pub keeps : (IsTrue tells → IsImage (count old) (MayHold (disk old)) (disk old).seen) → (IsTrue tells → (disk new ≡ disk old) ⊎ (disk new ≡ synced (disk old))) → (IsTrue tells → During moment images old new (IsImage (count old) (MayHold (disk old))))
-      → Keeps tells count width (λ d. (disk d).seen) (λ d. MayHold (disk d)) moment images old new
+      → Keeps tells count size (λ d. (disk d).seen) (λ d. MayHold (disk d)) moment images old new
   keeps readable left during = record {
     count_same = counts;
     size_same = widths;
@@ -28,7 +28,7 @@ module _ {D : Type 0} (tells : Bool) (count width : D → ℕ) (disk : D → Dis
 
   -- a write
   pub puts : (n : ℕ) (bytes : Block) → (IsTrue tells → MayHaveWritten (disk old) n bytes (disk new)) → (IsTrue tells → During moment images old new (IsImage (count old) (MayHold (written (disk old) n bytes))))
-      → Puts tells count width (λ d. (disk d).seen) (λ d. MayHold (disk d)) moment images n bytes old new
+      → Puts tells count size (λ d. (disk d).seen) (λ d. MayHold (disk d)) moment images n bytes old new
   puts n bytes left during = record {
     count_same = counts;
     size_same = widths;

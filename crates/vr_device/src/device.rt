@@ -18,7 +18,7 @@ pub trait BlockDevice: Drop {
     ghost count: { Self → ℕ };
 
     /// The bytes of a block, which no call changes.
-    ghost width: { Self → ℕ };
+    ghost size: { Self → ℕ };
 
     /// The blocks as read, the blocks stable, and the writes since the last sync that succeeded.
     ghost disk: { Self → Disk };
@@ -41,15 +41,15 @@ pub trait BlockDevice: Drop {
 
     /// The bytes of a block.
     fn size(&self) -> u32
-        ensures size { result ≡ width self.now }
-        ensures whole { IsTrue tells → IsWhole (count self.now) (width self.now) (disk self.now) };
+        ensures size { result ≡ size self.now }
+        ensures whole { IsTrue tells → IsWhole (count self.now) (size self.now) (disk self.now) };
 
     /// Reads block `n`. After `Failed` the device is as it was, and `into` holds any bytes.
     fn read(&mut self, n: u32, into: &mut [u8]) -> Result<(), Failed>
         requires block { n < count self.old }
-        requires whole { length into.old ≡ width self.old }
+        requires whole { length into.old ≡ size self.old }
         ensures count { count self.new ≡ count self.old }
-        ensures width { width self.new ≡ width self.old }
+        ensures size { size self.new ≡ size self.old }
         ensures bytes { IsTrue tells → OnOk result (into.new ≡ block_at (disk self.old).seen n) }
         ensures disk { IsTrue tells → disk self.new ≡ disk self.old }
         ensures moments { IsTrue tells → During moment images self.old self.new (IsImage (count self.old) (MayHold (disk self.old))) }
@@ -59,9 +59,9 @@ pub trait BlockDevice: Drop {
     /// Writes block `n`. After `Failed` the write may have happened.
     fn write(&mut self, n: u32, from: &[u8]) -> Result<(), Failed>
         requires block { n < count self.old }
-        requires whole { length from.now ≡ width self.old }
+        requires whole { length from.now ≡ size self.old }
         ensures count { count self.new ≡ count self.old }
-        ensures width { width self.new ≡ width self.old }
+        ensures size { size self.new ≡ size self.old }
         ensures written { IsTrue tells → OnOk result (disk self.new ≡ written (disk self.old) n from.now) }
         ensures failed { IsTrue tells → OnErr result (MayHaveWritten (disk self.old) n from.now (disk self.new)) }
         ensures moments { IsTrue tells → During moment images self.old self.new (IsImage (count self.old) (MayHold (written (disk self.old) n from.now))) }
@@ -71,7 +71,7 @@ pub trait BlockDevice: Drop {
     /// Makes what was written stable. After `Failed` the writes are as they were.
     fn sync(&mut self) -> Result<(), Failed>
         ensures count { count self.new ≡ count self.old }
-        ensures width { width self.new ≡ width self.old }
+        ensures size { size self.new ≡ size self.old }
         ensures synced { IsTrue tells → OnOk result (disk self.new ≡ synced (disk self.old)) }
         ensures failed { IsTrue tells → OnErr result (disk self.new ≡ disk self.old) }
         ensures moments { IsTrue tells → During moment images self.old self.new (IsImage (count self.old) (MayHold (disk self.old))) }

@@ -22,7 +22,7 @@ impl FileDevice {
     /// Makes the file new, of so many zero blocks. What stood there is gone.
     pub fn create<R: Files<File = File>>(rt: &R, path: &str, size: u32, blocks: u32) -> FileDevice
         ensures count { ⟦<FileDevice as BlockDevice>⟧.count result ≡ blocks }
-        ensures width { ⟦<FileDevice as BlockDevice>⟧.width result ≡ size }
+        ensures size { ⟦<FileDevice as BlockDevice>⟧.size result ≡ size }
     {
         let mut how = OpenOptions::new();
         how.read(true).write(true).create(true).truncate(true);
@@ -34,7 +34,7 @@ impl FileDevice {
     /// Opens the file of so many blocks, which stays as it is.
     pub fn open<R: Files<File = File>>(rt: &R, path: &str, size: u32, blocks: u32) -> FileDevice
         ensures count { ⟦<FileDevice as BlockDevice>⟧.count result ≡ blocks }
-        ensures width { ⟦<FileDevice as BlockDevice>⟧.width result ≡ size }
+        ensures size { ⟦<FileDevice as BlockDevice>⟧.size result ≡ size }
     {
         let mut how = OpenOptions::new();
         how.read(true).write(true);
@@ -45,7 +45,7 @@ impl FileDevice {
 
     fn over(file: Option<File>, size: u32, blocks: u32) -> FileDevice
         ensures count { result.blocks ≡ blocks }
-        ensures width { result.size ≡ size }
+        ensures size { result.size ≡ size }
     {
         FileDevice {
             file,
@@ -75,7 +75,7 @@ impl BlockDevice for FileDevice {
 
     ghost count = { λ d. d.blocks };
 
-    ghost width = { λ d. d.size };
+    ghost size = { λ d. d.size };
 
     ghost disk = { λ _. no_disk };
 

@@ -50,7 +50,7 @@ impl BlockDevice for MemoryDevice {
 
     ghost count = { λ d. length (past_in d).start };
 
-    ghost width = { λ d. (past_in d).size };
+    ghost size = { λ d. (past_in d).size };
 
     ghost disk = { λ d. disk_of (past_in d) };
 

@@ -19,9 +19,9 @@ fn write_both<D: BlockDevice>(
     right: &[u8],
 ) -> Result<(), Failed>
     requires blocks { (first < D.count device.old) × (second < D.count device.old) }
-    requires whole { (length left.now ≡ D.width device.old) × (length right.now ≡ D.width device.old) }
+    requires whole { (length left.now ≡ D.size device.old) × (length right.now ≡ D.size device.old) }
     ensures count { D.count device.new ≡ D.count device.old }
-    ensures width { D.width device.new ≡ D.width device.old }
+    ensures size { D.size device.new ≡ D.size device.old }
     ensures moments { IsTrue D.tells → During D.moment D.images device.old device.new (KeepsOthers (D.count device.old) (D.disk device.old) first second) }
     ensures ok { IsTrue D.tells → OnOk result (D.disk device.new ≡ synced (written (written (D.disk device.old) first left.now) second right.now)) }
     ensures fault { CountsFault (D.write_faults device.old) (D.write_faults device.new) result }
@@ -34,9 +34,9 @@ fn write_both<D: BlockDevice>(
 // Writes a block, and makes it stable.
 fn write_one<D: BlockDevice>(device: &mut D, n: u32, bytes: &[u8]) -> Result<(), Failed>
     requires block { n < D.count device.old }
-    requires whole { length bytes.now ≡ D.width device.old }
+    requires whole { length bytes.now ≡ D.size device.old }
     ensures count { D.count device.new ≡ D.count device.old }
-    ensures width { D.width device.new ≡ D.width device.old }
+    ensures size { D.size device.new ≡ D.size device.old }
     ensures moments { IsTrue D.tells → During D.moment D.images device.old device.new (IsImage (D.count device.old) (MayHold (written (D.disk device.old) n bytes.now))) }
     ensures ok { IsTrue D.tells → OnOk result (D.disk device.new ≡ synced (written (D.disk device.old) n bytes.now)) }
     ensures fault { CountsFault (D.write_faults device.old) (D.write_faults device.new) result }
@@ -59,10 +59,10 @@ pub fn write_named<D: BlockDevice>(
 ) -> Result<(), Failed>
     requires blocks { (first < D.count device.old) × (second < D.count device.old) × (third < D.count device.old) }
     requires distinct { (first ≢ second) × (third ≢ first) × (third ≢ second) }
-    requires whole { (length left.now ≡ D.width device.old) × (length right.now ≡ D.width device.old) × (length name.now ≡ D.width device.old) }
+    requires whole { (length left.now ≡ D.size device.old) × (length right.now ≡ D.size device.old) × (length name.now ≡ D.size device.old) }
     requires unnamed { IsTrue D.tells → (block : Block) → MayHold (D.disk device.old) third block → block ≢ name.now }
     ensures count { D.count device.new ≡ D.count device.old }
-    ensures width { D.width device.new ≡ D.width device.old }
+    ensures size { D.size device.new ≡ D.size device.old }
     ensures any_moment { IsTrue D.tells → During D.moment D.images device.old device.new (NamesWritten first left.now second right.now third name.now) }
     ensures ok { IsTrue D.tells → OnOk result ((image : Image) → D.images device.new (D.moment device.new) image → HasBoth first left.now second right.now image × (block_at image third ≡ name.now)) }
     ensures fault { CountsFault (D.write_faults device.old) (D.write_faults device.new) result }

@@ -21,7 +21,7 @@ impl<D: BlockDevice> Model for Direct<D> {
 
     ghost view = { λ d. d.device };
 
-    ghost invariant = { λ d. length d.block.items ≡ D.width d.device };
+    ghost invariant = { λ d. length d.block.items ≡ D.size d.device };
 }
 
 impl<D: BlockDevice> Direct<D> {
@@ -51,7 +51,7 @@ impl<D: BlockDevice> Blocks for Direct<D> {
 
     ghost count = { λ d. D.count d };
 
-    ghost size = { λ d. D.width d };
+    ghost size = { λ d. D.size d };
 
     ghost cur = { λ d. (D.disk d).seen };
 

@@ -23,7 +23,7 @@ read-tells x c =
     let new = c.new.self.now in
     record {
       count = ap (λ (p : Past). length p.start) c.ensures.past;
-      width = ap (λ (p : Past). p.size) c.ensures.past;
+      size = ap (λ (p : Past). p.size) c.ensures.past;
       bytes = λ told. c.ensures.bytes;
       disk = λ told. ap disk_of c.ensures.past;
       moments = λ told. during-same past_in old new (IsImage (length (past_in old).start) (MayHold (disk_of (past_in old)))) c.ensures.past (λ image is. is);
@@ -48,7 +48,7 @@ write-tells x c =
     record {
       count = either c.result Done Not (length (past_in new).start ≡ length (past_in old).start) c.ensures.ok c.ensures.err
           (λ e. ap (λ (p : Past). length p.start) e) (λ no. ⊎_elim (λ f. ap (λ (p : Past). length p.start) f.past) (λ f. ap (λ (p : Past). length p.start) f.past) no);
-      width = either c.result Done Not ((past_in new).size ≡ (past_in old).size) c.ensures.ok c.ensures.err
+      size = either c.result Done Not ((past_in new).size ≡ (past_in old).size) c.ensures.ok c.ensures.err
           (λ e. ap (λ (p : Past). p.size) e) (λ no. ⊎_elim (λ f. ap (λ (p : Past). p.size) f.past) (λ f. ap (λ (p : Past). p.size) f.past) no);
       written = λ told. on_ok c.result Done (disk_of (past_in new) ≡ written disk n bytes) c.ensures.ok (λ e. ap disk_of e ∙ disk-event (past_in old) (wrote n bytes));
       failed = λ told. on_err c.result Not (MayHaveWritten disk n bytes (disk_of (past_in new))) c.ensures.err
@@ -81,7 +81,7 @@ sync-tells x c =
     record {
       count = either c.result Done Not (length (past_in new).start ≡ length (past_in old).start) c.ensures.ok c.ensures.err
           (λ e. ap (λ (p : Past). length p.start) e) (λ no. ap (λ (p : Past). length p.start) (same no));
-      width = either c.result Done Not ((past_in new).size ≡ (past_in old).size) c.ensures.ok c.ensures.err
+      size = either c.result Done Not ((past_in new).size ≡ (past_in old).size) c.ensures.ok c.ensures.err
           (λ e. ap (λ (p : Past). p.size) e) (λ no. ap (λ (p : Past). p.size) (same no));
       synced = λ told. on_ok c.result Done (disk_of (past_in new) ≡ synced disk) c.ensures.ok (λ e. ap disk_of e ∙ disk-event (past_in old) forced);
       failed = λ told. on_err c.result Not (disk_of (past_in new) ≡ disk) c.ensures.err (λ no. ap disk_of (same no));

@@ -18,9 +18,9 @@ returns-clause-after g c =
     let bytes = c.args.bytes.now in
     let P = D.disk new ≡ written (D.disk was) n bytes in
     let Q = MayHaveWritten (D.disk was) n bytes (D.disk new) in
-    let left = puts D.tells D.count D.width D.disk D.moment D.images was new e.count e.width n bytes
+    let left = puts D.tells D.count D.size D.disk D.moment D.images was new e.count e.size n bytes
         (λ told. either c.write.result P Q Q (e.written told) (e.failed told) (λ yes. inr (inr yes)) (λ no. no)) e.moments in
-    subst (λ old. Puts D.tells D.count D.width (λ d. (D.disk d).seen) (λ d. MayHold (D.disk d)) D.moment D.images n bytes old new) c.self.view_is left
+    subst (λ old. Puts D.tells D.count D.size (λ d. (D.disk d).seen) (λ d. MayHold (D.disk d)) D.moment D.images n bytes old new) c.self.view_is left
 
 pub returns-clause-cause : goal.returns-clause-cause
 returns-clause-cause g c =
