@@ -5,11 +5,14 @@
 #![tactic(auto)]
 
 pub mod decimal;
-pub mod laws;
 pub mod literal;
 pub mod spelling;
+pub mod theorems;
 
 pub use decimal::number;
-pub use laws::{one_outcome, one_value, written_is_read};
 pub use literal::{LiteralFault, read_literal};
 pub use spelling::write_literal;
+pub use theorems::{one_outcome, one_value, written_is_read};
+
+#[cfg(test)]
+mod tests;

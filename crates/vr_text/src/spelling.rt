@@ -1,6 +1,6 @@
 ghost use Rattle.std.specs.Prelude.{◌≡◌, ℕ, ◌<◌, ◌++◌, true, List, codes, length, take, OnOk, OnErr};
 ghost use Rattle.std.specs.Fmt.{digit_glyph};
-ghost use Rattle.std.specs.List.{flat_map};
+ghost use Rattle.std.specs.List.{flat_map, list_all};
 ghost use Rattle.vr_text.specs.Literal.{doubled, digit_pair, is_printable, character_form, hexadecimal_form, literal_of};
 
 use vr_types::{Bytes, OutOfMemory};
@@ -12,15 +12,30 @@ pub fn write_literal(bytes: &[u8], out: &mut Bytes) -> Result<(), OutOfMemory>
     ensures err { OnErr result (out.new ≡ out.old) }
 {
     let start = out.len();
-    let written = if bytes.iter().all(|byte| is_printable(*byte)) {
-        write_characters(bytes, out)
-    } else {
-        write_digits(bytes, out)
-    };
+    let written = write_form(bytes, out);
     if written.is_err() {
         out.truncate(start);
     }
     written
+}
+
+/// Adds the one spelling, or a part of it.
+fn write_form(bytes: &[u8], out: &mut Bytes) -> Result<(), OutOfMemory>
+    ensures ok { OnOk result (out.new ≡ out.old ++ literal_of bytes.now) }
+    ensures err { OnErr result (take (length out.old) out.new ≡ out.old) }
+{
+    if are_printable(bytes) {
+        write_characters(bytes, out)
+    } else {
+        write_digits(bytes, out)
+    }
+}
+
+/// Whether all can be printed.
+fn are_printable(bytes: &[u8]) -> bool
+    ensures { result ≡ list_all is_printable bytes.now }
+{
+    bytes.iter().all(|byte| is_printable(*byte))
 }
 
 /// Whether a byte can be printed: X'20' to X'7E'.
