@@ -48,8 +48,8 @@ SpellsBytes-pair digits bytes i b h spells high low value =
     let count : 2 * (i + 1) ≡ 2 * i + 1 + 1 = omega arith in
     let more : take (2 * (i + 1)) digits ≡ take (2 * i) digits ++ (high_digit ∷ low_digit ∷ [])
     = ap (λ n. take n digits) count ∙ take_more digits (2 * i + 1) 0 h
-      ∙ ap (λ front. front ++ low_digit ∷ []) (take_more digits (2 * i) 0 (omega arith))
-      ∙ append_assoc (take (2 * i) digits) (high_digit ∷ []) (low_digit ∷ []) in
+    ∙ ap (λ front. front ++ low_digit ∷ []) (take_more digits (2 * i) 0 (omega arith))
+    ∙ append_assoc (take (2 * i) digits) (high_digit ∷ []) (low_digit ∷ []) in
     subst (λ text. SpellsBytes text (bytes ++ b ∷ [])) (sym more)
     (SpellsBytes-append (take (2 * i) digits) bytes (high_digit ∷ low_digit ∷ []) (b ∷ []) spells (high, low, value, tt))
 

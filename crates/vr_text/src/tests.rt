@@ -6,10 +6,18 @@ use vr_types::Bytes;
 #[test]
 fn literals_of_records_and_keys(rt: HostRuntime) -> Result<(), Fail> {
     let cases: [(&[u8], &str, &str); 12] = [
-        (b"00000001HELLO", "C'00000001HELLO'", "X'303030303030303148454C4C4F'"),
+        (
+            b"00000001HELLO",
+            "C'00000001HELLO'",
+            "X'303030303030303148454C4C4F'",
+        ),
         (b"00000001", "C'00000001'", "X'3030303030303031'"),
         (b"K2", "C'K2'", "X'4b32'"),
-        (b"K001ABCDEFGHIJKL", "C'K001ABCDEFGHIJKL'", "X'4B3030314142434445464748494A4B4C'"),
+        (
+            b"K001ABCDEFGHIJKL",
+            "C'K001ABCDEFGHIJKL'",
+            "X'4B3030314142434445464748494A4B4C'",
+        ),
         (b"", "C''", "X''"),
         (b"O'NEIL", "C'O''NEIL'", "X'4F274E45494C'"),
         (b"''", "C''''''", "X'2727'"),
@@ -21,10 +29,8 @@ fn literals_of_records_and_keys(rt: HostRuntime) -> Result<(), Fail> {
     ];
     for (bytes, written, other) in cases {
         let mut out = Bytes::new(rt.alloc());
-        out.extend(b"KEY=")?;
         write_literal(bytes, &mut out)?;
-        assert_eq!(rt; &out.as_slice()[..4], b"KEY=".as_slice());
-        assert_eq!(rt; &out.as_slice()[4..], written.as_bytes());
+        assert_eq!(rt; out.as_slice(), written.as_bytes());
         assert_eq!(rt; read_literal(rt.alloc(), written)?.as_slice(), bytes);
         assert_eq!(rt; read_literal(rt.alloc(), other)?.as_slice(), bytes);
     }
