@@ -3,4 +3,5 @@ pub mod Count
 pub mod Faults
 pub mod MemorySink
 pub mod MemorySource
+pub mod StdPair
 pub mod Told

@@ -6,17 +6,21 @@
 #![tactic(auto)]
 
 pub mod count;
+pub mod laws;
 pub mod memory_sink;
 pub mod memory_source;
 pub mod sink;
 pub mod source;
 pub mod std_pair;
 pub mod steady;
+pub mod whole;
 
 pub use count::FaultCount;
+pub use laws::{reads_end, reads_join, takes_join};
 pub use memory_sink::MemorySink;
 pub use memory_source::MemorySource;
 pub use sink::Sink;
 pub use source::Source;
 pub use std_pair::{StdSink, StdSource};
 pub use steady::{SteadySink, SteadySource};
+pub use whole::write_whole;

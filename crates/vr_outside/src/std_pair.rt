@@ -1,5 +1,9 @@
-ghost use Rattle.std.specs.Prelude.{◌≡◌, ℕ, Option, List, None, ◌^◌, ◌-◌, min};
+ghost use Rattle.std.specs.Prelude.{◌≡◌, ℕ, Option, List, None, ◌≤◌, length, take, IfOk, OnErr};
+ghost use Rattle.std.specs.Io.KnownBytes.{IsAtEnd, ReadConsumes, WriteAppends};
+ghost use Rattle.vr_outside.specs.Told.{Reads, Takes};
+ghost use Rattle.vr_outside.specs.Faults.{CountsFailure, CountsRefusal};
 ghost use Rattle.vr_outside.specs.Count.{shown_of};
+ghost use Rattle.vr_outside.specs.StdPair.{reader_of, writer_of};
 
 use crate::count::FaultCount;
 use crate::sink::Sink;
@@ -7,7 +11,7 @@ use crate::source::Source;
 use std::io::{Read, Write};
 use vr_types::Failed;
 
-/// A source over a std reader. It tells no content, and each `Err` of the reader is a fault, an interrupted read too.
+/// A source over a std reader. It tells no content. Each `Err` of the reader is a fault, an interrupted read too.
 #[derive(Drop)]
 pub struct StdSource<R> {
     reader: R,
@@ -15,8 +19,10 @@ pub struct StdSource<R> {
 }
 
 impl<R> StdSource<R> {
+    /// A source over this reader, with no fault yet.
     pub fn new(reader: R) -> StdSource<R>
-        ensures { result.faults ≡ 0 }
+        ensures reader { reader_of result ≡ reader }
+        ensures faults { result.faults ≡ 0 }
     {
         StdSource {
             reader,
@@ -24,7 +30,10 @@ impl<R> StdSource<R> {
         }
     }
 
-    pub fn into_inner(self) -> R {
+    /// The reader, behind what was read.
+    pub fn into_inner(self) -> R
+        ensures { result ≡ reader_of self }
+    {
         self.reader
     }
 }
@@ -34,7 +43,15 @@ impl<R: Read> Source for StdSource<R> {
 
     ghost faults = { λ source. source.faults };
 
-    fn read(&mut self, into: &mut [u8]) -> Result<usize, Failed> {
+    fn read(&mut self, into: &mut [u8]) -> Result<usize, Failed>
+        // Where the reader below tells its bytes, these come from there.
+        ensures reader { ReadConsumes (R.remaining (reader_of self.old)) (R.remaining (reader_of self.new)) result into.new }
+
+        // The trait's clauses.
+        ensures within { IfOk result (λ n. n ≤ length into.new) }
+        ensures bytes { IfOk result (λ n. Reads None None (take n into.new)) }
+        ensures cause { CountsFailure self.old.faults self.new.faults result }
+    {
         match self.reader.read(into) {
             Ok(n) => Ok(n),
             Err(_) => {
@@ -54,8 +71,10 @@ pub struct StdSink<W> {
 }
 
 impl<W> StdSink<W> {
+    /// A sink over this writer, with no fault yet.
     pub fn new(writer: W) -> StdSink<W>
-        ensures { result.faults ≡ 0 }
+        ensures writer { writer_of result ≡ writer }
+        ensures faults { result.faults ≡ 0 }
     {
         StdSink {
             writer,
@@ -63,7 +82,10 @@ impl<W> StdSink<W> {
         }
     }
 
-    pub fn into_inner(self) -> W {
+    /// The writer, with what it took. Nothing is flushed.
+    pub fn into_inner(self) -> W
+        ensures { result ≡ writer_of self }
+    {
         self.writer
     }
 }
@@ -73,7 +95,15 @@ impl<W: Write> Sink for StdSink<W> {
 
     ghost faults = { λ sink. sink.faults };
 
-    fn write(&mut self, piece: &[u8]) -> Result<usize, Failed> {
+    fn write(&mut self, piece: &[u8]) -> Result<usize, Failed>
+        // Where the writer below tells its bytes, these go there.
+        ensures writer { WriteAppends (W.contents (writer_of self.old)) (W.contents (writer_of self.new)) result piece.now }
+
+        // The trait's clauses.
+        ensures within { IfOk result (λ n. n ≤ length piece.now) }
+        ensures bytes { IfOk result (λ n. Takes None None (take n piece.now)) }
+        ensures cause { CountsRefusal self.old.faults self.new.faults piece.now result }
+    {
         match self.writer.write(piece) {
             Ok(n) => {
                 if n == 0 && !piece.is_empty() {
