@@ -1,0 +1,5 @@
+pub mod Line
+pub mod Card
+pub mod DeckLine
+pub mod JobText
+pub mod Bound
