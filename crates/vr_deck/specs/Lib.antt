@@ -3,3 +3,5 @@ pub mod Card
 pub mod DeckLine
 pub mod JobText
 pub mod Bound
+pub mod DeckLineRead
+pub mod Stop

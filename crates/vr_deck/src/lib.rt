@@ -5,7 +5,12 @@
 #![tactic(auto)]
 
 pub mod bound;
+mod card;
+mod deck_line;
+mod line;
+pub mod parse;
 pub mod text;
 
 pub use bound::{Bound, DeckRequests};
+pub use parse::parse_job;
 pub use text::{DeckText, JobFault, JobText, Order, Orders};

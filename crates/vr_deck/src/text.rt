@@ -77,3 +77,14 @@ pub enum JobFault {
     /// Memory ran out.
     Memory,
 }
+
+impl From<OutOfMemory> for JobFault {
+    ghost use Rattle.std.specs.Prelude.{◌≡◌};
+    ghost use Rattle.vr_deck.specs.declared.text.JobFault.TheVariants.{Memory};
+
+    ghost from_gives = { λ _ fault. fault ≡ Memory };
+
+    fn from(_error: OutOfMemory) -> JobFault {
+        JobFault::Memory
+    }
+}
