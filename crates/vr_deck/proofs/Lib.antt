@@ -1,1 +1,3 @@
 pub mod DeckLines
+pub mod OneMeaning
+pub mod Progresses
