@@ -4,13 +4,17 @@
 // text has there is named; and that the requests bound to a deck are those of its lines, in order, each once.
 #![tactic(auto)]
 
+pub mod binding;
 pub mod bound;
 mod card;
 mod deck_line;
+pub mod laws;
 mod line;
 pub mod parse;
 pub mod text;
 
+pub use binding::bind;
 pub use bound::{Bound, DeckRequests};
+pub use laws::{no_value_at_a_fault, one_value};
 pub use parse::parse_job;
 pub use text::{DeckText, JobFault, JobText, Order, Orders};
