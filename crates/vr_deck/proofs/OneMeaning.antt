@@ -1,13 +1,12 @@
-use Rattle.std.proofs.Common.{◌≡◌, ℕ, ◌+◌, ◌<◌, ◌≤◌, ◌==◌, ◌⊎◌, Bool, true, false, not, cond, List, [], ◌∷◌, ◌++◌, Option, Some, None, codes, refl, sym, ◌∙◌, ap, subst, take, get_or, inl, inr, arith}
+use Rattle.std.proofs.Common.{◌≡◌, ℕ, ◌⊎◌, not, List, [], ◌∷◌, ◌++◌, Some, codes, refl, sym, ◌∙◌, ap, subst, take, get_or, inl, inr, arith}
 use Rattle.std.specs.Prelude.{slice_get}
 use Rattle.std.specs.List.{prefix_len}
 use Rattle.std.proofs.lemmas.List.{append_cancel_left}
 use Rattle.std.proofs.lemmas.List.Sums.{take_while-cons}
-use Rattle.std.proofs.lemmas.Grind.{common_steps}
 use Rattle.vr_text.specs.Literal.{IsLiteral}
 use Rattle.vr_text.proofs.Laws.{one_value}
-use Rattle.vr_deck.specs.Line.{is_blank, unindented, word, behind_word}
-use Rattle.vr_deck.specs.Card.{IsName, IsStepCard}
+use Rattle.vr_deck.specs.Line.{is_blank, unindented, word}
+use Rattle.vr_deck.specs.Card.{IsStepCard}
 use Rattle.vr_deck.specs.DeckLine.{Meaning, Nothing, FileOf, PutOf, GetOf, IsDeckLine, Orders, IsKeyword}
 
 -- Each line says one thing.

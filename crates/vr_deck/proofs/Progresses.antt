@@ -1,6 +1,5 @@
-use Rattle.std.proofs.Common.{◌≡◌, ℕ, ◌+◌, ◌-◌, ◌<◌, ◌≤◌, ◌⊎◌, List, [], ◌∷◌, ◌++◌, length, take, drop, map, Option, Some, None, refl, sym, ◌∙◌, ap, subst, inl, inr, zero, suc, arith}
+use Rattle.std.proofs.Common.{◌≡◌, ℕ, ◌+◌, ◌-◌, ◌<◌, ◌≤◌, List, [], ◌∷◌, length, take, map, Option, refl, ◌∙◌, ap, subst, inl, inr, suc, arith}
 use Rattle.std.specs.Prelude.{slice_index_or}
-use Rattle.std.proofs.lemmas.Grind.{common_steps}
 use Rattle.std.proofs.lemmas.Simd.{map-map}
 use Rattle.bstr.specs.Text.{lines_of, without_terminator}
 use Rattle.vr_deck.specs.declared.text.Order.{Order}
@@ -8,9 +7,9 @@ use Rattle.vr_deck.specs.declared.text.JobFault.{JobFault}
 use Rattle.vr_deck.specs.declared.text.JobFault.TheVariants.{Form, Memory}
 use Rattle.vr_deck.specs.Line.{without_end, job_lines}
 use Rattle.vr_deck.specs.DeckLine.{Meaning, IsDeckLine}
-use Rattle.vr_deck.specs.JobText.{Progress, NoCard, StepRead, InDeck, Adds, Leads, Reads, LacksCard, IsFirstFault, IsJobText, CauseOf}
+use Rattle.vr_deck.specs.JobText.{Progress, NoCard, StepRead, InDeck, Adds, Leads, Reads, LacksCard, IsFirstFault, CauseOf}
 use Rattle.vr_deck.specs.Stop.{StopsAt, FaultFrom, FaultAt, CannotAdd}
-use Rattle.vr_deck.proofs.OneMeaning.{one_meaning, one_step}
+use Rattle.vr_deck.proofs.OneMeaning.{one_meaning}
 
 -- Where reading leads, and where it stops.
 

@@ -1,4 +1,4 @@
-use Rattle.std.specs.Prelude.{◌≡◌, ℕ, ◌-◌, ◌<◌, ◌≤◌, ◌==◌, Bool, not, List, [], length, map, take, drop, All}
+use Rattle.std.specs.Prelude.{ℕ, ◌-◌, ◌<◌, ◌≤◌, ◌==◌, Bool, not, List, length, map, take, drop, All}
 use Rattle.std.specs.List.{prefix_len, suffix_len, take_while}
 use Rattle.bstr.specs.Text.{lines_of, without_terminator}
 

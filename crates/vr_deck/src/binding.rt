@@ -74,7 +74,7 @@ fn key_asked(alloc: Global, key: &Bytes) -> Result<Place, OutOfMemory>
     ensures { IfOk result (λ asked. asked ≡ key_asked key.now) }
 {
     if key.is_empty() {
-        Ok(Place::from_vec(vec![in alloc; 0; EMPTY_KEY]?))
+        place(alloc, &[0; EMPTY_KEY])
     } else {
         place(alloc, key.as_slice())
     }

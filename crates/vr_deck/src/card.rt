@@ -20,7 +20,9 @@ pub(crate) fn is_name(name: &[u8]) -> bool
     !name.is_empty()
         && name.len() <= NAME_LIMIT
         && is_letter(name[0])
-        && name.iter().all(|byte| is_letter(*byte) || byte.is_ascii_digit())
+        && name
+            .iter()
+            .all(|byte| is_letter(*byte) || byte.is_ascii_digit())
 }
 
 /// The name on a card that begins a deck step.

@@ -28,7 +28,10 @@ struct OrderWords<'a> {
 }
 
 /// What a line of a deck says, if anything.
-pub(crate) fn read_line<'a>(alloc: Global, line: &'a [u8]) -> Result<Option<DeckLine<'a>>, OutOfMemory>
+pub(crate) fn read_line<'a>(
+    alloc: Global,
+    line: &'a [u8],
+) -> Result<Option<DeckLine<'a>>, OutOfMemory>
     requires { IsRightLine line.now }
     ensures { IfOk result (λ found. MatchOption found ((meaning : Meaning) → IsDeckLine line.now meaning → ⊥) (λ read. IsDeckLine line.now (meaning_of read))) }
 {
@@ -86,7 +89,11 @@ fn order_words<'a>(line: &'a [u8]) -> Option<OrderWords<'a>>
 }
 
 /// The bytes of the literal that an operand gives this keyword.
-fn keyword_literal(alloc: Global, operand: &[u8], keyword: &[u8]) -> Result<Option<Bytes>, OutOfMemory>
+fn keyword_literal(
+    alloc: Global,
+    operand: &[u8],
+    keyword: &[u8],
+) -> Result<Option<Bytes>, OutOfMemory>
     requires { All (λ b. (32 ≤ b) × (b < 127)) operand.now }
     ensures { IfOk result (λ found. MatchOption found ((bytes : List ℕ) → IsKeyword keyword.now operand.now bytes → ⊥) (IsKeyword keyword.now operand.now)) }
 {

@@ -100,7 +100,10 @@ fn add(alloc: Global, deck: &mut DeckText, number: u32, read: DeckLine) -> Resul
             if !is_file(&deck.file, name) {
                 return Err(JobFault::Form { line: number });
             }
-            deck.orders.push(Order::Put { line: number, bytes })?;
+            deck.orders.push(Order::Put {
+                line: number,
+                bytes,
+            })?;
             Ok(())
         }
         DeckLine::Get { name, key } => {

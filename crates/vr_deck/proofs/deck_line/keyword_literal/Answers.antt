@@ -1,8 +1,4 @@
-use Rattle.std.proofs.Common.{◌≡◌, ℕ, ◌<◌, ◌≤◌, List, ◌++◌, All, subst, sym, ◌∙◌, rules}
-use Rattle.std.proofs.lemmas.List.{append_cancel_left}
-use Rattle.vr_text.specs.declared.literal.LiteralFault.TheVariants.{Unclosed, Digit, Memory}
-use Rattle.vr_text.specs.Literal.{IsLiteral}
-use Rattle.vr_text.proofs.Laws.{literal_has_no_cause}
+use Rattle.std.proofs.Common.{rules}
 use Rattle.vr_deck.proofs.DeckLines.{IsUtf8-behind, no_literal}
 use Rattle.vr_deck.proofs.deck_line.keyword_literal.Goals as goal
 
@@ -17,4 +13,3 @@ returns-in-Err-Unclosed c bytes h =
 pub returns-in-Err-Digit : goal.returns-in-Err-Digit
 returns-in-Err-Digit c bytes h =
     no_literal _ _ _ _ _ h _ c.in-Some.ensures c.in-Ok.ensures.cases.0 c.in-Err-Digit.ensures.fault (search rules)
-

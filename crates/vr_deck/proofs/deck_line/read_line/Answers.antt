@@ -1,5 +1,4 @@
-use Rattle.std.proofs.Common.{◌≡◌, ℕ, ◌<◌, ◌≤◌, Bool, true, false, rules, arith}
-use Rattle.std.proofs.lemmas.Grind.{common_steps}
+use Rattle.std.proofs.Common.{◌<◌, ◌≤◌, rules}
 use Rattle.vr_deck.proofs.DeckLines.{All-operand, no_meaning_without_words, no_meaning_of_words, refuted}
 use Rattle.vr_deck.proofs.deck_line.read_line.Goals as goal
 

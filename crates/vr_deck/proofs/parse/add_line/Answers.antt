@@ -1,4 +1,4 @@
-use Rattle.std.proofs.Common.{◌≡◌, ℕ, List, subst}
+use Rattle.std.proofs.Common.{ℕ, List, subst}
 use Rattle.std.proofs.lemmas.Result.{IfErr-weaker}
 use Rattle.vr_deck.specs.DeckLine.{IsDeckLine}
 use Rattle.vr_deck.specs.DeckLineRead.{meaning_of}

@@ -1,6 +1,5 @@
-use Rattle.std.proofs.Common.{◌≡◌, ℕ, ◌+◌, List, [], None, length, map, ap, subst, arith}
+use Rattle.std.proofs.Common.{ℕ, List, [], None, length, ap, subst, arith}
 use Rattle.std.proofs.lemmas.Result.{err_from_is_err_and}
-use Rattle.vr_deck.specs.Line.{without_end, job_lines}
 use Rattle.vr_deck.specs.JobText.{NoCard, StepRead, InDeck, Reads}
 use Rattle.vr_deck.specs.Stop.{StopsAt, FaultFrom}
 use Rattle.vr_deck.proofs.Progresses.{lines_read, stops_behind, fault_behind, reads_behind, first_fault, cause_of}
