@@ -1,5 +1,5 @@
 use Rattle.std.proofs.Common.{◌≡◌, ℕ, ◌+◌, ◌-◌, ◌<◌, ◌≤◌, List, [], ◌∷◌, length, take, drop, get_or, Option, refl, sym, ◌∙◌, ap, subst, inl, inr, zero, suc, arith, add-zero, drop-cons}
-use Rattle.std.proofs.lemmas.List.{drop_all}
+use Rattle.std.proofs.lemmas.List.{drop_all, get_or-take, length-take, take-take}
 use Rattle.std.proofs.lemmas.Bool.{cases_lt}
 use Rattle.vr_deck.specs.declared.text.Order.{Order}
 use Rattle.vr_deck.specs.declared.text.JobText.{JobText}
@@ -95,3 +95,28 @@ no_job text n job fault h =
     let numbered = subst (λ (m : ℕ). Reads m r.0 (drop (n - 1) lines) to) number r.2 in
     let rest = subst (λ (mid : Progress). Reads n mid (drop (n - 1) lines) to) same numbered in
     stops_there n fault.reached to lines fault.from_one fault.stuck fault.missing (λ lacks. lacks) rest
+
+-- of two faults neither stands first
+none_before : (text : List ℕ) (n m : ℕ) → IsFirstFault text n → IsFirstFault text m → n < m → ⊥
+none_before text n m a b l =
+    let lines = job_lines text in
+    let front = take (m - 1) lines in
+    let long : length front ≡ m - 1 = length-take (m - 1) lines ∙ omega (arith, b.within) in
+    let r = split_reads 1 NoCard (n - 1) front b.reached (omega arith) b.before in
+    let twice : take (n - 1) front ≡ take (n - 1) lines = take-take (n - 1) (m - 1) lines (omega arith) in
+    let same : r.0 ≡ a.reached = one_reading 1 NoCard (take (n - 1) lines) _ _ (subst (λ (ls : List (List ℕ)). Reads 1 NoCard ls r.0) twice r.1) a.before in
+    let number : 1 + (n - 1) ≡ n = omega (arith, a.from_one) in
+    let within : n - 1 < length front = omega (arith, a.from_one) in
+    let first : drop (n - 1) front ≡ get_or front (n - 1) [] ∷ drop (suc (n - 1)) front = drop-cons front (n - 1) [] within in
+    let line : get_or front (n - 1) [] ≡ get_or lines (n - 1) [] = get_or-take (m - 1) lines (n - 1) [] (omega (arith, a.from_one)) in
+    let numbered = subst (λ (k : ℕ). Reads k r.0 (drop (n - 1) front) b.reached) number r.2 in
+    let moved = subst (λ (mid : Progress). Reads n mid (drop (n - 1) front) b.reached) same numbered in
+    let read = subst (λ (ls : List (List ℕ)). Reads n a.reached ls b.reached) first moved in
+    a.stuck (omega (arith, a.from_one, b.within)) read.0 (subst (λ (xs : List ℕ). Leads n a.reached xs read.0) line read.1)
+
+pub one_first_fault : (text : List ℕ) (n m : ℕ) → IsFirstFault text n → IsFirstFault text m → n ≡ m
+one_first_fault text n m a b =
+    elim (cases_lt n m) [
+      | inl l ↦ absurd (none_before text n m a b l)
+      | inr l ↦ elim (cases_lt m n) [ inl k ↦ absurd (none_before text m n b a k) | inr k ↦ omega arith ]
+    ]

@@ -1,12 +1,13 @@
-use Rattle.std.proofs.Common.{◌≡◌, ℕ, ◌+◌, ◌-◌, ◌<◌, ◌≤◌, List, [], ◌∷◌, length, take, map, Option, refl, ◌∙◌, ap, subst, inl, inr, suc, arith}
+use Rattle.std.proofs.Common.{◌≡◌, ℕ, ◌+◌, ◌-◌, ◌<◌, ◌≤◌, List, [], ◌∷◌, length, take, map, Option, None, refl, lit≤, ◌∙◌, ap, subst, inl, inr, suc, arith}
 use Rattle.std.specs.Prelude.{slice_index_or}
 use Rattle.std.proofs.lemmas.Simd.{map-map}
+use Rattle.std.proofs.lemmas.List.{length-append, length-map}
 use Rattle.bstr.specs.Text.{lines_of, without_terminator}
 use Rattle.vr_deck.specs.declared.text.Order.{Order}
 use Rattle.vr_deck.specs.declared.text.JobFault.{JobFault}
 use Rattle.vr_deck.specs.declared.text.JobFault.TheVariants.{Form, Memory}
 use Rattle.vr_deck.specs.Line.{without_end, job_lines}
-use Rattle.vr_deck.specs.DeckLine.{Meaning, IsDeckLine}
+use Rattle.vr_deck.specs.DeckLine.{Meaning, Nothing, FileOf, PutOf, GetOf, IsDeckLine}
 use Rattle.vr_deck.specs.JobText.{Progress, NoCard, StepRead, InDeck, Adds, Leads, Reads, LacksCard, IsFirstFault, CauseOf}
 use Rattle.vr_deck.specs.Stop.{StopsAt, FaultFrom, FaultAt, CannotAdd}
 use Rattle.vr_deck.proofs.OneMeaning.{one_meaning}
@@ -103,3 +104,34 @@ first_fault text m h =
 pub cause_of : (text : List ℕ) (fault : JobFault) → FaultFrom 1 NoCard (job_lines text) fault → CauseOf text fault
 cause_of text (Form m) h = first_fault text m h
 cause_of text Memory h = tt
+
+-- the orders at a point
+orders_at : Progress → List Order
+orders_at NoCard = []
+orders_at (StepRead step) = []
+orders_at (InDeck step file orders) = orders
+
+-- a line adds an order at most
+one_order : (n : ℕ) (meaning : Meaning) (file file' : Option (List ℕ)) (orders orders' : List Order) → Adds n meaning file orders file' orders' → length orders' ≤ length orders + 1
+one_order n Nothing file file' orders orders' h = rw h.1 (omega arith)
+one_order n (FileOf name) file file' orders orders' h = rw h.2 (omega arith)
+one_order n (PutOf name bytes) file file' orders orders' h = simp (h.2, length-append) (omega arith)
+one_order n (GetOf name key) file file' orders orders' h = simp (h.2, length-append) (omega arith)
+
+one_order_more : (n : ℕ) (from : Progress) (line : List ℕ) (to : Progress) → Leads n from line to → length (orders_at to) ≤ length (orders_at from) + 1
+unfolding orders_at
+one_order_more n from line NoCard h = omega arith
+one_order_more n from line (StepRead step) h = omega arith
+one_order_more n NoCard line (InDeck step file orders) h = absurd h
+one_order_more n (StepRead step) line (InDeck other file orders) h = rw h.4 (lit≤ tt)
+one_order_more n (InDeck step file orders) line (InDeck step' file' orders') h = one_order n h.2 file file' orders orders' h.4
+
+-- no more orders are added than there are lines
+orders_added : (n : ℕ) (from : Progress) (lines : List (List ℕ)) (to : Progress) → Reads n from lines to → length (orders_at to) ≤ length (orders_at from) + length lines
+orders_added n from [] to h = rw h (omega arith)
+orders_added n from (line ∷ lines) to h =
+    omega (arith, one_order_more n from line h.0 h.1, orders_added (n + 1) h.0 lines to h.2)
+
+pub few_orders : (n : ℕ) (step : List ℕ) (lines : List (List ℕ)) (file : Option (List ℕ)) (orders : List Order) → Reads n (InDeck step None []) (map without_end lines) (InDeck step file orders) → length orders ≤ length lines
+unfolding orders_at
+few_orders n step lines file orders h = omega (arith, orders_added n _ _ _ h, length-map lines without_end)

@@ -1,4 +1,4 @@
-use Rattle.std.specs.Prelude.{◌≡◌, ◌⊎◌, ℕ, ◌+◌, List, [], ◌∷◌, Option}
+use Rattle.std.specs.Prelude.{◌≡◌, ◌≢◌, ◌⊎◌, ℕ, ◌+◌, List, [], ◌∷◌, Option, Some}
 use Rattle.vr_deck.specs.declared.text.Order.{Order}
 use Rattle.vr_deck.specs.declared.text.JobFault.{JobFault}
 use Rattle.vr_deck.specs.declared.text.JobFault.TheVariants.{Form, Memory}
@@ -28,3 +28,8 @@ abbrev pub CannotAdd : ℕ → Meaning → Option (List ℕ) → List Order → 
 CannotAdd n meaning file orders (Form m) =
     (m ≡ n) × ((file' : Option (List ℕ)) (orders' : List Order) → Adds n meaning file orders file' orders' → ⊥)
 CannotAdd n meaning file orders Memory = Unit {0}
+
+-- the file of an order on line n isn't the deck's
+abbrev pub IsUndeclared : ℕ → Option (List ℕ) → List ℕ → JobFault → Type 0
+IsUndeclared n declared name (Form m) = (m ≡ n) × (declared ≢ Some name)
+IsUndeclared n declared name Memory = Unit {0}

@@ -11,3 +11,8 @@ pub fn one_value()
 pub fn no_value_at_a_fault()
     ensures { (text : List ℕ) (n : ℕ) (job : JobText) → IsFirstFault text n → IsJobText text job → ⊥ }
 {}
+
+/// A text has one first fault at most.
+pub fn one_fault()
+    ensures { (text : List ℕ) (n m : ℕ) → IsFirstFault text n → IsFirstFault text m → n ≡ m }
+{}

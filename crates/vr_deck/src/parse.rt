@@ -1,8 +1,8 @@
-ghost use Rattle.std.specs.Prelude.{◌≡◌, ◌↔◌, ℕ, ◌+◌, ◌^◌, ◌<◌, ◌≤◌, List, [], ◌∷◌, length, map, Some, None, IsTrue, IfOk, IfErr, OnOk, MatchOption, MatchBool};
+ghost use Rattle.std.specs.Prelude.{◌≡◌, ◌↔◌, ℕ, ◌++◌, ◌^◌, ◌<◌, ◌≤◌, List, [], ◌∷◌, length, map, Some, None, IsTrue, IfOk, IfErr, OnOk, MatchOption, MatchBool};
 ghost use Rattle.vr_deck.specs.Line.{without_end};
 ghost use Rattle.vr_deck.specs.DeckLineRead.{meaning_of};
 ghost use Rattle.vr_deck.specs.JobText.{NoCard, StepRead, InDeck, Adds, Leads, Reads, IsJobText, CauseOf};
-ghost use Rattle.vr_deck.specs.Stop.{StopsAt, FaultFrom, FaultAt, CannotAdd};
+ghost use Rattle.vr_deck.specs.Stop.{StopsAt, FaultFrom, FaultAt, CannotAdd, IsUndeclared};
 
 use crate::card::{is_deck_card, step_card};
 use crate::deck_line::{DeckLine, read_line};
@@ -17,6 +17,7 @@ pub fn parse_job(alloc: Global, text: &[u8]) -> Result<JobText, JobFault>
     requires { length text.now ≤ 2 ^ 26 }
     ensures job { IfOk result (IsJobText text.now) }
     ensures fault { IfErr result (CauseOf text.now) }
+    ensures few { IfOk result (λ job. length job.deck.orders ≤ 2 ^ 26) }
 {
     let mut lines = text.lines();
     let Some(step) = first_card(&mut lines) else {
@@ -97,23 +98,34 @@ fn add(alloc: Global, deck: &mut DeckText, number: u32, read: DeckLine) -> Resul
             Ok(())
         }
         DeckLine::Put { name, bytes } => {
-            if !is_file(&deck.file, name) {
-                return Err(JobFault::Form { line: number });
-            }
-            deck.orders.push(Order::Put {
-                line: number,
-                bytes,
-            })?;
-            Ok(())
+            add_order(
+                deck,
+                number,
+                name,
+                Order::Put {
+                    line: number,
+                    bytes,
+                },
+            )
         }
         DeckLine::Get { name, key } => {
-            if !is_file(&deck.file, name) {
-                return Err(JobFault::Form { line: number });
-            }
-            deck.orders.push(Order::Get { line: number, key })?;
-            Ok(())
+            add_order(deck, number, name, Order::Get { line: number, key })
         }
     }
+}
+
+/// Adds an order on a file to the deck so far.
+fn add_order(deck: &mut DeckText, number: u32, file: &[u8], order: Order) -> Result<(), JobFault>
+    ensures declared { OnOk result (deck.old.file ≡ Some file.now) }
+    ensures same { OnOk result (deck.new.file ≡ deck.old.file) }
+    ensures added { OnOk result (deck.new.orders ≡ deck.old.orders ++ order ∷ []) }
+    ensures fault { IfErr result (IsUndeclared number deck.old.file file.now) }
+{
+    if !is_file(&deck.file, file) {
+        return Err(JobFault::Form { line: number });
+    }
+    deck.orders.push(order)?;
+    Ok(())
 }
 
 /// Whether the file was declared by this name.

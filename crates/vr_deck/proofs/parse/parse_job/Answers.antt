@@ -2,7 +2,7 @@ use Rattle.std.proofs.Common.{ℕ, List, [], None, length, ap, subst, arith}
 use Rattle.std.proofs.lemmas.Result.{err_from_is_err_and}
 use Rattle.vr_deck.specs.JobText.{NoCard, StepRead, InDeck, Reads}
 use Rattle.vr_deck.specs.Stop.{StopsAt, FaultFrom}
-use Rattle.vr_deck.proofs.Progresses.{lines_read, stops_behind, fault_behind, reads_behind, first_fault, cause_of}
+use Rattle.vr_deck.proofs.Progresses.{lines_read, stops_behind, fault_behind, reads_behind, few_orders, first_fault, cause_of}
 use Rattle.vr_deck.proofs.parse.parse_job.Goals as goal
 
 pub returns-in_default-clause-fault : goal.returns-in_default-clause-fault
@@ -41,3 +41,9 @@ returns-clause-job c =
     let from_second = reads_behind 2 (StepRead step) (InDeck step None []) to _ _ _ second.1 second.2 (c.in_ok-deck.ensures.deck step) in
     let from_first = reads_behind 1 NoCard (StepRead step) to _ _ _ first.1 first.2 from_second in
     rw c.in_ok-step.ensures (subst (λ (lines : List (List ℕ)). Reads 1 NoCard lines to) (lines_read c.args.text.now _ c.lines-lines.ensures.value) from_first)
+
+pub returns-clause-few : goal.returns-clause-few
+returns-clause-few c =
+    let first = ap length c.in-Some.ensures.1 in
+    let second = ap length (c.if-not-deck_card_follows.ensures []).1 in
+    omega (arith, first, second, c.lines-lines.ensures.len, few_orders 3 [] _ c.in_ok-deck.deck.file c.in_ok-deck.deck.orders (c.in_ok-deck.ensures.deck []))
