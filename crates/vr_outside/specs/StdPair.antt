@@ -1,5 +1,5 @@
-use Rattle.vr_outside.specs.declared.std_pair.StdSource.{StdSource}
-use Rattle.vr_outside.specs.declared.std_pair.StdSink.{StdSink}
+use Rattle.vr_outside.specs.declared.std_source.StdSource.{StdSource}
+use Rattle.vr_outside.specs.declared.std_sink.StdSink.{StdSink}
 
 -- the reader below a source
 abbrev pub reader_of : {R : Type 0} → StdSource R → R
