@@ -14,6 +14,8 @@ pub mod source;
 pub mod std_sink;
 pub mod std_source;
 pub mod steady;
+#[cfg(test)]
+mod tests;
 pub mod whole;
 
 pub use count::FaultCount;
