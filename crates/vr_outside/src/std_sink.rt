@@ -2,7 +2,8 @@ ghost use Rattle.std.specs.Prelude.{◌≡◌, ℕ, Option, List, None, ◌≤�
 ghost use Rattle.std.specs.Io.KnownBytes.{WriteAppends};
 ghost use Rattle.vr_outside.specs.Told.{Takes};
 ghost use Rattle.vr_outside.specs.Faults.{CountsRefusal};
-ghost use Rattle.vr_outside.specs.StdPair.{writer_of};
+ghost use Rattle.vr_outside.specs.StdPair.{writer_of, sink_faults};
+ghost use Rattle.vr_outside.specs.Count.{shown_of};
 
 use crate::count::FaultCount;
 use crate::sink::Sink;
@@ -14,14 +15,14 @@ use vr_types::Failed;
 #[derive(Drop)]
 pub struct StdSink<W> {
     writer: W,
-    pub faults: FaultCount,
+    faults: FaultCount,
 }
 
 impl<W> StdSink<W> {
     /// A sink over this writer, with no fault yet.
     pub fn new(writer: W) -> StdSink<W>
         ensures writer { writer_of result ≡ writer }
-        ensures faults { result.faults ≡ 0 }
+        ensures faults { sink_faults result ≡ 0 }
     {
         StdSink {
             writer,
@@ -35,12 +36,19 @@ impl<W> StdSink<W> {
     {
         self.writer
     }
+
+    /// How many calls failed or took nothing of a piece, up to 2^64 - 1.
+    pub fn fault_count(&self) -> u64
+        ensures { result ≡ shown_of (sink_faults self.now) }
+    {
+        self.faults.shown()
+    }
 }
 
 impl<W: Write> Sink for StdSink<W> {
     ghost taken = { λ _. None };
 
-    ghost faults = { λ sink. sink.faults };
+    ghost faults = { sink_faults };
 
     fn write(&mut self, piece: &[u8]) -> Result<usize, Failed>
         // Where the writer below tells its bytes, these go there.
@@ -49,7 +57,7 @@ impl<W: Write> Sink for StdSink<W> {
         // The trait's clauses.
         ensures within { IfOk result (λ n. n ≤ length piece.now) }
         ensures bytes { IfOk result (λ n. Takes None None (take n piece.now)) }
-        ensures cause { CountsRefusal self.old.faults self.new.faults piece.now result }
+        ensures cause { CountsRefusal (sink_faults self.old) (sink_faults self.new) piece.now result }
     {
         match self.writer.write(piece) {
             Ok(n) => {

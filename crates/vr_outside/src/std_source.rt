@@ -2,7 +2,8 @@ ghost use Rattle.std.specs.Prelude.{◌≡◌, ℕ, Option, List, None, ◌≤�
 ghost use Rattle.std.specs.Io.KnownBytes.{IsAtEnd, ReadConsumes};
 ghost use Rattle.vr_outside.specs.Told.{Reads};
 ghost use Rattle.vr_outside.specs.Faults.{CountsFailure};
-ghost use Rattle.vr_outside.specs.StdPair.{reader_of};
+ghost use Rattle.vr_outside.specs.StdPair.{reader_of, source_faults};
+ghost use Rattle.vr_outside.specs.Count.{shown_of};
 
 use crate::count::FaultCount;
 use crate::source::Source;
@@ -13,14 +14,14 @@ use vr_types::Failed;
 #[derive(Drop)]
 pub struct StdSource<R> {
     reader: R,
-    pub faults: FaultCount,
+    faults: FaultCount,
 }
 
 impl<R> StdSource<R> {
     /// A source over this reader, with no fault yet.
     pub fn new(reader: R) -> StdSource<R>
         ensures reader { reader_of result ≡ reader }
-        ensures faults { result.faults ≡ 0 }
+        ensures faults { source_faults result ≡ 0 }
     {
         StdSource {
             reader,
@@ -34,12 +35,19 @@ impl<R> StdSource<R> {
     {
         self.reader
     }
+
+    /// How many calls failed, up to 2^64 - 1.
+    pub fn fault_count(&self) -> u64
+        ensures { result ≡ shown_of (source_faults self.now) }
+    {
+        self.faults.shown()
+    }
 }
 
 impl<R: Read> Source for StdSource<R> {
     ghost left = { λ _. None };
 
-    ghost faults = { λ source. source.faults };
+    ghost faults = { source_faults };
 
     fn read(&mut self, into: &mut [u8]) -> Result<usize, Failed>
         // Where the reader below tells its bytes, these come from there.
@@ -48,7 +56,7 @@ impl<R: Read> Source for StdSource<R> {
         // The trait's clauses.
         ensures within { IfOk result (λ n. n ≤ length into.new) }
         ensures bytes { IfOk result (λ n. Reads None None (take n into.new)) }
-        ensures cause { CountsFailure self.old.faults self.new.faults result }
+        ensures cause { CountsFailure (source_faults self.old) (source_faults self.new) result }
     {
         match self.reader.read(into) {
             Ok(n) => Ok(n),

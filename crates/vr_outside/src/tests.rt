@@ -143,7 +143,7 @@ fn the_steady_pair_never_fails(rt: HostRuntime) -> Result<(), Fail> {
 fn a_std_reader_hands_on_its_bytes(rt: HostRuntime) -> Result<(), Fail> {
     let mut source = StdSource::new(Cursor::new(Vec::from_slice(rt.alloc(), TEXT)?));
     expect_read(&rt, &mut source, rt.alloc())?;
-    assert!(rt; source.faults.shown() == 0);
+    assert!(rt; source.fault_count() == 0);
     assert!(rt; source.into_inner().position() == 14);
     Ok(())
 }
@@ -155,7 +155,7 @@ fn a_std_writer_is_handed_the_bytes(rt: HostRuntime) {
     assert!(rt; nothing == Ok(0));
     let outcome = write_whole(&mut sink, TEXT);
     assert!(rt; outcome.is_ok());
-    assert!(rt; sink.faults.shown() == 0);
+    assert!(rt; sink.fault_count() == 0);
     assert!(rt; sink.into_inner().as_slice() == TEXT);
 }
 
@@ -166,12 +166,12 @@ fn each_error_of_a_std_reader_and_writer_is_counted(rt: HostRuntime) {
     for count in 1..4 {
         let outcome = source.read(&mut piece);
         assert!(rt; outcome.is_err());
-        assert!(rt; source.faults.shown() == count);
+        assert!(rt; source.fault_count() == count);
     }
     let mut sink = StdSink::new(Broken);
     let outcome = sink.write(TEXT);
     assert!(rt; outcome.is_err());
-    assert!(rt; sink.faults.shown() == 1);
+    assert!(rt; sink.fault_count() == 1);
 }
 
 #[test]
@@ -179,5 +179,5 @@ fn a_full_std_writer_is_a_fault(rt: HostRuntime) {
     let mut sink = StdSink::new(Full);
     let outcome = write_whole(&mut sink, TEXT);
     assert!(rt; outcome.is_err());
-    assert!(rt; sink.faults.shown() == 1);
+    assert!(rt; sink.fault_count() == 1);
 }
