@@ -1,7 +1,7 @@
-use Rattle.std.proofs.Common.{◌≡◌, ℕ, ◌+◌, ◌-◌, length, take, drop, arith, Option, None, Some, List, [], ◌∷◌, ◌++◌, refl, sym, ap, ◌∙◌, append_assoc}
+use Rattle.std.proofs.Common.{◌≡◌, ℕ, ◌+◌, ◌-◌, length, take, drop, arith, Option, None, Some, List, ◌++◌, refl, sym, ap, ◌∙◌, append_assoc}
 use Rattle.std.proofs.Math.Seq.{take-add}
 use Rattle.std.proofs.lemmas.List.{length-drop, take_all}
-use Rattle.std.specs.Io.KnownBytes.{prepend_known, append_known, IsAtEnd}
+use Rattle.std.specs.Io.KnownBytes.{prepend_known, append_known}
 use Rattle.vr_outside.specs.Told.{Reads, Takes}
 
 -- told bytes behind two lists are told bytes behind the two as one

@@ -56,4 +56,3 @@ impl FaultCount {
         self.shown
     }
 }
-

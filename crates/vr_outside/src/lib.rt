@@ -11,8 +11,11 @@ pub mod memory_sink;
 pub mod memory_source;
 pub mod sink;
 pub mod source;
-pub mod std_pair;
+pub mod std_sink;
+pub mod std_source;
 pub mod steady;
+#[cfg(test)]
+mod tests;
 pub mod whole;
 
 pub use count::FaultCount;
@@ -21,6 +24,7 @@ pub use memory_sink::MemorySink;
 pub use memory_source::MemorySource;
 pub use sink::Sink;
 pub use source::Source;
-pub use std_pair::{StdSink, StdSource};
+pub use std_sink::StdSink;
+pub use std_source::StdSource;
 pub use steady::{SteadySink, SteadySource};
 pub use whole::write_whole;

@@ -31,13 +31,13 @@ impl Model for MemorySink {
     ghost Value = { SinkState };
 
     ghost view = { λ sink. record {
-        taken = sink.bytes.items;
-        most = sink.most;
-        fails = sink.fails.items;
-        takes_none = sink.takes_none.items;
-        calls = sink.calls;
-        faults = sink.faults;
-        refused = sink.refused;
+      taken = sink.bytes.items;
+      most = sink.most;
+      fails = sink.fails.items;
+      takes_none = sink.takes_none.items;
+      calls = sink.calls;
+      faults = sink.faults;
+      refused = sink.refused;
     } };
 }
 

@@ -30,11 +30,11 @@ impl Model for MemorySource {
     ghost Value = { SourceState };
 
     ghost view = { λ source. record {
-        left = source.bytes;
-        most = source.most;
-        fails = source.fails.items;
-        calls = source.calls;
-        faults = source.faults;
+      left = source.bytes;
+      most = source.most;
+      fails = source.fails.items;
+      calls = source.calls;
+      faults = source.faults;
     } };
 
     ghost invariant = { λ source. 0 < source.most };
