@@ -4,7 +4,9 @@
 // what it was copied from, and that a data set name is taken exactly where the catalog's rules allow it.
 #![tactic(auto)]
 
+pub mod blocks;
 pub mod fault;
+pub mod geometry;
 pub mod makers;
 pub mod memory;
 pub mod name;
@@ -14,7 +16,9 @@ pub mod unit;
 pub mod values;
 pub mod words;
 
+pub use blocks::Blocks;
 pub use fault::{DeviceFault, Failed};
+pub use geometry::Geometry;
 pub use makers::{bytes, empty_place, number_place, place};
 pub use memory::OutOfMemory;
 pub use name::{NAME_LIMIT, Name, NameFault, dataset_name};

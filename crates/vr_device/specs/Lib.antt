@@ -1,0 +1,10 @@
+pub mod Calls
+pub mod Choices
+pub mod Disk
+pub mod Entry
+pub mod History
+pub mod Kept
+pub mod Memory
+pub mod Named
+pub mod Told
+pub mod Untold

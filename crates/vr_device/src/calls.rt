@@ -1,0 +1,94 @@
+// Which calls of a device in memory fail, and what it counts.
+ghost use Rattle.std.specs.Prelude.{◌≡◌, ◌↔◌, IsTrue};
+ghost use Rattle.vr_device.specs.Calls.{IsToFail, uncalled, counted, read_failed, write_failed, write_refused, stopped};
+
+use std::marker::Model;
+
+/// The calls of a device in memory. A clause sees what it counts and which calls it fails. A count stands still at its
+/// type's end.
+#[derive(Drop)]
+pub(crate) struct Script {
+    calls: u64,
+    failing: Vec<u64>,
+    first_stopped: Option<u64>,
+    memory_faults: u64,
+    reads: u64,
+    writes: u64,
+}
+
+impl Model for Script {
+    ghost use Rattle.vr_device.specs.Calls.{Calls};
+
+    ghost Value = { Calls };
+
+    ghost view = { λ s. record { made = s.calls; fails = s.failing.items; stop = s.first_stopped; refused = s.memory_faults; read_faults = s.reads; write_faults = s.writes } };
+}
+
+impl Script {
+    /// A script in which the calls of these numbers fail, and no call was made.
+    pub(crate) fn new(failing: Vec<u64>) -> Self
+        ensures { result ≡ uncalled failing.items }
+    {
+        Script {
+            calls: 0,
+            failing,
+            first_stopped: None,
+            memory_faults: 0,
+            reads: 0,
+            writes: 0,
+        }
+    }
+
+    /// Counts a call, and tells whether it fails.
+    pub(crate) fn begin(&mut self) -> bool
+        ensures fails { IsTrue result ↔ IsToFail self.old }
+        ensures counted { self.new ≡ counted self.old }
+    {
+        let listed = self.failing.contains(&self.calls);
+        let past = self.first_stopped.is_some_and(|first| first <= self.calls);
+        self.calls = self.calls.saturating_add(1);
+        listed || past
+    }
+
+    pub(crate) fn fail_read(&mut self)
+        ensures { self.new ≡ read_failed self.old }
+    {
+        self.reads = self.reads.saturating_add(1);
+    }
+
+    pub(crate) fn fail_write(&mut self)
+        ensures { self.new ≡ write_failed self.old }
+    {
+        self.writes = self.writes.saturating_add(1);
+    }
+
+    /// A write or a sync failed for want of memory.
+    pub(crate) fn refuse(&mut self)
+        ensures { self.new ≡ write_refused self.old }
+    {
+        self.writes = self.writes.saturating_add(1);
+        self.memory_faults = self.memory_faults.saturating_add(1);
+    }
+
+    /// Makes every call from that number on fail.
+    pub(crate) fn stop(&mut self, call: u64)
+        ensures { self.new ≡ stopped call self.old }
+    {
+        self.first_stopped = Some(match self.first_stopped {
+            Some(first) => first.min(call),
+            None => call,
+        });
+    }
+
+    pub(crate) fn made(&self) -> u64
+        ensures { result ≡ self.now.made }
+    {
+        self.calls
+    }
+
+    pub(crate) fn refused(&self) -> u64
+        ensures { result ≡ self.now.refused }
+    {
+        self.memory_faults
+    }
+}

@@ -1,0 +1,127 @@
+// A device over one file of the host, which tells no content.
+ghost use Rattle.std.specs.Prelude.{◌≡◌};
+
+use crate::device::BlockDevice;
+use std::fs::{File, Files, OpenOptions};
+use std::os::unix::fs::FileExt;
+use vr_types::Failed;
+
+/// A device over one file of the host. Block `n` lies at byte `n * size` of the file, and a sync is the host's sync of
+/// the file's data. It tells no content, since no contract can say what a file holds. A missing or a short file is a
+/// device whose calls fail.
+#[derive(Drop)]
+pub struct FileDevice {
+    file: Option<File>,
+    size: u32,
+    blocks: u32,
+    reads_failed: u64,
+    writes_failed: u64,
+}
+
+impl FileDevice {
+    /// Makes the file new, of so many zero blocks. What stood there is gone.
+    pub fn create<R: Files<File = File>>(rt: &R, path: &str, size: u32, blocks: u32) -> FileDevice
+        ensures count { ⟦<FileDevice as BlockDevice>⟧.count result ≡ blocks }
+        ensures size { ⟦<FileDevice as BlockDevice>⟧.size result ≡ size }
+    {
+        let mut how = OpenOptions::new();
+        how.read(true).write(true).create(true).truncate(true);
+        let file = how.open(rt, path).ok();
+        let file = file.filter(|f| f.set_len(size as u64 * blocks as u64).is_ok());
+        FileDevice::over(file, size, blocks)
+    }
+
+    /// Opens the file of so many blocks, which stays as it is.
+    pub fn open<R: Files<File = File>>(rt: &R, path: &str, size: u32, blocks: u32) -> FileDevice
+        ensures count { ⟦<FileDevice as BlockDevice>⟧.count result ≡ blocks }
+        ensures size { ⟦<FileDevice as BlockDevice>⟧.size result ≡ size }
+    {
+        let mut how = OpenOptions::new();
+        how.read(true).write(true);
+        let file = how.open(rt, path).ok();
+        let file = file.filter(|f| holds(f, size as u64 * blocks as u64));
+        FileDevice::over(file, size, blocks)
+    }
+
+    fn over(file: Option<File>, size: u32, blocks: u32) -> FileDevice
+        ensures count { result.blocks ≡ blocks }
+        ensures size { result.size ≡ size }
+    {
+        FileDevice {
+            file,
+            size,
+            blocks,
+            reads_failed: 0,
+            writes_failed: 0,
+        }
+    }
+
+    // Where a block begins in the file.
+    fn start(&self, n: u32) -> u64 {
+        n as u64 * self.size as u64
+    }
+}
+
+// Whether the file has so many bytes.
+fn holds(file: &File, bytes: u64) -> bool {
+    file.metadata().is_ok_and(|about| bytes <= about.len())
+}
+
+impl BlockDevice for FileDevice {
+    ghost use Rattle.std.specs.Prelude.{false};
+    ghost use Rattle.vr_device.specs.Untold.{no_disk, no_image, not_told};
+
+    ghost tells = { false };
+
+    ghost count = { λ d. d.blocks };
+
+    ghost size = { λ d. d.size };
+
+    ghost disk = { λ _. no_disk };
+
+    ghost moment = { λ _. 0 };
+
+    ghost images = { λ _. no_image };
+
+    ghost read_faults = { λ d. d.reads_failed };
+
+    ghost write_faults = { λ d. d.writes_failed };
+
+    ghost images_now = { λ d image told. absurd (not_told told) };
+
+    ghost seen_may = { λ d told. absurd (not_told told) };
+
+    fn blocks(&self) -> u32 {
+        self.blocks
+    }
+
+    fn size(&self) -> u32 {
+        self.size
+    }
+
+    fn read(&mut self, n: u32, into: &mut [u8]) -> Result<(), Failed> {
+        let start = self.start(n);
+        if self.file.as_ref().is_some_and(|f| f.read_exact_at(into, start).is_ok()) {
+            return Ok(());
+        }
+        self.reads_failed = self.reads_failed.saturating_add(1);
+        Err(Failed)
+    }
+
+    fn write(&mut self, n: u32, from: &[u8]) -> Result<(), Failed> {
+        let start = self.start(n);
+        if self.file.as_ref().is_some_and(|f| f.write_all_at(from, start).is_ok()) {
+            return Ok(());
+        }
+        self.writes_failed = self.writes_failed.saturating_add(1);
+        Err(Failed)
+    }
+
+    fn sync(&mut self) -> Result<(), Failed> {
+        if self.file.as_ref().is_some_and(|f| f.sync_data().is_ok()) {
+            return Ok(());
+        }
+        self.writes_failed = self.writes_failed.saturating_add(1);
+        Err(Failed)
+    }
+}
