@@ -14,6 +14,8 @@ pub mod job;
 pub mod listing;
 pub mod record_file;
 pub mod run;
+#[cfg(test)]
+mod tests;
 pub mod trace;
 pub mod words;
 

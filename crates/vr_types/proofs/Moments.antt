@@ -28,14 +28,14 @@ module _ {D : Type 0} (moment : D → ℕ) (images : D → ℕ → Image → Typ
   during-then a b c P first second = record {
     forward = omega (arith, first.forward, second.forward);
     passed = λ t image past.
-      let still : t < moment b = omega (arith, past, first.forward) in (
-        λ left. (first.passed t image past).0 ((second.passed t image still).0 left),
-        λ left. (second.passed t image still).1 ((first.passed t image past).1 left),
-      );
+        let still : t < moment b = omega (arith, past, first.forward) in (
+          λ left. (first.passed t image past).0 ((second.passed t image still).0 left),
+          λ left. (second.passed t image still).1 ((first.passed t image past).1 left),
+        );
     kept = λ image left. ⊎_elim
         (λ past. (second.passed (moment a) image past).1 (first.kept image left))
         (λ present. let same : moment a ≡ moment b = omega (arith, present, first.forward) in
-          subst (λ s. images c s image) (sym same) (second.kept image (subst (λ s. images b s image) same (first.kept image left))))
+        subst (λ s. images c s image) (sym same) (second.kept image (subst (λ s. images b s image) same (first.kept image left))))
         (cases_lt (moment a) (moment b));
     each = λ t image from to left. ⊎_elim
         (λ past. first.each t image from (omega (arith, past)) ((second.passed t image past).0 left))
