@@ -1,6 +1,5 @@
 -- What follows from a call's answer, whichever it is.
-use Rattle.std.proofs.Common.{◌≡◌, Result, Ok, Err, OnOk, OnErr, ap, ◌∙◌, subst, sym, arith}
-use Rattle.vr_types.specs.Faults.{raised, Rises}
+use Rattle.std.proofs.Common.{Result, Ok, Err, OnOk, OnErr}
 
 -- what follows from either outcome
 pub either : {T E : Type 0} (r : Result T E) (P Q R : Type 0) → OnOk r P → OnErr r Q → (P → R) → (Q → R) → R

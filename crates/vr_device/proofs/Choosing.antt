@@ -1,12 +1,12 @@
 -- One step of the loops over a device's past.
-use Rattle.std.proofs.Common.{◌≡◌, ◌⊎◌, ⊎_elim, ◌<◌, ◌≤◌, ◌-◌, ℕ, true, false, true≢false, Option, Some, None, Bor, is_none, is_some, option_copied, slice_get, drop, take_all, length-drop, zero, suc, ◌+◌, List, [], ◌∷◌, ◌++◌, length, get_or, take, map, set, Vec, refl, sym, ap, subst, ◌∙◌, arith, rules, take-suc, add-one}
+use Rattle.std.proofs.Common.{◌≡◌, ⊎_elim, ◌<◌, ◌≤◌, ◌-◌, ℕ, true, false, true≢false, Option, Some, None, Bor, is_none, is_some, option_copied, slice_get, drop, take_all, length-drop, zero, suc, ◌+◌, List, [], ◌∷◌, ◌++◌, length, get_or, take, map, set, Vec, refl, sym, ap, subst, ◌∙◌, arith}
 use Rattle.std.specs.List.{AllByRecursion}
 use Rattle.std.specs.declared.alloc.Global.{Global}
 use Rattle.std.proofs.lemmas.Option.{slice_get_cases}
-use Rattle.vr_types.specs.Image.{Block, Image, block_at}
+use Rattle.vr_types.specs.Image.{Block}
 use Rattle.std.proofs.lemmas.List.{drop-map, map-append, take-map, map-set, take_more}
 use Rattle.vr_device.specs.Disk.{Disk}
-use Rattle.vr_device.specs.History.{Event, wrote, failed, forced, after, after_all, fresh, EventFits, IsWithin}
+use Rattle.vr_device.specs.History.{Event, wrote, failed, forced, after, after_all, EventFits, IsWithin}
 use Rattle.vr_device.specs.Entry.{blocks_of, event_of, events_of}
 use Rattle.vr_device.specs.declared.history.Entry.{Entry}
 use Rattle.vr_device.specs.declared.history.Entry.TheVariants.{Wrote, Failed, Forced}

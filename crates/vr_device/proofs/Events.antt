@@ -1,13 +1,11 @@
 -- What a device's past makes of its disk.
-use Rattle.std.proofs.Common.{◌≡◌, ◌⊎◌, inl, inr, ⊎_elim, ℕ, suc, ◌+◌, ◌<◌, ◌≤◌, List, [], ◌∷◌, ◌++◌, length, take, get_or, set, All, refl, sym, ap, subst, ◌∙◌, arith, rules, take_all, length-append}
-use Rattle.std.specs.List.{AllByRecursion}
+use Rattle.std.proofs.Common.{◌≡◌, ⊎_elim, ℕ, ◌+◌, ◌≤◌, List, [], ◌∷◌, ◌++◌, length, refl, sym, ap, subst, ◌∙◌, arith, length-append}
 use Rattle.std.proofs.lemmas.Bool.{cases_lt}
 use Rattle.std.proofs.lemmas.List.{take-append-le}
-use Rattle.vr_types.specs.Image.{Block, Image, IsImage, block_at}
+use Rattle.vr_types.specs.Image.{Image, IsImage}
 use Rattle.vr_types.specs.Moments.{During}
-use Rattle.vr_types.proofs.Moments.{during-none, during-weaken}
-use Rattle.vr_device.specs.Disk.{Disk, MayHold, IsWhole, written, tried, synced}
-use Rattle.vr_device.specs.History.{Event, wrote, failed, forced, after, after_all, fresh, Past, disk_of, ImageAt, with_event}
+use Rattle.vr_device.specs.Disk.{Disk, MayHold}
+use Rattle.vr_device.specs.History.{Event, after, after_all, fresh, Past, disk_of, ImageAt, with_event}
 use Rattle.vr_device.specs.Told.{images-now}
 
 pub after_all-append : (xs ys : List Event) (disk : Disk) → after_all (xs ++ ys) disk ≡ after_all ys (after_all xs disk)
@@ -24,8 +22,8 @@ during-same past_of old new P same here =
       passed = λ t image past. (subst (λ p. ImageAt p t image) same, subst (λ p. ImageAt p t image) (sym same));
       kept = λ image left. subst (λ p. ImageAt p (length (past_of old).events) image) (sym same) left;
       each = λ t image from to left.
-        let at : t ≡ length (past_of old).events = omega (arith, now, from, to) in
-        here image (images-now (past_of old) image (subst (λ s. ImageAt (past_of old) s image) at (subst (λ p. ImageAt p t image) same left)));
+          let at : t ≡ length (past_of old).events = omega (arith, now, from, to) in
+          here image (images-now (past_of old) image (subst (λ s. ImageAt (past_of old) s image) at (subst (λ p. ImageAt p t image) same left)));
     }
 
 pub disk-event : (past : Past) (event : Event) → disk_of (with_event past event) ≡ after event (disk_of past)
@@ -48,20 +46,20 @@ during-event past_of old new event P is here then =
     record {
       forward = omega (arith, now);
       passed = λ t image past.
-        let same = image-earlier p event t image (omega (arith, past)) in (
-          λ left. cast same (subst (λ q. ImageAt q t image) is left),
-          λ left. subst (λ q. ImageAt q t image) (sym is) (cast (sym same) left),
-        );
+          let same = image-earlier p event t image (omega (arith, past)) in (
+            λ left. cast same (subst (λ q. ImageAt q t image) is left),
+            λ left. subst (λ q. ImageAt q t image) (sym is) (cast (sym same) left),
+          );
       kept = λ image left. subst (λ q. ImageAt q (length p.events) image) (sym is) (cast (sym (image-earlier p event (length p.events) image (omega arith))) left);
       each = λ t image from to left.
-        let held = subst (λ q. ImageAt q t image) is left in
-        ⊎_elim
-        (λ past.
+          let held = subst (λ q. ImageAt q t image) is left in
+          ⊎_elim
+          (λ past.
           let at : t ≡ length p.events = omega (arith, past, from) in
           here image (images-now p image (subst (λ s. ImageAt p s image) at (cast (image-earlier p event t image (omega (arith, past))) held))))
-        (λ later.
+          (λ later.
           let at : t ≡ length (p.events ++ event ∷ []) = omega (arith, now, later, to, length-append p.events (event ∷ [])) in
           then image (subst (λ d. IsImage (length p.start) (MayHold d) image) (disk-event p event)
-            (images-now (with_event p event) image (subst (λ s. ImageAt (with_event p event) s image) at held))))
-        (cases_lt t (length p.events + 1));
+          (images-now (with_event p event) image (subst (λ s. ImageAt (with_event p event) s image) at held))))
+          (cases_lt t (length p.events + 1));
     }

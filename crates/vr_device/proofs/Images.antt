@@ -1,9 +1,9 @@
 -- The images that a disk may leave, and the choices that give them.
-use Rattle.std.proofs.Common.{◌≡◌, ◌⊎◌, ⊎_elim, ◌<◌, ℕ, zero, suc, List, [], ◌∷◌, length, get_or, slice_get, slice_index, Some, None, is_some, true≢false, All, Contains, refl, sym, ap, subst, ◌∙◌, arith}
+use Rattle.std.proofs.Common.{◌≡◌, ◌<◌, ℕ, zero, suc, List, [], ◌∷◌, length, get_or, slice_get, slice_index, Some, All, refl, ap, ◌∙◌, arith}
 use Rattle.std.proofs.lemmas.Option.{slice_get_within, get_or_from_slice_get}
 use Rattle.std.proofs.lemmas.List.{get_or_default}
 use Rattle.vr_types.specs.Image.{Image, IsImage, block_at}
-use Rattle.vr_device.specs.Disk.{Disk, choices_of, MayHold, IsWhole, IsFit, IsChosen, IsSomeChoice}
+use Rattle.vr_device.specs.Disk.{Disk, choices_of, MayHold, IsWhole, IsChosen, IsSomeChoice}
 
 found-at : {X : Type 0} (xs : List X) (k : ℕ) (x : X) → k < length xs → get_or xs k x ≡ x → slice_get xs k ≡ Some x
 found-at [] k x below is = absurd (omega (arith, below))
@@ -15,8 +15,8 @@ pub chosen-image : (count : ℕ) (disk : Disk) (choice : List ℕ) (image : Imag
 chosen-image count disk choice image chosen = record {
   length_is = chosen.length_is;
   each = λ n below.
-    let k = slice_index choice n in
-    (k, slice_get_within (choices_of disk n) k (block_at image n) (chosen.each n below), get_or_from_slice_get (choices_of disk n) k (block_at image n) (block_at image n) (chosen.each n below));
+      let k = slice_index choice n in
+      (k, slice_get_within (choices_of disk n) k (block_at image n) (chosen.each n below), get_or_from_slice_get (choices_of disk n) k (block_at image n) (block_at image n) (chosen.each n below));
 }
 
 -- the blocks of an image have the size of a block
@@ -40,5 +40,5 @@ listed (suc count) P each =
 pub some-choice : (count : ℕ) (disk : Disk) (image : Image) → IsImage count (MayHold disk) image → IsSomeChoice count disk image
 some-choice count disk image is =
     let list = listed count (λ n k. (k < length (choices_of disk n)) × (slice_get (choices_of disk n) k ≡ Some (block_at image n)))
-        (λ n below. let held = is.each n below in (held.0, (held.1, found-at (choices_of disk n) held.0 (block_at image n) held.1 held.2))) in
+    (λ n below. let held = is.each n below in (held.0, (held.1, found-at (choices_of disk n) held.0 (block_at image n) held.1 held.2))) in
     (list.0, record { length_is = list.1; each = λ n below. (list.2 n below).0 }, record { length_is = is.length_is; each = λ n below. (list.2 n below).1 })

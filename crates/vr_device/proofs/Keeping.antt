@@ -1,10 +1,10 @@
 -- One more event in a history keeps what a history keeps.
-use Rattle.std.proofs.Common.{◌≡◌, ℕ, ◌+◌, ◌<◌, ◌≤◌, List, [], ◌∷◌, ◌++◌, length, take, drop, map, get_or, Vec, refl, sym, ap, subst, ◌∙◌, arith, length-append, take_all}
+use Rattle.std.proofs.Common.{◌≡◌, ℕ, ◌+◌, ◌<◌, ◌≤◌, List, [], ◌∷◌, ◌++◌, length, take, drop, get_or, Vec, refl, sym, ap, subst, ◌∙◌, arith, length-append, take_all}
 use Rattle.std.specs.List.{AllByRecursion}
 use Rattle.std.proofs.lemmas.List.{take-append-le, drop-append-le, map-append, length-map, drop_all, get_or-map}
-use Rattle.vr_types.specs.Image.{Block, Image, block_at}
+use Rattle.vr_types.specs.Image.{Block, block_at}
 use Rattle.vr_device.specs.Disk.{Disk, IsWhole}
-use Rattle.vr_device.specs.History.{Event, wrote, failed, forced, after, after_all, fresh, Past, disk_of, with_event, EventFits, writes_in}
+use Rattle.vr_device.specs.History.{Event, wrote, failed, forced, after, after_all, fresh, disk_of, EventFits, writes_in}
 use Rattle.vr_device.specs.Entry.{blocks_of, events_of, event_of}
 use Rattle.vr_device.specs.Kept.{IsKept, past_of}
 use Rattle.std.specs.declared.alloc.Global.{Global}
@@ -49,7 +49,7 @@ module _ (h : Inside) (kept : IsKept h) (seen' : Vec (Vec ℕ Global) Global) (e
         ∙ ap (λ es. (after_all es (fresh (blocks_of h.start.items))).seen) (sym (ap (λ es. take h.stable_at es) events_is ∙ take-append-le h.stable_at (events_of h.entries.items) (event_of entry ∷ []) known));
     writes = ap (λ d. d.writes) disk_is ∙ adds (disk_of (past_of h)) ∙ ap (λ ws. ws ++ write ∷ []) kept.writes
         ∙ sym (ap (λ es. writes_in (drop h.stable_at es)) events_is ∙ ap writes_in (drop-append-le h.stable_at (events_of h.entries.items) (event_of entry ∷ []) known)
-          ∙ writes_in-append (drop h.stable_at (events_of h.entries.items)) (event_of entry ∷ []) ∙ ap (λ ws. writes_in (drop h.stable_at (events_of h.entries.items)) ++ ws) is);
+        ∙ writes_in-append (drop h.stable_at (events_of h.entries.items)) (event_of entry ∷ []) ∙ ap (λ ws. writes_in (drop h.stable_at (events_of h.entries.items)) ++ ws) is);
   }
 
   -- a sync
@@ -88,4 +88,4 @@ pub seen-size : (h : Inside) → IsKept h → (n : ℕ) (block : Vec ℕ Global)
 seen-size h kept n block below is =
     ap length (seen-block h kept n block below is)
     ∙ (sized-of (past_of h) kept.sizes (subst (λ n. AllByRecursion (EventFits n h.size) (events_of h.entries.items)) (sym (length-map h.start.items (λ block. block.items))) kept.fits)).seen n
-        (omega (arith, below, length-map h.start.items (λ block. block.items)))
+    (omega (arith, below, length-map h.start.items (λ block. block.items)))

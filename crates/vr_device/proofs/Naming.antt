@@ -1,5 +1,5 @@
 -- What each call leaves of two blocks and of a third that names them.
-use Rattle.std.proofs.Common.{◌≡◌, ◌≢◌, ◌⊎◌, ⊎_elim, ◌<◌, ℕ, [], length, get_or, set, sym, ap, subst, ◌∙◌, arith, get_or-set_same, get_or-set_other, length-set}
+use Rattle.std.proofs.Common.{◌≡◌, ◌≢◌, ⊎_elim, ◌<◌, ℕ, [], length, set, sym, ◌∙◌, arith, get_or-set_same, get_or-set_other, length-set}
 use Rattle.vr_types.specs.Image.{Block, Image, IsImage, block_at}
 use Rattle.vr_device.specs.Disk.{Disk, MayHold, written, synced}
 use Rattle.vr_device.specs.Choices.{MayHold-written, MayHold-synced}
@@ -48,5 +48,5 @@ module _ (count : ℕ) (disk : Disk) (first second third : ℕ) (left right name
       MayHold-synced (written both third name) second (block_at image second) (is.each second below_second) ∙ get_or-set_other both.seen third second name [] (λ e. not_second (sym e)) ∙ seen-second,
     ),
     MayHold-synced (written both third name) third (block_at image third) (is.each third below_third)
-    ∙ get_or-set_same both.seen third name [] (omega (arith, long, below_third, length-set disk.seen first left, length-set (set disk.seen first left) second right)),
+        ∙ get_or-set_same both.seen third name [] (omega (arith, long, below_third, length-set disk.seen first left, length-set (set disk.seen first left) second right)),
   )

@@ -1,10 +1,10 @@
 -- The contents that a choice names, in what a history keeps.
-use Rattle.std.proofs.Common.{◌≡◌, ◌⊎◌, ⊎_elim, inl, inr, ◌<◌, ◌≤◌, ◌+◌, ◌-◌, ℕ, suc, List, [], ◌∷◌, length, slice_get, slice_index, take, drop, Some, None, Vec, refl, sym, ap, subst, ◌∙◌, arith}
+use Rattle.std.proofs.Common.{◌≡◌, ⊎_elim, ◌<◌, ◌+◌, ◌-◌, ℕ, suc, List, [], ◌∷◌, length, slice_get, slice_index, take, drop, Vec, sym, ap, subst, ◌∙◌, arith}
 use Rattle.std.specs.List.{AllByRecursion}
 use Rattle.std.proofs.lemmas.Bool.{cases_lt}
 use Rattle.std.proofs.lemmas.List.{take-map, length-map}
-use Rattle.vr_types.specs.Image.{Image, Block, block_at}
-use Rattle.vr_device.specs.Disk.{Disk, contents_of, choices_of, IsFit, IsMisfit, IsChosen}
+use Rattle.vr_types.specs.Image.{Image, block_at}
+use Rattle.vr_device.specs.Disk.{contents_of, choices_of, IsChosen}
 use Rattle.vr_device.specs.History.{Past, disk_of, writes_in, after_all, fresh, contents_from, ArePicked, IsWithin}
 use Rattle.vr_device.specs.Entry.{event_of, events_of, blocks_of}
 use Rattle.vr_device.specs.Kept.{IsKept, past_of}
@@ -24,7 +24,6 @@ module _ (h : Inside) (kept : IsKept h) (p : Past) (view_is : past_of h ≡ p) (
   pub choices-long : (n : ℕ) → length (choices_of (disk_of p) n) ≡ length (contents_from [] (events_of (since h entries)) n)
   choices-long n = ap (λ ws. suc (length (contents_of ws n))) writes-since
 
-
 -- one block more
 pub each-next : (P : ℕ → Type 0) (n : ℕ) → ((m : ℕ) → m < n → P m) → P n → (m : ℕ) → m < n + 1 → P m
 each-next P n below this m less = ⊎_elim (λ before. below m before) (λ now. let same : n ≡ m = omega (arith, less, now) in subst P same this) (cases_lt m n)
@@ -35,7 +34,7 @@ module _ (h : Inside) (kept : IsKept h) where
   stable-within count entries same all =
       subst (λ n. AllByRecursion (IsWithin n) (events_of (take h.stable_at entries))) (sym same)
       (subst (λ es. AllByRecursion (IsWithin (length h.start.items)) es) (sym (ap (λ es. events_of (take h.stable_at es)) all ∙ sym (take-map event_of h.stable_at h.entries.items)))
-        (within-take (length h.start.items) h.size (events_of h.entries.items) h.stable_at kept.fits))
+      (within-take (length h.start.items) h.size (events_of h.entries.items) h.stable_at kept.fits))
 
   pub stable-is : (p : Past) → past_of h ≡ p → (blocks : Image) (entries : List Entry) → blocks ≡ blocks_of h.start.items → entries ≡ h.entries.items
       → (after_all (events_of (take h.stable_at entries)) (fresh blocks)).seen ≡ (disk_of p).stable
@@ -50,8 +49,8 @@ module _ (h : Inside) (kept : IsKept h) where
   picked-chosen p view_is entries all stable blocks choice same long picked = record {
     length_is = picked.length_is ∙ long;
     each = λ n below.
-      ap (λ l. slice_get l (slice_index choice n)) (ap (λ b. b ∷ contents_of (disk_of p).writes n) (ap (λ bs. block_at bs n) (sym same)) ∙ ap (λ ws. block_at stable n ∷ contents_of ws n) (writes-since h kept p view_is entries all))
-      ∙ picked.each n (omega (arith, below, long));
+        ap (λ l. slice_get l (slice_index choice n)) (ap (λ b. b ∷ contents_of (disk_of p).writes n) (ap (λ bs. block_at bs n) (sym same)) ∙ ap (λ ws. block_at stable n ∷ contents_of ws n) (writes-since h kept p view_is entries all))
+        ∙ picked.each n (omega (arith, below, long));
   }
 
 pub same-count : (xs ys : List (Vec ℕ Global)) → blocks_of xs ≡ blocks_of ys → length xs ≡ length ys

@@ -1,9 +1,9 @@
 -- Every content on the disk of a past has the size of a block.
-use Rattle.std.proofs.Common.{◌≡◌, ◌⊎◌, inl, inr, ⊎_elim, ℕ, ◌<◌, List, [], ◌∷◌, length, get_or, set, All, refl, sym, ap, subst, ◌∙◌, arith, get_or-set_same, get_or-set_other, length-set}
+use Rattle.std.proofs.Common.{◌≡◌, ⊎_elim, ℕ, ◌<◌, List, [], ◌∷◌, length, get_or, set, All, refl, sym, ap, subst, ◌∙◌, arith, get_or-set_same, get_or-set_other, length-set}
 use Rattle.std.specs.List.{AllByRecursion}
 use Rattle.std.proofs.lemmas.Bool.{cases_eq}
-use Rattle.vr_types.specs.Image.{Block, Image, block_at}
-use Rattle.vr_device.specs.Disk.{Disk, MayHold, IsWhole, written, tried, synced}
+use Rattle.vr_types.specs.Image.{Block, block_at}
+use Rattle.vr_device.specs.Disk.{Disk, IsWhole, written}
 use Rattle.vr_device.specs.History.{Event, wrote, failed, forced, after, after_all, fresh, Past, disk_of, EventFits}
 use Rattle.vr_device.specs.Choices.{MayHold-written, MayHold-synced}
 

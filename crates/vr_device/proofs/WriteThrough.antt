@@ -1,14 +1,14 @@
 -- What a call of the device leaves is what blocks that are written through promise.
-use Rattle.std.proofs.Common.{◌≡◌, ◌⊎◌, inl, inr, ⊎_elim, ◌<◌, ◌≤◌, ℕ, Bool, Result, Ok, Err, IsTrue, OnOk, OnErr, IfErr, is_ok, true, false, true≢false, refl, sym, ap, subst, ◌∙◌, arith}
+use Rattle.std.proofs.Common.{◌≡◌, ◌⊎◌, inl, inr, ⊎_elim, ℕ, Bool, Result, Ok, Err, IsTrue, OnOk, IfErr, is_ok, true, false, true≢false, sym, ap, subst, arith}
 use Rattle.std.specs.Result.{IsErrOf}
-use Rattle.vr_types.specs.Image.{Block, Image, IsImage, MayAlso, block_at}
+use Rattle.vr_types.specs.Image.{Block, Image, IsImage, block_at}
 use Rattle.vr_types.specs.Moments.{During}
-use Rattle.vr_types.specs.Blocks.{Keeps, Puts, AddsNone}
+use Rattle.vr_types.specs.Blocks.{Keeps, Puts}
 use Rattle.vr_types.specs.Faults.{Rises, HasCause}
 use Rattle.vr_types.specs.declared.fault.DeviceFault.{DeviceFault}
 use Rattle.vr_types.specs.declared.fault.DeviceFault.TheVariants.{Read, Write}
 use Rattle.vr_types.proofs.Moments.{during-weaken}
-use Rattle.vr_device.specs.Disk.{Disk, MayHold, MayHaveWritten, written, tried, synced}
+use Rattle.vr_device.specs.Disk.{Disk, MayHold, MayHaveWritten, written, synced}
 use Rattle.vr_device.specs.Choices.{MayHold-written, MayHold-synced}
 
 module _ {D : Type 0} (tells : Bool) (count size : D → ℕ) (disk : D → Disk) (moment : D → ℕ) (images : D → ℕ → Image → Type 0) (old new : D) (counts : count new ≡ count old) (widths : size new ≡ size old) where

@@ -1,11 +1,11 @@
 -- What a write and a sync make of the contents that a crash may leave.
-use Rattle.std.proofs.Common.{◌≡◌, ◌≢◌, ◌⊎◌, inl, inr, ⊎_elim, ℕ, zero, suc, ◌<◌, ◌==◌, Bool, true, false, List, [], ◌∷◌, ◌++◌, length, get_or, map, set, Contains, refl, sym, ap, subst, ◌∙◌, arith, rules, eqb-true, eq-eqb, ne_eqb, get_or-set_same, get_or-set_other, length-set, if◌then◌else◌}
+use Rattle.std.proofs.Common.{◌≡◌, ◌⊎◌, inl, inr, ⊎_elim, ℕ, zero, suc, ◌==◌, List, [], ◌∷◌, ◌++◌, get_or, map, set, Contains, refl, sym, ap, subst, ◌∙◌, arith, eq-eqb, ne_eqb, get_or-set_same, get_or-set_other, length-set, if◌then◌else◌}
 use Rattle.std.specs.List.{filter}
 use Rattle.std.proofs.lemmas.Bool.{cases_eq}
 use Rattle.std.proofs.lemmas.List.{map-append}
-use Rattle.std.proofs.lemmas.List.Elements.{filter-append, Contains-append_left, Contains-append_right, Contains-append_cases, Contains-push}
+use Rattle.std.proofs.lemmas.List.Elements.{filter-append, Contains-append_left, Contains-append_cases, Contains-push}
 use Rattle.vr_types.specs.Image.{Block, Image, IsImage, block_at}
-use Rattle.vr_device.specs.Disk.{Disk, contents_of, choices_of, MayHold, IsWhole, written, tried, synced}
+use Rattle.vr_device.specs.Disk.{Disk, contents_of, choices_of, MayHold, written, tried, synced}
 
 contents_of-append : (xs ys : List (ℕ × Block)) (n : ℕ) → contents_of (xs ++ ys) n ≡ contents_of xs n ++ contents_of ys n
 contents_of-append xs ys n =
@@ -61,7 +61,7 @@ IsReadable-written count disk m bytes readable = record {
   length_is = length-set disk.seen m bytes ∙ readable.length_is;
   each = λ n below. ⊎_elim
       (λ same. subst (λ k. MayHold (written disk m bytes) k (get_or (set disk.seen m bytes) k [])) (sym same)
-        (subst (λ b. MayHold (written disk m bytes) m b) (sym (get_or-set_same disk.seen m bytes [] (omega (arith, readable.length_is, same, below)))) (MayHold-new disk m bytes)))
+      (subst (λ b. MayHold (written disk m bytes) m b) (sym (get_or-set_same disk.seen m bytes [] (omega (arith, readable.length_is, same, below)))) (MayHold-new disk m bytes)))
       (λ other. subst (λ b. MayHold (written disk m bytes) n b) (sym (get_or-set_other disk.seen m n bytes [] (λ e. other e))) (MayHold-kept disk m bytes n (block_at disk.seen n) (readable.each n below)))
       (cases_eq n m);
 }

@@ -1,5 +1,5 @@
 -- What stands for the content of a device that tells none.
-use Rattle.std.specs.Prelude.{◌≡◌, ℕ, [], true, false, IsTrue}
+use Rattle.std.specs.Prelude.{ℕ, [], false, IsTrue}
 use Rattle.std.proofs.Common.{true≢false, sym}
 use Rattle.vr_types.specs.Image.{Image}
 use Rattle.vr_device.specs.Disk.{Disk}

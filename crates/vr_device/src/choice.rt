@@ -38,7 +38,12 @@ pub(crate) fn written_at(entries: &[Entry], n: u32, count: u32) -> Option<&[u8]>
 }
 
 /// The content that a choice names: at 0 the stable one, and then those written since, the oldest first.
-pub(crate) fn content_at<'a>(stable: &'a [u8], since: &'a [Entry], n: u32, choice: u32) -> Option<&'a [u8]>
+pub(crate) fn content_at<'a>(
+    stable: &'a [u8],
+    since: &'a [Entry],
+    n: u32,
+    choice: u32,
+) -> Option<&'a [u8]>
     ensures { option_copied result ≡ slice_get (stable.now ∷ contents_of (writes_in (events_of since.now)) n) choice }
 {
     if choice == 0 {
@@ -81,7 +86,11 @@ pub(crate) fn copy_of_blocks(alloc: Global, blocks: &[Vec<u8>]) -> Result<Vec<Ve
 }
 
 /// Makes the writes that succeeded among these events to the blocks.
-pub(crate) fn replay(alloc: Global, blocks: &mut [Vec<u8>], entries: &[Entry]) -> Result<(), AllocError>
+pub(crate) fn replay(
+    alloc: Global,
+    blocks: &mut [Vec<u8>],
+    entries: &[Entry],
+) -> Result<(), AllocError>
     requires { AllByRecursion (IsWithin (length blocks.old)) (events_of entries.now) }
     ensures { OnOk result (blocks_of blocks.new ≡ (after_all (events_of entries.now) (fresh (blocks_of blocks.old))).seen) }
 {
@@ -94,7 +103,12 @@ pub(crate) fn replay(alloc: Global, blocks: &mut [Vec<u8>], entries: &[Entry]) -
 }
 
 /// The contents that a choice names, one for each of these blocks.
-pub(crate) fn pick(alloc: Global, stable: &[Vec<u8>], since: &[Entry], choice: &[u32]) -> Result<Vec<Vec<u8>>, AllocError>
+pub(crate) fn pick(
+    alloc: Global,
+    stable: &[Vec<u8>],
+    since: &[Entry],
+    choice: &[u32],
+) -> Result<Vec<Vec<u8>>, AllocError>
     requires count { length choice.now ≡ length stable.now }
     requires count_fits { length stable.now < 2 ^ 32 }
     requires fits { (n : ℕ) → n < length stable.now → slice_index choice.now n < length (contents_from (blocks_of stable.now) (events_of since.now) n) }

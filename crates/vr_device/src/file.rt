@@ -101,7 +101,11 @@ impl BlockDevice for FileDevice {
 
     fn read(&mut self, n: u32, into: &mut [u8]) -> Result<(), Failed> {
         let start = self.start(n);
-        if self.file.as_ref().is_some_and(|f| f.read_exact_at(into, start).is_ok()) {
+        if self
+            .file
+            .as_ref()
+            .is_some_and(|f| f.read_exact_at(into, start).is_ok())
+        {
             return Ok(());
         }
         self.reads_failed = self.reads_failed.saturating_add(1);
@@ -110,7 +114,11 @@ impl BlockDevice for FileDevice {
 
     fn write(&mut self, n: u32, from: &[u8]) -> Result<(), Failed> {
         let start = self.start(n);
-        if self.file.as_ref().is_some_and(|f| f.write_all_at(from, start).is_ok()) {
+        if self
+            .file
+            .as_ref()
+            .is_some_and(|f| f.write_all_at(from, start).is_ok())
+        {
             return Ok(());
         }
         self.writes_failed = self.writes_failed.saturating_add(1);

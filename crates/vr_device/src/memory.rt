@@ -132,7 +132,12 @@ impl BlockDevice for MemoryDevice {
 }
 
 /// A device of so many zero blocks of so many bytes, whose calls of these numbers fail.
-pub fn memory_device(alloc: Global, size: u32, blocks: u32, fails: &[u64]) -> Result<MemoryDevice, OutOfMemory>
+pub fn memory_device(
+    alloc: Global,
+    size: u32,
+    blocks: u32,
+    fails: &[u64],
+) -> Result<MemoryDevice, OutOfMemory>
     ensures past { IfOk result (λ d. past_in d ≡ unwritten size (replicate blocks (replicate size 0))) }
     ensures calls { IfOk result (λ d. calls_in d ≡ uncalled fails.now) }
 {

@@ -1,9 +1,11 @@
 // What no clause says: the worked examples, the host's file, and that calls succeed where there is memory.
+ghost use Rattle.std.specs.Prelude.{◌≡◌, ◌<◌, length};
+
 use super::*;
 use std::alloc::Global;
 use std::fs;
 use std::test::Fail;
-use vr_types::{Blocks, Failed};
+use vr_types::{Blocks, DeviceFault, Failed};
 
 const OLD: [u8; 2] = [0, 0];
 
@@ -23,7 +25,11 @@ fn written(alloc: Global, fails: &[u64]) -> Result<MemoryDevice, Fail> {
 }
 
 // The blocks of the image that a choice gives.
-fn image_blocks(alloc: Global, device: &MemoryDevice, choice: &[u32]) -> Result<[[u8; 2]; 2], ImageNo> {
+fn image_blocks(
+    alloc: Global,
+    device: &MemoryDevice,
+    choice: &[u32],
+) -> Result<[[u8; 2]; 2], ImageNo> {
     let mut image = device.image(alloc, choice)?;
     let mut blocks = [OLD, OLD];
     for n in 0..2usize {
@@ -48,8 +54,14 @@ fn writes_without_a_sync_have_an_image_for_each_choice(rt: HostRuntime) -> Resul
     }
     device.sync()?;
     assert_eq!(rt; image_blocks(alloc, &device, &[0, 0]), Ok([[2, 2], [3, 3]]));
-    assert_eq!(rt; image_blocks(alloc, &device, &[1, 0]), Err(ImageNo::Choice { block: 0 }));
-    assert_eq!(rt; image_blocks(alloc, &device, &[0, 1]), Err(ImageNo::Choice { block: 1 }));
+    assert_eq!(rt;
+        image_blocks(alloc, &device, &[1, 0]),
+        Err(ImageNo::Choice { block: 0 })
+    );
+    assert_eq!(rt;
+        image_blocks(alloc, &device, &[0, 1]),
+        Err(ImageNo::Choice { block: 1 })
+    );
     assert_eq!(rt; device.calls(), 4);
     assert_eq!(rt; device.refused(), 0);
     Ok(())
@@ -68,7 +80,11 @@ fn a_choice_that_fits_no_image_names_the_block(rt: HostRuntime) -> Result<(), Fa
         (&[2, 1, 0], 2),
     ];
     for (choice, block) in cases {
-        assert_eq!(rt; image_blocks(alloc, &device, choice), Err(ImageNo::Choice { block }), "{choice:?}");
+        assert_eq!(rt;
+            image_blocks(alloc, &device, choice),
+            Err(ImageNo::Choice { block }),
+            "{choice:?}"
+        );
     }
     Ok(())
 }
@@ -109,14 +125,22 @@ fn a_stopped_device_fails_from_that_call_on(rt: HostRuntime) -> Result<(), Fail>
     Ok(())
 }
 
+// Puts a block, forces it, and tells whether `get` lends it.
+fn is_kept<B: Blocks>(blocks: &mut B, n: u32, bytes: &[u8]) -> Result<bool, DeviceFault>
+    requires block { n < B.count blocks.old }
+    requires whole { length bytes.now ≡ B.size blocks.old }
+{
+    blocks.put(n, bytes)?;
+    blocks.force(&[n])?;
+    Ok(blocks.get(n)? == bytes)
+}
+
 #[test]
 fn blocks_over_a_device_are_written_through(rt: HostRuntime) -> Result<(), Fail> {
     let alloc = rt.alloc();
     let device = memory_device(alloc, 2, 2, &[3])?;
     let mut blocks = direct(alloc, device).ok().ok_or("no memory")?;
-    blocks.put(1, &[5, 6])?;
-    blocks.force(&[1])?;
-    assert_eq!(rt; blocks.get(1), Ok([5u8, 6].as_slice()));
+    assert!(rt; is_kept(&mut blocks, 1, &[5, 6])?);
     let mut device = blocks.into_inner();
     assert_eq!(rt; device.calls(), 3);
     assert_eq!(rt; device.sync(), Err(Failed));
@@ -132,7 +156,10 @@ fn a_third_block_names_two_that_stand(rt: HostRuntime) -> Result<(), Fail> {
     let mut into = OLD;
     device.read(2, &mut into)?;
     assert_eq!(rt; into, [7, 7]);
-    assert_eq!(rt; device.image(alloc, &[0, 0, 1]).err(), Some(ImageNo::Choice { block: 2 }));
+    assert_eq!(rt;
+        device.image(alloc, &[0, 0, 1]).err(),
+        Some(ImageNo::Choice { block: 2 })
+    );
     Ok(())
 }
 
@@ -163,8 +190,8 @@ fn a_file_gives_back_what_was_written_and_synced(rt: HostRuntime) -> Result<(), 
     assert_eq!(rt; quad(&mut short, 0), None);
     fs::remove_file(&rt, PATH)?;
     let mut missing = FileDevice::open(&rt, PATH, 4, 3);
-    assert_eq!(rt; quad(&mut missing, 0), None);
     assert_eq!(rt; missing.write(0, b"abcd"), Err(Failed));
     assert_eq!(rt; missing.sync(), Err(Failed));
+    assert_eq!(rt; quad(&mut missing, 0), None);
     Ok(())
 }

@@ -1,5 +1,5 @@
 -- How a run of calls goes on: what each call leaves at its moments is carried over all of them.
-use Rattle.std.proofs.Common.{◌≡◌, ◌<◌, ◌≤◌, ◌⊎◌, inl, inr, ⊎_elim, ℕ, arith, sym, subst}
+use Rattle.std.proofs.Common.{◌≡◌, ◌<◌, ⊎_elim, ℕ, arith, sym, subst}
 use Rattle.std.proofs.lemmas.Bool.{cases_lt}
 use Rattle.vr_types.specs.Image.{Image}
 use Rattle.vr_types.specs.Moments.{During, EachSince}

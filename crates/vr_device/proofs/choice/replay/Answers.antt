@@ -1,5 +1,5 @@
-use Rattle.std.proofs.Common.{◌≡◌, ◌<◌, length, take, ap, sym, subst, ◌∙◌, rules, arith}
-use Rattle.vr_device.specs.History.{after, after_all, fresh, IsWithin}
+use Rattle.std.proofs.Common.{◌≡◌, length, take, ap, sym, subst, ◌∙◌, rules, arith}
+use Rattle.vr_device.specs.History.{after_all, fresh, IsWithin}
 use Rattle.vr_device.specs.Entry.{blocks_of, event_of, events_of}
 use Rattle.vr_device.proofs.Choosing.{seen-next, seen-wrote, seen-other, within-at}
 use Rattle.vr_device.proofs.choice.replay.Goals.{in-Wrote+in_ok-blocks, in_default}
@@ -17,7 +17,7 @@ loop-entry-preserved c =
     let so_far = after_all (events_of (take c.loop-entry.entry-index c.args.entries.now)) (fresh (blocks_of c.args.blocks.now)) in
     elim c.match-entry.branch [
       | in-Wrote+in_ok-blocks w ↦
-        let same : w.in_ok-blocks.field-0.items ≡ w.in-Wrote.bytes.items = search rules in
-        ap blocks_of w.blocks-is ∙ seen-wrote c.loop-entry.blocks w.in-Wrote.block w.in_ok-blocks.field-0 w.in-Wrote.bytes c.entry-item.result so_far w.in-Wrote.is same c.loop-entry.invariant ∙ ap (λ d. d.seen) (sym next)
+          let same : w.in_ok-blocks.field-0.items ≡ w.in-Wrote.bytes.items = search rules in
+          ap blocks_of w.blocks-is ∙ seen-wrote c.loop-entry.blocks w.in-Wrote.block w.in_ok-blocks.field-0 w.in-Wrote.bytes c.entry-item.result so_far w.in-Wrote.is same c.loop-entry.invariant ∙ ap (λ d. d.seen) (sym next)
       | in_default w ↦ ap blocks_of w.blocks-is ∙ c.loop-entry.invariant ∙ sym (ap (λ d. d.seen) next ∙ seen-other c.entry-item.result so_far w.in_default.not-Wrote)
     ]

@@ -1,4 +1,4 @@
-use Rattle.std.proofs.Common.{◌≡◌, ap, sym, subst, ◌∙◌}
+use Rattle.std.proofs.Common.{◌≡◌, ap, subst, ◌∙◌}
 use Rattle.vr_types.specs.Image.{Image, IsImage}
 use Rattle.vr_types.proofs.Moments.{during-weaken, during-then}
 use Rattle.vr_device.specs.Disk.{Disk, MayHold, written}
@@ -24,7 +24,7 @@ returns-in_err-write-2-clause-moments g c told =
     during-then D.moment D.images old one c.write-2.new.self P
     (during-weaken D.moment D.images old one _ P (c.write.ensures.moments told) (others-one (D.count old) (D.disk old) c.args.first c.args.second c.args.left.now))
     (during-weaken D.moment D.images one c.write-2.new.self _ P (c.write-2.ensures.moments told)
-      (λ image is. others-two (D.count old) (D.disk old) c.args.first c.args.second c.args.left.now c.args.right.now image (subst (λ (Q : Image → Type 0). Q image) same is)))
+    (λ image is. others-two (D.count old) (D.disk old) c.args.first c.args.second c.args.left.now c.args.right.now image (subst (λ (Q : Image → Type 0). Q image) same is)))
 
 pub returns-clause-moments : goal.returns-clause-moments
 returns-clause-moments g c told =
@@ -41,6 +41,6 @@ returns-clause-moments g c told =
     let fits = others-two (D.count old) (D.disk old) c.args.first c.args.second c.args.left.now c.args.right.now in
     during-then D.moment D.images old two c.sync.new.self P
     (during-then D.moment D.images old one two P
-      (during-weaken D.moment D.images old one _ P (c.write.ensures.moments told) (others-one (D.count old) (D.disk old) c.args.first c.args.second c.args.left.now))
-      (during-weaken D.moment D.images one two _ P (c.write-2.ensures.moments told) (λ image is. fits image (subst (λ (Q : Image → Type 0). Q image) same is))))
+    (during-weaken D.moment D.images old one _ P (c.write.ensures.moments told) (others-one (D.count old) (D.disk old) c.args.first c.args.second c.args.left.now))
+    (during-weaken D.moment D.images one two _ P (c.write-2.ensures.moments told) (λ image is. fits image (subst (λ (Q : Image → Type 0). Q image) same is))))
     (during-weaken D.moment D.images two c.sync.new.self _ P (c.sync.ensures.moments told) (λ image is. fits image (subst (λ (Q : Image → Type 0). Q image) after is)))

@@ -1,8 +1,8 @@
-use Rattle.std.proofs.Common.{◌≡◌, ap, sym, subst, ◌∙◌, Result, Ok, Err, OnOk}
-use Rattle.vr_types.specs.Image.{Image, IsImage, block_at}
+use Rattle.std.proofs.Common.{◌≡◌, ap, subst, ◌∙◌}
+use Rattle.vr_types.specs.Image.{Image, IsImage}
 use Rattle.vr_types.proofs.Moments.{during-weaken, during-then}
 use Rattle.vr_device.specs.Disk.{Disk, MayHold, written, synced}
-use Rattle.vr_device.specs.Named.{HasBoth, NamesWritten}
+use Rattle.vr_device.specs.Named.{NamesWritten}
 use Rattle.vr_device.proofs.Answering.{on_ok}
 use Rattle.vr_device.proofs.Naming.{unnamed-others, both-stand, all-stand}
 use Rattle.vr_device.proofs.named.write_named.Goals as goal
@@ -28,9 +28,9 @@ returns-clause-any_moment g c told =
     ap (λ n. IsImage n (MayHold (written (D.disk mid) a.third a.name.now))) c.write_both.ensures.count ∙ ap (λ (d : Disk). IsImage (D.count old) (MayHold (written d a.third a.name.now))) (c.in_ok-write_both.ensures.ok told) in
     during-then D.moment D.images old mid new P
     (during-weaken D.moment D.images old mid _ P (c.write_both.ensures.moments told)
-      (λ image keeps. unnamed-others (D.count old) (D.disk old) a.first a.second a.third a.left.now a.right.now a.name.now image c.requires.blocks.2 c.requires.distinct.1 c.requires.distinct.2 (c.requires.unnamed told) keeps))
+    (λ image keeps. unnamed-others (D.count old) (D.disk old) a.first a.second a.third a.left.now a.right.now a.name.now image c.requires.blocks.2 c.requires.distinct.1 c.requires.distinct.2 (c.requires.unnamed told) keeps))
     (during-weaken D.moment D.images mid new _ P (c.write_one.ensures.moments told)
-      (λ image is names. both-stand (D.count old) (D.disk old) a.first a.second a.third a.left.now a.right.now a.name.now long c.requires.blocks.0 c.requires.blocks.1 c.requires.blocks.2 c.requires.distinct.0 c.requires.distinct.1 c.requires.distinct.2 image (subst (λ (Q : Image → Type 0). Q image) same is)))
+    (λ image is names. both-stand (D.count old) (D.disk old) a.first a.second a.third a.left.now a.right.now a.name.now long c.requires.blocks.0 c.requires.blocks.1 c.requires.blocks.2 c.requires.distinct.0 c.requires.distinct.1 c.requires.distinct.2 image (subst (λ (Q : Image → Type 0). Q image) same is)))
 
 pub returns-clause-ok : goal.returns-clause-ok
 returns-clause-ok g c told =
@@ -43,9 +43,9 @@ returns-clause-ok g c told =
     let Done = D.disk new ≡ synced (written (D.disk mid) a.third a.name.now) in
     on_ok c.write_one.result Done _ (c.write_one.ensures.ok told)
     (λ done image left.
-      let is = g.met.D.BlockDevice.images_now new image told left in
-      let same : IsImage (D.count new) (MayHold (D.disk new)) ≡ IsImage (D.count old) (MayHold (synced (written (synced (written (written (D.disk old) a.first a.left.now) a.second a.right.now)) a.third a.name.now))) =
-      ap (λ n. IsImage n (MayHold (D.disk new))) (c.write_one.ensures.count ∙ c.write_both.ensures.count)
-      ∙ ap (λ (d : Disk). IsImage (D.count old) (MayHold d)) (done ∙ ap (λ d. synced (written d a.third a.name.now)) (c.in_ok-write_both.ensures.ok told)) in
-      all-stand (D.count old) (D.disk old) a.first a.second a.third a.left.now a.right.now a.name.now long c.requires.blocks.0 c.requires.blocks.1 c.requires.blocks.2 c.requires.distinct.0 c.requires.distinct.1 c.requires.distinct.2 image
-      (subst (λ (Q : Image → Type 0). Q image) same is))
+    let is = g.met.D.BlockDevice.images_now new image told left in
+    let same : IsImage (D.count new) (MayHold (D.disk new)) ≡ IsImage (D.count old) (MayHold (synced (written (synced (written (written (D.disk old) a.first a.left.now) a.second a.right.now)) a.third a.name.now))) =
+    ap (λ n. IsImage n (MayHold (D.disk new))) (c.write_one.ensures.count ∙ c.write_both.ensures.count)
+    ∙ ap (λ (d : Disk). IsImage (D.count old) (MayHold d)) (done ∙ ap (λ d. synced (written d a.third a.name.now)) (c.in_ok-write_both.ensures.ok told)) in
+    all-stand (D.count old) (D.disk old) a.first a.second a.third a.left.now a.right.now a.name.now long c.requires.blocks.0 c.requires.blocks.1 c.requires.blocks.2 c.requires.distinct.0 c.requires.distinct.1 c.requires.distinct.2 image
+    (subst (λ (Q : Image → Type 0). Q image) same is))

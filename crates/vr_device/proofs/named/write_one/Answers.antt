@@ -1,4 +1,4 @@
-use Rattle.std.proofs.Common.{◌≡◌, ap, sym, subst, ◌∙◌}
+use Rattle.std.proofs.Common.{◌≡◌, ap, subst, ◌∙◌}
 use Rattle.vr_types.specs.Image.{Image, IsImage}
 use Rattle.vr_types.proofs.Moments.{during-weaken, during-then}
 use Rattle.vr_device.specs.Disk.{Disk, MayHold, written}

@@ -1,6 +1,6 @@
-use Rattle.std.proofs.Common.{◌≡◌, ◌<◌, ◌≤◌, ◌⊎◌, ⊎_elim, inl, inr, ℕ, true, true≢false, length, slice_index, ap, sym, subst, ◌∙◌, arith, rules}
+use Rattle.std.proofs.Common.{◌≡◌, ◌<◌, ◌≤◌, ⊎_elim, inl, ℕ, true, length, slice_index, ap, sym, ◌∙◌, arith, rules}
 use Rattle.std.proofs.lemmas.Bool.{cases_lt}
-use Rattle.vr_device.specs.Disk.{choices_of, IsFit, IsMisfit}
+use Rattle.vr_device.specs.Disk.{choices_of}
 use Rattle.vr_device.specs.History.{Past, disk_of}
 use Rattle.std.proofs.lemmas.List.{length-map}
 use Rattle.vr_device.proofs.Selecting.{choices-long, each-next}

@@ -1,4 +1,4 @@
-use Rattle.std.proofs.Common.{◌≡◌, ◌<◌, ℕ, length, slice_index}
+use Rattle.std.proofs.Common.{◌<◌, ℕ, length, slice_index}
 use Rattle.vr_device.specs.Disk.{choices_of}
 use Rattle.vr_device.specs.History.{disk_of}
 use Rattle.vr_device.proofs.history.History.misfit.Given as goal

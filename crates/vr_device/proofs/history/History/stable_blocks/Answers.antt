@@ -1,4 +1,4 @@
-use Rattle.std.proofs.Common.{◌≡◌, length, drop, ap, sym, ◌∙◌, arith, take_at}
+use Rattle.std.proofs.Common.{◌≡◌, length, drop, ap, sym, ◌∙◌, take_at}
 use Rattle.std.proofs.lemmas.List.{length-map}
 use Rattle.vr_device.specs.Entry.{blocks_of}
 use Rattle.vr_device.specs.History.{Past}

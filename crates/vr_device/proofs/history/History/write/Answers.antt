@@ -1,4 +1,4 @@
-use Rattle.std.proofs.Common.{◌≡◌, ◌<◌, [], ◌∷◌, length, refl, ap, sym, ◌∙◌, set, arith, rules}
+use Rattle.std.proofs.Common.{◌≡◌, ◌<◌, length, refl, ap, sym, ◌∙◌, set, arith, rules}
 use Rattle.std.proofs.lemmas.List.{length-map, map-set}
 use Rattle.vr_device.specs.History.{Past, disk_of}
 use Rattle.vr_device.specs.Kept.{past_of}
@@ -20,5 +20,5 @@ invariant_of-self-2 c =
     let same : c.in_ok-bytes.bytes.items ≡ c.args.from.now = search rules in
     let size : length c.in_ok-bytes.bytes.items ≡ c.self.inside.size = ap length same ∙ c.requires.whole ∙ ap (λ (p : Past). p.size) (sym c.self.view_is) in
     let seen = map-set (λ v. v.items) c.self.inside.seen.items c.args.n c.copy_from_slice.new.self
-        ∙ ap (λ bs. set bs c.args.n c.copy_from_slice.new.self.items) c.self.invariant.seen ∙ ap (λ b. set (disk_of (past_of c.self.inside)).seen c.args.n b) (c.copy_from_slice.ensures.items ∙ sym same) in
+    ∙ ap (λ bs. set bs c.args.n c.copy_from_slice.new.self.items) c.self.invariant.seen ∙ ap (λ b. set (disk_of (past_of c.self.inside)).seen c.args.n b) (c.copy_from_slice.ensures.items ∙ sym same) in
     kept-write c.self.inside c.self.invariant _ c.push.new.self _ c.in_ok-push.ensures.items (below, size) seen (c.args.n, c.in_ok-bytes.bytes.items) (λ d. refl) (λ d. refl) refl

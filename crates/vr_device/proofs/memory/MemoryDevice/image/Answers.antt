@@ -1,7 +1,6 @@
-use Rattle.std.proofs.Common.{◌≡◌, length, All, ap, sym, ◌∙◌, subst, arith}
+use Rattle.std.proofs.Common.{◌≡◌, length, All, sym, subst, arith}
 use Rattle.std.proofs.lemmas.List.{length-map}
-use Rattle.vr_types.specs.Image.{Image, IsImage}
-use Rattle.vr_device.specs.Disk.{MayHold, IsChosen}
+use Rattle.vr_device.specs.Disk.{IsChosen}
 use Rattle.vr_device.specs.Entry.{blocks_of}
 use Rattle.vr_device.specs.History.{Past, disk_of}
 use Rattle.vr_device.specs.Memory.{past_in}

@@ -1,13 +1,13 @@
 -- What the device's own clauses say of a call is what a block device promises.
-use Rattle.std.proofs.Common.{◌≡◌, ◌⊎◌, inl, inr, ⊎_elim, ℕ, List, length, refl, ap, sym, ◌∙◌, subst, arith, ◌≤◌, OnOk, OnErr}
-use Rattle.vr_types.specs.Image.{Block, Image, IsImage, block_at}
+use Rattle.std.proofs.Common.{◌≡◌, ◌⊎◌, inl, inr, ⊎_elim, ℕ, length, ap, ◌∙◌, arith}
+use Rattle.vr_types.specs.Image.{Block, Image, IsImage}
 use Rattle.vr_types.specs.Moments.{During}
-use Rattle.vr_types.specs.Faults.{raised, Rises}
-use Rattle.vr_device.specs.Disk.{Disk, MayHold, MayHaveWritten, written, synced, tried}
+use Rattle.vr_types.specs.Faults.{Rises}
+use Rattle.vr_device.specs.Disk.{MayHold, MayHaveWritten, written, synced}
 use Rattle.vr_device.specs.Choices.{image-written, image-synced}
 use Rattle.vr_device.specs.Told.{readable-of}
 use Rattle.vr_device.specs.History.{Past, disk_of, with_event, wrote, failed, forced, ImageAt}
-use Rattle.vr_device.specs.Calls.{Calls, counted, read_failed, write_failed, write_refused}
+use Rattle.vr_device.specs.Calls.{Calls, counted, read_failed}
 use Rattle.vr_device.specs.Memory.{past_in, calls_in, IsFailedWrite, IsFailedSync, IsRefused}
 use Rattle.vr_device.specs.declared.memory.MemoryDevice.{MemoryDevice}
 use Rattle.vr_device.proofs.Answering.{either, on_ok, on_err}
@@ -57,12 +57,12 @@ write-tells x c =
           either c.result Done Not (During (λ (d : MemoryDevice). length (past_in d).events) (λ (d : MemoryDevice). ImageAt (past_in d)) old new P) c.ensures.ok c.ensures.err
           (λ e. during-event past_in old new (wrote n bytes) P e (before n bytes old) (λ image is. is))
           (λ no. ⊎_elim
-            (λ f. during-event past_in old new (failed n bytes) P f.past (before n bytes old) (λ image is. is))
-            (λ f. during-same past_in old new P f.past (before n bytes old)) no);
+          (λ f. during-event past_in old new (failed n bytes) P f.past (before n bytes old) (λ image is. is))
+          (λ f. during-same past_in old new P f.past (before n bytes old)) no);
       fault = (
         on_ok c.result Counted ((calls_in new).write_faults ≡ (calls_in old).write_faults) c.ensures.counted (λ e. ap (λ (k : Calls). k.write_faults) e),
         on_err c.result Not (Rises (calls_in old).write_faults (calls_in new).write_faults) c.ensures.err
-          (λ no. ⊎_elim (λ f. omega (arith, ap (λ (k : Calls). k.write_faults) f.calls)) (λ f. omega (arith, ap (λ (k : Calls). k.write_faults) f.calls)) no),
+            (λ no. ⊎_elim (λ f. omega (arith, ap (λ (k : Calls). k.write_faults) f.calls)) (λ f. omega (arith, ap (λ (k : Calls). k.write_faults) f.calls)) no),
       );
       read_faults = either c.result Counted Not ((calls_in new).read_faults ≡ (calls_in old).read_faults) c.ensures.counted c.ensures.err
           (λ e. ap (λ (k : Calls). k.read_faults) e) (λ no. ⊎_elim (λ f. ap (λ (k : Calls). k.read_faults) f.calls) (λ f. ap (λ (k : Calls). k.read_faults) f.calls) no);
@@ -91,7 +91,7 @@ sync-tells x c =
       fault = (
         on_ok c.result Counted ((calls_in new).write_faults ≡ (calls_in old).write_faults) c.ensures.counted (λ e. ap (λ (k : Calls). k.write_faults) e),
         on_err c.result Not (Rises (calls_in old).write_faults (calls_in new).write_faults) c.ensures.err
-          (λ no. ⊎_elim (λ f. omega (arith, ap (λ (k : Calls). k.write_faults) f.calls)) (λ f. omega (arith, ap (λ (k : Calls). k.write_faults) f.calls)) no),
+            (λ no. ⊎_elim (λ f. omega (arith, ap (λ (k : Calls). k.write_faults) f.calls)) (λ f. omega (arith, ap (λ (k : Calls). k.write_faults) f.calls)) no),
       );
       read_faults = either c.result Counted Not ((calls_in new).read_faults ≡ (calls_in old).read_faults) c.ensures.counted c.ensures.err
           (λ e. ap (λ (k : Calls). k.read_faults) e) (λ no. ⊎_elim (λ f. ap (λ (k : Calls). k.read_faults) f.calls) (λ f. ap (λ (k : Calls). k.read_faults) f.calls) no);

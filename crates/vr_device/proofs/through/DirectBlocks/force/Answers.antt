@@ -17,7 +17,7 @@ returns-clause-after g c =
     let P = D.disk new ≡ synced (D.disk was) in
     let Q = D.disk new ≡ D.disk was in
     let kept = keeps D.tells D.count D.size D.disk D.moment D.images was new e.count e.size (g.met.D.BlockDevice.seen_may was)
-        (λ told. either c.sync.result P Q (Q ⊎ P) (e.synced told) (e.failed told) (λ yes. inr yes) (λ no. inl no)) e.moments in
+    (λ told. either c.sync.result P Q (Q ⊎ P) (e.synced told) (e.failed told) (λ yes. inr yes) (λ no. inl no)) e.moments in
     subst (λ old. Keeps D.tells D.count D.size (λ d. (D.disk d).seen) (λ d. MayHold (D.disk d)) D.moment D.images old new) c.self.view_is kept
 
 pub returns-clause-cause : goal.returns-clause-cause

@@ -1,4 +1,4 @@
-use Rattle.std.proofs.Common.{◌≡◌, ◌⊎◌, inl, inr, Ok, Err, refl, sym, subst}
+use Rattle.std.proofs.Common.{◌≡◌, inr, Ok, Err, refl, sym, subst}
 use Rattle.vr_types.specs.declared.fault.DeviceFault.TheVariants.{Write}
 use Rattle.vr_types.specs.Blocks.{Puts}
 use Rattle.vr_types.specs.Faults.{HasCause}
@@ -19,7 +19,7 @@ returns-clause-after g c =
     let P = D.disk new ≡ written (D.disk was) n bytes in
     let Q = MayHaveWritten (D.disk was) n bytes (D.disk new) in
     let left = puts D.tells D.count D.size D.disk D.moment D.images was new e.count e.size n bytes
-        (λ told. either c.write.result P Q Q (e.written told) (e.failed told) (λ yes. inr (inr yes)) (λ no. no)) e.moments in
+    (λ told. either c.write.result P Q Q (e.written told) (e.failed told) (λ yes. inr (inr yes)) (λ no. no)) e.moments in
     subst (λ old. Puts D.tells D.count D.size (λ d. (D.disk d).seen) (λ d. MayHold (D.disk d)) D.moment D.images n bytes old new) c.self.view_is left
 
 pub returns-clause-cause : goal.returns-clause-cause
