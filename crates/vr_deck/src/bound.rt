@@ -37,6 +37,7 @@ impl DeckRequests {
         }
     }
 
+    /// The requests, in order.
     pub fn as_slice(&self) -> &[Bound]
         ensures { result.now ≡ self.now }
     {

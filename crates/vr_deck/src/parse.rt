@@ -12,7 +12,10 @@ use bstr::{ByteSlice, Lines};
 use std::alloc::Global;
 use vr_types::{Bytes, bytes};
 
-/// The job of a text, or its first fault, in one pass over its lines.
+/// The job of a text of at most 64 MiB, in one pass over its lines: a card `//step EXEC PGM=VRMDECK`, a card
+/// `//DECK1 DD *`, and the lines of the deck. Cards are those of MVS JCL, requests those of Using Data Sets; the form
+/// of a deck is this project's own. `Form` names the first line that no job text has there, `Memory` says that memory
+/// ran out. The bytes of a literal are copied once, out of the text.
 pub fn parse_job(alloc: Global, text: &[u8]) -> Result<JobText, JobFault>
     requires { length text.now ≤ 2 ^ 26 }
     ensures job { IfOk result (IsJobText text.now) }
@@ -83,7 +86,7 @@ fn add_line(alloc: Global, deck: &mut DeckText, number: u32, line: &[u8]) -> Res
     }
 }
 
-/// Adds what a line says to the deck so far: a file is declared once, and before it is used.
+/// Adds what a line says to the deck so far. A file is declared once, and before it is used.
 fn add(alloc: Global, deck: &mut DeckText, number: u32, read: DeckLine) -> Result<(), JobFault>
     ensures ok { OnOk result (Adds number (meaning_of read.entry) deck.old.file deck.old.orders deck.new.file deck.new.orders) }
     ensures fault { IfErr result (CannotAdd number (meaning_of read.entry) deck.old.file deck.old.orders) }

@@ -53,6 +53,7 @@ impl Orders {
         }
     }
 
+    /// The orders, in order.
     pub fn as_slice(&self) -> &[Order]
         ensures { result.now ≡ self.now }
     {
