@@ -1,0 +1,158 @@
+// The pool as threads share it.
+ghost use Rattle.std.specs.Prelude.{◌≡◌, ◌+◌};
+
+use crate::ends::{count_home, empty};
+use crate::frame::Frame;
+use crate::seat::FrameSeat;
+use crate::view::{Buffer, Claim, Law, OnePart, Release, SlotIn, SlotOut, Together, View};
+use atomic_table::{Seat, Table};
+use std::alloc::Global;
+use std::snapshot::Snapshot;
+
+type Place = Seat<Option<Buffer>, View>;
+
+/// Buffer frames of one size, which all volumes share. Threads call it through a `&`, each with a seat of its own.
+#[derive(Drop)]
+pub struct Pool {
+    pub(crate) table: Table<Option<Buffer>, View, u32, Law, Global>,
+    pub(crate) frames: u32,
+    ghost counts: { (table.shared.table_id.slots ≡ frames) × (table.shared.table_id.words ≡ frames + 1) },
+}
+
+impl Pool {
+    ghost use Rattle.std.specs.Prelude.{◌-◌, ◌<◌, ◌≤◌, ◌++◌, [], IfSome, IfNone, MatchBool, MatchOption, vec_len, length};
+    ghost use Rattle.vr_frames.specs.Frames.{frame_count, frame_size, frames_of, parts_of, failed_claims, Holds, IsSeatOf, IsFrameOf, IsSameSeat, Gets, FindsAllOut, Returns};
+    ghost use Rattle.vr_frames.specs.Search.{IsIdle, Carries, Tried, Won, Brought};
+
+    /// Takes a frame that is home, and looks first behind the frame that this seat took last. `None` comes only where each frame
+    /// of the pool, at a step of this call on its own word, was out.
+    pub fn take(&self, seat: &mut FrameSeat) -> Option<Frame>
+        requires { IsSeatOf self.now seat.old }
+        ensures same { IsSameSeat seat.old seat.new × IsSeatOf self.now seat.new }
+        ensures frame { IfSome result (IsFrameOf self.now) }
+        ensures some { IfSome result (λ frame. Gets seat.old frame seat.new) }
+        ensures none { IfNone result (FindsAllOut self.now seat.old seat.new) }
+    {
+        let number = self.claim_first(&mut seat.place, seat.next)?;
+        let buffer = self.bring_out(&mut seat.place, number);
+        seat.next = number + 1;
+        Some(Frame {
+            number,
+            buffer,
+            origin: Snapshot::of(self),
+        })
+    }
+
+    /// Gives back a frame that was taken with this seat, or with one that was joined into it.
+    pub fn give(&self, seat: &mut FrameSeat, frame: Frame)
+        requires seat { IsSeatOf self.now seat.old }
+        requires frame { IsFrameOf self.now frame × Holds seat.old frame.number }
+        ensures same { IsSameSeat seat.old seat.new × IsSeatOf self.now seat.new }
+        ensures given { Returns seat.old frame seat.new }
+    {
+        let Frame {
+            number,
+            buffer,
+            origin: _,
+        } = frame;
+        let shared = &self.table.shared;
+        shared.load::<SlotOut>(&mut seat.place, number);
+        drop(shared.exchange(&mut seat.place, number, Some(buffer)));
+        shared.store::<Release>(&mut seat.place, number, 0);
+    }
+
+    /// A new seat, with one part of this one's. It has no frame.
+    pub fn split(&self, seat: &mut FrameSeat) -> FrameSeat
+        requires seat { IsSeatOf self.now seat.old }
+        requires parts { 1 < parts_of seat.old }
+        ensures left { IsSeatOf self.now seat.new × (parts_of seat.new ≡ parts_of seat.old - 1) × (frames_of seat.new ≡ frames_of seat.old) × ((k : _) → failed_claims seat.new k ≡ failed_claims seat.old k) }
+        ensures right { IsSeatOf self.now result × (parts_of result ≡ 1) × (frames_of result ≡ []) × ((k : _) → failed_claims result k ≡ 0) }
+    {
+        let next = seat.next;
+        let place = self.table.shared.split_seat::<OnePart>(&mut seat.place);
+        FrameSeat { place, next }
+    }
+
+    /// Gives one seat all that another has: its parts and its frames.
+    pub fn join(&self, seat: &mut FrameSeat, other: FrameSeat)
+        requires seat { IsSeatOf self.now seat.old }
+        requires other { IsSeatOf self.now other }
+        ensures seat { IsSeatOf self.now seat.new }
+        ensures parts { parts_of seat.new ≡ parts_of seat.old + parts_of other }
+        ensures frames { frames_of seat.new ≡ frames_of seat.old ++ frames_of other }
+        ensures claims { (k : _) → failed_claims seat.new k ≡ failed_claims seat.old k + failed_claims other k }
+    {
+        let FrameSeat { place, next: _ } = other;
+        self.table
+            .shared
+            .join_seat::<Together>(&mut seat.place, place);
+    }
+
+    /// Ends the pool, and answers how many frames were home. The seat with all 1,024 parts knows each frame that is out.
+    pub fn close(self, seat: FrameSeat) -> u32
+        requires { IsSeatOf self seat }
+        ensures most { result + length (frames_of seat) ≤ frame_count self }
+        ensures last { parts_of seat ≡ 1024 → result + length (frames_of seat) ≡ frame_count self }
+    {
+        let FrameSeat { place, next: _ } = seat;
+        let frames = self.frames;
+        let Pool { table, frames: _ } = self;
+        let closed = table.close_with(place);
+        let home = count_home(&closed, frames);
+        empty(closed);
+        home
+    }
+
+    // Claims the first frame from `start` on, and round to it, whose word says home.
+    fn claim_first(&self, place: &mut Place, start: usize) -> Option<usize>
+        requires idle { IsIdle self.now place.old }
+        requires start { start ≤ frame_count self.now }
+        ensures none { IfNone result (Tried place.old place.new 0 (frame_count self.now)) }
+        ensures some { IfSome result (λ number. Won place.old place.new number × (number < frame_count self.now)) }
+    {
+        match self.claim_within(place, start, self.frames as usize) {
+            Some(number) => Some(number),
+            None => self.claim_within(place, 0, start),
+        }
+    }
+
+    // Claims the first frame from `from` up to `to` whose word says home.
+    fn claim_within(&self, place: &mut Place, from: usize, to: usize) -> Option<usize>
+        requires idle { IsIdle self.now place.old }
+        requires range { (from ≤ to) × (to ≤ frame_count self.now) }
+        ensures none { IfNone result (Tried place.old place.new from to) }
+        ensures some { IfSome result (λ number. Won place.old place.new number × (number < frame_count self.now)) }
+    {
+        for number in from..to {
+            if self.claim(place, number) {
+                return Some(number);
+            }
+        }
+        None
+    }
+
+    // One claim. It fails where the frame is out.
+    fn claim(&self, place: &mut Place, number: usize) -> bool
+        requires idle { IsIdle self.now place.old }
+        requires number { number < frame_count self.now }
+        ensures { MatchBool result (Won place.old place.new number) (Tried place.old place.new number (number + 1)) }
+    {
+        let found = self
+            .table
+            .shared
+            .compare_exchange::<Claim>(place, number, 0, 1);
+        found == 0
+    }
+
+    // The buffer of a claimed frame. Its slot goes back empty.
+    fn bring_out(&self, place: &mut Place, number: usize) -> Buffer
+        requires { Carries self.now place.old number }
+        ensures whole { vec_len result ≡ frame_size self.now }
+        ensures brought { Brought place.old place.new number }
+    {
+        let shared = &self.table.shared;
+        let buffer = shared.exchange(place, number, None).unwrap();
+        shared.load::<SlotIn>(place, number);
+        buffer
+    }
+}
