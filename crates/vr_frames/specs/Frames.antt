@@ -36,7 +36,7 @@ IsSeatOf pool seat = (seat.place.table_id ≡ id_of pool) × (seat.place.me.0.si
 
 -- the frame is of the pool, and whole
 abbrev pub IsFrameOf : Pool → Frame → Type 0
-IsFrameOf pool frame = (id_of frame.origin.value ≡ id_of pool) × (vec_len frame.buffer ≡ frame_size pool)
+IsFrameOf pool frame = (id_of frame.origin.value ≡ id_of pool) × (frame.number < frame_count pool) × (vec_len frame.buffer ≡ frame_size pool)
 
 -- it is the same seat, with the same parts
 abbrev pub IsSameSeat : FrameSeat → FrameSeat → Type 0

@@ -1,0 +1,64 @@
+-- How often a frame stands in a list, and sums over the views.
+use Rattle.std.proofs.Common.{◌≡◌, ◌≢◌, ℕ, zero, suc, ◌+◌, ◌<◌, ◌≤◌, List, [], ◌∷◌, ◌++◌, Bool, true, false, cond, not, eqb, set, length, sym, refl, ap, ◌∙◌, subst, arith, eq-eqb, ne_eqb}
+use Rattle.std.specs.Prelude.{◌==◌, sum_by, filter}
+use Rattle.std.proofs.lemmas.List.Sums.{sum_by-cons, sum_by-append}
+use mathlib.Core.Logic.{dite}
+use mathlib.Core.Option.{some, some-injective, some-ne-none}
+use native.Mathlib.Decide.{ℕ_discrete}
+use lib.ListN.{get_elem?}
+use Rattle.vr_frames.specs.Views.{times, without}
+
+module _ {A : Type 0} (f : A → ℕ) where
+  -- the sum after a change of one element
+  pub sum_set : (vs : List A) (j : ℕ) (v w : A) → get_elem? vs j ≡ some v → sum_by f (set vs j w) + f v ≡ sum_by f vs + f w
+  sum_set [] j v w e = absurd (some-ne-none v (sym e))
+  sum_set (x ∷ xs) zero v w e = omega (arith, sum_by-cons f w xs, sum_by-cons f x xs, ap f (some-injective x v e))
+  sum_set (x ∷ xs) (suc j) v w e = omega (arith, sum_by-cons f x (set xs j w), sum_by-cons f x xs, sum_set xs j v w e)
+
+  -- no element counts for more than all
+  pub term_le : (vs : List A) (j : ℕ) (v : A) → get_elem? vs j ≡ some v → f v ≤ sum_by f vs
+  term_le [] j v e = absurd (some-ne-none v (sym e))
+  term_le (x ∷ xs) zero v e = omega (arith, sum_by-cons f x xs, ap f (some-injective x v e))
+  term_le (x ∷ xs) (suc j) v e = omega (arith, sum_by-cons f x xs, term_le xs j v e)
+
+  -- nor do two
+  pub terms_le : (vs : List A) (j k : ℕ) (v w : A) → j ≢ k → get_elem? vs j ≡ some v → get_elem? vs k ≡ some w → f v + f w ≤ sum_by f vs
+  terms_le [] j k v w n e e' = absurd (some-ne-none v (sym e))
+  terms_le (x ∷ xs) zero zero v w n e e' = absurd (n refl)
+  terms_le (x ∷ xs) zero (suc k) v w n e e' = omega (arith, sum_by-cons f x xs, ap f (some-injective x v e), term_le xs k w e')
+  terms_le (x ∷ xs) (suc j) zero v w n e e' = omega (arith, sum_by-cons f x xs, ap f (some-injective x w e'), term_le xs j v e)
+  terms_le (x ∷ xs) (suc j) (suc k) v w n e e' = omega (arith, sum_by-cons f x xs, terms_le xs j k v w (λ same. n (ap suc same)) e e')
+
+  pub sum_push : (vs : List A) (w : A) → sum_by f (vs ++ w ∷ []) ≡ sum_by f vs + f w
+  sum_push vs w = omega (arith, sum_by-append f vs (w ∷ []), sum_by-cons f w [])
+
+-- 1 for the frame itself, and 0 for another
+abbrev pub one_if : ℕ → ℕ → ℕ
+one_if k x = cond (x == k) 1 0
+
+pub one_if-same : (k x : ℕ) → x ≡ k → one_if k x ≡ 1
+one_if-same k x e = ap (λ (b : Bool). cond b 1 0) (eq-eqb x k e)
+
+pub one_if-other : (k x : ℕ) → x ≢ k → one_if k x ≡ 0
+one_if-other k x n = ap (λ (b : Bool). cond b 1 0) (ne_eqb x k n)
+
+pub times-cons : (k x : ℕ) (xs : List ℕ) → times k (x ∷ xs) ≡ one_if k x + times k xs
+times-cons k x xs = sum_by-cons (one_if k) x xs
+
+pub times-append : (k : ℕ) (xs ys : List ℕ) → times k (xs ++ ys) ≡ times k xs + times k ys
+times-append k xs ys = sum_by-append (one_if k) xs ys
+
+pub times-one : (k x : ℕ) → times k (x ∷ []) ≡ one_if k x
+times-one k x = omega (arith, times-cons k x [])
+
+pub times-without_same : (k : ℕ) (xs : List ℕ) → times k (without k xs) ≡ 0
+times-without_same k [] = refl
+times-without_same k (x ∷ xs) = dite (ℕ_discrete x k)
+    (λ e. ap (λ (b : Bool). times k (cond (not b) (x ∷ without k xs) (without k xs))) (eq-eqb x k e) ∙ times-without_same k xs)
+    (λ n. ap (λ (b : Bool). times k (cond (not b) (x ∷ without k xs) (without k xs))) (ne_eqb x k n) ∙ omega (arith, times-cons k x (without k xs), one_if-other k x n, times-without_same k xs))
+
+pub times-without_other : (k j : ℕ) (xs : List ℕ) → k ≢ j → times k (without j xs) ≡ times k xs
+times-without_other k j [] ne = refl
+times-without_other k j (x ∷ xs) ne = dite (ℕ_discrete x j)
+    (λ e. ap (λ (b : Bool). times k (cond (not b) (x ∷ without j xs) (without j xs))) (eq-eqb x j e) ∙ omega (arith, times-cons k x xs, one_if-other k x (λ same. ne (sym same ∙ e)), times-without_other k j xs ne))
+    (λ n. ap (λ (b : Bool). times k (cond (not b) (x ∷ without j xs) (without j xs))) (ne_eqb x j n) ∙ omega (arith, times-cons k x (without j xs), times-cons k x xs, times-without_other k j xs ne))
