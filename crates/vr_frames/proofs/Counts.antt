@@ -1,12 +1,12 @@
 -- How often a frame stands in a list, and sums over the views.
-use Rattle.std.proofs.Common.{◌≡◌, ◌≢◌, ℕ, zero, suc, ◌+◌, ◌<◌, ◌≤◌, List, [], ◌∷◌, ◌++◌, Bool, true, false, cond, not, eqb, set, length, sym, refl, ap, ◌∙◌, subst, arith, eq-eqb, ne_eqb}
+use Rattle.std.proofs.Common.{◌≡◌, ◌≢◌, ℕ, zero, suc, ◌+◌, ◌<◌, ◌≤◌, List, [], ◌∷◌, ◌++◌, Bool, true, false, cond, not, eqb, set, length, sym, refl, ap, ◌∙◌, subst, arith, ltb, eq-eqb, ne_eqb, lt-ltb, le-ltb}
 use Rattle.std.specs.Prelude.{◌==◌, sum_by, filter}
 use Rattle.std.proofs.lemmas.List.Sums.{sum_by-cons, sum_by-append}
 use mathlib.Core.Logic.{dite}
 use mathlib.Core.Option.{some, some-injective, some-ne-none}
-use native.Mathlib.Decide.{ℕ_discrete}
+use native.Mathlib.Decide.{ℕ_discrete, dec_le}
 use lib.ListN.{get_elem?}
-use Rattle.vr_frames.specs.Views.{times, without}
+use Rattle.vr_frames.specs.Views.{times, tries, without}
 
 module _ {A : Type 0} (f : A → ℕ) where
   -- the sum after a change of one element
@@ -62,3 +62,25 @@ times-without_other k j [] ne = refl
 times-without_other k j (x ∷ xs) ne = dite (ℕ_discrete x j)
     (λ e. ap (λ (b : Bool). times k (cond (not b) (x ∷ without j xs) (without j xs))) (eq-eqb x j e) ∙ omega (arith, times-cons k x xs, one_if-other k x (λ same. ne (sym same ∙ e)), times-without_other k j xs ne))
     (λ n. ap (λ (b : Bool). times k (cond (not b) (x ∷ without j xs) (without j xs))) (ne_eqb x j n) ∙ omega (arith, times-cons k x (without j xs), times-cons k x xs, times-without_other k j xs ne))
+
+-- a run of claims, cut in two
+pub tries-before : (first end k : ℕ) → k < first → tries first end k ≡ 0
+tries-before first end k l = ap (λ (b : Bool). cond b 0 (cond (ltb k end) 1 0)) (lt-ltb k first l)
+
+pub tries-within : (first end k : ℕ) → first ≤ k → k < end → tries first end k ≡ 1
+tries-within first end k l u = ap (λ (b : Bool). cond b 0 (cond (ltb k end) 1 0)) (le-ltb k first l) ∙ ap (λ (b : Bool). cond b 1 0) (lt-ltb k end u)
+
+pub tries-behind : (first end k : ℕ) → end ≤ k → tries first end k ≡ 0
+tries-behind first end k l = dite (dec_le first k)
+    (λ from. ap (λ (b : Bool). cond b 0 (cond (ltb k end) 1 0)) (le-ltb k first from) ∙ ap (λ (b : Bool). cond b 1 0) (le-ltb k end l))
+    (λ earlier. tries-before first end k (omega arith))
+
+pub tries-none : (first k : ℕ) → tries first first k ≡ 0
+tries-none first k = dite (dec_le first k) (λ l. tries-behind first first k l) (λ l. tries-before first first k (omega arith))
+
+pub tries-join : (a b c k : ℕ) → a ≤ b → b ≤ c → tries a b k + tries b c k ≡ tries a c k
+tries-join a b c k ab bc = dite (dec_le a k)
+    (λ from. dite (dec_le b k)
+        (λ second. dite (dec_le c k) (λ behind. omega (arith, tries-behind a b k second, tries-behind b c k behind, tries-behind a c k behind)) (λ within. omega (arith, tries-behind a b k second, tries-within b c k second (omega arith), tries-within a c k from (omega arith))))
+        (λ first. omega (arith, tries-within a b k from (omega arith), tries-before b c k (omega arith), tries-within a c k from (omega arith))))
+    (λ before. omega (arith, tries-before a b k (omega arith), tries-before b c k (omega arith), tries-before a c k (omega arith)))

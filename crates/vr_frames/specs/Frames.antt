@@ -1,7 +1,7 @@
 -- What clauses see of a pool, a seat and a frame. It is this project's own.
 use Rattle.std.specs.Prelude.{◌≡◌, ◌≢◌, ℕ, ◌+◌, ◌<◌, ◌≤◌, List, [], ◌∷◌, ◌++◌, vec_len}
 use Rattle.atomic_table.specs.Seated.{TableId}
-use Rattle.vr_frames.specs.Views.{times, without}
+use Rattle.vr_frames.specs.Views.{times, tries, without}
 use Rattle.vr_frames.specs.declared.shared.Pool.{Pool}
 use Rattle.vr_frames.specs.declared.seat.FrameSeat.{FrameSeat}
 use Rattle.vr_frames.specs.declared.frame.Frame.{Frame}
@@ -38,18 +38,32 @@ IsSeatOf pool seat = (seat.place.table_id ≡ id_of pool) × (seat.place.me.0.si
 abbrev pub IsFrameOf : Pool → Frame → Type 0
 IsFrameOf pool frame = (id_of frame.origin.value ≡ id_of pool) × (frame.number < frame_count pool) × (vec_len frame.buffer ≡ frame_size pool)
 
--- it is the same seat, with the same parts
+-- it is the same seat
 abbrev pub IsSameSeat : FrameSeat → FrameSeat → Type 0
-IsSameSeat old new = (new.place.table_id ≡ old.place.table_id) × (new.place.id ≡ old.place.id) × (new.place.me.0.size ≡ old.place.me.0.size) × (parts_of new ≡ parts_of old)
+IsSameSeat old new = (new.place.table_id ≡ old.place.table_id) × (new.place.id ≡ old.place.id) × (new.place.me.0.size ≡ old.place.me.0.size)
 
--- the seat got the frame, which it did not hold. It may have claimed others in vain
-abbrev pub Gets : FrameSeat → Frame → FrameSeat → Type 0
-Gets old frame new = (times frame.number (frames_of old) ≡ 0) × (frames_of new ≡ frames_of old ++ frame.number ∷ []) × ((k : ℕ) → failed_claims old k ≤ failed_claims new k)
+-- where the seat's next search begins
+abbrev pub start_of : FrameSeat → ℕ
+start_of seat = seat.next
+
+-- the seat got the frame, which it did not hold, and nothing else changed but its failed claims and its start
+pub record Gets (pool : Pool) (old : FrameSeat) (frame : Frame) (new : FrameSeat) : Type 0 where
+  pub new_to_it : times frame.number (frames_of old) ≡ 0
+  pub held_now : frames_of new ≡ frames_of old ++ frame.number ∷ []
+  pub next_start : start_of new ≡ frame.number + 1
+  -- it claimed each frame from its start up to this one once, in vain, and no other
+  pub straight : start_of old ≤ frame.number → (k : ℕ) → failed_claims new k ≡ failed_claims old k + tries (start_of old) frame.number k
+  -- the same, round the end of the pool
+  pub round : frame.number < start_of old → (k : ℕ) → failed_claims new k ≡ failed_claims old k + tries (start_of old) (frame_count pool) k + tries 0 frame.number k
 
 -- the seat got none: it claimed each frame of the pool once, and each claim found the frame out
-abbrev pub FindsAllOut : Pool → FrameSeat → FrameSeat → Type 0
-FindsAllOut pool old new = (frames_of new ≡ frames_of old) × ((k : ℕ) → k < frame_count pool → failed_claims new k ≡ failed_claims old k + 1)
+pub record FindsAllOut (pool : Pool) (old new : FrameSeat) : Type 0 where
+  pub same_frames : frames_of new ≡ frames_of old
+  pub same_start : start_of new ≡ start_of old
+  pub each_out : (k : ℕ) → failed_claims new k ≡ failed_claims old k + tries 0 (frame_count pool) k
 
 -- the seat gave the frame back, and keeps the others
-abbrev pub Returns : FrameSeat → Frame → FrameSeat → Type 0
-Returns old frame new = (frames_of new ≡ without frame.number (frames_of old)) × ((k : ℕ) → failed_claims new k ≡ failed_claims old k)
+pub record Returns (old : FrameSeat) (frame : Frame) (new : FrameSeat) : Type 0 where
+  pub others : frames_of new ≡ without frame.number (frames_of old)
+  pub same_start : start_of new ≡ start_of old
+  pub same_claims : (k : ℕ) → failed_claims new k ≡ failed_claims old k

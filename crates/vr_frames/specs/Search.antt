@@ -7,7 +7,7 @@ use Rattle.atomic_table.specs.declared.shared.Seat.{Seat}
 use Rattle.vr_frames.specs.declared.view.View.{View}
 use Rattle.vr_frames.specs.declared.shared.Pool.{Pool}
 use Rattle.vr_frames.specs.Rule.{IsBuffer}
-use Rattle.vr_frames.specs.Views.{times, view_with}
+use Rattle.vr_frames.specs.Views.{times, tries, view_with}
 use Rattle.vr_frames.specs.Frames.{id_of, frame_size, frame_count}
 
 abbrev pub Place : Type 0
@@ -21,13 +21,15 @@ pub record IsIdle (pool : Pool) (place : Place) : Type 0 where
   pub no_frame : place.me.0.moving ≡ []
   pub has_part : 0 < place.me.0.parts
 
--- each frame from `first` up to `end` was claimed once, in vain, and no other
+-- each frame from `first` up to `end` was claimed once, in vain, and no other was
+abbrev pub Missed : Place → Place → ℕ → ℕ → Type 0
+Missed old new first end = (k : ℕ) → times k new.me.0.failed ≡ times k old.me.0.failed + tries first end k
+
+-- and that is all
 pub record Tried (old new : Place) (first end : ℕ) : Type 0 where
   pub same_seat : (new.table_id ≡ old.table_id) × (new.id ≡ old.id)
   pub same_view : new.me ≡ (view_with old.me.0.size old.me.0.parts old.me.0.frames old.me.0.moving new.me.0.failed, old.me.1)
-  pub before : (k : ℕ) → k < first → times k new.me.0.failed ≡ times k old.me.0.failed
-  pub within : (k : ℕ) → first ≤ k → k < end → times k new.me.0.failed ≡ times k old.me.0.failed + 1
-  pub behind : (k : ℕ) → end ≤ k → times k new.me.0.failed ≡ times k old.me.0.failed
+  pub missed : Missed old new first end
 
 -- the seat has the frame's slot, with a buffer of this size, and brings the frame
 pub record Brings (place : Place) (frame size : ℕ) : Type 0 where
@@ -36,15 +38,19 @@ pub record Brings (place : Place) (frame size : ℕ) : Type 0 where
   pub slot : place.me.1 ≡ (frame, Some buffer) ∷ []
   pub moving : place.me.0.moving ≡ frame ∷ []
 
--- the frame, which the seat did not hold, was claimed, maybe after others in vain
+-- the frame, which the seat did not hold, was claimed
 pub record Won (old new : Place) (frame : ℕ) : Type 0 where
   pub same_seat : (new.table_id ≡ old.table_id) × (new.id ≡ old.id)
   pub same_view : new.me.0 ≡ view_with old.me.0.size old.me.0.parts old.me.0.frames (frame ∷ []) new.me.0.failed
   pub new_frame : times frame old.me.0.frames ≡ 0
-  pub failed : (k : ℕ) → times k old.me.0.failed ≤ times k new.me.0.failed
   pub brings : Brings new frame old.me.0.size
 
--- and so the seat at the end of a take
+-- each frame from `start` on, and round the end, up to the frame was claimed once, in vain, and no other was
+pub record MissedRound (old new : Place) (start end frame : ℕ) : Type 0 where
+  pub straight : start ≤ frame → Missed old new start frame
+  pub round : frame < start → (k : ℕ) → times k new.me.0.failed ≡ times k old.me.0.failed + tries start end k + tries 0 frame k
+
+-- what the second half of a take asks for
 pub record Carries (pool : Pool) (place : Place) (frame : ℕ) : Type 0 where
   pub of_pool : place.table_id ≡ id_of pool
   pub sized : place.me.0.size ≡ frame_size pool

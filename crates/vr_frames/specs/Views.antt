@@ -1,10 +1,14 @@
 -- What the holder of a seat knows. These rules are this project's own.
-use Rattle.std.specs.Prelude.{ℕ, ◌+◌, ◌-◌, ◌==◌, List, [], ◌∷◌, ◌++◌, not, count_by, filter}
+use Rattle.std.specs.Prelude.{ℕ, ◌+◌, ◌-◌, ◌==◌, List, [], ◌∷◌, ◌++◌, not, count_by, filter, nat_lt, if◌then◌else◌}
 use Rattle.vr_frames.specs.declared.view.View.{View}
 
 -- how often the frame stands in the list
 abbrev pub times : ℕ → List ℕ → ℕ
 times frame frames = count_by (λ x. x == frame) frames
+
+-- 1 for a frame from `first` up to `end`, and 0 for any other
+abbrev pub tries : ℕ → ℕ → ℕ → ℕ
+tries first end frame = if nat_lt frame first then 0 else (if nat_lt frame end then 1 else 0)
 
 -- the list without the frame
 abbrev pub without : ℕ → List ℕ → List ℕ

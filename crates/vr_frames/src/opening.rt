@@ -1,6 +1,6 @@
 // A new pool.
 ghost use Rattle.std.specs.Prelude.{◌≡◌, IfOk, All, vec_len, [], Some, map, length};
-ghost use Rattle.vr_frames.specs.Frames.{frame_count, frame_size, frames_of, parts_of, failed_claims, IsSeatOf};
+ghost use Rattle.vr_frames.specs.Frames.{frame_count, frame_size, frames_of, parts_of, failed_claims, start_of, IsSeatOf};
 ghost use Rattle.vr_frames.specs.Search.{IsFullRow};
 
 use crate::seat::FrameSeat;
@@ -13,7 +13,7 @@ use std::alloc::{AllocError, Global};
 /// Want of memory is its one error.
 pub fn pool(alloc: Global, frames: u32, size: u32) -> Result<(Pool, FrameSeat), AllocError>
     ensures pool { IfOk result (λ made. (frame_count made.0 ≡ frames) × (frame_size made.0 ≡ size)) }
-    ensures seat { IfOk result (λ made. IsSeatOf made.0 made.1 × (parts_of made.1 ≡ 1024) × (frames_of made.1 ≡ [])) }
+    ensures seat { IfOk result (λ made. IsSeatOf made.0 made.1 × (parts_of made.1 ≡ 1024) × (frames_of made.1 ≡ []) × (start_of made.1 ≡ 0)) }
     ensures claims { IfOk result (λ made. (k : _) → failed_claims made.1 k ≡ 0) }
 {
     let words = vec![in alloc; 0u64; frames as usize + 1]?;

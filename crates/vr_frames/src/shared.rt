@@ -20,17 +20,18 @@ pub struct Pool {
 }
 
 impl Pool {
-    ghost use Rattle.std.specs.Prelude.{◌-◌, ◌<◌, ◌≤◌, ◌++◌, [], IfSome, IfNone, MatchBool, MatchOption, vec_len, length};
-    ghost use Rattle.vr_frames.specs.Frames.{frame_count, frame_size, frames_of, parts_of, failed_claims, Holds, IsSeatOf, IsFrameOf, IsSameSeat, Gets, FindsAllOut, Returns};
-    ghost use Rattle.vr_frames.specs.Search.{IsIdle, Carries, Tried, Won, Brought};
+    ghost use Rattle.std.specs.Prelude.{◌<◌, ◌≤◌, ◌++◌, [], IfSome, IfNone, MatchBool, MatchOption, vec_len, length};
+    ghost use Rattle.vr_frames.specs.Frames.{frame_count, frame_size, frames_of, parts_of, failed_claims, start_of, Holds, IsSeatOf, IsFrameOf, IsSameSeat, Gets, FindsAllOut, Returns};
+    ghost use Rattle.vr_frames.specs.Search.{IsIdle, Carries, Missed, Tried, Won, MissedRound, Brought};
 
     /// Takes a frame that is home, and looks first behind the frame that this seat took last. `None` comes only where each frame
     /// of the pool, at a step of this call on its own word, was out.
     pub fn take(&self, seat: &mut FrameSeat) -> Option<Frame>
         requires { IsSeatOf self.now seat.old }
         ensures same { IsSameSeat seat.old seat.new × IsSeatOf self.now seat.new }
+        ensures parts { parts_of seat.new ≡ parts_of seat.old }
         ensures frame { IfSome result (IsFrameOf self.now) }
-        ensures some { IfSome result (λ frame. Gets seat.old frame seat.new) }
+        ensures some { IfSome result (λ frame. Gets self.now seat.old frame seat.new) }
         ensures none { IfNone result (FindsAllOut self.now seat.old seat.new) }
     {
         let number = self.claim_first(&mut seat.place, seat.next)?;
@@ -48,6 +49,7 @@ impl Pool {
         requires seat { IsSeatOf self.now seat.old }
         requires frame { IsFrameOf self.now frame × Holds seat.old frame.number }
         ensures same { IsSameSeat seat.old seat.new × IsSeatOf self.now seat.new }
+        ensures parts { parts_of seat.new ≡ parts_of seat.old }
         ensures given { Returns seat.old frame seat.new }
     {
         let Frame {
@@ -65,8 +67,11 @@ impl Pool {
     pub fn split(&self, seat: &mut FrameSeat) -> FrameSeat
         requires seat { IsSeatOf self.now seat.old }
         requires parts { 1 < parts_of seat.old }
-        ensures left { IsSeatOf self.now seat.new × (parts_of seat.new ≡ parts_of seat.old - 1) × (frames_of seat.new ≡ frames_of seat.old) × ((k : _) → failed_claims seat.new k ≡ failed_claims seat.old k) }
-        ensures right { IsSeatOf self.now result × (parts_of result ≡ 1) × (frames_of result ≡ []) × ((k : _) → failed_claims result k ≡ 0) }
+        ensures same { IsSameSeat seat.old seat.new × IsSeatOf self.now seat.new }
+        ensures left { (parts_of seat.new + 1 ≡ parts_of seat.old) × (frames_of seat.new ≡ frames_of seat.old) × (start_of seat.new ≡ start_of seat.old) }
+        ensures claims { (k : _) → failed_claims seat.new k ≡ failed_claims seat.old k }
+        ensures right { IsSeatOf self.now result × (parts_of result ≡ 1) × (frames_of result ≡ []) × (start_of result ≡ start_of seat.old) }
+        ensures none_failed { (k : _) → failed_claims result k ≡ 0 }
     {
         let next = seat.next;
         let place = self.table.shared.split_seat::<OnePart>(&mut seat.place);
@@ -77,9 +82,10 @@ impl Pool {
     pub fn join(&self, seat: &mut FrameSeat, other: FrameSeat)
         requires seat { IsSeatOf self.now seat.old }
         requires other { IsSeatOf self.now other }
-        ensures seat { IsSeatOf self.now seat.new }
+        ensures same { IsSameSeat seat.old seat.new × IsSeatOf self.now seat.new }
         ensures parts { parts_of seat.new ≡ parts_of seat.old + parts_of other }
         ensures frames { frames_of seat.new ≡ frames_of seat.old ++ frames_of other }
+        ensures start { start_of seat.new ≡ start_of seat.old }
         ensures claims { (k : _) → failed_claims seat.new k ≡ failed_claims seat.old k + failed_claims other k }
     {
         let FrameSeat { place, next: _ } = other;
@@ -108,7 +114,7 @@ impl Pool {
         requires idle { IsIdle self.now place.old }
         requires start { start ≤ frame_count self.now }
         ensures none { IfNone result (Tried place.old place.new 0 (frame_count self.now)) }
-        ensures some { IfSome result (λ number. Won place.old place.new number × (number < frame_count self.now)) }
+        ensures some { IfSome result (λ number. Won place.old place.new number × MissedRound place.old place.new start (frame_count self.now) number × (number < frame_count self.now)) }
     {
         match self.claim_within(place, start, self.frames as usize) {
             Some(number) => Some(number),
@@ -121,7 +127,7 @@ impl Pool {
         requires idle { IsIdle self.now place.old }
         requires range { (from ≤ to) × (to ≤ frame_count self.now) }
         ensures none { IfNone result (Tried place.old place.new from to) }
-        ensures some { IfSome result (λ number. Won place.old place.new number × (number < frame_count self.now)) }
+        ensures some { IfSome result (λ number. Won place.old place.new number × Missed place.old place.new from number × (from ≤ number) × (number < to)) }
     {
         for number in from..to {
             if self.claim(place, number) {
@@ -135,7 +141,7 @@ impl Pool {
     fn claim(&self, place: &mut Place, number: usize) -> bool
         requires idle { IsIdle self.now place.old }
         requires number { number < frame_count self.now }
-        ensures { MatchBool result (Won place.old place.new number) (Tried place.old place.new number (number + 1)) }
+        ensures { MatchBool result (Won place.old place.new number × Missed place.old place.new number number) (Tried place.old place.new number (number + 1)) }
     {
         let found = self
             .table

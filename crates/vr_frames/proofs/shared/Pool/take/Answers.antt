@@ -1,4 +1,4 @@
-use Rattle.std.proofs.Common.{◌≡◌, ◌≤◌, ◌∷◌, [], ◌++◌, ℕ, ap, ◌∙◌, arith}
+use Rattle.std.proofs.Common.{◌≡◌, ◌≤◌, ◌∷◌, [], ◌++◌, ℕ, refl, ap, ◌∙◌, arith}
 use Rattle.std.specs.Global.{Vec}
 use Rattle.vr_frames.specs.declared.view.View.{View}
 use Rattle.vr_frames.specs.Views.{times}
@@ -8,11 +8,13 @@ use Rattle.vr_frames.proofs.shared.Pool.take.Goals as goal
 
 pub returns-in_err-number-clause-none : goal.returns-in_err-number-clause-none
 returns-in_err-number-clause-none c = let t = c.in_err-number.ensures.none in
-    if_none c.from_residual.result (ap (λ (m : Sat (Vec ℕ)). m.0.frames) t.same_view, (λ k l. t.within k (omega arith) l))
+    if_none c.from_residual.result (record { same_frames = ap (λ (m : Sat (Vec ℕ)). m.0.frames) t.same_view; same_start = refl; each_out = t.missed })
 
 pub returns-clause-some : goal.returns-clause-some
-returns-clause-some c = let w = c.in_ok-number.ensures.some.0 in let b = c.bring_out-buffer.ensures.brought.same_view in let number : ℕ = c.in_ok-number.number in (
-  w.new_frame,
-  ap (λ (m : Sat (Vec ℕ)). m.0.frames) b ∙ ap (λ (v : View). v.frames ++ number ∷ []) w.same_view,
-  (λ k. omega (arith, w.failed k, ap (λ (m : Sat (Vec ℕ)). times k m.0.failed) b)),
-)
+returns-clause-some c = let some = c.in_ok-number.ensures.some in let w = some.0 in let m = some.1 in let b = c.bring_out-buffer.ensures.brought.same_view in let number : ℕ = c.in_ok-number.number in record {
+  new_to_it = w.new_frame;
+  held_now = ap (λ (m : Sat (Vec ℕ)). m.0.frames) b ∙ ap (λ (v : View). v.frames ++ number ∷ []) w.same_view;
+  next_start = refl;
+  straight = λ le k. ap (λ (m : Sat (Vec ℕ)). times k m.0.failed) b ∙ m.straight le k;
+  round = λ lt k. ap (λ (m : Sat (Vec ℕ)). times k m.0.failed) b ∙ m.round lt k;
+}
