@@ -81,6 +81,6 @@ tries-none first k = dite (dec_le first k) (λ l. tries-behind first first k l) 
 pub tries-join : (a b c k : ℕ) → a ≤ b → b ≤ c → tries a b k + tries b c k ≡ tries a c k
 tries-join a b c k ab bc = dite (dec_le a k)
     (λ from. dite (dec_le b k)
-        (λ second. dite (dec_le c k) (λ behind. omega (arith, tries-behind a b k second, tries-behind b c k behind, tries-behind a c k behind)) (λ within. omega (arith, tries-behind a b k second, tries-within b c k second (omega arith), tries-within a c k from (omega arith))))
-        (λ first. omega (arith, tries-within a b k from (omega arith), tries-before b c k (omega arith), tries-within a c k from (omega arith))))
+    (λ second. dite (dec_le c k) (λ behind. omega (arith, tries-behind a b k second, tries-behind b c k behind, tries-behind a c k behind)) (λ within. omega (arith, tries-behind a b k second, tries-within b c k second (omega arith), tries-within a c k from (omega arith))))
+    (λ first. omega (arith, tries-within a b k from (omega arith), tries-before b c k (omega arith), tries-within a c k from (omega arith))))
     (λ before. omega (arith, tries-before a b k (omega arith), tries-before b c k (omega arith), tries-before a c k (omega arith)))

@@ -18,17 +18,20 @@ pub claim_made : (place place' : Place) (slots i found : ℕ) → (place'.table_
     → MatchBool (nat_eq found 0) (Won place place' i × Missed place place' i i) (Tried place place' i (i + 1))
 claim_made place place' slots i found seat empty told = dite (ℕ_discrete found 0)
     (λ z. subst (λ (b : Bool). MatchBool b (Won place place' i × Missed place place' i i) (Tried place place' i (i + 1))) (sym (eq-eqb found 0 z))
-    (let t = told.0 z in let me = t.3 in (record {
-      same_seat = seat;
-      same_view = ap (λ (m : Sat (Vec ℕ)). m.0) me ∙ ap (λ (f : List ℕ). view_with place.me.0.size place.me.0.parts place.me.0.frames (i ∷ []) f) (sym (ap (λ (m : Sat (Vec ℕ)). m.0.failed) me));
-      new_frame = t.2;
-      brings = record {
-        buffer = t.0;
-        whole = t.1;
-        slot = ap (λ (m : Sat (Vec ℕ)). m.1) me ∙ ap (λ (c : List (ℕ × Option (Vec ℕ))). (i, Some t.0) ∷ c) empty;
-        moving = ap (λ (m : Sat (Vec ℕ)). m.0.moving) me;
-      };
-    }, λ k. omega (arith, ap (λ (m : Sat (Vec ℕ)). times k m.0.failed) me, tries-none i k))))
+    (let t = told.0 z in let me = t.3 in (
+      record {
+        same_seat = seat;
+        same_view = ap (λ (m : Sat (Vec ℕ)). m.0) me ∙ ap (λ (f : List ℕ). view_with place.me.0.size place.me.0.parts place.me.0.frames (i ∷ []) f) (sym (ap (λ (m : Sat (Vec ℕ)). m.0.failed) me));
+        new_frame = t.2;
+        brings = record {
+          buffer = t.0;
+          whole = t.1;
+          slot = ap (λ (m : Sat (Vec ℕ)). m.1) me ∙ ap (λ (c : List (ℕ × Option (Vec ℕ))). (i, Some t.0) ∷ c) empty;
+          moving = ap (λ (m : Sat (Vec ℕ)). m.0.moving) me;
+        };
+      },
+      λ k. omega (arith, ap (λ (m : Sat (Vec ℕ)). times k m.0.failed) me, tries-none i k),
+    )))
     (λ nz. subst (λ (b : Bool). MatchBool b (Won place place' i × Missed place place' i i) (Tried place place' i (i + 1))) (sym (ne_eqb found 0 nz))
     (let me = told.1 nz in let failed : place'.me.0.failed ≡ i ∷ place.me.0.failed = ap (λ (m : Sat (Vec ℕ)). m.0.failed) me in
     let count : (k : ℕ) → times k place'.me.0.failed ≡ times k (i ∷ place.me.0.failed) = λ k. ap (times k) failed in record {
