@@ -1,5 +1,5 @@
 -- At the end: the frames that are home and those that the last seat holds are all frames.
-use Rattle.std.proofs.Common.{◌≡◌, ◌≢◌, ◌⊎◌, ℕ, zero, suc, ◌+◌, ◌-◌, ◌<◌, ◌≤◌, List, [], ◌∷◌, ◌++◌, Bool, true, false, cond, length, get_or, take, sym, refl, ap, ◌∙◌, subst, ⊎_elim, arith, eq-eqb, ne_eqb, add-one}
+use Rattle.std.proofs.Common.{◌≡◌, ◌≢◌, ℕ, zero, suc, ◌+◌, ◌<◌, ◌≤◌, List, [], ◌∷◌, ◌++◌, Bool, cond, length, get_or, take, sym, refl, ap, ◌∙◌, ⊎_elim, arith, eq-eqb, ne_eqb, add-one}
 use Rattle.std.specs.Prelude.{Option, sum_by, count_by, ◌==◌}
 use Rattle.std.proofs.lemmas.List.{take_more}
 use Rattle.std.proofs.lemmas.List.Sums.{sum_by-cons, sum_by_push}
@@ -10,7 +10,7 @@ use lib.ListN.{get_elem?}
 use Rattle.atomic_table.specs.Table.{State}
 use Rattle.vr_frames.specs.declared.view.View.{View}
 use Rattle.vr_frames.specs.Views.{times, nobody}
-use Rattle.vr_frames.specs.Rule.{holders, movers, IsHome, IsHeld, IsOnItsWay, IsKept}
+use Rattle.vr_frames.specs.Rule.{IsHeld, IsOnItsWay, IsKept}
 use Rattle.vr_frames.proofs.Counts.{term_le, terms_le, one_if, one_if-same, one_if-other, times-cons}
 use Rattle.vr_frames.proofs.Keeps.{held_once}
 

@@ -1,5 +1,5 @@
 -- What the claims of a take add up to.
-use Rattle.std.proofs.Common.{◌≡◌, ◌≢◌, ℕ, suc, ◌+◌, ◌<◌, ◌≤◌, List, [], ◌∷◌, ◌++◌, Bool, true, false, eqb, sym, refl, ap, ◌∙◌, subst, arith, eq-eqb, ne_eqb, vec_len, nat_eq, MatchBool}
+use Rattle.std.proofs.Common.{◌≡◌, ℕ, ◌+◌, ◌<◌, ◌≤◌, List, [], ◌∷◌, Bool, sym, ap, ◌∙◌, subst, arith, eq-eqb, ne_eqb, vec_len, nat_eq, MatchBool}
 use Rattle.std.specs.Prelude.{Option, Some, None, IfSome, IfNone}
 use Rattle.std.specs.Global.{Vec}
 use mathlib.Core.Logic.{dite}
@@ -8,8 +8,8 @@ use native.Mathlib.Decide.{ℕ_discrete, dec_le}
 use Rattle.atomic_table.specs.Table.{step}
 use Rattle.vr_frames.specs.declared.view.View.{View}
 use Rattle.vr_frames.specs.Views.{times, tries, view_with}
-use Rattle.vr_frames.specs.Plays.{Sat, failing, bringing, Claims, claimed}
-use Rattle.vr_frames.specs.Search.{Place, Missed, Tried, Brings, Won, MissedRound}
+use Rattle.vr_frames.specs.Plays.{Sat, claimed}
+use Rattle.vr_frames.specs.Search.{Place, Missed, Tried, Won, MissedRound}
 use Rattle.vr_frames.proofs.Counts.{one_if, one_if-same, one_if-other, times-cons, tries-before, tries-within, tries-behind, tries-none, tries-join}
 
 -- one claim, which found its word at 0 or not

@@ -1,5 +1,5 @@
 -- What clauses see of a pool, a seat and a frame. It is this project's own.
-use Rattle.std.specs.Prelude.{◌≡◌, ◌≢◌, ℕ, ◌+◌, ◌<◌, ◌≤◌, List, [], ◌∷◌, ◌++◌, vec_len}
+use Rattle.std.specs.Prelude.{◌≡◌, ℕ, ◌+◌, ◌<◌, ◌≤◌, List, [], ◌∷◌, ◌++◌, vec_len}
 use Rattle.atomic_table.specs.Seated.{TableId}
 use Rattle.vr_frames.specs.Views.{times, tries, without}
 use Rattle.vr_frames.specs.declared.shared.Pool.{Pool}

@@ -1,6 +1,6 @@
 -- What each step tells the thread that makes it: of the step, the seat before, the number found, and the seat after.
 -- They are this project's own.
-use Rattle.std.specs.Prelude.{◌≡◌, ◌≢◌, ℕ, [], ◌∷◌, ◌++◌, List, Option, Some, None}
+use Rattle.std.specs.Prelude.{◌≡◌, ◌≢◌, ℕ, [], ◌∷◌, ◌++◌, Option, Some, None}
 use Rattle.atomic_table.specs.Table.{Me, Step}
 use Rattle.vr_frames.specs.declared.view.View.{View}
 use Rattle.vr_frames.specs.Views.{times, without, view_with}

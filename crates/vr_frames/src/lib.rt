@@ -7,6 +7,7 @@
 // call on the frame's own word; and the seat with every part that holds no frame closes the pool with every frame home.
 #![tactic(auto)]
 
+mod crossing;
 mod ends;
 mod frame;
 mod law;

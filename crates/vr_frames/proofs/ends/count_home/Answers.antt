@@ -1,4 +1,4 @@
-use Rattle.std.proofs.Common.{◌≡◌, ℕ, ◌+◌, ◌≤◌, ◌==◌, count_by, take, cond, Bool, ap, ◌∙◌, arith, eq-eqb, ne_eqb}
+use Rattle.std.proofs.Common.{ℕ, cond, Bool, ap, arith, eq-eqb, ne_eqb}
 use Rattle.std.specs.Mem.Slots.{slots_items, slots_counts}
 use Rattle.vr_frames.proofs.Closing.{count_more}
 use Rattle.vr_frames.proofs.ends.count_home.Goals as goal

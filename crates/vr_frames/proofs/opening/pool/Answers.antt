@@ -1,4 +1,4 @@
-use Rattle.std.proofs.Common.{◌≡◌, ℕ, List, length, get_or, replicate, sym, ap, ◌∙◌, arith, ◌+◌}
+use Rattle.std.proofs.Common.{ℕ, List, length, get_or, ap, ◌∙◌, arith, ◌+◌}
 use Rattle.std.proofs.lemmas.List.{length-replicate}
 use Rattle.vr_frames.specs.Rule.{IsBuffer}
 use Rattle.vr_frames.proofs.NewPool.{zeros, opens}

@@ -1,4 +1,4 @@
-use Rattle.std.proofs.Common.{◌≡◌, ℕ, List, [], ◌∷◌, arith, sym, ap, ◌∙◌, Some, None}
+use Rattle.std.proofs.Common.{ℕ, List, ◌∷◌, arith, sym, ap, ◌∙◌, Some, None}
 use Rattle.std.specs.Prelude.{Option}
 use Rattle.std.specs.Global.{Vec}
 use Rattle.atomic_table.specs.Table.{rest}

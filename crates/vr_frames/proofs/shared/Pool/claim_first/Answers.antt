@@ -1,5 +1,5 @@
-use Rattle.std.proofs.Common.{◌≡◌, ◌<◌, ℕ, sym, subst, arith}
-use Rattle.vr_frames.specs.Search.{Tried, Won}
+use Rattle.std.proofs.Common.{◌<◌, sym, subst, arith}
+use Rattle.vr_frames.specs.Search.{Tried}
 use Rattle.vr_frames.proofs.Takes.{tried_round, won_round, then_none, then_some}
 use Rattle.vr_frames.proofs.shared.Pool.claim_first.Goals as goal
 

@@ -1,4 +1,3 @@
-use Rattle.std.proofs.Common.{arith}
 use Rattle.vr_frames.proofs.Takes.{won_after, tried_more}
 use Rattle.vr_frames.proofs.shared.Pool.claim_within.Goals as goal
 
