@@ -63,6 +63,16 @@ times-without_other k j (x ∷ xs) ne = dite (ℕ_discrete x j)
     (λ e. ap (λ (b : Bool). times k (cond (not b) (x ∷ without j xs) (without j xs))) (eq-eqb x j e) ∙ omega (arith, times-cons k x xs, one_if-other k x (λ same. ne (sym same ∙ e)), times-without_other k j xs ne))
     (λ n. ap (λ (b : Bool). times k (cond (not b) (x ∷ without j xs) (without j xs))) (ne_eqb x j n) ∙ omega (arith, times-cons k x (without j xs), times-cons k x xs, times-without_other k j xs ne))
 
+-- a list that got longer has what it had
+pub times-append_left : (k : ℕ) (xs ys : List ℕ) → 0 < times k xs → 0 < times k (xs ++ ys)
+times-append_left k xs ys some_there = omega (arith, times-append k xs ys)
+
+pub times-append_right : (k : ℕ) (xs ys : List ℕ) → 0 < times k ys → 0 < times k (xs ++ ys)
+times-append_right k xs ys some_there = omega (arith, times-append k xs ys)
+
+pub times-push : (k : ℕ) (xs : List ℕ) → 0 < times k (xs ++ k ∷ [])
+times-push k xs = omega (arith, times-append k xs (k ∷ []), times-one k k, one_if-same k k refl)
+
 -- a run of claims, cut in two
 pub tries-before : (first end k : ℕ) → k < first → tries first end k ≡ 0
 tries-before first end k l = ap (λ (b : Bool). cond b 0 (cond (ltb k end) 1 0)) (lt-ltb k first l)

@@ -1,5 +1,6 @@
--- Where each frame is. The rule holds between any two steps of any threads. It is this project's own.
--- Word k is 0 where frame k is home, and slot k is the place of its buffer. One word more lets a pool of no frames have a word too.
+-- Where each frame is. The rule holds between any two steps of any threads, and is this project's
+-- own. Word k is 0 where frame k is home, and slot k is the place of its buffer. With one word
+-- more a pool of no frames has a word too, which the split and the join of seats read.
 use Rattle.std.specs.Prelude.{◌≡◌, ◌≢◌, ◌⊎◌, ℕ, ◌+◌, ◌<◌, ◌≤◌, List, length, sum_by, slice_index, Option, Some, None, vec_len}
 use Rattle.std.specs.Global.{Vec}
 use mathlib.Core.Option.{some}
@@ -25,7 +26,8 @@ IsSound size v = (v.parts ≢ 0 → v.size ≡ size) × (v.parts ≡ 0 → v ≡
 module _ {B : Type 0} where
   -- its buffer, which is whole, is in its slot, and it is in no view
   pub record IsHome (IsWhole : B → Type 0) (s : State (Option B) View) (frame : ℕ) : Type 0 where
-    pub in_slot : (buffer : B) × (get_elem? s.homes frame ≡ some (some (Some buffer))) × IsWhole buffer
+    pub in_slot :
+        (buffer : B) × (get_elem? s.homes frame ≡ some (some (Some buffer))) × IsWhole buffer
     pub in_no_view : (holders s.views frame ≡ 0) × (movers s.views frame ≡ 0)
 
   -- it is in exactly one view, and its slot is empty
@@ -39,9 +41,13 @@ module _ {B : Type 0} where
 
   pub record IsKept (size : ℕ) (IsWhole : B → Type 0) (s : State (Option B) View) : Type 0 where
     pub one_word_more : length s.words ≡ length s.homes + 1
-    pub home : (frame : ℕ) → frame < length s.homes → slice_index s.words frame ≡ 0 → IsHome IsWhole s frame
-    pub out : (frame : ℕ) → frame < length s.homes → slice_index s.words frame ≢ 0 → IsHeld s frame ⊎ IsOnItsWay s frame
-    pub no_others : (frame : ℕ) → length s.homes ≤ frame → (holders s.views frame ≡ 0) × (movers s.views frame ≡ 0) × (misses s.views frame ≡ 0)
+    pub home : (frame : ℕ) → frame < length s.homes → slice_index s.words frame ≡ 0
+        → IsHome IsWhole s frame
+    pub out : (frame : ℕ) → frame < length s.homes → slice_index s.words frame ≢ 0
+        → IsHeld s frame ⊎ IsOnItsWay s frame
+    -- no view holds, brings or has claimed what is no frame
+    pub no_others : (frame : ℕ) → length s.homes ≤ frame
+        → (holders s.views frame ≡ 0) × (movers s.views frame ≡ 0) × (misses s.views frame ≡ 0)
     pub all_parts : sum_by (λ v. v.parts) s.views ≡ 1024
     pub sound : (seat : ℕ) (v : View) → get_elem? s.views seat ≡ some v → IsSound size v
 

@@ -23,12 +23,14 @@ pub record IsIdle (pool : Pool) (place : Place) : Type 0 where
 
 -- each frame from `first` up to `end` was claimed once, in vain, and no other was
 abbrev pub Missed : Place → Place → ℕ → ℕ → Type 0
-Missed old new first end = (k : ℕ) → times k new.me.0.failed ≡ times k old.me.0.failed + tries first end k
+Missed old new first end =
+    (k : ℕ) → times k new.me.0.failed ≡ times k old.me.0.failed + tries first end k
 
 -- and that is all
 pub record Tried (old new : Place) (first end : ℕ) : Type 0 where
   pub same_seat : (new.table_id ≡ old.table_id) × (new.id ≡ old.id)
-  pub same_view : new.me ≡ (view_with old.me.0.size old.me.0.parts old.me.0.frames old.me.0.moving new.me.0.failed, old.me.1)
+  pub same_view : let v = old.me.0 in
+      new.me ≡ (view_with v.size v.parts v.frames v.moving new.me.0.failed, old.me.1)
   pub missed : Missed old new first end
 
 -- the seat has the frame's slot, with a buffer of this size, and brings the frame
@@ -41,14 +43,16 @@ pub record Brings (place : Place) (frame size : ℕ) : Type 0 where
 -- the frame, which the seat did not hold, was claimed
 pub record Won (old new : Place) (frame : ℕ) : Type 0 where
   pub same_seat : (new.table_id ≡ old.table_id) × (new.id ≡ old.id)
-  pub same_view : new.me.0 ≡ view_with old.me.0.size old.me.0.parts old.me.0.frames (frame ∷ []) new.me.0.failed
+  pub same_view : let v = old.me.0 in
+      new.me.0 ≡ view_with v.size v.parts v.frames (frame ∷ []) new.me.0.failed
   pub new_frame : times frame old.me.0.frames ≡ 0
   pub brings : Brings new frame old.me.0.size
 
--- each frame from `start` on, and round the end, up to the frame was claimed once, in vain, and no other was
+-- each frame from `start` on, round the end, up to this one was claimed once, in vain, and no other
 pub record MissedRound (old new : Place) (start end frame : ℕ) : Type 0 where
   pub straight : start ≤ frame → Missed old new start frame
-  pub round : frame < start → (k : ℕ) → times k new.me.0.failed ≡ times k old.me.0.failed + tries start end k + tries 0 frame k
+  pub round : frame < start → (k : ℕ) → times k new.me.0.failed
+      ≡ times k old.me.0.failed + tries start end k + tries 0 frame k
 
 -- what the second half of a take asks for
 pub record Carries (pool : Pool) (place : Place) (frame : ℕ) : Type 0 where
@@ -61,8 +65,10 @@ pub record Carries (pool : Pool) (place : Place) (frame : ℕ) : Type 0 where
 -- the frame is now in the view, and the slot is back
 pub record Brought (old new : Place) (frame : ℕ) : Type 0 where
   pub same_seat : (new.table_id ≡ old.table_id) × (new.id ≡ old.id)
-  pub same_view : new.me ≡ (view_with old.me.0.size old.me.0.parts (old.me.0.frames ++ frame ∷ []) [] old.me.0.failed, [])
+  pub same_view : let v = old.me.0 in
+      new.me ≡ (view_with v.size v.parts (v.frames ++ frame ∷ []) [] v.failed, [])
 
 -- each slot has a buffer of this size
 abbrev pub IsFullRow : ℕ → List (Option (Vec ℕ)) → Type 0
-IsFullRow size slots = (k : ℕ) → k < length slots → (buffer : Vec ℕ) × (get_elem? slots k ≡ some (Some buffer)) × IsBuffer size buffer
+IsFullRow size slots = (k : ℕ) → k < length slots
+    → (buffer : Vec ℕ) × (get_elem? slots k ≡ some (Some buffer)) × IsBuffer size buffer

@@ -15,7 +15,8 @@ abbrev pub without : ℕ → List ℕ → List ℕ
 without frame frames = filter (λ x. not (x == frame)) frames
 
 abbrev pub view_with : ℕ → ℕ → List ℕ → List ℕ → List ℕ → View
-view_with size parts frames moving failed = record { size = size; parts = parts; frames = frames; moving = moving; failed = failed }
+view_with size parts frames moving failed =
+    record { size = size; parts = parts; frames = frames; moving = moving; failed = failed }
 
 -- the view of the first seat: it has all 1,024 parts
 abbrev pub first_view : ℕ → View
@@ -35,4 +36,6 @@ newcomer v = view_with v.size 1 [] [] []
 
 -- all that two seats have
 abbrev pub joined : View → View → View
-joined v w = view_with v.size (v.parts + w.parts) (v.frames ++ w.frames) (v.moving ++ w.moving) (v.failed ++ w.failed)
+joined v w =
+    view_with v.size (v.parts + w.parts)
+    (v.frames ++ w.frames) (v.moving ++ w.moving) (v.failed ++ w.failed)

@@ -1,12 +1,12 @@
 // What is left of a pool's table, once no thread shares it.
-ghost use Rattle.std.specs.Prelude.{◌≡◌, ◌+◌, ◌<◌, ◌≤◌, ◌==◌, length, count_by, take};
-ghost use Rattle.std.specs.Mem.Slots.{slots_len, slots_items, slots_filled, IsFull};
+ghost use Rattle.std.specs.Prelude.{◌≡◌, ◌≤◌, ◌==◌, count_by, take};
+ghost use Rattle.std.specs.Mem.Slots.{slots_len, slots_items, IsFull};
 
 use crate::view::Buffer;
 use atomic_table::Closed;
 use std::alloc::Global;
 
-// How many of the first words say home.
+/// How many of the first words say home.
 pub(crate) fn count_home(closed: &Closed<Option<Buffer>, Global>, frames: u32) -> u32
     requires full { IsFull closed.now.words }
     requires long { frames ≤ slots_len closed.now.words }
@@ -21,7 +21,7 @@ pub(crate) fn count_home(closed: &Closed<Option<Buffer>, Global>, frames: u32) -
     home
 }
 
-// Drops each buffer, and gives the memory back.
+/// Drops each buffer, and gives the memory back.
 pub(crate) fn empty(mut closed: Closed<Option<Buffer>, Global>)
     requires { IsFull closed.slots }
 {

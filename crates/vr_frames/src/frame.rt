@@ -7,9 +7,10 @@ use crate::shared::Pool;
 use crate::view::Buffer;
 use std::snapshot::Snapshot;
 
-/// A frame that was taken: a buffer that its holder alone reads and writes. Give it back with `Pool::give`.
+/// A frame that was taken: a buffer that its holder alone reads and writes. Give it back with
+/// `Pool::give`.
 ///
-/// A frame that is dropped stays out, and its seat goes on holding it.
+/// A frame that is dropped instead stays out for good, and the view of its seat goes on holding it.
 #[derive(Drop)]
 pub struct Frame {
     pub(crate) number: usize,
@@ -18,7 +19,8 @@ pub struct Frame {
 }
 
 impl Frame {
-    /// The frame's bytes. They mean nothing until the holder has filled them.
+    /// The frame's bytes, as many as the pool's frames have. They mean nothing until the holder
+    /// fills them.
     pub fn bytes(&self) -> &[u8]
         ensures { result.now ≡ self.now.buffer.items }
     {

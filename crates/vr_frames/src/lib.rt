@@ -1,10 +1,13 @@
-// A pool of buffer frames that all volumes share. Any thread takes a free frame and gives it back; no call waits, takes a lock or
-// takes memory. The pool stands on `atomic_table` alone: one word for each frame, which is 0 while the frame is home, and one slot
-// for its buffer. Each volume has a seat, and the seat's view, which exists in the proofs alone, keeps the frames that it holds, how
-// many of its claims found each frame out, and its parts of the right to know the whole pool.
+// A pool of buffer frames that all volumes share. Any thread takes a free frame and gives it back,
+// and no call waits, takes a lock or takes memory. The pool stands on `atomic_table` alone: one
+// word for each frame, which is 0 while the frame is home, and one slot for its buffer. Each
+// volume has a seat. The seat's view, which exists in the proofs alone, keeps the frames that the
+// seat holds, the claims of the seat that found a frame out, and its parts of the right to know
+// the whole pool.
 //
-// It promises: a frame is home, or in exactly one seat's hands; `take` answers None only where each frame was out at a step of that
-// call on the frame's own word; and the seat with every part that holds no frame closes the pool with every frame home.
+// It promises: a frame is home, or in exactly one seat's hands. `take` answers None only where
+// each frame was out at a step of that call on the frame's own word. The seat with every part, if
+// it holds no frame, closes the pool with every frame home.
 #![tactic(auto)]
 
 mod crossing;

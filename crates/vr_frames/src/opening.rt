@@ -1,6 +1,6 @@
 // A new pool.
-ghost use Rattle.std.specs.Prelude.{◌≡◌, IfOk, All, vec_len, [], Some, map, length};
-ghost use Rattle.vr_frames.specs.Frames.{frame_count, frame_size, frames_of, parts_of, failed_claims, start_of, IsSeatOf};
+ghost use Rattle.std.specs.Prelude.{◌≡◌, IfOk, [], length};
+ghost use Rattle.vr_frames.specs.Frames.{frame_count, frame_size, IsFirstSeatOf};
 ghost use Rattle.vr_frames.specs.Search.{IsFullRow};
 
 use crate::seat::FrameSeat;
@@ -9,12 +9,12 @@ use crate::view::Buffer;
 use atomic_table::{Refused, Table};
 use std::alloc::{AllocError, Global};
 
-/// A pool of `frames` frames of `size` bytes, which are made here once, and its first seat, which has all 1,024 parts.
-/// Want of memory is its one error.
+/// A pool of `frames` frames of `size` bytes, which are made here once, and its first seat, which
+/// has all 1,024 parts and no frame. The one error is want of memory.
 pub fn pool(alloc: Global, frames: u32, size: u32) -> Result<(Pool, FrameSeat), AllocError>
-    ensures pool { IfOk result (λ made. (frame_count made.0 ≡ frames) × (frame_size made.0 ≡ size)) }
-    ensures seat { IfOk result (λ made. IsSeatOf made.0 made.1 × (parts_of made.1 ≡ 1024) × (frames_of made.1 ≡ []) × (start_of made.1 ≡ 0)) }
-    ensures claims { IfOk result (λ made. (k : _) → failed_claims made.1 k ≡ 0) }
+    ensures count { IfOk result (λ made. frame_count made.0 ≡ frames) }
+    ensures size { IfOk result (λ made. frame_size made.0 ≡ size) }
+    ensures seat { IfOk result (λ made. IsFirstSeatOf made.0 made.1) }
 {
     let words = vec![in alloc; 0u64; frames as usize + 1]?;
     let slots = buffers(alloc, frames, size)?;

@@ -4,9 +4,11 @@ ghost use Rattle.std.specs.Prelude.{◌≡◌, ◌<◌, ◌≤◌, length};
 use crate::view::{Buffer, View};
 use atomic_table::Seat;
 
-/// The seat of a volume at the pool: with it frames are taken and given. It has no lock, and goes to another thread freely.
+/// The seat of a volume at the pool, with which it takes frames and gives them back. It may go to
+/// another thread.
 ///
-/// It has some of the pool's 1,024 parts. The seat with all of them knows where each frame is.
+/// A seat has one or more of the pool's 1,024 parts. The seat that has all knows where each frame
+/// is.
 #[derive(Drop)]
 pub struct FrameSeat {
     pub(crate) place: Seat<Option<Buffer>, View>,

@@ -11,7 +11,8 @@ use std::snapshot::Snapshot;
 
 type Place = Seat<Option<Buffer>, View>;
 
-/// Buffer frames of one size, which all volumes share. Threads call it through a `&`, each with a seat of its own.
+/// Buffer frames of one size, which all volumes share. Threads call it through a `&`, each with a
+/// seat of its own.
 #[derive(Drop)]
 pub struct Pool {
     pub(crate) table: Table<Option<Buffer>, View, u32, Law, Global>,
@@ -20,15 +21,19 @@ pub struct Pool {
 }
 
 impl Pool {
-    ghost use Rattle.std.specs.Prelude.{◌<◌, ◌≤◌, ◌++◌, [], IfSome, IfNone, MatchBool, MatchOption, vec_len, length};
-    ghost use Rattle.vr_frames.specs.Frames.{frame_count, frame_size, frames_of, parts_of, failed_claims, start_of, Holds, IsSeatOf, IsFrameOf, IsSameSeat, Gets, FindsAllOut, Returns};
+    ghost use Rattle.std.specs.Prelude.{◌<◌, ◌≤◌, IfSome, IfNone, MatchBool, vec_len, length};
+    ghost use Rattle.vr_frames.specs.Frames.{frame_count, frame_size, frames_of, parts_of, Holds};
+    ghost use Rattle.vr_frames.specs.Frames.{IsSeatOf, IsFrameOf, IsSameSeat, Gets, FindsAllOut};
+    ghost use Rattle.vr_frames.specs.Frames.{Returns, GivesPart, IsNewSeat, HasBoth};
     ghost use Rattle.vr_frames.specs.Search.{IsIdle, Carries, Missed, Tried, Won, MissedRound, Brought};
 
-    /// Takes a frame that is home, and looks first behind the frame that this seat took last. `None` comes only where each frame
-    /// of the pool, at a step of this call on its own word, was out.
+    /// Takes a frame that is home. The search begins behind the frame that this seat took last,
+    /// and goes round. `None` comes only where each frame of the pool, at a step of this call on
+    /// its own word, was out. The seat is of this pool.
     pub fn take(&self, seat: &mut FrameSeat) -> Option<Frame>
         requires { IsSeatOf self.now seat.old }
-        ensures same { IsSameSeat seat.old seat.new × IsSeatOf self.now seat.new }
+        ensures same { IsSameSeat seat.old seat.new }
+        ensures of_pool { IsSeatOf self.now seat.new }
         ensures parts { parts_of seat.new ≡ parts_of seat.old }
         ensures frame { IfSome result (IsFrameOf self.now) }
         ensures some { IfSome result (λ frame. Gets self.now seat.old frame seat.new) }
@@ -44,11 +49,13 @@ impl Pool {
         })
     }
 
-    /// Gives back a frame that was taken with this seat, or with one that was joined into it.
+    /// Gives back a frame that was taken from this pool with this seat, or with one that was
+    /// joined into it. The frame is home from then on.
     pub fn give(&self, seat: &mut FrameSeat, frame: Frame)
         requires seat { IsSeatOf self.now seat.old }
         requires frame { IsFrameOf self.now frame × Holds seat.old frame.number }
-        ensures same { IsSameSeat seat.old seat.new × IsSeatOf self.now seat.new }
+        ensures same { IsSameSeat seat.old seat.new }
+        ensures of_pool { IsSeatOf self.now seat.new }
         ensures parts { parts_of seat.new ≡ parts_of seat.old }
         ensures given { Returns seat.old frame seat.new }
     {
@@ -63,30 +70,28 @@ impl Pool {
         shared.store::<Release>(&mut seat.place, number, 0);
     }
 
-    /// A new seat, with one part of this one's. It has no frame.
+    /// A new seat, which takes one part of this one. It has no frame.
     pub fn split(&self, seat: &mut FrameSeat) -> FrameSeat
         requires seat { IsSeatOf self.now seat.old }
         requires parts { 1 < parts_of seat.old }
-        ensures same { IsSameSeat seat.old seat.new × IsSeatOf self.now seat.new }
-        ensures left { (parts_of seat.new + 1 ≡ parts_of seat.old) × (frames_of seat.new ≡ frames_of seat.old) × (start_of seat.new ≡ start_of seat.old) }
-        ensures claims { (k : _) → failed_claims seat.new k ≡ failed_claims seat.old k }
-        ensures right { IsSeatOf self.now result × (parts_of result ≡ 1) × (frames_of result ≡ []) × (start_of result ≡ start_of seat.old) }
-        ensures none_failed { (k : _) → failed_claims result k ≡ 0 }
+        ensures same { IsSameSeat seat.old seat.new }
+        ensures of_pool { IsSeatOf self.now seat.new }
+        ensures left { GivesPart seat.old seat.new }
+        ensures new_of_pool { IsSeatOf self.now result }
+        ensures new_seat { IsNewSeat seat.old result }
     {
         let next = seat.next;
         let place = self.table.shared.split_seat::<OnePart>(&mut seat.place);
         FrameSeat { place, next }
     }
 
-    /// Gives one seat all that another has: its parts and its frames.
+    /// Gives one seat all that another has: its parts and its frames. Both seats are of this pool.
     pub fn join(&self, seat: &mut FrameSeat, other: FrameSeat)
         requires seat { IsSeatOf self.now seat.old }
         requires other { IsSeatOf self.now other }
-        ensures same { IsSameSeat seat.old seat.new × IsSeatOf self.now seat.new }
-        ensures parts { parts_of seat.new ≡ parts_of seat.old + parts_of other }
-        ensures frames { frames_of seat.new ≡ frames_of seat.old ++ frames_of other }
-        ensures start { start_of seat.new ≡ start_of seat.old }
-        ensures claims { (k : _) → failed_claims seat.new k ≡ failed_claims seat.old k + failed_claims other k }
+        ensures same { IsSameSeat seat.old seat.new }
+        ensures of_pool { IsSeatOf self.now seat.new }
+        ensures both { HasBoth seat.old other seat.new }
     {
         let FrameSeat { place, next: _ } = other;
         self.table
@@ -94,7 +99,8 @@ impl Pool {
             .join_seat::<Together>(&mut seat.place, place);
     }
 
-    /// Ends the pool, and answers how many frames were home. The seat with all 1,024 parts knows each frame that is out.
+    /// Ends the pool, and answers how many frames were home. The frames that the seat holds were
+    /// not, and beside the seat with all 1,024 parts nobody holds any.
     pub fn close(self, seat: FrameSeat) -> u32
         requires { IsSeatOf self seat }
         ensures most { result + length (frames_of seat) ≤ frame_count self }
@@ -114,7 +120,10 @@ impl Pool {
         requires idle { IsIdle self.now place.old }
         requires start { start ≤ frame_count self.now }
         ensures none { IfNone result (Tried place.old place.new 0 (frame_count self.now)) }
-        ensures some { IfSome result (λ number. Won place.old place.new number × MissedRound place.old place.new start (frame_count self.now) number × (number < frame_count self.now)) }
+        ensures some { IfSome result (λ number.
+            Won place.old place.new number
+            × MissedRound place.old place.new start (frame_count self.now) number
+            × (number < frame_count self.now)) }
     {
         match self.claim_within(place, start, self.frames as usize) {
             Some(number) => Some(number),
@@ -127,7 +136,11 @@ impl Pool {
         requires idle { IsIdle self.now place.old }
         requires range { (from ≤ to) × (to ≤ frame_count self.now) }
         ensures none { IfNone result (Tried place.old place.new from to) }
-        ensures some { IfSome result (λ number. Won place.old place.new number × Missed place.old place.new from number × (from ≤ number) × (number < to)) }
+        ensures some { IfSome result (λ number.
+            Won place.old place.new number
+            × Missed place.old place.new from number
+            × (from ≤ number)
+            × (number < to)) }
     {
         for number in from..to {
             if self.claim(place, number) {
@@ -141,7 +154,9 @@ impl Pool {
     fn claim(&self, place: &mut Place, number: usize) -> bool
         requires idle { IsIdle self.now place.old }
         requires number { number < frame_count self.now }
-        ensures { MatchBool result (Won place.old place.new number × Missed place.old place.new number number) (Tried place.old place.new number (number + 1)) }
+        ensures { MatchBool result
+            (Won place.old place.new number × Missed place.old place.new number number)
+            (Tried place.old place.new number (number + 1)) }
     {
         let found = self
             .table

@@ -12,7 +12,9 @@ const TURNS: u32 = 4000;
 fn turn(pool: &Pool, seat: &mut FrameSeat, mark: u8) -> bool
     requires seat { IsSeatOf pool.now seat.old }
     requires empty { frames_of seat.old ≡ [] }
-    ensures { IsSeatOf pool.now seat.new × (parts_of seat.new ≡ parts_of seat.old) × (frames_of seat.new ≡ []) }
+    ensures seat { IsSeatOf pool.now seat.new }
+    ensures parts { parts_of seat.new ≡ parts_of seat.old }
+    ensures empty { frames_of seat.new ≡ [] }
 {
     let Some(mut frame) = pool.take(seat) else {
         return true;
@@ -29,7 +31,9 @@ fn turn(pool: &Pool, seat: &mut FrameSeat, mark: u8) -> bool
 // Many turns of one thread.
 fn turns(pool: &Pool, mut seat: FrameSeat, mark: u8) -> (FrameSeat, bool)
     requires { IsSeatOf pool.now seat × (frames_of seat ≡ []) }
-    ensures { IsSeatOf pool.now result.0 × (parts_of result.0 ≡ parts_of seat) × (frames_of result.0 ≡ []) }
+    ensures { IsSeatOf pool.now result.0
+        × (parts_of result.0 ≡ parts_of seat)
+        × (frames_of result.0 ≡ []) }
 {
     let mut found = true;
     for _ in 0..TURNS {
@@ -48,17 +52,23 @@ fn two<R: Threads + Sync>(
 ) -> (FrameSeat, bool)
     requires one { IsSeatOf pool.now one × (frames_of one ≡ []) }
     requires other { IsSeatOf pool.now other × (frames_of other ≡ []) }
-    ensures { IsSeatOf pool.now result.0 × (parts_of result.0 ≡ parts_of one + parts_of other) × (frames_of result.0 ≡ []) }
+    ensures { IsSeatOf pool.now result.0
+        × (parts_of result.0 ≡ parts_of one + parts_of other)
+        × (frames_of result.0 ≡ []) }
 {
     let ((mut seat, found), (rest, also)) = thread::join(
         rt,
         move ||
             requires { IsSeatOf pool.now one × (frames_of one ≡ []) }
-            ensures { IsSeatOf pool.entry.now result.0 × (parts_of result.0 ≡ parts_of one) × (frames_of result.0 ≡ []) }
+            ensures { IsSeatOf pool.entry.now result.0
+                × (parts_of result.0 ≡ parts_of one)
+                × (frames_of result.0 ≡ []) }
         { turns(pool, one, marks.0) },
         move ||
             requires { IsSeatOf pool.now other × (frames_of other ≡ []) }
-            ensures { IsSeatOf pool.entry.now result.0 × (parts_of result.0 ≡ parts_of other) × (frames_of result.0 ≡ []) }
+            ensures { IsSeatOf pool.entry.now result.0
+                × (parts_of result.0 ≡ parts_of other)
+                × (frames_of result.0 ≡ []) }
         { turns(pool, other, marks.1) },
     );
     pool.join(&mut seat, rest);
@@ -76,11 +86,13 @@ fn four_threads_find_their_marks_and_every_frame_comes_home(rt: HostRuntime) -> 
     let ((mut seat, found), (rest, also)) = thread::join(
         handle,
         move ||
-            requires { IsSeatOf shared.now a × (frames_of a ≡ []) × IsSeatOf shared.now b × (frames_of b ≡ []) }
+            requires { (IsSeatOf shared.now a × (frames_of a ≡ []))
+                × (IsSeatOf shared.now b × (frames_of b ≡ [])) }
             ensures { IsSeatOf shared.entry.now result.0 × (frames_of result.0 ≡ []) }
         { two(handle, shared, a, b, (1, 2)) },
         move ||
-            requires { IsSeatOf shared.now c × (frames_of c ≡ []) × IsSeatOf shared.now d × (frames_of d ≡ []) }
+            requires { (IsSeatOf shared.now c × (frames_of c ≡ []))
+                × (IsSeatOf shared.now d × (frames_of d ≡ [])) }
             ensures { IsSeatOf shared.entry.now result.0 × (frames_of result.0 ≡ []) }
         { two(handle, shared, c, d, (3, 4)) },
     );

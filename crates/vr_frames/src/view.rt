@@ -1,4 +1,5 @@
-// What the holder of a seat knows, and the rule and the steps of the table that the seats are of. All of it is for the proofs.
+// What the holder of a seat knows, and the rule and the steps of the table that the seats are of.
+// All of it is for the proofs.
 use atomic_table::{Join, Play, Split, TableRule};
 use std::collections::LinkedList;
 
