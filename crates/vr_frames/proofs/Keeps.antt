@@ -33,7 +33,7 @@ module _ {B : Type 0} (fits : ℕ → B → Type 0) (size : ℕ) where
   stays s t k word home held moving was = (
     (λ z. let h = was.0 (sym word ∙ z) in record { in_slot = (h.in_slot.0, home ∙ h.in_slot.1, h.in_slot.2); in_no_view = (held ∙ h.in_no_view.0, moving ∙ h.in_no_view.1) }),
     (λ nz. ⊎_elim (λ (h : IsHeld s k). inl (record { empty_slot = home ∙ h.empty_slot; in_one_view = (held ∙ h.in_one_view.0, moving ∙ h.in_one_view.1) }))
-        (λ (h : IsOnItsWay s k). inr (record { by_one_seat = (held ∙ h.by_one_seat.0, moving ∙ h.by_one_seat.1) })) (was.1 (λ z. nz (word ∙ z)))),
+        (λ (h : IsOnItsWay s k). inr (record { slot_out = home ∙ h.slot_out; by_one_seat = (held ∙ h.by_one_seat.0, moving ∙ h.by_one_seat.1) })) (was.1 (λ z. nz (word ∙ z)))),
   )
 
   -- a step of the seat id on the frame i, which leaves each other frame where it is
@@ -98,6 +98,7 @@ module _ {B : Type 0} (fits : ℕ → B → Type 0) (size : ℕ) where
             (λ k ne. (refl, times-one k i ∙ (one_if-other k i (λ e. ne (sym e)) ∙ sym (none_moving v still k)), refl)) (
               (λ z. absurd (omega arith)),
               λ _. inr (record {
+                slot_out = set_here s.homes i none near;
                 by_one_seat = (omega (arith, sum_set (λ u. times i u.frames) s.views id v w at, h.in_no_view.0), omega (arith, sum_set (λ u. times i u.moving) s.views id v w at, one, none_moving v still i, h.in_no_view.1));
               }),
             ),
@@ -171,6 +172,7 @@ module _ {B : Type 0} (fits : ℕ → B → Type 0) (size : ℕ) where
             (λ k ne. (times-without_other k i v.frames ne, times-one k i ∙ (one_if-other k i (λ e. ne (sym e)) ∙ sym (none_moving v still k)), refl)) (
               (λ z. absurd (h.0 (sym (ap (λ (ws : List ℕ). get_or ws i 0) (set-get_or s.words i 0)) ∙ z))),
               λ _. inr (record {
+                slot_out = set_here s.homes i none near;
                 by_one_seat = (
                   omega (arith, sum_set (λ u. times i u.frames) s.views id v w at, times-without_same i v.frames, h.1.in_one_view.0),
                   omega (arith, sum_set (λ u. times i u.moving) s.views id v w at, times-one i i, one_if-same i i refl, none_moving v still i, h.1.in_one_view.1),

@@ -3,7 +3,7 @@
 -- more a pool of no frames has a word too, which the split and the join of seats read.
 use Rattle.std.specs.Prelude.{◌≡◌, ◌≢◌, ◌⊎◌, ℕ, ◌+◌, ◌<◌, ◌≤◌, List, length, sum_by, slice_index, Option, Some, None, vec_len}
 use Rattle.std.specs.Global.{Vec}
-use mathlib.Core.Option.{some}
+use mathlib.Core.Option.{some, none}
 use lib.ListN.{get_elem?}
 use Rattle.atomic_table.specs.Table.{State}
 use Rattle.vr_frames.specs.declared.view.View.{View}
@@ -37,6 +37,7 @@ module _ {B : Type 0} where
 
   -- one seat, which has its slot, brings it out or back
   pub record IsOnItsWay (s : State (Option B) View) (frame : ℕ) : Type 0 where
+    pub slot_out : get_elem? s.homes frame ≡ some none
     pub by_one_seat : (holders s.views frame ≡ 0) × (movers s.views frame ≡ 1)
 
   pub record IsKept (size : ℕ) (IsWhole : B → Type 0) (s : State (Option B) View) : Type 0 where
