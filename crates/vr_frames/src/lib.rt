@@ -5,6 +5,9 @@
 // seat holds, the claims of the seat that found a frame out, and its parts of the right to know
 // the whole pool.
 //
+// The table changes in six kinds of step, each of which keeps the rule that `specs/Rule.antt` states:
+// a claim, the way of a slot in and out, a release, and the split and the join of seats.
+//
 // It promises: a frame is home, or in exactly one seat's hands. `take` answers None only where
 // each frame was out at a step of that call on the frame's own word. The seat with every part, if
 // it holds no frame, closes the pool with every frame home.

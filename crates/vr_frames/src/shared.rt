@@ -4,7 +4,7 @@ ghost use Rattle.std.specs.Prelude.{◌≡◌, ◌+◌};
 use crate::ends::{count_home, empty};
 use crate::frame::Frame;
 use crate::seat::FrameSeat;
-use crate::view::{Buffer, Claim, Law, OnePart, Release, SlotIn, SlotOut, Together, View};
+use crate::view::{Buffer, Claim, HomeOrHeld, OnePart, Release, SlotIn, SlotOut, Together, View};
 use atomic_table::{Seat, Table};
 use std::alloc::Global;
 use std::snapshot::Snapshot;
@@ -15,7 +15,7 @@ type Place = Seat<Option<Buffer>, View>;
 /// seat of its own.
 #[derive(Drop)]
 pub struct Pool {
-    pub(crate) table: Table<Option<Buffer>, View, u32, Law, Global>,
+    pub(crate) table: Table<Option<Buffer>, View, u32, HomeOrHeld, Global>,
     pub(crate) frames: u32,
     ghost counts: { (table.shared.table_id.slots ≡ frames) × (table.shared.table_id.words ≡ frames + 1) },
 }
@@ -49,8 +49,8 @@ impl Pool {
         })
     }
 
-    /// Gives back a frame that was taken from this pool with this seat, or with one that was
-    /// joined into it. The frame is home from then on.
+    /// Gives back a frame that was taken from this pool with this seat, or with one that was joined
+    /// into it. From then on any thread may take it.
     pub fn give(&self, seat: &mut FrameSeat, frame: Frame)
         requires seat { IsSeatOf self.now seat.old }
         requires frame { IsFrameOf self.now frame × Holds seat.old frame.number }

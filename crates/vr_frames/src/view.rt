@@ -20,10 +20,10 @@ pub struct View {
     pub failed: LinkedList<usize>,
 }
 
-/// A frame is home, or in one holder's hands.
-pub struct Law;
+/// The rule: a frame is home, or in one holder's hands.
+pub struct HomeOrHeld;
 
-impl TableRule<Option<Buffer>, View, u32> for Law {
+impl TableRule<Option<Buffer>, View, u32> for HomeOrHeld {
     ghost use Rattle.vr_frames.specs.Views.{first_view};
     ghost use Rattle.vr_frames.specs.Rule.{IsPoolState};
 
@@ -32,7 +32,7 @@ impl TableRule<Option<Buffer>, View, u32> for Law {
     ghost first = { first_view };
 }
 
-/// A claim on a frame.
+/// A claim on a frame, which is a compare-exchange on its word.
 pub struct Claim;
 
 impl Play<Option<Buffer>, View> for Claim {
@@ -42,7 +42,7 @@ impl Play<Option<Buffer>, View> for Claim {
     ghost then = { claimed (λ v buffer. vec_len buffer ≡ v.size) };
 }
 
-/// The end of a take.
+/// The end of a take: the slot goes back empty.
 pub struct SlotIn;
 
 impl Play<Option<Buffer>, View> for SlotIn {
@@ -51,7 +51,7 @@ impl Play<Option<Buffer>, View> for SlotIn {
     ghost then = { brought };
 }
 
-/// The start of a give.
+/// The start of a give: the empty slot is fetched.
 pub struct SlotOut;
 
 impl Play<Option<Buffer>, View> for SlotOut {
@@ -60,7 +60,7 @@ impl Play<Option<Buffer>, View> for SlotOut {
     ghost then = { fetched };
 }
 
-/// The end of a give.
+/// The end of a give: the slot goes back with the buffer, and the word says home.
 pub struct Release;
 
 impl Play<Option<Buffer>, View> for Release {
