@@ -67,9 +67,6 @@ times-without_other k j (x ∷ xs) ne = dite (ℕ_discrete x j)
 pub times-append_left : (k : ℕ) (xs ys : List ℕ) → 0 < times k xs → 0 < times k (xs ++ ys)
 times-append_left k xs ys some_there = omega (arith, times-append k xs ys)
 
-pub times-append_right : (k : ℕ) (xs ys : List ℕ) → 0 < times k ys → 0 < times k (xs ++ ys)
-times-append_right k xs ys some_there = omega (arith, times-append k xs ys)
-
 pub times-push : (k : ℕ) (xs : List ℕ) → 0 < times k (xs ++ k ∷ [])
 times-push k xs = omega (arith, times-append k xs (k ∷ []), times-one k k, one_if-same k k refl)
 

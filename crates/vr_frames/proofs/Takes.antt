@@ -82,9 +82,6 @@ won a b c i j frame t w = let me = t.same_view in
 pub won_after : (a b c : Place) (i frame : ℕ) → i ≤ frame → Tried a b i frame → Won b c frame × Missed b c frame frame → Won a c frame × Missed a c i frame
 won_after a b c i frame le t w = (won a b c i frame frame t w.0, missed_join a b c i frame frame le (omega arith) t.missed w.1)
 
-pub won_at_once : (a b : Place) (start end frame : ℕ) → start ≤ frame → Missed a b start frame → MissedRound a b start end frame
-won_at_once a b start end frame le missed = record { straight = λ _. missed; round = λ far. absurd (omega arith) }
-
 pub won_round : (a b c : Place) (start end frame : ℕ) → frame < start → Tried a b start end → Won b c frame × Missed b c 0 frame → Won a c frame × MissedRound a c start end frame
 won_round a b c start end frame lt t w = (won a b c start end frame t w.0, record { straight = λ le. absurd (omega arith); round = λ _ k. omega (arith, t.missed k, w.1 k) })
 
