@@ -1,4 +1,5 @@
 pub mod Blocks
+pub mod Content
 pub mod Faults
 pub mod Image
 pub mod Moments

@@ -1,7 +1,8 @@
 // The words that every layer of the record manager shares: places, bytes and names of data sets, units of
-// recovery, requests, replies and refusals, and the number that each refusal shows. It stands on std alone.
-// It promises that each value built here is the list of bytes that it was built from, that a copy equals
-// what it was copied from, and that a data set name is taken exactly where the catalog's rules allow it.
+// recovery, requests, replies and refusals with the number that each shows, the content of a data set, and the
+// trait of blocks with what a crash may leave of them. It stands on std alone. It promises that each value built
+// here is the list of bytes that it was built from, that a copy equals what it was copied from, and that a data
+// set name is taken exactly where the catalog's rules allow it.
 #![tactic(auto)]
 
 pub mod blocks;
@@ -12,6 +13,8 @@ pub mod memory;
 pub mod name;
 pub mod reply;
 pub mod request;
+#[cfg(test)]
+mod tests;
 pub mod unit;
 pub mod values;
 pub mod words;

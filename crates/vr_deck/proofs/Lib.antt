@@ -1,0 +1,4 @@
+pub mod DeckLines
+pub mod OneMeaning
+pub mod Progresses
+pub mod Outcomes

@@ -1,0 +1,29 @@
+use Rattle.std.specs.Prelude.{◌≡◌, ℕ, ◌<◌, ◌≤◌, ◌==◌, ◌||◌, Bool, true, List, ◌++◌, length, codes, slice_index, All}
+use Rattle.std.specs.Char.{is_ascii_uppercase, is_ascii_digit}
+use Rattle.vr_deck.specs.Line.{word, behind_word}
+
+-- Job control cards, after MVS JCL: the cards that a deck step begins with.
+
+-- a letter, or one of the three characters that count as letters: @ # $
+abbrev pub is_letter : ℕ → Bool
+is_letter b = is_ascii_uppercase b || b == 64 || b == 35 || b == 36
+
+-- a name on a card or of a file: 1 to 8 letters and digits, the first no digit
+pub record IsName (name : List ℕ) : Type 0 where
+  pub some : 0 < length name
+  pub short : length name ≤ 8
+  pub begins : is_letter (slice_index name 0) ≡ true
+  pub each : All (λ b. (is_letter b || is_ascii_digit b) ≡ true) name
+
+-- the card that begins a deck step of this name
+pub record IsStepCard (line step : List ℕ) : Type 0 where
+  pub label : word line ≡ codes "//" ++ step
+  pub name : IsName step
+  pub verb : word (behind_word line) ≡ codes "EXEC"
+  pub program : behind_word (behind_word line) ≡ codes "PGM=VRMDECK"
+
+-- the card behind which deck 1 stands
+pub record IsDeckCard (line : List ℕ) : Type 0 where
+  pub label : word line ≡ codes "//DECK1"
+  pub verb : word (behind_word line) ≡ codes "DD"
+  pub inline : behind_word (behind_word line) ≡ codes "*"

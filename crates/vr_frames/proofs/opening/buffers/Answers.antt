@@ -1,0 +1,15 @@
+use Rattle.std.proofs.Common.{ℕ, List, ◌∷◌, [], arith, length-append, Some, sym, ap, ◌∙◌, subst, length}
+use Rattle.std.specs.Prelude.{Option}
+use Rattle.std.specs.Global.{Vec}
+use Rattle.vr_frames.specs.Rule.{IsBuffer}
+use Rattle.vr_frames.specs.Search.{IsFullRow}
+use Rattle.vr_frames.proofs.NewPool.{row_more}
+use Rattle.vr_frames.proofs.opening.buffers.Goals as goal
+
+abbrev Row : Type 0
+Row = List (Option (Vec ℕ))
+
+pub loop-preserved : goal.loop-preserved
+loop-preserved c =
+    let i = c.loop.invariant in let b = c.in_ok-vec.field-0 in let items = c.in_ok-push.ensures.items in
+    (subst (IsFullRow c.args.size) (sym {A = Row} items) (row_more (IsBuffer c.args.size) c.loop.slots.items b i.0 c.in_ok-vec.ensures.len), ap (λ (l : Row). length l) items ∙ omega (arith, length-append c.loop.slots.items (Some b ∷ []), i.1))

@@ -1,0 +1,21 @@
+use Rattle.std.proofs.Common.{ℕ, List, ◌∷◌, arith, sym, ap, ◌∙◌, Some, None}
+use Rattle.std.specs.Prelude.{Option}
+use Rattle.std.specs.Global.{Vec}
+use Rattle.atomic_table.specs.Table.{rest}
+use Rattle.vr_frames.specs.Rule.{IsBuffer}
+use Rattle.vr_frames.proofs.Keeps.{brings_at}
+use Rattle.vr_frames.proofs.shared.Pool.bring_out.Goals as goal
+
+abbrev Slots : Type 0
+Slots = List (ℕ × Option (Vec ℕ))
+
+pub exchange-requires : goal.exchange-requires
+exchange-requires c = let b = c.requires.brings in
+    (c.requires.of_pool, (Some b.buffer, b.slot ∙ ap (λ (r : Slots). (c.args.number, Some b.buffer) ∷ r) (sym (ap (λ (r : Slots). rest r) b.slot))))
+
+pub load-requires : goal.load-requires
+load-requires c = let b = c.requires.brings in let e = c.exchange.ensures in (
+  e.0 ∙ c.requires.of_pool,
+  omega (arith, c.args.self.now.counts.0, c.args.self.now.counts.1, c.requires.inside),
+  brings_at IsBuffer _ _ _ _ c.args.place.now.me.0 _ (e.3 ∙ ap (λ (r : Slots). (c.args.place.now.me.0, (c.args.number, None) ∷ r)) (ap (λ (r : Slots). rest r) b.slot)) c.requires.inside c.requires.has_part b.moving,
+)

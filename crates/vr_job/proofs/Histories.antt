@@ -1,0 +1,34 @@
+-- Histories that grow at their end.
+use Rattle.std.proofs.Common.{◌≡◌, ℕ, ◌<◌, List, [], ◌∷◌, ◌++◌, ◌-◌, suc, length, Some, slice_get, refl, ap, ◌∙◌, arith, append-nil}
+use Rattle.std.proofs.lemmas.Grind.{flat_map-append}
+use Rattle.vr_job.specs.declared.entry.Entry.{Entry}
+use Rattle.vr_job.specs.State.{State}
+use Rattle.vr_job.specs.Step.{Step, state_after}
+use Rattle.vr_job.specs.History.{IsLegal, state_of, IsStamped, last_stamp, asked_by, part_of_deck}
+
+pub IsStamped-append : (before : ℕ) (entries : List Entry) (entry : Entry) → IsStamped before entries → last_stamp before entries < entry.stamp → IsStamped before (entries ++ entry ∷ [])
+IsStamped-append before [] entry stamped rises = (rises, tt)
+IsStamped-append before (e ∷ entries) entry stamped rises = (stamped.0, IsStamped-append e.stamp entries entry stamped.1 rises)
+
+pub last_stamp-append : (before : ℕ) (entries : List Entry) (entry : Entry) → last_stamp before (entries ++ entry ∷ []) ≡ entry.stamp
+last_stamp-append before [] entry = refl
+last_stamp-append before (e ∷ entries) entry = last_stamp-append e.stamp entries entry
+
+-- the last entry has the last stamp
+pub last_stamp-get : (before : ℕ) (entries : List Entry) (e : Entry) → Some e ≡ slice_get entries (length entries - 1) → e.stamp ≡ last_stamp before entries
+last_stamp-get before [] e h = absurd (cc)
+last_stamp-get before (x ∷ []) e h = let same : e ≡ x = cc in ap (λ (entry : Entry). entry.stamp) same
+last_stamp-get before (x ∷ y ∷ rest) e h =
+    let place : length (x ∷ y ∷ rest) - 1 ≡ suc (length (y ∷ rest) - 1) = omega arith in
+    last_stamp-get x.stamp (y ∷ rest) e (h ∙ ap (λ n. slice_get (x ∷ y ∷ rest) n) place)
+
+pub state_of-append : (state : State) (entries : List Entry) (entry : Entry) → state_of state (entries ++ entry ∷ []) ≡ state_after (state_of state entries) entry
+state_of-append state [] entry = refl
+state_of-append state (e ∷ entries) entry = state_of-append (state_after state e) entries entry
+
+pub IsLegal-append : (state : State) (entries : List Entry) (entry : Entry) → IsLegal state entries → Step (state_of state entries) entry → IsLegal state (entries ++ entry ∷ [])
+IsLegal-append state [] entry legal step = (step, tt)
+IsLegal-append state (e ∷ entries) entry legal step = (legal.0, IsLegal-append (state_after state e) entries entry legal.1 step)
+
+pub part_of_deck-append : (volume deck : ℕ) (entries : List Entry) (entry : Entry) → part_of_deck volume deck (entries ++ entry ∷ []) ≡ part_of_deck volume deck entries ++ asked_by volume deck entry
+part_of_deck-append volume deck entries entry = flat_map-append (asked_by volume deck) entries (entry ∷ []) ∙ ap (λ l. part_of_deck volume deck entries ++ l) (append-nil (asked_by volume deck entry))

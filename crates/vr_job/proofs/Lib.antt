@@ -1,0 +1,10 @@
+pub mod Gaps
+pub mod Histories
+pub mod Runs
+pub mod Codes
+pub mod Appends
+pub mod WordLists
+pub mod Readings
+pub mod Ends
+pub mod Printing
+pub mod Completes

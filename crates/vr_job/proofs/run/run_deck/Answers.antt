@@ -1,0 +1,30 @@
+use Rattle.std.proofs.Common.{◌≡◌, ◌<◌, List, ◌++◌, length, drop, get_or, subst, sym, ap, ◌∙◌}
+use Rattle.std.proofs.lemmas.List.{take-append-drop}
+use Rattle.vr_deck.specs.declared.bound.Bound.{Bound}
+use Rattle.vr_job.specs.declared.entry.Entry.{Entry}
+use Rattle.vr_job.specs.History.{part_of_deck}
+use Rattle.vr_job.specs.Run.{IsHere, IsFrontOf}
+use Rattle.vr_job.proofs.Runs.{Running-start, Running-step}
+use Rattle.vr_job.proofs.run.run_deck.Goals as goal
+
+pub loop-bound-init : goal.loop-bound-init
+loop-bound-init c = Running-start _ _ _ c.requires.fresh c.new-file.ensures
+
+pub loop-bound-preserved : goal.loop-bound-preserved
+loop-bound-preserved c =
+    let requests = c.args.requests.now in
+    let i = c.loop-bound.bound-index in
+    let bound = c.bound-item.result in
+    let L : List Bound → Type 0 = λ l. i < length l in
+    let G : List Bound → Type 0 = λ l. bound ≡ get_or l i bound in
+    let inside : i < length requests = subst L c.as_slice-bound-items.ensures c.loop-bound-test.true in
+    let at : bound ≡ get_or requests i bound = subst G c.as_slice-bound-items.ensures c.bound-item.is in
+    let here : IsHere bound = subst IsHere (sym at) (c.requires.here i bound inside) in
+    Running-step requests i bound _ _ _ _ _ _ inside at here c.loop-bound.invariant c.in_ok-number.ensures.ok
+
+pub returns-in_err-number-clause-front : goal.returns-in_err-number-clause-front
+returns-in_err-number-clause-front c =
+    let requests = c.args.requests.now in
+    let i = c.loop-bound.bound-index in
+    let P : List Entry → Type 0 = λ es. IsFrontOf (part_of_deck 0 1 es) requests in
+    subst P (sym c.in_err-number.ensures.err) (drop i requests, ap (λ p. p ++ drop i requests) c.loop-bound.invariant.part ∙ take-append-drop i requests)

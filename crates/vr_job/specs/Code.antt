@@ -1,0 +1,52 @@
+use Rattle.std.specs.Prelude.{ℕ, max, List, [], ◌∷◌}
+use Rattle.vr_types.specs.declared.reply.Refusal.{Refusal}
+use Rattle.vr_types.specs.declared.reply.Refusal.TheVariants.{NoSpace, Held, LogFull, Stopped, ReadFault, WriteFault, Memory, NotAllowed, NoFile}
+use Rattle.vr_types.specs.declared.reply.Reply.{Reply}
+use Rattle.vr_types.specs.declared.reply.Reply.TheVariants.{Done, Refused}
+use Rattle.vr_types.specs.Refusal.{feedback_code}
+use Rattle.vr_job.specs.declared.entry.Entry.{Entry}
+use Rattle.vr_job.specs.declared.entry.What.{What}
+use Rattle.vr_job.specs.declared.entry.What.TheVariants.{Asked}
+
+-- Return and condition codes. The return codes are those of Using Data Sets; the condition codes of deck steps are this
+-- project's own.
+
+-- 12 for a fault of the device, 8 for a request that was refused for another cause
+abbrev pub refused_code : Refusal → ℕ
+refused_code ReadFault = 12
+refused_code WriteFault = 12
+refused_code _ = 8
+
+abbrev pub return_code : Reply → ℕ
+return_code (Done feedback place bytes) = 0
+return_code (Refused refusal) = refused_code refusal
+
+abbrev pub feedback_of : Reply → ℕ
+feedback_of (Done feedback place bytes) = feedback
+feedback_of (Refused refusal) = feedback_code refusal
+
+-- what a refusal makes of its step's condition code: 8 where the volume is at fault, 4 where something was in the way
+abbrev pub severity_of : Refusal → ℕ
+severity_of (Stopped stamp) = 8
+severity_of ReadFault = 8
+severity_of WriteFault = 8
+severity_of (NoSpace need free) = 4
+severity_of (Held holder name mode) = 4
+severity_of (LogFull used need size) = 4
+severity_of Memory = 4
+severity_of NotAllowed = 4
+severity_of NoFile = 4
+severity_of _ = 0
+
+abbrev pub reply_severity : Reply → ℕ
+reply_severity (Done feedback place bytes) = 0
+reply_severity (Refused refusal) = severity_of refusal
+
+abbrev pub severity : What → ℕ
+severity (Asked request reply) = reply_severity reply
+severity _ = 0
+
+-- the condition code of a step with these entries: the greatest of theirs
+abbrev pub step_code : List Entry → ℕ
+step_code [] = 0
+step_code (entry ∷ entries) = max (severity entry.what) (step_code entries)

@@ -1,0 +1,13 @@
+pub mod Definition
+pub mod State
+pub mod Refusals
+pub mod Step
+pub mod History
+pub mod Kept
+pub mod Serve
+pub mod Run
+pub mod Code
+pub mod Listing
+pub mod Input
+pub mod JobEnd
+pub mod RecordFile

@@ -1,0 +1,48 @@
+use Rattle.std.specs.Prelude.{◌≡◌, ℕ, ◌+◌, ◌≤◌, List, [], ◌∷◌, ◌++◌, take}
+use Rattle.vr_types.specs.declared.request.Request.{Request}
+use Rattle.vr_types.specs.declared.request.Request.TheVariants.{Commit}
+use Rattle.vr_types.specs.declared.reply.Reply.{Reply}
+use Rattle.vr_types.specs.declared.reply.Reply.TheVariants.{Done}
+use Rattle.vr_types.specs.Content.{Content}
+use Rattle.vr_deck.specs.declared.bound.Bound.{Bound}
+use Rattle.vr_job.specs.declared.entry.Entry.{Entry}
+use Rattle.vr_job.specs.declared.entry.What.TheVariants.{Asked}
+use Rattle.vr_job.specs.State.{opening_state}
+use Rattle.vr_job.specs.Step.{IsOffered}
+use Rattle.vr_job.specs.History.{IsLegal, state_of, last_stamp, part_of_deck}
+use Rattle.vr_job.specs.Serve.{Serves}
+
+-- The run of deck 1 on volume 0, request by request.
+
+-- a request that there is, of volume 0
+abbrev pub IsHere : Bound → Type 0
+IsHere bound = IsOffered bound.request × (bound.volume ≡ 0)
+
+-- the number of the deck's unit after a reply
+abbrev pub next_number : Request → Reply → ℕ → ℕ
+next_number Commit (Done feedback place bytes) number = number + 1
+next_number _ _ number = number
+
+-- the entry of a request that was answered
+abbrev pub entry_of : ℕ → ℕ → Bound → Reply → Entry
+entry_of stamp number bound reply = record { stamp = stamp; unit = record { deck = 1; number = number }; line = bound.line; what = Asked bound.request reply }
+
+-- one request was answered and entered
+pub record Enters (bound : Bound) (number next : ℕ) (old new : List Entry) (content content' : Content) : Type 0 where
+  pub reply : Reply
+  pub entered : new ≡ old ++ entry_of (last_stamp 0 old + 1) number bound reply ∷ []
+  pub served : Serves bound.request reply content content'
+  pub counted : next ≡ next_number bound.request reply number
+
+-- the first i requests were answered and entered, from the opening state on
+pub record Running (requests : List Bound) (i : ℕ) (entries : List Entry) (content : Content) (number : ℕ) : Type 0 where
+  pub legal : IsLegal opening_state entries
+  pub content_is : (state_of opening_state entries).contents 1 ≡ content
+  pub number_is : (state_of opening_state entries).numbers 1 ≡ number
+  pub few : number ≤ i + 1
+  pub part : part_of_deck 0 1 entries ≡ take i requests
+  pub stamps : last_stamp 0 entries ≡ i
+
+-- a list goes on as another does
+abbrev pub IsFrontOf : List Bound → List Bound → Type 0
+IsFrontOf front whole = (rest : List Bound) × (front ++ rest ≡ whole)

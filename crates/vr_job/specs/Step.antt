@@ -1,0 +1,81 @@
+use Rattle.std.specs.Prelude.{◌≡◌, ◌≢◌, ◌⊎◌, ℕ, ◌+◌, false, ◌==◌, if◌then◌else◌, List, Option, Some, None}
+use Rattle.vr_types.specs.declared.unit.Unit.{Unit as UnitOfRecovery}
+use Rattle.vr_types.specs.declared.unit.Integrity.TheVariants.{Nri}
+use Rattle.vr_types.specs.declared.request.Find.TheVariants.{Equal}
+use Rattle.vr_types.specs.declared.request.Request.{Request}
+use Rattle.vr_types.specs.declared.request.Request.TheVariants.{Get, Add, Commit}
+use Rattle.vr_types.specs.declared.reply.Refusal.{Refusal}
+use Rattle.vr_types.specs.declared.reply.Refusal.TheVariants.{Memory}
+use Rattle.vr_types.specs.declared.reply.Reply.{Reply}
+use Rattle.vr_types.specs.declared.reply.Reply.TheVariants.{Done, Refused}
+use Rattle.vr_types.specs.Content.{Standing, record_at, with_item}
+use Rattle.vr_deck.specs.Bound.{first_file}
+use Rattle.vr_job.specs.declared.entry.Entry.{Entry}
+use Rattle.vr_job.specs.declared.entry.What.{What}
+use Rattle.vr_job.specs.declared.entry.What.TheVariants.{Asked}
+use Rattle.vr_job.specs.Definition.{first_definition, key_of}
+use Rattle.vr_job.specs.State.{State}
+use Rattle.vr_job.specs.Refusals.{first_refusal}
+
+-- The step of the record file: which reply an entry may have in a state, and the state after it.
+
+-- the requests that there are: direct GET without integrity, PUT add, and COMMIT
+abbrev pub IsOffered : Request → Type 0
+IsOffered (Get file (Equal place) update integrity) = (file ≡ first_file) × (update ≡ false) × (integrity ≡ Nri)
+IsOffered (Add file place bytes) = (file ≡ first_file) × (place ≡ None)
+IsOffered Commit = Unit {0}
+IsOffered _ = ⊥
+
+-- the reply to a request that isn't refused: a GET's with the record, a PUT's with its key
+abbrev pub done_reply : State → Request → Reply
+done_reply state (Get file (Equal place) update integrity) = Done 0 (Some place) (record_at (state.contents file.base.0) place)
+done_reply state (Add file place bytes) = Done 0 (Some (key_of first_definition bytes)) None
+done_reply state _ = Done 0 None None
+
+abbrev pub refused_or : Option Refusal → Reply → Reply
+refused_or None done = done
+refused_or (Some refusal) done = Refused refusal
+
+-- the reply where memory is ample
+abbrev pub answer_of : State → Request → Reply
+answer_of state request = refused_or (first_refusal state request) (done_reply state request)
+
+-- want of memory may take the place of any reply but that to a COMMIT
+abbrev pub MayReply : State → Request → Reply → Type 0
+MayReply state request reply = (reply ≡ answer_of state request) ⊎ ((reply ≡ Refused Memory) × (request ≢ Commit))
+
+-- the record added, in the content of its part
+abbrev pub adds_record : ℕ → List ℕ → State → State
+adds_record part bytes state = record state { contents = λ q. if q == part then with_item (state.contents q) (key_of first_definition bytes) (Standing bytes) else state.contents q }
+
+-- the deck's next unit of recovery begun
+abbrev pub ends_unit : ℕ → State → State
+ends_unit deck state = record state { numbers = λ d. if d == deck then state.numbers d + 1 else state.numbers d }
+
+-- what a request that was done changes
+abbrev pub effect : ℕ → Request → State → State
+effect deck (Add file place bytes) state = adds_record file.base.0 bytes state
+effect deck Commit state = ends_unit deck state
+effect deck _ state = state
+
+-- a refused request changes nothing
+abbrev pub after_reply : ℕ → Request → Reply → State → State
+after_reply deck request (Done feedback place bytes) state = effect deck request state
+after_reply deck request (Refused refusal) state = state
+
+abbrev pub after_what : ℕ → What → State → State
+after_what deck (Asked request reply) state = after_reply deck request reply state
+after_what deck _ state = state
+
+-- the state after an entry
+abbrev pub state_after : State → Entry → State
+state_after state entry = after_what entry.unit.deck entry.what state
+
+-- a request of its deck's unit, with a reply that it may have; nothing else is entered yet
+abbrev pub MayEnter : State → UnitOfRecovery → What → Type 0
+MayEnter state unit (Asked request reply) = (unit.number ≡ state.numbers unit.deck) × IsOffered request × MayReply state request reply
+MayEnter state unit _ = ⊥
+
+-- an entry may come in a state
+abbrev pub Step : State → Entry → Type 0
+Step state entry = MayEnter state entry.unit entry.what

@@ -1,0 +1,89 @@
+ghost use Rattle.std.specs.Prelude.{◌≡◌, IfOk, OnErr, min, length, ◌^◌, ◌-◌};
+ghost use Rattle.vr_job.specs.Step.{IsOffered};
+ghost use Rattle.vr_job.specs.Serve.{Serves, reply_to, content_after, get_request, add_request, or_refused};
+
+use crate::record_file::{KEY_LENGTH, RecordFile, key};
+use std::alloc::Global;
+use vr_types::{Bytes, Find, OutOfMemory, PartNo, Place, Refusal, Reply, Request, bytes, place};
+
+/// The longest record of VRM.FIRST, in bytes.
+pub const RECORD_LIMIT: usize = 80;
+
+/// The part that VRM.FIRST is.
+pub const FIRST_PART: PartNo = PartNo(1);
+
+/// Answers a request on VRM.FIRST and does it. A refused request changes nothing. `Refused(Memory)` takes the place of any
+/// reply but that to a COMMIT, which takes no memory.
+pub fn answer(alloc: Global, file: &mut RecordFile, request: &Request) -> Reply
+    requires { IsOffered request.now }
+    ensures { Serves request.now result file.old file.new }
+{
+    match request {
+        Request::Get {
+            find: Find::Equal(sought),
+            ..
+        } => or_memory(reply_to_get(alloc, file, sought.as_slice())),
+        Request::Add { bytes, .. } => or_memory(reply_to_add(alloc, file, bytes)),
+        _ => Reply::Done {
+            feedback: 0,
+            place: None,
+            bytes: None,
+        },
+    }
+}
+
+/// The reply, or the refusal for want of memory.
+fn or_memory(reply: Result<Reply, OutOfMemory>) -> Reply
+    ensures { result ≡ or_refused reply }
+{
+    match reply {
+        Ok(reply) => reply,
+        Err(OutOfMemory) => Reply::Refused(Refusal::Memory),
+    }
+}
+
+/// The reply to a GET of the record with a key.
+fn reply_to_get(alloc: Global, file: &RecordFile, sought: &[u8]) -> Result<Reply, OutOfMemory>
+    ensures { IfOk result (λ reply. reply ≡ reply_to file.now (get_request sought.now)) }
+{
+    if sought.len() != KEY_LENGTH {
+        return Ok(bad_length(sought.len()));
+    }
+    match file.get(sought) {
+        None => Ok(Reply::Refused(Refusal::NotFound)),
+        Some(found) => Ok(Reply::Done {
+            feedback: 0,
+            place: Some(place(alloc, sought)?),
+            bytes: Some(bytes(alloc, found)?),
+        }),
+    }
+}
+
+/// Adds a record, and answers. Where memory runs out, nothing changes.
+fn reply_to_add(alloc: Global, file: &mut RecordFile, added: &Bytes) -> Result<Reply, OutOfMemory>
+    ensures ok { IfOk result (λ reply. (reply ≡ reply_to file.old (add_request added.now)) × (file.new ≡ content_after file.old (add_request added.now) reply)) }
+    ensures err { OnErr result (file.new ≡ file.old) }
+{
+    if added.len() < KEY_LENGTH || added.len() > RECORD_LIMIT {
+        return Ok(bad_length(added.len()));
+    }
+    if file.get(key(added)).is_some() {
+        return Ok(Reply::Refused(Refusal::Duplicate { part: FIRST_PART }));
+    }
+    let at = place(alloc, key(added))?;
+    file.add(added.copy(alloc)?)?;
+    Ok(Reply::Done {
+        feedback: 0,
+        place: Some(at),
+        bytes: None,
+    })
+}
+
+/// The refusal of a length that isn't valid.
+fn bad_length(length: usize) -> Reply
+    ensures { result ≡ Reply.Refused (Refusal.BadLength (min length (2 ^ 32 - 1))) }
+{
+    Reply::Refused(Refusal::BadLength {
+        length: length.min(u32::MAX as usize) as u32,
+    })
+}

@@ -1,0 +1,75 @@
+ghost use Rattle.std.specs.Prelude.{◌≡◌, ◌<◌, ◌≤◌, ◌^◌, ◌-◌, [], IfOk, OnOk, OnErr, All, length};
+ghost use Rattle.vr_job.specs.State.{opening_state};
+ghost use Rattle.vr_job.specs.History.{IsLegal, last_stamp, part_of_deck};
+ghost use Rattle.vr_job.specs.Run.{IsHere, IsFrontOf, Enters, next_number};
+
+use crate::answer::answer;
+use crate::entry::{Entry, What};
+use crate::history::History;
+use crate::record_file::RecordFile;
+use std::alloc::Global;
+use vr_deck::{Bound, DeckRequests};
+use vr_types::{OutOfMemory, Reply, Request, Unit};
+
+/// The number of the one deck.
+const DECK: u32 = 1;
+
+/// Runs the requests of deck 1 over an empty VRM.FIRST, in order, and enters each with its reply. Where memory runs out, the
+/// entries are those of the requests so far.
+pub fn run_deck(
+    alloc: Global,
+    requests: &DeckRequests,
+    history: &mut History,
+) -> Result<(), OutOfMemory>
+    requires fresh { history.old.entries ≡ [] }
+    requires here { All IsHere requests.now }
+    requires few { length requests.now < 2 ^ 31 }
+    ensures legal { IsLegal opening_state history.new.entries }
+    ensures whole { OnOk result (part_of_deck 0 1 history.new.entries ≡ requests.now) }
+    ensures front { IsFrontOf (part_of_deck 0 1 history.new.entries) requests.now }
+{
+    let mut file = RecordFile::new(alloc);
+    let mut number = 1u32;
+    for bound in requests.as_slice() {
+        number = run_one(alloc, &mut file, history, bound, number)?;
+    }
+    Ok(())
+}
+
+/// Answers a request and enters it, and gives the number of the deck's next unit. Where memory runs out, nothing changes.
+fn run_one(
+    alloc: Global,
+    file: &mut RecordFile,
+    history: &mut History,
+    bound: &Bound,
+    number: u32,
+) -> Result<u32, OutOfMemory>
+    requires here { IsHere bound.now }
+    requires number { number < 2 ^ 32 - 1 }
+    requires stamp { last_stamp 0 history.old.entries < 2 ^ 64 - 1 }
+    ensures ok { IfOk result (λ next. Enters bound.now number next history.old.entries history.new.entries file.old file.new) }
+    ensures err { OnErr result (history.new.entries ≡ history.old.entries) }
+{
+    history.reserve(1)?;
+    let request = bound.request.copy(alloc)?;
+    let reply = answer(alloc, file, &request);
+    let next = number_after(&request, &reply, number);
+    history.push(Entry {
+        stamp: history.last() + 1,
+        unit: Unit { deck: DECK, number },
+        line: bound.line,
+        what: What::Asked { request, reply },
+    });
+    Ok(next)
+}
+
+/// The number of a deck's unit after a reply: a COMMIT that was done ends the unit.
+fn number_after(request: &Request, reply: &Reply, number: u32) -> u32
+    requires { number < 2 ^ 32 - 1 }
+    ensures { result ≡ next_number request.now reply.now number }
+{
+    match (request, reply) {
+        (Request::Commit, Reply::Done { .. }) => number + 1,
+        _ => number,
+    }
+}

@@ -1,0 +1,140 @@
+use crate::{Plan, plan, run_job};
+use std::alloc::{AllocError, Global};
+use std::process::Abort;
+use std::test::Fail;
+use vr_outside::{MemorySink, MemorySource};
+use vr_types::{OutOfMemory, Words};
+
+const FIRST_JOB: &str =
+    "//S EXEC PGM=VRMDECK\n//DECK1 DD *\nFILE F VRM.FIRST\nPUT F DATA=C'00000001HELLO'\nGET F KEY=C'00000001'\nGET F KEY=C'00000002'\n";
+
+const FIRST_LISTING: &str =
+    "STEP S DECKS\nDECK 1 LINE 4 VOL 0 PUT F RC=0 FB=0 AT=C'00000001'\nDECK 1 LINE 5 VOL 0 GET F RC=0 FB=0 AT=C'00000001' DATA=C'00000001HELLO'\nDECK 1 LINE 6 VOL 0 GET F RC=8 FB=16\nDECK 1 LINE 0 VOL 0 COMMIT RC=0 FB=0\nSTEP S CODE 0\nJOB CODE 0\n";
+
+const REFUSED_JOB: &str =
+    "//REFUSALS EXEC PGM=VRMDECK\r\n//DECK1 DD *\r\n* each refusal\r\nFILE BOOK VRM.FIRST   \r\n\r\nPUT BOOK DATA=C'00000001IT''S'\r\nPUT BOOK DATA=C'00000001B'\r\nPUT BOOK DATA=C'0000001'\r\nPUT BOOK DATA=C''\r\nGET BOOK KEY=C'0001'\r\nGET BOOK KEY=C''\r\nGET BOOK KEY=X'3030303030303031'\r\nPUT BOOK DATA=X'00'";
+
+const REFUSED_LISTING: &str =
+    "STEP REFUSALS DECKS\nDECK 1 LINE 6 VOL 0 PUT BOOK RC=0 FB=0 AT=C'00000001'\nDECK 1 LINE 7 VOL 0 PUT BOOK RC=8 FB=8\nDECK 1 LINE 8 VOL 0 PUT BOOK RC=8 FB=108\nDECK 1 LINE 9 VOL 0 PUT BOOK RC=8 FB=108\nDECK 1 LINE 10 VOL 0 GET BOOK RC=8 FB=108\nDECK 1 LINE 11 VOL 0 GET BOOK RC=8 FB=108\nDECK 1 LINE 12 VOL 0 GET BOOK RC=0 FB=0 AT=C'00000001' DATA=C'00000001IT''S'\nDECK 1 LINE 13 VOL 0 PUT BOOK RC=8 FB=108\nDECK 1 LINE 0 VOL 0 COMMIT RC=0 FB=0\nSTEP REFUSALS CODE 0\nJOB CODE 0\n";
+
+/// What a job ended with, and what it printed.
+#[derive(Drop)]
+struct Printed {
+    status: u8,
+    text: Vec<u8>,
+}
+
+fn words_of(alloc: Global, given: &[&str]) -> Result<Words, OutOfMemory> {
+    let mut words = Words::new(alloc);
+    for word in given {
+        words.push(word)?;
+    }
+    Ok(words)
+}
+
+/// Runs a job over ends in memory that hand on at most 10 bytes at a call, and fail at these calls.
+fn print_job(
+    alloc: Global,
+    words: &Words,
+    text: &str,
+    reads: &[u64],
+    writes: &[u64],
+) -> Result<Printed, AllocError> {
+    let bytes = Vec::from_slice(alloc, text.as_bytes())?;
+    let mut input = MemorySource::new(bytes, Vec::from_slice(alloc, reads)?).in_pieces(10);
+    let mut output = MemorySink::new(alloc, Vec::from_slice(alloc, writes)?).in_pieces(10);
+    let end = run_job(alloc, words, &mut input, &mut output);
+    Ok(Printed {
+        status: end.status,
+        text: Vec::from_slice(alloc, output.taken())?,
+    })
+}
+
+fn expect_job(rt: &impl Abort, printed: Printed, status: u8, text: &str) {
+    assert!(rt; printed.status == status);
+    assert!(rt; printed.text.as_slice() == text.as_bytes());
+}
+
+#[test]
+fn jobs_end_with_their_status_and_listing(rt: HostRuntime) -> Result<(), Fail> {
+    let alloc = rt.alloc();
+    let words = words_of(alloc, &["run", "-", "-"])?;
+    for (text, status, listing) in [
+        (FIRST_JOB, 0, FIRST_LISTING),
+        (REFUSED_JOB, 0, REFUSED_LISTING),
+        (
+            "//A EXEC PGM=VRMDECK\n//DECK1 DD *",
+            0,
+            "STEP A DECKS\nSTEP A CODE 0\nJOB CODE 0\n",
+        ),
+        ("", 16, "JOB REFUSED FORM 0 LINE 1 COLUMN 1\n"),
+        (
+            "//S EXEC PGM=VRMDECK\n",
+            16,
+            "JOB REFUSED FORM 0 LINE 2 COLUMN 1\n",
+        ),
+        (
+            "//S EXEC PGM=VRMDECK\n//DECK1 DD *\nGET F KEY=C'1'\n",
+            16,
+            "JOB REFUSED FORM 0 LINE 3 COLUMN 1\n",
+        ),
+    ] {
+        expect_job(
+            &rt,
+            print_job(alloc, &words, text, &[], &[])?,
+            status,
+            listing,
+        );
+    }
+    Ok(())
+}
+
+#[test]
+fn other_words_are_no_command(rt: HostRuntime) -> Result<(), Fail> {
+    let alloc = rt.alloc();
+    assert!(rt; plan(&words_of(alloc, &["run", "-", "-"])?) == Some(Plan::Run));
+    for given in [
+        ["run", "-", "a"].as_slice(),
+        ["run", "-"].as_slice(),
+        [].as_slice(),
+        ["RUN", "-", "-"].as_slice(),
+    ] {
+        let words = words_of(alloc, given)?;
+        expect_job(
+            &rt,
+            print_job(alloc, &words, FIRST_JOB, &[], &[])?,
+            20,
+            "NO COMMAND\n",
+        );
+    }
+    Ok(())
+}
+
+#[test]
+fn a_source_or_a_sink_that_fails_is_told(rt: HostRuntime) -> Result<(), Fail> {
+    let alloc = rt.alloc();
+    let words = words_of(alloc, &["run", "-", "-"])?;
+    for call in 0..12u64 {
+        expect_job(
+            &rt,
+            print_job(alloc, &words, FIRST_JOB, &[call], &[])?,
+            24,
+            "READ FAULT\n",
+        );
+        expect_job(
+            &rt,
+            print_job(alloc, &words, "", &[], &[call + 4])?,
+            16,
+            "JOB REFUSED FORM 0 LINE 1 COLUMN 1\n",
+        );
+    }
+    let front = print_job(alloc, &words, FIRST_JOB, &[], &[2])?;
+    expect_job(&rt, front, 28, "STEP S DECKS\nDECK 1 ");
+    expect_job(
+        &rt,
+        print_job(alloc, &words, "", &[], &[1])?,
+        16,
+        "JOB REFUSE",
+    );
+    Ok(())
+}

@@ -1,0 +1,18 @@
+use Rattle.std.specs.Prelude.{◌≡◌, ℕ, ◌<◌, List, length, Result, MatchResult}
+use Rattle.vr_types.specs.declared.fault.Failed.{Failed}
+
+-- When the fault counts of a source and a sink rise. The rules are this project's own.
+
+-- A source's count rises exactly where the call failed.
+abbrev pub CountsFailure : ℕ → ℕ → Result ℕ Failed → Type 0
+CountsFailure old new result = MatchResult result (λ _. new ≡ old) (λ _. old < new)
+
+-- A sink that took nothing of a piece, though there was something to take, counts a fault. No other success does.
+pub record CountsNone (old new : ℕ) (piece : List ℕ) (n : ℕ) : Type 0 where
+  pub none_taken : n ≡ 0 → 0 < length piece → old < new
+  pub some_taken : 0 < n → new ≡ old
+  pub none_given : length piece ≡ 0 → new ≡ old
+
+-- A sink's count rises exactly where the call failed or took nothing of a piece.
+abbrev pub CountsRefusal : ℕ → ℕ → List ℕ → Result ℕ Failed → Type 0
+CountsRefusal old new piece result = MatchResult result (CountsNone old new piece) (λ _. old < new)

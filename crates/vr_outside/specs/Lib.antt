@@ -1,0 +1,7 @@
+pub mod Calls
+pub mod Count
+pub mod Faults
+pub mod MemorySink
+pub mod MemorySource
+pub mod StdPair
+pub mod Told

@@ -1,0 +1,69 @@
+ghost use Rattle.std.specs.Prelude.{◌≡◌, ℕ, Option, List, None, ◌≤◌, length, take, IfOk, OnErr};
+ghost use Rattle.std.specs.Io.KnownBytes.{IsAtEnd, ReadConsumes};
+ghost use Rattle.vr_outside.specs.Told.{Reads};
+ghost use Rattle.vr_outside.specs.Faults.{CountsFailure};
+ghost use Rattle.vr_outside.specs.StdPair.{reader_of, source_faults};
+ghost use Rattle.vr_outside.specs.Count.{shown_of};
+
+use crate::count::FaultCount;
+use crate::source::Source;
+use std::io::Read;
+use vr_types::Failed;
+
+/// A source over a std reader. It tells no content. Each `Err` of the reader is a fault, an interrupted read too.
+#[derive(Drop)]
+pub struct StdSource<R> {
+    reader: R,
+    faults: FaultCount,
+}
+
+impl<R> StdSource<R> {
+    /// A source over this reader, with no fault yet.
+    pub fn new(reader: R) -> StdSource<R>
+        ensures reader { reader_of result ≡ reader }
+        ensures faults { source_faults result ≡ 0 }
+    {
+        StdSource {
+            reader,
+            faults: FaultCount::new(),
+        }
+    }
+
+    /// The reader, behind what was read.
+    pub fn into_inner(self) -> R
+        ensures { result ≡ reader_of self }
+    {
+        self.reader
+    }
+
+    /// How many calls failed, up to 2^64 - 1.
+    pub fn fault_count(&self) -> u64
+        ensures { result ≡ shown_of (source_faults self.now) }
+    {
+        self.faults.shown()
+    }
+}
+
+impl<R: Read> Source for StdSource<R> {
+    ghost left = { λ _. None };
+
+    ghost faults = { source_faults };
+
+    fn read(&mut self, into: &mut [u8]) -> Result<usize, Failed>
+        // Where the reader below tells its bytes, these come from there.
+        ensures reader { ReadConsumes (R.remaining (reader_of self.old)) (R.remaining (reader_of self.new)) result into.new }
+
+        // The trait's clauses.
+        ensures within { IfOk result (λ n. n ≤ length into.new) }
+        ensures bytes { IfOk result (λ n. Reads None None (take n into.new)) }
+        ensures cause { CountsFailure (source_faults self.old) (source_faults self.new) result }
+    {
+        match self.reader.read(into) {
+            Ok(n) => Ok(n),
+            Err(_) => {
+                self.faults.raise();
+                Err(Failed)
+            }
+        }
+    }
+}

@@ -1,0 +1,93 @@
+use Rattle.std.proofs.Common.{◌≡◌, ◌≢◌, ◌↔◌, ◌<◌, ◌≤◌, IsTrue, suc, length, drop, get_or, ap₂, drop-cons, drop_of_length-le, ℕ, Bool, true, false, not, ◌&&◌, ◌==◌, ◌⊎◌, inl, inr, if◌then◌else◌, List, [], ◌∷◌, refl, sym, ap, ◌∙◌, arith}
+use Rattle.std.proofs.lemmas.Bool.{and_parts, cases_Bool}
+use Rattle.std.proofs.lemmas.Bool.Decides.{Decides-eqb, nat_tests}
+use Rattle.vr_text.specs.Literal.{doubled}
+
+-- each quote of what is left has its second, where the first of one may stand before it
+abbrev pub is_doubled_from : Bool → List ℕ → Bool
+is_doubled_from halved [] = not halved
+is_doubled_from false (b ∷ bs) = is_doubled_from (b == 39) bs
+is_doubled_from true (b ∷ bs) = (b == 39) && is_doubled_from false bs
+
+-- what is left, with one quote for two
+abbrev pub undoubled_from : Bool → List ℕ → List ℕ
+undoubled_from halved [] = []
+undoubled_from false (b ∷ bs) = if b == 39 then undoubled_from true bs else b ∷ undoubled_from false bs
+undoubled_from true (b ∷ bs) = b ∷ undoubled_from false bs
+
+-- a quote, or another byte
+is_quote : (b : ℕ) → (b ≡ 39) ⊎ ((b == 39) ≡ false)
+is_quote b =
+    elim (cases_Bool (b == 39)) [
+      | inl same ↦ inl ((Decides-eqb b 39).0 same)
+      | inr other ↦ inr other
+    ]
+
+-- what is doubled passes
+pub is_doubled_from-doubled : (bytes : List ℕ) → is_doubled_from false (doubled bytes) ≡ true
+is_doubled_from-doubled [] = refl
+is_doubled_from-doubled (b ∷ bytes) =
+    let rest = is_doubled_from-doubled bytes in
+    elim (is_quote b) [
+      | inl quote ↦ rw quote rest
+      | inr other ↦ rw other (rw other rest)
+    ]
+
+-- another byte stays
+doubled-other : (b : ℕ) (bytes : List ℕ) → (b == 39) ≡ false → doubled (b ∷ bytes) ≡ b ∷ doubled bytes
+doubled-other b bytes other = rw other refl
+
+-- what passes is doubled
+pub doubled_from : (halved : Bool) (quoted : List ℕ) → is_doubled_from halved quoted ≡ true → (bytes : List ℕ) × ((if halved then 39 ∷ quoted else quoted) ≡ doubled bytes)
+doubled_from false [] h = ([], refl)
+doubled_from true [] h = cc
+doubled_from false (b ∷ quoted) h =
+    elim (is_quote b) [
+      | inl quote ↦
+          let rest = doubled_from true quoted (rw quote at h) in
+          (rest.0, ap (λ (v : ℕ). v ∷ quoted) quote ∙ rest.1)
+      | inr other ↦
+          let rest = doubled_from false quoted (rw other at h) in
+          (b ∷ rest.0, ap (λ (bs : List ℕ). b ∷ bs) rest.1 ∙ sym (doubled-other b rest.0 other))
+    ]
+doubled_from true (b ∷ quoted) h =
+    let parts = and_parts (b == 39) (is_doubled_from false quoted) h in
+    let rest = doubled_from false quoted parts.1 in
+    let quote : b ≡ 39 = (Decides-eqb b 39).0 parts.0 in
+    (39 ∷ rest.0, ap (λ (v : ℕ). 39 ∷ v ∷ quoted) quote ∙ ap (λ (bs : List ℕ). 39 ∷ 39 ∷ bs) rest.1)
+
+-- what was doubled is undone
+pub undoubled_from-doubled : (bytes : List ℕ) → undoubled_from false (doubled bytes) ≡ bytes
+undoubled_from-doubled [] = refl
+undoubled_from-doubled (b ∷ bytes) =
+    let rest = undoubled_from-doubled bytes in
+    elim (is_quote b) [
+      | inl quote ↦ rw quote (ap (λ (bs : List ℕ). 39 ∷ bs) rest)
+      | inr other ↦ rw other (rw other (ap (λ (bs : List ℕ). b ∷ bs) rest))
+    ]
+
+-- one list of bytes is doubled so
+pub doubled_same : (a b : List ℕ) → doubled a ≡ doubled b → a ≡ b
+doubled_same a b h = sym (undoubled_from-doubled a) ∙ ap (undoubled_from false) h ∙ undoubled_from-doubled b
+
+-- the answer tells whether a text is doubled
+pub IsTrue-is_doubled : (quoted : List ℕ) (r : Bool) → r ≡ is_doubled_from false quoted → IsTrue r ↔ ((bytes : List ℕ) × (quoted ≡ doubled bytes))
+IsTrue-is_doubled quoted true h = (λ holds. doubled_from false quoted (sym h), λ found. refl)
+IsTrue-is_doubled quoted false h = (
+  λ holds. cc,
+  λ found. h ∙ ap (is_doubled_from false) found.1 ∙ is_doubled_from-doubled found.0,
+)
+
+-- the first of two quotes, and no second
+pub is_doubled_from-lone : (halved : Bool) (quoted : List ℕ) (i : ℕ) → i < length quoted → halved ≡ true → get_or quoted i 0 ≢ 39 → is_doubled_from halved (drop i quoted) ≡ false
+is_doubled_from-lone halved quoted i h first lone =
+    let rest = drop-cons quoted i 0 h in
+    let other : (get_or quoted i 0 == 39) ≡ false = grind (arith, nat_tests) in
+    ap₂ is_doubled_from first rest ∙ ap (λ test. test && is_doubled_from false (drop (suc i) quoted)) other
+
+-- the end
+pub is_doubled_from-end : (halved : Bool) (quoted : List ℕ) (i : ℕ) → length quoted ≤ i → is_doubled_from halved (drop i quoted) ≡ not halved
+is_doubled_from-end halved quoted i h = ap (is_doubled_from halved) (drop_of_length-le quoted h)
+
+pub undoubled_from-end : (halved : Bool) (quoted : List ℕ) (i : ℕ) → length quoted ≤ i → undoubled_from halved (drop i quoted) ≡ []
+undoubled_from-end halved quoted i h = ap (undoubled_from halved) (drop_of_length-le quoted h)
