@@ -125,6 +125,8 @@ fn a_stopped_device_fails_from_that_call_on(rt: HostRuntime) -> Result<(), Fail>
     Ok(())
 }
 
+fn can_be_sent<T: Send>() {}
+
 // Puts a block, forces it, and tells whether `get` lends it.
 fn is_kept<B: Blocks>(blocks: &mut B, n: u32, bytes: &[u8]) -> Result<bool, DeviceFault>
     requires block { n < B.count blocks.old }
@@ -139,6 +141,9 @@ fn is_kept<B: Blocks>(blocks: &mut B, n: u32, bytes: &[u8]) -> Result<bool, Devi
 fn blocks_over_a_device_are_written_through(rt: HostRuntime) -> Result<(), Fail> {
     let alloc = rt.alloc();
     let device = memory_device(alloc, 2, 2, &[3])?;
+    can_be_sent::<MemoryDevice>();
+    can_be_sent::<FileDevice>();
+    can_be_sent::<Direct<MemoryDevice>>();
     let mut blocks = direct(alloc, device).ok().ok_or("no memory")?;
     assert!(rt; is_kept(&mut blocks, 1, &[5, 6])?);
     let mut device = blocks.into_inner();
