@@ -50,12 +50,14 @@ impl Script {
         listed || past
     }
 
+    /// A read failed.
     pub(crate) fn fail_read(&mut self)
         ensures { self.new ≡ read_failed self.old }
     {
         self.reads = self.reads.saturating_add(1);
     }
 
+    /// A write or a sync failed.
     pub(crate) fn fail_write(&mut self)
         ensures { self.new ≡ write_failed self.old }
     {
@@ -80,12 +82,14 @@ impl Script {
         });
     }
 
+    /// How many calls were made.
     pub(crate) fn made(&self) -> u64
         ensures { result ≡ self.now.made }
     {
         self.calls
     }
 
+    /// How many calls failed for want of memory.
     pub(crate) fn refused(&self) -> u64
         ensures { result ≡ self.now.refused }
     {
