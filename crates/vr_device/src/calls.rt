@@ -50,21 +50,21 @@ impl Script {
         listed || past
     }
 
-    /// A read failed.
+    /// Counts a read that failed.
     pub(crate) fn fail_read(&mut self)
         ensures { self.new ≡ read_failed self.old }
     {
         self.reads = self.reads.saturating_add(1);
     }
 
-    /// A write or a sync failed.
+    /// Counts a write or a sync that was to fail.
     pub(crate) fn fail_write(&mut self)
         ensures { self.new ≡ write_failed self.old }
     {
         self.writes = self.writes.saturating_add(1);
     }
 
-    /// A write or a sync failed for want of memory.
+    /// Counts a write or a sync that failed for want of memory.
     pub(crate) fn refuse(&mut self)
         ensures { self.new ≡ write_refused self.old }
     {
@@ -82,14 +82,14 @@ impl Script {
         });
     }
 
-    /// How many calls were made.
+    /// The number of calls so far.
     pub(crate) fn made(&self) -> u64
         ensures { result ≡ self.now.made }
     {
         self.calls
     }
 
-    /// How many calls failed for want of memory.
+    /// How many writes and syncs failed for want of memory.
     pub(crate) fn refused(&self) -> u64
         ensures { result ≡ self.now.refused }
     {
