@@ -16,17 +16,17 @@ abbrev pub intervals_used : ℕ → ℕ → ℕ → ℕ
 intervals_used intervals size place = min intervals ((size - 32 - place) / (4 + place))
 
 -- a number of two bytes, and of four
-abbrev pub two : ℕ → List ℕ
+unfoldable pub two : ℕ → List ℕ
 two n = to_be_bytes w16 n
 
-abbrev pub four : ℕ → List ℕ
+unfoldable pub four : ℕ → List ℕ
 four n = to_be_bytes w32 n
 
 -- the number that stands at a byte
-abbrev pub two_at : ℕ → List ℕ → ℕ
+unfoldable pub two_at : ℕ → List ℕ → ℕ
 two_at at bytes = from_be_bytes w16 (take 2 (drop at bytes))
 
-abbrev pub four_at : ℕ → List ℕ → ℕ
+unfoldable pub four_at : ℕ → List ℕ → ℕ
 four_at at bytes = from_be_bytes w32 (take 4 (drop at bytes))
 
 -- a field that names an area has its number and 1, or 0 for none

@@ -12,4 +12,4 @@ with_entry s intervals high = record s { entries = s.entries ++ record { interva
 pub record IsBegun (intervals : ℕ) (block : List ℕ) (end : ℕ) : Type 0 where
   pub rules : KeepsRules intervals (length block) (record_in block)
   pub image : block ≡ image (length block) (record_in block)
-  pub end : end ≡ length (spelling (record_in block))
+  pub ends : end ≡ length (spelling (record_in block))

@@ -22,6 +22,7 @@ pub fn interval_limit(cis: u16, size: usize, place: usize) -> usize
 }
 
 // The number in two bytes from `at` on.
+#[tactic(auto, unfolding(crate::specs::Block::two_at))]
 pub(crate) fn two_at(bytes: &[u8], at: usize) -> u16
     requires { at + 2 ≤ length bytes.now }
     ensures { result ≡ two_bytes_at at bytes.now }
@@ -30,6 +31,7 @@ pub(crate) fn two_at(bytes: &[u8], at: usize) -> u16
 }
 
 // The number in four bytes from `at` on.
+#[tactic(auto, unfolding(crate::specs::Block::four_at))]
 pub(crate) fn four_at(bytes: &[u8], at: usize) -> u32
     requires { at + 4 ≤ length bytes.now }
     ensures { result ≡ four_bytes_at at bytes.now }

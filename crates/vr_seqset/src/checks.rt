@@ -62,6 +62,7 @@ fn after_entries(bytes: &[u8], count: usize, place: usize) -> Option<&[u8]>
 }
 
 // The bytes behind the entry at the front, where it is whole.
+#[tactic(auto, using(crate::proofs::EntryLemmas::whole_steps))]
 fn after_entry(bytes: &[u8], place: usize) -> Option<&[u8]>
     requires { 0 < place }
     ensures whole { IfSome result (λ _. IsWhole place (entry_in place bytes.now)) }
@@ -82,7 +83,7 @@ fn after_entry(bytes: &[u8], place: usize) -> Option<&[u8]>
 // Whether each interval number is below the limit, and none stands twice.
 pub(crate) fn are_used_once(entries: SeqEntries<'_>, limit: usize) -> bool
     requires { limit ≤ MOST_INTERVALS }
-    ensures { IsTrue result ↔ AreOnceBelow limit (flat_map (λ entry. entry.intervals) entries) }
+    ensures { IsTrue result ↔ AreOnceBelow limit (flat_map (λ entry. entry.intervals) entries.entry) }
 {
     let mut seen = [false; MOST_INTERVALS];
     for entry in entries {
@@ -113,7 +114,7 @@ fn mark_all(seen: &mut [bool], entry: &SeqEntry<'_>, limit: usize) -> bool
 // Whether each high place is above the one before, and the first above the low place of a record that is not the first of its
 // chain.
 pub(crate) fn ascend(first: bool, low: &[u8], entries: SeqEntries<'_>) -> bool
-    ensures { IsTrue result ↔ IsStrictlySortedBy (slice_cmp nat_cmp) ((if first then [] else low.now ∷ []) ++ map (λ entry. entry.high) entries) }
+    ensures { IsTrue result ↔ IsStrictlySortedBy (slice_cmp nat_cmp) ((if first then [] else low.now ∷ []) ++ map (λ entry. entry.high) entries.entry) }
 {
     let mut below = if first { None } else { Some(low) };
     for entry in entries {

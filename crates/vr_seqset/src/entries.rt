@@ -30,6 +30,7 @@ impl<'a> Iterator for SeqEntries<'a> {
 
     ghost remaining = { item_count (λ s. s) };
 
+    #[tactic(auto, unfolding(crate::specs::Entry::entries_in))]
     fn next(&mut self) -> Option<SeqEntry<'a>> {
         if self.left == 0 {
             return None;

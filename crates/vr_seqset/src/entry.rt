@@ -24,6 +24,7 @@ impl<'a> Model for SeqEntry<'a> {
 
 impl<'a> SeqEntry<'a> {
     /// How many intervals hold the entry's records.
+    #[tactic(auto, using(crate::proofs::EntryLemmas::single))]
     pub fn intervals(&self) -> usize
         ensures { result ≡ length self.now.intervals }
     {
@@ -31,6 +32,7 @@ impl<'a> SeqEntry<'a> {
     }
 
     /// The number of one of them.
+    #[tactic(auto, using(crate::proofs::EntryLemmas::single))]
     pub fn interval(&self, j: usize) -> u16
         requires { j < length self.now.intervals }
         ensures { result ≡ slice_index self.now.intervals j }
@@ -47,6 +49,7 @@ impl<'a> SeqEntry<'a> {
 }
 
 // The entry at the front of the bytes, and the bytes after it.
+#[tactic(auto, using(crate::proofs::EntryLemmas::whole_within), unfolding(crate::specs::Entry::entry_in))]
 pub(crate) fn split_entry<'a>(bytes: &'a [u8], place: usize) -> (SeqEntry<'a>, &'a [u8])
     requires place { 0 < place }
     requires whole { IsWhole place (entry_in place bytes.now) }

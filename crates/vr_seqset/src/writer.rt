@@ -1,19 +1,20 @@
 //! Writing a sequence-set record.
 ghost use Rattle.std.specs.Prelude.{◌≡◌, ◌<◌, ◌≤◌, ◌↔◌, length, IsTrue};
 ghost use Rattle.vr_seqset.specs.SequenceSet.{IsSequenceSet, KeepsRules, spelling};
-ghost use Rattle.vr_seqset.specs.Writing.{IsBegun, IsBegun-prop, with_entry};
+ghost use Rattle.std.proofs.Props.{props};
+ghost use Rattle.vr_seqset.specs.Writing.{IsBegun, with_entry};
 
 use crate::head::SeqHead;
 use crate::spelling::{put_entry, put_head};
 
 /// Writes the head block of a keyed area, an entry at a time. At each moment the block spells what was added so far, and
 /// `written` names that record in clauses.
-#[derive(Debug)]
+#[derive(Drop)]
 pub struct SeqWriter<'a> {
     block: &'a mut [u8],
     end: usize,
     cis: u16,
-    ghost begun: { IsBegun cis block.now end } by { IsBegun-prop cis block.now end },
+    ghost begun: { IsBegun cis block.now end } by { Prim.hlevel props },
 }
 
 impl<'a> SeqWriter<'a> {

@@ -1,0 +1,4 @@
+pub mod Bytes
+pub mod EntryLemmas
+pub mod BlockLemmas
+pub mod RecordLemmas
