@@ -269,3 +269,20 @@ unfolding entries_in
 IsAt-front place bytes i left rest h e =
     let at_front : IsAt place bytes i 0 rest = rw e at h in
     at_front.same
+
+-- ---- the first of many entries
+
+pub whole_fewer : (m n place : ℕ) (bytes : List ℕ) → m ≤ n → All (IsWhole place) (entries_in n place bytes) → All (IsWhole place) (entries_in m place bytes)
+unfolding entries_in
+whole_fewer zero n place bytes le whole = All-nil (IsWhole place)
+whole_fewer (suc m) zero place bytes le whole = absurd (omega arith)
+whole_fewer (suc m) (suc n) place bytes le whole =
+    let behind = drop (2 + 2 * two_at 0 bytes + place) bytes in
+    All-cons (IsWhole place) (entry_in place bytes) (entries_in m place behind) (All-head (IsWhole place) (entry_in place bytes) (entries_in n place behind) whole)
+    (whole_fewer m n place behind (omega arith) (All-tail (IsWhole place) (entry_in place bytes) (entries_in n place behind) whole))
+
+pub get_fewer : (i n place : ℕ) (bytes : List ℕ) → i < n → slice_get (entries_in (suc i) place bytes) i ≡ slice_get (entries_in n place bytes) i
+unfolding entries_in
+get_fewer i zero place bytes lt = absurd (omega arith)
+get_fewer zero (suc n) place bytes lt = refl
+get_fewer (suc i) (suc n) place bytes lt = get_fewer i n place (drop (2 + 2 * two_at 0 bytes + place) bytes) (omega arith)

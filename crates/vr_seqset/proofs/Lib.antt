@@ -2,3 +2,4 @@ pub mod Bytes
 pub mod EntryLemmas
 pub mod BlockLemmas
 pub mod RecordLemmas
+pub mod FaultLemmas

@@ -31,6 +31,7 @@ impl<'a> Model for SeqView<'a> {
     ghost invariant = { λ v. CanBeCut v.block.now };
 }
 
+#[tactic(auto, using(crate::proofs::RecordLemmas::reads), unfolding(crate::specs::Reading::record_in))]
 impl<'a> SeqView<'a> {
     /// Reads the head block of an area that has `cis` intervals. It answers `Ok` exactly for the block of a record that keeps
     /// the rules, and else the first rule that the block breaks.

@@ -1,0 +1,108 @@
+-- The block of a record breaks no rule, and a block that breaks none is that of the record in it.
+use Rattle.std.proofs.Common.{◌≡◌, ℕ, ◌+◌, ◌-◌, ◌<◌, ◌≤◌, Bool, true, false, cond, List, [], ◌∷◌, ◌++◌, length, get_or, take, drop, All, refl, sym, ap, subst, ◌∙◌, arith, replicate}
+use Rattle.std.proofs.lemmas.List.Elements.{All-nil, All-cons, All-replicate}
+use Rattle.vr_seqset.specs.declared.fault.SeqFault.{SeqFault}
+use Rattle.vr_seqset.specs.declared.fault.SeqFault.TheVariants as faults
+use Rattle.vr_seqset.specs.Block.{four_at, AreZeros}
+use Rattle.vr_seqset.specs.SequenceSet.{SequenceSet, spelling, image, HasLengths, HasFields, HasIntervals, Ascends, KeepsChain, KeepsRules, IsSequenceSet}
+use Rattle.vr_seqset.specs.Reading.{record_in}
+use Rattle.vr_seqset.specs.Faults.{CanBeCut, HasZeros, Keeps, IsFirstBroken, fault_number}
+use Rattle.vr_seqset.proofs.Bytes.{IsBytes, four_below}
+use Rattle.vr_seqset.proofs.BlockLemmas.{area_has_field, zeros_behind}
+use Rattle.vr_seqset.proofs.RecordLemmas.{record_again, record_is, kind_back, first_back, gap_back, second_gap_back}
+
+flag_below : (b : Bool) → cond b 1 0 < 2
+flag_below true = omega arith
+flag_below false = omega arith
+
+keeps_zeros : (cis : ℕ) (block : List ℕ) (s : SequenceSet) → IsSequenceSet cis block s → HasZeros block
+keeps_zeros cis block s is =
+    let zeros = replicate (length block - length (spelling s)) 0 in
+    let same = record_is cis block s is in
+    record {
+      flag = subst (λ (x : List ℕ). get_or x 1 0 < 2) (sym is.image) (subst (λ (n : ℕ). n < 2) (sym (first_back s zeros)) (flag_below s.first));
+      gap = subst (λ (x : List ℕ). AreZeros (take 2 (drop 4 x))) (sym is.image) (subst AreZeros (sym (gap_back s zeros)) (All-replicate (λ (b : ℕ). b ≡ 0) 2 0 refl));
+      second_gap = subst (λ (x : List ℕ). AreZeros (take 8 (drop 24 x))) (sym is.image) (subst AreZeros (sym (second_gap_back s zeros)) (All-replicate (λ (b : ℕ). b ≡ 0) 8 0 refl));
+      chain = subst KeepsChain (sym same) is.rules.chain;
+      rest = subst (λ (x : List ℕ). AreZeros (drop (length (spelling (record_in block))) x)) (sym is.image) (subst (λ (t : SequenceSet). AreZeros (drop (length (spelling t)) (image (length block) s))) (sym same) (zeros_behind (length block) (spelling s)))
+    }
+
+-- a record's block keeps each rule
+pub keeps : (cis : ℕ) (block : List ℕ) (s : SequenceSet) → IsSequenceSet cis block s → (f : SeqFault) → Keeps cis block f
+keeps cis block s is faults.Kind = ap (λ (x : List ℕ). get_or x 0 0) is.image ∙ kind_back s (replicate (length block - length (spelling s)) 0)
+keeps cis block s is faults.Lengths = record {
+  lengths = subst (HasLengths (length block)) (sym (record_is cis block s is)) is.rules.lengths;
+  some = subst (λ (t : SequenceSet). 0 < length t.entries) (sym (record_is cis block s is)) is.some
+}
+keeps cis block s is faults.Intervals = subst (HasIntervals cis (length block)) (sym (record_is cis block s is)) is.rules.numbers
+keeps cis block s is faults.Places = subst Ascends (sym (record_is cis block s is)) is.rules.ascends
+keeps cis block s is faults.Zeros = keeps_zeros cis block s is
+
+fields_fit : (block : List ℕ) → IsBytes block → HasFields (record_in block)
+unfolding record_in
+fields_fit block fits = record {
+  part = four_below 8 block fits;
+  next = area_has_field (four_at 12 block) (four_below 12 block fits);
+  top = four_below 16 block fits;
+  index_area = area_has_field (four_at 20 block) (four_below 20 block fits)
+}
+
+-- a block that keeps each rule is that of a record
+pub is_record : (cis : ℕ) (block : List ℕ) → IsBytes block → get_or block 0 0 ≡ 83 → CanBeCut block → HasIntervals cis (length block) (record_in block) → Ascends (record_in block) → HasZeros block → IsSequenceSet cis block (record_in block)
+is_record cis block fits kind cut numbers ascends zeros = record {
+  rules = record { lengths = cut.lengths; fields = fields_fit block fits; numbers = numbers; ascends = ascends; chain = zeros.chain };
+  some = cut.some;
+  image = record_again block fits kind cut zeros
+}
+
+-- ---- the first rule that is broken, at each of them
+
+pub first_kind : (cis : ℕ) (block : List ℕ) → (Keeps cis block faults.Kind → ⊥) → IsFirstBroken (Keeps cis block) faults.Kind
+first_kind cis block broken = record { broken = broken; before = before }
+  where
+    before : (other : SeqFault) → fault_number other < 1 → Keeps cis block other
+    before faults.Kind lt = absurd (omega arith)
+    before faults.Lengths lt = absurd (omega arith)
+    before faults.Intervals lt = absurd (omega arith)
+    before faults.Places lt = absurd (omega arith)
+    before faults.Zeros lt = absurd (omega arith)
+
+pub first_lengths : (cis : ℕ) (block : List ℕ) → Keeps cis block faults.Kind → (Keeps cis block faults.Lengths → ⊥) → IsFirstBroken (Keeps cis block) faults.Lengths
+first_lengths cis block kind broken = record { broken = broken; before = before }
+  where
+    before : (other : SeqFault) → fault_number other < 2 → Keeps cis block other
+    before faults.Kind lt = kind
+    before faults.Lengths lt = absurd (omega arith)
+    before faults.Intervals lt = absurd (omega arith)
+    before faults.Places lt = absurd (omega arith)
+    before faults.Zeros lt = absurd (omega arith)
+
+pub first_intervals : (cis : ℕ) (block : List ℕ) → Keeps cis block faults.Kind → Keeps cis block faults.Lengths → (Keeps cis block faults.Intervals → ⊥) → IsFirstBroken (Keeps cis block) faults.Intervals
+first_intervals cis block kind lengths broken = record { broken = broken; before = before }
+  where
+    before : (other : SeqFault) → fault_number other < 3 → Keeps cis block other
+    before faults.Kind lt = kind
+    before faults.Lengths lt = lengths
+    before faults.Intervals lt = absurd (omega arith)
+    before faults.Places lt = absurd (omega arith)
+    before faults.Zeros lt = absurd (omega arith)
+
+pub first_places : (cis : ℕ) (block : List ℕ) → Keeps cis block faults.Kind → Keeps cis block faults.Lengths → Keeps cis block faults.Intervals → (Keeps cis block faults.Places → ⊥) → IsFirstBroken (Keeps cis block) faults.Places
+first_places cis block kind lengths numbers broken = record { broken = broken; before = before }
+  where
+    before : (other : SeqFault) → fault_number other < 4 → Keeps cis block other
+    before faults.Kind lt = kind
+    before faults.Lengths lt = lengths
+    before faults.Intervals lt = numbers
+    before faults.Places lt = absurd (omega arith)
+    before faults.Zeros lt = absurd (omega arith)
+
+pub first_zeros : (cis : ℕ) (block : List ℕ) → Keeps cis block faults.Kind → Keeps cis block faults.Lengths → Keeps cis block faults.Intervals → Keeps cis block faults.Places → (Keeps cis block faults.Zeros → ⊥) → IsFirstBroken (Keeps cis block) faults.Zeros
+first_zeros cis block kind lengths numbers places broken = record { broken = broken; before = before }
+  where
+    before : (other : SeqFault) → fault_number other < 5 → Keeps cis block other
+    before faults.Kind lt = kind
+    before faults.Lengths lt = lengths
+    before faults.Intervals lt = numbers
+    before faults.Places lt = places
+    before faults.Zeros lt = absurd (omega arith)
