@@ -3,3 +3,4 @@ pub mod EntryLemmas
 pub mod BlockLemmas
 pub mod RecordLemmas
 pub mod FaultLemmas
+pub mod NumberLemmas
