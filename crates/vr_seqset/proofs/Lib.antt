@@ -4,3 +4,4 @@ pub mod BlockLemmas
 pub mod RecordLemmas
 pub mod FaultLemmas
 pub mod NumberLemmas
+pub mod PlaceLemmas

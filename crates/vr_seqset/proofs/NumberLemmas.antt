@@ -1,12 +1,14 @@
 -- Marking interval numbers one by one.
-use Rattle.std.proofs.Common.{◌≡◌, ℕ, zero, suc, ◌+◌, ◌<◌, ◌≤◌, Bool, true, false, ◌||◌, eqb, List, [], ◌∷◌, ◌++◌, length, get_or, set, take, drop, All, refl, sym, ap, subst, ◌∙◌, arith, append_assoc, inl, inr}
+use Rattle.std.proofs.Common.{◌≡◌, ℕ, zero, suc, ◌+◌, ◌<◌, ◌≤◌, Bool, true, false, ◌||◌, eqb, List, [], ◌∷◌, ◌++◌, length, get_or, set, take, drop, All, refl, sym, ap, subst, ◌∙◌, arith, append_assoc, inl, inr, replicate}
 use Rattle.std.specs.List.{IsDistinct, AllByRecursion, list_any, flat_map}
-use Rattle.std.proofs.lemmas.Bool.{cases_eq, eqb-true, eq-eqb, ne_eqb, or_cases, or_right, false_from_ne_true, true≢false}
+use Rattle.std.proofs.lemmas.Bool.{cases_eq, cases_lt, eqb-true, eq-eqb, ne_eqb, or_cases, or_right, false_from_ne_true, true≢false}
 use Rattle.std.proofs.lemmas.Cmp.{nat_eq_equiv}
-use Rattle.std.proofs.lemmas.List.{get_or-set_same, get_or-set_other, take-append-drop, take_more, length-append, get_or_append_left}
+use Rattle.std.proofs.lemmas.List.{get_or-set_same, get_or-set_other, take-append-drop, take_more, length-append, get_or_append_left, get_or-replicate, get_or_past, length-replicate}
+use Rattle.std.proofs.lemmas.Grind.{flat_map-append}
 use Rattle.std.proofs.lemmas.List.Elements.{All-push, All-head, All-nil, All-from_recursion}
 use Rattle.std.proofs.lemmas.List.Folds.{list_any-append}
 use Rattle.std.proofs.lemmas.Map.Keys.{IsDistinct-push, IsDistinct-from_apart, apart_from_distinct, IsDistinct-head, IsDistinct-tail}
+use Rattle.vr_seqset.specs.Entry.{Entry}
 use Rattle.vr_seqset.specs.Numbers.{AreOnceBelow, Marks}
 use Rattle.vr_seqset.proofs.BlockLemmas.{All-left, All-right}
 
@@ -75,3 +77,24 @@ once_upto limit used ns j lt h =
     let cut : used ++ ns ≡ (used ++ take (j + 1) ns) ++ drop (j + 1) ns = ap (λ (x : List ℕ). used ++ x) (sym (take-append-drop (j + 1) ns)) ∙ sym (append_assoc used (take (j + 1) ns) (drop (j + 1) ns)) in
     let front : AreOnceBelow limit (used ++ take (j + 1) ns) = once_left limit (used ++ take (j + 1) ns) (drop (j + 1) ns) (subst (AreOnceBelow limit) cut h) in
     subst (AreOnceBelow limit) (more_used used ns j lt) front
+
+-- ---- entry by entry
+
+pub none_once : (limit : ℕ) → AreOnceBelow limit []
+unfolding IsDistinct
+none_once limit = record { below = All-nil (λ (n : ℕ). n < limit); once = tt }
+
+pub none_marked : (m limit : ℕ) → Marks limit (replicate m false) []
+none_marked m limit n lt =
+    elim (cases_lt n m) [
+      | inl within ↦ get_or-replicate m n false false within
+      | inr past ↦ get_or_past (replicate m false) n false (omega (arith, length-replicate m false))
+    ]
+
+-- numbers of entries that are not once are not once among all
+pub once_of_all : (limit : ℕ) (all before others : List Entry) (e : Entry) → all ≡ before ++ e ∷ others → AreOnceBelow limit (flat_map (λ x. x.intervals) all) → AreOnceBelow limit (flat_map (λ x. x.intervals) before ++ e.intervals)
+once_of_all limit all before others e cut whole =
+    let numbers = λ (x : Entry). x.intervals in
+    let same : flat_map (λ (x : Entry). x.intervals) all ≡ (flat_map (λ (x : Entry). x.intervals) before ++ e.intervals) ++ flat_map (λ (x : Entry). x.intervals) others =
+        ap (flat_map (λ (x : Entry). x.intervals)) cut ∙ flat_map-append (λ (x : Entry). x.intervals) before (e ∷ others) ∙ sym (append_assoc (flat_map (λ (x : Entry). x.intervals) before) e.intervals (flat_map (λ (x : Entry). x.intervals) others)) in
+    once_left limit (flat_map (λ (x : Entry). x.intervals) before ++ e.intervals) (flat_map (λ (x : Entry). x.intervals) others) (subst (AreOnceBelow limit) same whole)

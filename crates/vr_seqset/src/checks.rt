@@ -2,6 +2,7 @@
 ghost use Rattle.std.specs.Prelude.{◌≡◌, ◌≢◌, ◌+◌, ◌*◌, ◌<◌, ◌≤◌, ◌↔◌, [], ◌∷◌, ◌++◌, ℕ, List, All, None, length, map, drop, slice_index, IsTrue, IfSome, IfNone, MatchBool, if◌then◌else◌};
 ghost use Rattle.std.specs.List.{flat_map};
 ghost use Rattle.std.specs.List.Sorted.{IsStrictlySortedBy};
+ghost use Rattle.std.specs.declared.cmp.Ordering.TheVariants.{Less};
 ghost use Rattle.std.specs.Ordering.{nat_cmp};
 ghost use Rattle.std.specs.Cmp.Lexicographic.{slice_cmp};
 ghost use Rattle.vr_seqset.specs.Block.{AreZeros, two_at as two_bytes_at};
@@ -118,14 +119,23 @@ pub(crate) fn ascend(first: bool, low: &[u8], entries: SeqEntries<'_>) -> bool
 {
     let mut below = if first { None } else { Some(low) };
     for entry in entries {
-        if let Some(place) = below
-            && place >= entry.high()
-        {
+        let high = entry.high();
+        if !is_above(high, below) {
             return false;
         }
-        below = Some(entry.high());
+        below = Some(high);
     }
     true
+}
+
+// Whether a place is above the one before it, where there is one.
+fn is_above(high: &[u8], below: Option<&[u8]>) -> bool
+    ensures { IsTrue result ↔ IfSome below.entry (λ place. slice_cmp nat_cmp place.now high.now ≡ Less) }
+{
+    match below {
+        Some(place) => place.cmp(&high).is_lt(),
+        None => true,
+    }
 }
 
 // Whether a record has what only the first of a chain may have.

@@ -170,7 +170,7 @@ impl<'a> SeqView<'a> {
         ensures none { IfNone result (position (reaches place.now) self.now.entries ≡ None) }
     {
         for (i, entry) in self.entries().enumerate() {
-            if place <= entry.high() {
+            if place.cmp(&entry.high()).is_le() {
                 return Some((i, entry));
             }
         }
