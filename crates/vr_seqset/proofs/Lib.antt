@@ -5,3 +5,4 @@ pub mod RecordLemmas
 pub mod FaultLemmas
 pub mod NumberLemmas
 pub mod PlaceLemmas
+pub mod SearchLemmas

@@ -169,7 +169,9 @@ impl<'a> SeqView<'a> {
         ensures entry { IfSome result (λ found. slice_get self.now.entries found.0 ≡ Some found.1) }
         ensures none { IfNone result (position (reaches place.now) self.now.entries ≡ None) }
     {
-        for (i, entry) in self.entries().enumerate() {
+        let mut entries = self.entries();
+        for i in 0..self.count() {
+            let entry = entries.next()?;
             if place.cmp(&entry.high()).is_le() {
                 return Some((i, entry));
             }
