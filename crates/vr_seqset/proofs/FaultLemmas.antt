@@ -1,10 +1,16 @@
 -- The block of a record breaks no rule, and a block that breaks none is that of the record in it.
-use Rattle.std.proofs.Common.{◌≡◌, ℕ, ◌+◌, ◌-◌, ◌<◌, ◌≤◌, Bool, true, false, cond, List, [], ◌∷◌, ◌++◌, length, get_or, take, drop, All, refl, sym, ap, subst, ◌∙◌, arith, replicate}
+use Rattle.std.proofs.Common.{◌≡◌, ℕ, ◌+◌, ◌-◌, ◌<◌, ◌≤◌, Bool, true, false, cond, List, [], ◌∷◌, ◌++◌, length, get_or, take, drop, map, All, refl, sym, ap, subst, ◌∙◌, arith, replicate}
+use Rattle.std.specs.List.{flat_map}
+use Rattle.std.specs.List.Sorted.{IsStrictlySortedBy}
+use Rattle.std.specs.Ordering.{nat_cmp}
+use Rattle.std.specs.Cmp.Lexicographic.{slice_cmp}
 use Rattle.std.proofs.lemmas.List.Elements.{All-nil, All-cons, All-replicate}
 use Rattle.vr_seqset.specs.declared.fault.SeqFault.{SeqFault}
 use Rattle.vr_seqset.specs.declared.fault.SeqFault.TheVariants as faults
-use Rattle.vr_seqset.specs.Block.{four_at, AreZeros}
-use Rattle.vr_seqset.specs.SequenceSet.{SequenceSet, spelling, image, HasLengths, HasFields, HasIntervals, Ascends, KeepsChain, KeepsRules, IsSequenceSet}
+use Rattle.vr_seqset.specs.Block.{four_at, AreZeros, intervals_used}
+use Rattle.vr_seqset.specs.Entry.{Entry}
+use Rattle.vr_seqset.specs.Numbers.{AreOnceBelow}
+use Rattle.vr_seqset.specs.SequenceSet.{SequenceSet, spelling, image, bounds_of, HasLengths, HasFields, HasIntervals, Ascends, KeepsChain, KeepsRules, IsSequenceSet}
 use Rattle.vr_seqset.specs.Reading.{record_in}
 use Rattle.vr_seqset.specs.Faults.{CanBeCut, HasZeros, Keeps, IsFirstBroken, fault_number}
 use Rattle.vr_seqset.proofs.Bytes.{IsBytes, four_below}
@@ -55,54 +61,29 @@ is_record cis block fits kind cut numbers ascends zeros = record {
   image = record_again block fits kind cut zeros
 }
 
--- ---- the first rule that is broken, at each of them
+-- ---- rules, as the code tests them on the parts that it read
 
-pub first_kind : (cis : ℕ) (block : List ℕ) → (Keeps cis block faults.Kind → ⊥) → IsFirstBroken (Keeps cis block) faults.Kind
-first_kind cis block broken = record { broken = broken; before = before }
-  where
-    before : (other : SeqFault) → fault_number other < 1 → Keeps cis block other
-    before faults.Kind lt = absurd (omega arith)
-    before faults.Lengths lt = absurd (omega arith)
-    before faults.Intervals lt = absurd (omega arith)
-    before faults.Places lt = absurd (omega arith)
-    before faults.Zeros lt = absurd (omega arith)
+module _ (cis : ℕ) (block : List ℕ) (limit : ℕ) (low : List ℕ) (entries : List Entry) (low_was : low ≡ (record_in block).low) (limit_was : limit ≡ intervals_used cis (length block) (length low)) (entries_was : entries ≡ (record_in block).entries) where
+  used_is : AreOnceBelow limit (flat_map (λ e. e.intervals) entries) ≡ HasIntervals cis (length block) (record_in block)
+  used_is =
+      ap (λ (n : ℕ). AreOnceBelow n (flat_map (λ (e : Entry). e.intervals) entries)) (limit_was ∙ ap (λ (x : List ℕ). intervals_used cis (length block) (length x)) low_was)
+      ∙ ap (λ (es : List Entry). AreOnceBelow (intervals_used cis (length block) (length (record_in block).low)) (flat_map (λ (e : Entry). e.intervals) es)) entries_was
 
-pub first_lengths : (cis : ℕ) (block : List ℕ) → Keeps cis block faults.Kind → (Keeps cis block faults.Lengths → ⊥) → IsFirstBroken (Keeps cis block) faults.Lengths
-first_lengths cis block kind broken = record { broken = broken; before = before }
-  where
-    before : (other : SeqFault) → fault_number other < 2 → Keeps cis block other
-    before faults.Kind lt = kind
-    before faults.Lengths lt = absurd (omega arith)
-    before faults.Intervals lt = absurd (omega arith)
-    before faults.Places lt = absurd (omega arith)
-    before faults.Zeros lt = absurd (omega arith)
+  pub used_to : AreOnceBelow limit (flat_map (λ e. e.intervals) entries) → HasIntervals cis (length block) (record_in block)
+  used_to h = subst (λ (P : Type 0). P) used_is h
 
-pub first_intervals : (cis : ℕ) (block : List ℕ) → Keeps cis block faults.Kind → Keeps cis block faults.Lengths → (Keeps cis block faults.Intervals → ⊥) → IsFirstBroken (Keeps cis block) faults.Intervals
-first_intervals cis block kind lengths broken = record { broken = broken; before = before }
-  where
-    before : (other : SeqFault) → fault_number other < 3 → Keeps cis block other
-    before faults.Kind lt = kind
-    before faults.Lengths lt = lengths
-    before faults.Intervals lt = absurd (omega arith)
-    before faults.Places lt = absurd (omega arith)
-    before faults.Zeros lt = absurd (omega arith)
+  pub used_from : HasIntervals cis (length block) (record_in block) → AreOnceBelow limit (flat_map (λ e. e.intervals) entries)
+  used_from h = subst (λ (P : Type 0). P) (sym used_is) h
 
-pub first_places : (cis : ℕ) (block : List ℕ) → Keeps cis block faults.Kind → Keeps cis block faults.Lengths → Keeps cis block faults.Intervals → (Keeps cis block faults.Places → ⊥) → IsFirstBroken (Keeps cis block) faults.Places
-first_places cis block kind lengths numbers broken = record { broken = broken; before = before }
-  where
-    before : (other : SeqFault) → fault_number other < 4 → Keeps cis block other
-    before faults.Kind lt = kind
-    before faults.Lengths lt = lengths
-    before faults.Intervals lt = numbers
-    before faults.Places lt = absurd (omega arith)
-    before faults.Zeros lt = absurd (omega arith)
+module _ (block : List ℕ) (first : Bool) (low : List ℕ) (entries : List Entry) (first_was : first ≡ (record_in block).first) (low_was : low ≡ (record_in block).low) (entries_was : entries ≡ (record_in block).entries) where
+  bounds_are : cond first [] (low ∷ []) ++ map (λ e. e.high) entries ≡ bounds_of (record_in block)
+  bounds_are =
+      ap (λ (b : Bool). cond b [] (low ∷ []) ++ map (λ (e : Entry). e.high) entries) first_was
+      ∙ ap (λ (x : List ℕ). cond (record_in block).first [] (x ∷ []) ++ map (λ (e : Entry). e.high) entries) low_was
+      ∙ ap (λ (es : List Entry). cond (record_in block).first [] ((record_in block).low ∷ []) ++ map (λ (e : Entry). e.high) es) entries_was
 
-pub first_zeros : (cis : ℕ) (block : List ℕ) → Keeps cis block faults.Kind → Keeps cis block faults.Lengths → Keeps cis block faults.Intervals → Keeps cis block faults.Places → (Keeps cis block faults.Zeros → ⊥) → IsFirstBroken (Keeps cis block) faults.Zeros
-first_zeros cis block kind lengths numbers places broken = record { broken = broken; before = before }
-  where
-    before : (other : SeqFault) → fault_number other < 5 → Keeps cis block other
-    before faults.Kind lt = kind
-    before faults.Lengths lt = lengths
-    before faults.Intervals lt = numbers
-    before faults.Places lt = places
-    before faults.Zeros lt = absurd (omega arith)
+  pub ascends_to : IsStrictlySortedBy (slice_cmp nat_cmp) (cond first [] (low ∷ []) ++ map (λ e. e.high) entries) → Ascends (record_in block)
+  ascends_to h = subst (IsStrictlySortedBy (slice_cmp nat_cmp)) bounds_are h
+
+  pub ascends_from : Ascends (record_in block) → IsStrictlySortedBy (slice_cmp nat_cmp) (cond first [] (low ∷ []) ++ map (λ e. e.high) entries)
+  ascends_from h = subst (IsStrictlySortedBy (slice_cmp nat_cmp)) (sym bounds_are) h

@@ -8,9 +8,9 @@ ghost use Rattle.std.specs.Cmp.Lexicographic.{slice_cmp};
 ghost use Rattle.vr_seqset.specs.Block.{AreZeros, two_at as two_bytes_at};
 ghost use Rattle.vr_seqset.specs.Entry.{IsWhole, entry_in, entries_in, entry_bytes};
 ghost use Rattle.vr_seqset.specs.Numbers.{AreOnceBelow, Marks};
-ghost use Rattle.vr_seqset.specs.SequenceSet.{spelling};
+ghost use Rattle.vr_seqset.specs.SequenceSet.{spelling, KeepsChain};
 ghost use Rattle.vr_seqset.specs.Reading.{record_in};
-ghost use Rattle.vr_seqset.specs.Faults.{CanBeCut};
+ghost use Rattle.vr_seqset.specs.Faults.{CanBeCut, HasZeros};
 ghost use Rattle.vr_seqset.specs.declared.checks.TheConstants.{MOST_INTERVALS};
 
 use crate::block::{are_zeros, is_block_size, two_at};
@@ -147,4 +147,19 @@ pub(crate) fn keeps_chain(first: bool, low: &[u8], top: u32, index_area: Option<
     } else {
         top == 0 && index_area.is_none()
     }
+}
+
+// Whether each byte without a name is zero, where `rest` is behind the last entry, and `chain` says whether the record has what
+// only the first of a chain may have.
+pub(crate) fn has_zeros(block: &[u8], rest: &[u8], chain: bool) -> bool
+    requires size { 32 ≤ length block.now }
+    requires rest { rest.now ≡ drop (length (spelling (record_in block.now))) block.now }
+    requires chain { IsTrue chain ↔ KeepsChain (record_in block.now) }
+    ensures { IsTrue result ↔ HasZeros block.now }
+{
+    chain
+        && block[1] < 2
+        && are_zeros(&block[4..6])
+        && are_zeros(&block[24..32])
+        && are_zeros(rest)
 }

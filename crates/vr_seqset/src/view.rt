@@ -5,8 +5,8 @@ ghost use Rattle.vr_seqset.specs.Reading.{entry_of};
 ghost use Rattle.vr_seqset.specs.Search.{reaches};
 ghost use Rattle.vr_seqset.specs.Faults.{Keeps, IsFirstBroken};
 
-use crate::block::{are_zeros, area_of, four_at, interval_limit, two_at};
-use crate::checks::{are_used_once, ascend, begins_with, keeps_chain, rest_of};
+use crate::block::{area_of, four_at, interval_limit, two_at};
+use crate::checks::{are_used_once, ascend, begins_with, has_zeros, keeps_chain, rest_of};
 use crate::entries::SeqEntries;
 use crate::entry::{SeqEntry, entry_at};
 use crate::fault::SeqFault;
@@ -35,6 +35,7 @@ impl<'a> Model for SeqView<'a> {
 impl<'a> SeqView<'a> {
     /// Reads the head block of an area that has `cis` intervals. It answers `Ok` exactly for the block of a record that keeps
     /// the rules, and else the first rule that the block breaks.
+    #[tactic(auto)]
     pub fn read(bytes: &'a [u8], cis: u16) -> Result<SeqView<'a>, SeqFault>
         // What is read is what the block spells.
         ensures found { IfOk result (λ view. IsSequenceSet cis bytes.now view) }
@@ -57,9 +58,8 @@ impl<'a> SeqView<'a> {
         if !ascend(view.first(), view.low(), view.entries()) {
             return Err(SeqFault::Places);
         }
-        let gaps = bytes[1] < 2 && are_zeros(&bytes[4..6]) && are_zeros(&bytes[24..32]);
         let chain = keeps_chain(view.first(), view.low(), view.top(), view.index_area());
-        if !gaps || !chain || !are_zeros(rest) {
+        if !has_zeros(bytes, rest, chain) {
             return Err(SeqFault::Zeros);
         }
         Ok(view)
