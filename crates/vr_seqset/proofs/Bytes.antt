@@ -75,3 +75,11 @@ zeros_are (b ∷ bytes) h =
     let first : b ≡ 0 = All-head (λ (x : ℕ). x ≡ 0) b bytes h in
     let others : bytes ≡ replicate (length bytes) 0 = zeros_are bytes (All-tail (λ (x : ℕ). x ≡ 0) b bytes h) in
     ap (λ (x : ℕ). x ∷ bytes) first ∙ ap (λ (x : List ℕ). 0 ∷ x) others
+
+-- zeros in front
+pub zeros_cut : (n at : ℕ) (block : List ℕ) → at + n ≤ length block → AreZeros (take n (drop at block)) → drop at block ≡ replicate n 0 ++ drop (at + n) block
+zeros_cut n at block le zeros =
+    let len : length (take n (drop at block)) ≡ n = omega (arith, length-take n (drop at block), length-drop at block) in
+    sym (take-append-drop n (drop at block))
+    ∙ ap (λ (x : List ℕ). x ++ drop n (drop at block)) (zeros_are (take n (drop at block)) zeros ∙ ap (λ (m : ℕ). replicate m 0) len)
+    ∙ ap (λ (x : List ℕ). replicate n 0 ++ x) (drop-drop n at block)

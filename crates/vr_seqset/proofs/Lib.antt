@@ -6,3 +6,4 @@ pub mod FaultLemmas
 pub mod NumberLemmas
 pub mod PlaceLemmas
 pub mod SearchLemmas
+pub mod RosterLemmas

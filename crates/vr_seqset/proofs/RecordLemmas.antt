@@ -14,7 +14,7 @@ use Rattle.vr_seqset.specs.Numbers.{AreOnceBelow}
 use Rattle.vr_seqset.specs.SequenceSet.{SequenceSet, head_bytes, spelling, image, used_by, HasLengths, HasFields, HasIntervals, Ascends, KeepsChain, KeepsRules, IsSequenceSet}
 use Rattle.vr_seqset.specs.Reading.{record_in, entry_of}
 use Rattle.vr_seqset.specs.Faults.{CanBeCut, HasZeros}
-use Rattle.vr_seqset.proofs.Bytes.{IsBytes, IsBytes-drop, cut_one, cut_two, cut_four, zeros_are, two_below, four_below}
+use Rattle.vr_seqset.proofs.Bytes.{IsBytes, IsBytes-drop, cut_one, cut_two, cut_four, zeros_are, zeros_cut, two_below, four_below}
 use Rattle.vr_seqset.proofs.EntryLemmas.{CanBeSpelled, entries_again, entries_back, length-entries_in, length-numbers_in, length-entry_bytes, length-twos, first_whole, some_within, whole_fewer, get_fewer}
 use Rattle.vr_seqset.proofs.BlockLemmas.{at_least, used_below, area_back, area_again, area_has_field, field_below, length-padded, All-left, All-right, zeros_behind}
 
@@ -102,13 +102,6 @@ spelling_parts : (s : SequenceSet) (rest : List ℕ) → spelling s ++ rest
     ≡ 83 ∷ cond s.first 1 0 ∷ (two (length s.entries) ++ (0 ∷ 0 ∷ (two (length s.low) ++ (four s.part ++ (four (area_field s.next) ++ (four s.top ++ (four (area_field s.index_area) ++ (replicate 8 0 ++ (s.low ++ (flat_map entry_bytes s.entries ++ rest))))))))))
 unfolding spelling head_bytes
 spelling_parts s rest = simp append_assoc
-
-zeros_cut : (n at : ℕ) (block : List ℕ) → at + n ≤ length block → AreZeros (take n (drop at block)) → drop at block ≡ replicate n 0 ++ drop (at + n) block
-zeros_cut n at block le zeros =
-    let len : length (take n (drop at block)) ≡ n = omega (arith, length-take n (drop at block), length-drop at block) in
-    sym (take-append-drop n (drop at block))
-    ∙ ap (λ (x : List ℕ). x ++ drop n (drop at block)) (zeros_are (take n (drop at block)) zeros ∙ ap (λ (m : ℕ). replicate m 0) len)
-    ∙ ap (λ (x : List ℕ). replicate n 0 ++ x) (drop-drop n at block)
 
 -- the entries and the zeros behind them
 entries_cut : (block : List ℕ) → IsBytes block → CanBeCut block → AreZeros (drop (length (spelling (record_in block))) block)

@@ -1,7 +1,7 @@
 //! The roster of an area.
-ghost use Rattle.std.specs.Prelude.{◌≡◌, length, IfOk, IfErr, IsOkAnd};
+ghost use Rattle.std.specs.Prelude.{◌≡◌, ◌≤◌, ◌↔◌, length, drop, IfOk, IfErr, IsOkAnd, IsTrue};
 ghost use Rattle.vr_seqset.specs.Roster.{Roster, IsRoster, KeepsRosterRules, roster_image};
-ghost use Rattle.vr_seqset.specs.Faults.{KeepsRoster, IsFirstBroken};
+ghost use Rattle.vr_seqset.specs.Faults.{KeepsRoster, RosterFits, RosterHasZeros, IsFirstBroken};
 
 use crate::block::{are_zeros, area_field, area_of, four_at, is_block_size, two_at};
 use crate::checks::begins_with;
@@ -26,9 +26,11 @@ impl<'a> Model for RosterView<'a> {
     ghost invariant = { λ v. 16 ≤ length v.block.now };
 }
 
+#[tactic(auto, unfolding(crate::specs::Reading::roster_in))]
 impl<'a> RosterView<'a> {
     /// Reads the head block of an area that has `cis` intervals. It answers `Ok` exactly for the block of a roster that keeps
     /// the rules, and else the first rule that the block breaks.
+    #[tactic(auto)]
     pub fn read(bytes: &'a [u8], cis: u16) -> Result<RosterView<'a>, SeqFault>
         // What is read is what the block spells.
         ensures found { IfOk result (λ view. IsRoster cis bytes.now view) }
@@ -40,10 +42,11 @@ impl<'a> RosterView<'a> {
         if !begins_with(bytes, b'R') {
             return Err(SeqFault::Kind);
         }
-        if !is_block_size(bytes.len()) || two_at(bytes, 2) > cis {
+        if !fits(bytes, cis) {
             return Err(SeqFault::Lengths);
         }
-        if bytes[1] != 0 || !are_zeros(&bytes[4..8]) || !are_zeros(&bytes[16..]) {
+        let (_, rest) = bytes.split_at(16);
+        if !has_zeros(bytes, rest) {
             return Err(SeqFault::Zeros);
         }
         Ok(RosterView { block: bytes })
@@ -69,6 +72,23 @@ impl<'a> RosterView<'a> {
     {
         area_of(four_at(self.block, 12))
     }
+}
+
+// Whether the block has an allowed size, and no more intervals are used than there are.
+#[tactic(auto, unfolding(crate::specs::Reading::roster_in), using(crate::proofs::BlockLemmas::at_least))]
+fn fits(block: &[u8], cis: u16) -> bool
+    ensures { IsTrue result ↔ RosterFits cis block.now }
+{
+    is_block_size(block.len()) && two_at(block, 2) <= cis
+}
+
+// Whether each byte without a name is zero, where `rest` is behind the fields.
+fn has_zeros(block: &[u8], rest: &[u8]) -> bool
+    requires size { 16 ≤ length block.now }
+    requires rest { rest.now ≡ drop 16 block.now }
+    ensures { IsTrue result ↔ RosterHasZeros block.now }
+{
+    block[1] == 0 && are_zeros(&block[4..8]) && are_zeros(rest)
 }
 
 /// Makes the block the roster of an area that has `cis` intervals, whatever it held.
