@@ -1,5 +1,6 @@
 -- A roster that is read is spelled so, and one that is spelled is read.
 use Rattle.std.proofs.Common.{◌≡◌, ℕ, ◌+◌, ◌-◌, ◌^◌, ◌<◌, ◌≤◌, List, [], ◌∷◌, ◌++◌, length, get_or, take, drop, All, Option, refl, sym, ap, subst, ◌∙◌, arith, append_assoc, replicate}
+use Rattle.std.specs.Int.{w16, w32, to_be_bytes}
 use Rattle.std.proofs.lemmas.List.{length-drop}
 use Rattle.std.proofs.lemmas.List.Elements.{All-replicate}
 use Rattle.std.proofs.lemmas.Nat.{from_be_bytes-to_be_bytes_2, from_be_bytes-to_be_bytes_4}
@@ -114,3 +115,17 @@ is_roster cis block fits kind lengths zeros = record {
   };
   image = roster_again block fits kind lengths.size zeros
 }
+
+-- ---- what is written
+
+pub written_roster : (cis size : ℕ) (r : Roster) (front rest : List ℕ) → KeepsRosterRules cis size r → front ≡ roster_bytes r → rest ≡ replicate (size - 16) 0 → IsRoster cis (front ++ rest) r
+written_roster cis size r front rest rules front-is rest-is =
+    let whole : roster_image size r ≡ front ++ rest =
+        ap (λ (n : ℕ). roster_bytes r ++ replicate (size - n) 0) (length-roster_bytes r) ∙ ap (λ (x : List ℕ). x ++ replicate (size - 16) 0) (sym front-is) ∙ ap (λ (x : List ℕ). front ++ x) (sym rest-is) in
+    subst (λ (x : List ℕ). IsRoster cis x r) whole (roster_image_is cis size r rules)
+
+-- the fields, byte by byte
+pub roster_cells : (r : Roster) (u p n : List ℕ) → u ≡ to_be_bytes w16 r.used → p ≡ to_be_bytes w32 r.part → n ≡ to_be_bytes w32 (area_field r.next)
+    → 82 ∷ 0 ∷ get_or u 0 0 ∷ get_or u 1 0 ∷ 0 ∷ 0 ∷ 0 ∷ 0 ∷ get_or p 0 0 ∷ get_or p 1 0 ∷ get_or p 2 0 ∷ get_or p 3 0 ∷ get_or n 0 0 ∷ get_or n 1 0 ∷ get_or n 2 0 ∷ get_or n 3 0 ∷ [] ≡ roster_bytes r
+unfolding roster_bytes two four
+roster_cells r u p n u-is p-is n-is = rw (u-is, p-is, n-is) refl

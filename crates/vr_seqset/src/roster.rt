@@ -96,7 +96,6 @@ pub fn write_roster(used: u16, part: u32, next: Option<u32>, cis: u16, out: &mut
     requires { KeepsRosterRules cis (length out.old) (record { used = used; part = part; next = next }) }
     ensures { IsRoster cis out.new (record { used = used; part = part; next = next }) }
 {
-    let _ = cis;
     let u = used.to_be_bytes();
     let p = part.to_be_bytes();
     let n = area_field(next).to_be_bytes();
