@@ -7,3 +7,4 @@ pub mod NumberLemmas
 pub mod PlaceLemmas
 pub mod SearchLemmas
 pub mod RosterLemmas
+pub mod WritingLemmas

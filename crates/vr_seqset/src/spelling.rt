@@ -1,5 +1,5 @@
 // The bytes of a sequence-set record, as they are written.
-ghost use Rattle.std.specs.Prelude.{◌≡◌, ◌+◌, ◌*◌, ◌<◌, ◌≤◌, ◌^◌, ◌++◌, length, drop};
+ghost use Rattle.std.specs.Prelude.{◌≡◌, ◌+◌, ◌*◌, ◌<◌, ◌≤◌, ◌^◌, ◌++◌, length, drop, if◌then◌else◌};
 ghost use Rattle.std.specs.List.{flat_map};
 ghost use Rattle.vr_seqset.specs.Block.{two, IsArea};
 ghost use Rattle.vr_seqset.specs.Entry.{entry_bytes};
@@ -25,7 +25,7 @@ pub(crate) fn put_head(head: &SeqHead<'_>, out: &mut [u8]) -> usize
     let n = area_field(head.next).to_be_bytes();
     let t = head.top.to_be_bytes();
     let x = area_field(head.index_area).to_be_bytes();
-    let flag = if head.first { 1 } else { 0 };
+    let flag = flag_of(head.first);
     let bytes = [
         b'S', flag, 0, 0, 0, 0, k[0], k[1], p[0], p[1], p[2], p[3], n[0], n[1], n[2], n[3], t[0],
         t[1], t[2], t[3], x[0], x[1], x[2], x[3], 0, 0, 0, 0, 0, 0, 0, 0,
@@ -36,6 +36,13 @@ pub(crate) fn put_head(head: &SeqHead<'_>, out: &mut [u8]) -> usize
     low.copy_from_slice(head.low);
     free.fill(0);
     32 + place
+}
+
+// The flag of the first of a chain.
+fn flag_of(first: bool) -> u8
+    ensures { result ≡ (if first then 1 else 0) }
+{
+    if first { 1 } else { 0 }
 }
 
 // Writes an entry behind the others, which end at `end`, and counts it. Answers where it ends.
