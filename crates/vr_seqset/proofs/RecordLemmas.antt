@@ -156,7 +156,7 @@ entries_fit place (e ∷ es) short whole numbers =
     })
     (entries_fit place es (omega (arith, len)) (All-tail (IsWhole place) e es whole) (All-right (λ (n : ℕ). n < 2 ^ 16) e.intervals (flat_map (λ (x : Entry). x.intervals) es) numbers))
 
-count_within : (es : List Entry) → length es ≤ length (flat_map entry_bytes es)
+pub count_within : (es : List Entry) → length es ≤ length (flat_map entry_bytes es)
 count_within [] = omega arith
 count_within (e ∷ es) = omega (arith, length-append (entry_bytes e) (flat_map entry_bytes es), length-entry_bytes e, count_within es)
 

@@ -2,15 +2,15 @@
 use Rattle.std.proofs.Common.{◌≡◌, ℕ, zero, suc, cond, ◌+◌, ◌-◌, ◌*◌, ◌^◌, ◌<◌, ◌≤◌, List, [], ◌∷◌, ◌++◌, length, get_or, set, take, drop, All, refl, sym, ap, subst, ◌∙◌, arith, append_assoc, replicate}
 use Rattle.std.specs.List.{flat_map}
 use Rattle.std.specs.Int.{w16, w32, to_be_bytes}
-use Rattle.std.proofs.lemmas.List.{take_more_set, take_more, take_all, length-set, append-nil, take-append-drop, drop-drop, length-drop, length-append}
+use Rattle.std.proofs.lemmas.List.{take_more_set, take_more, take_all, length-set, append-nil, take-append-drop, drop-drop, length-drop, length-append, length_push, take_at, drop_at, drop-replicate}
 use Rattle.std.proofs.lemmas.Grind.{flat_map-append}
 use Rattle.vr_seqset.specs.Block.{two, four, two_at, area_field, padded}
 use Rattle.vr_seqset.specs.Entry.{Entry, entry_bytes}
 use Rattle.vr_seqset.specs.SequenceSet.{SequenceSet, head_bytes, spelling, image}
 use Rattle.vr_seqset.specs.Reading.{record_in}
 use Rattle.vr_seqset.specs.Writing.{with_entry}
-use Rattle.vr_seqset.proofs.EntryLemmas.{length-entry_bytes, length-twos}
-use Rattle.vr_seqset.proofs.RecordLemmas.{length-spelling, length-head_bytes}
+use Rattle.vr_seqset.proofs.EntryLemmas.{length-entry_bytes, length-twos, length-entries_in}
+use Rattle.vr_seqset.proofs.RecordLemmas.{length-spelling, length-head_bytes, count_within}
 
 -- ---- numbers one after another
 
@@ -69,3 +69,66 @@ head_put size s front low free none front-is low-is free-is =
     ∙ sym (append_assoc (head_bytes s) s.low free)
     ∙ ap (λ (x : List ℕ). x ++ free) (sym (spelling_head s none))
     ∙ ap (λ (x : List ℕ). spelling s ++ x) (free-is ∙ ap (λ (n : ℕ). replicate (size - n) 0) (sym (length-spelling_head s none)))
+
+-- ---- one more entry
+
+module _ (s : SequenceSet) (intervals high : List ℕ) where
+  pub flat_more : flat_map entry_bytes (with_entry s intervals high).entries ≡ flat_map entry_bytes s.entries ++ entry_bytes (record { intervals = intervals; high = high })
+  flat_more =
+      flat_map-append entry_bytes s.entries (record { intervals = intervals; high = high } ∷ []) ∙ ap (λ (x : List ℕ). flat_map entry_bytes s.entries ++ x) (append-nil (entry_bytes (record { intervals = intervals; high = high })))
+
+  pub length-spelling_more : length (spelling (with_entry s intervals high)) ≡ length (spelling s) + length (entry_bytes (record { intervals = intervals; high = high }))
+  length-spelling_more =
+      omega (arith, length-spelling (with_entry s intervals high), length-spelling s, ap (λ (x : List ℕ). length x) flat_more, length-append (flat_map entry_bytes s.entries) (entry_bytes (record { intervals = intervals; high = high })))
+
+  pub length-entries_more : length (with_entry s intervals high).entries ≡ length s.entries + 1
+  length-entries_more = length_push s.entries (record { intervals = intervals; high = high })
+
+  -- the bytes before the new entry
+  front_of : List ℕ
+  front_of = head_bytes (with_entry s intervals high) ++ s.low ++ flat_map entry_bytes s.entries
+
+  length-front_of : length front_of ≡ length (spelling s)
+  unfolding front_of
+  length-front_of =
+      omega (arith, length-spelling s, length-append (head_bytes (with_entry s intervals high) ++ s.low) (flat_map entry_bytes s.entries), length-append (head_bytes (with_entry s intervals high)) s.low, length-head_bytes (with_entry s intervals high))
+
+  recount : (rest c : List ℕ) → c ≡ two (length (with_entry s intervals high).entries) → set (set (spelling s ++ rest) 2 (get_or c 0 0)) 3 (get_or c 1 0) ≡ front_of ++ rest
+  unfolding front_of spelling head_bytes two
+  recount rest c c-is = rw c-is refl
+
+  spelling_more : spelling (with_entry s intervals high) ≡ front_of ++ entry_bytes (record { intervals = intervals; high = high })
+  unfolding front_of spelling
+  spelling_more =
+      ap (λ (x : List ℕ). head_bytes (with_entry s intervals high) ++ s.low ++ x) flat_more
+      ∙ sym (append_assoc (head_bytes (with_entry s intervals high) ++ s.low) (flat_map entry_bytes s.entries) (entry_bytes (record { intervals = intervals; high = high })))
+
+  pub entry_added : (size end : ℕ) (block front free c : List ℕ) → block ≡ image size s → end ≡ length (spelling s) → length (spelling (with_entry s intervals high)) ≤ size → c ≡ two (length (with_entry s intervals high).entries)
+      → front ≡ take end (set (set block 2 (get_or c 0 0)) 3 (get_or c 1 0))
+      → free ≡ entry_bytes (record { intervals = intervals; high = high }) ++ drop (length (entry_bytes (record { intervals = intervals; high = high }))) (drop end (set (set block 2 (get_or c 0 0)) 3 (get_or c 1 0)))
+      → front ++ free ≡ image size (with_entry s intervals high)
+  entry_added size end block front free c block-is end-is room c-is front-is free-is =
+      let e = entry_bytes (record { intervals = intervals; high = high }) in
+      let whole : set (set block 2 (get_or c 0 0)) 3 (get_or c 1 0) ≡ front_of ++ replicate (size - length (spelling s)) 0 =
+          ap (λ (x : List ℕ). set (set x 2 (get_or c 0 0)) 3 (get_or c 1 0)) block-is ∙ recount (replicate (size - length (spelling s)) 0) c c-is in
+      let place : length front_of ≡ end = length-front_of ∙ sym end-is in
+      let first : front ≡ front_of = front-is ∙ ap (take end) whole ∙ take_at front_of (replicate (size - length (spelling s)) 0) end place in
+      let rest : drop end (set (set block 2 (get_or c 0 0)) 3 (get_or c 1 0)) ≡ replicate (size - length (spelling s)) 0 = ap (drop end) whole ∙ drop_at front_of (replicate (size - length (spelling s)) 0) end place in
+      let left : drop (length e) (drop end (set (set block 2 (get_or c 0 0)) 3 (get_or c 1 0))) ≡ replicate (size - length (spelling (with_entry s intervals high))) 0 =
+          ap (drop (length e)) rest ∙ drop-replicate (length e) (size - length (spelling s)) 0 ∙ ap (λ (n : ℕ). replicate n 0) (omega (arith, length-spelling_more)) in
+      ap (λ (x : List ℕ). x ++ free) first ∙ ap (λ (x : List ℕ). front_of ++ x) (free-is ∙ ap (λ (x : List ℕ). e ++ x) left)
+      ∙ sym (append_assoc front_of e (replicate (size - length (spelling (with_entry s intervals high))) 0))
+      ∙ ap (λ (x : List ℕ). x ++ replicate (size - length (spelling (with_entry s intervals high))) 0) (sym spelling_more)
+
+-- what stands in the count's field
+pub count_is : (block : List ℕ) → length (record_in block).entries ≡ two_at 2 block
+unfolding record_in
+count_is block = length-entries_in (two_at 2 block) (two_at 6 block) (drop (32 + two_at 6 block) block)
+
+-- a block with room for one more entry has a head, and room for the count
+pub has_head : (s : SequenceSet) (intervals high : List ℕ) (size : ℕ) → length (spelling (with_entry s intervals high)) ≤ size → 32 ≤ size
+has_head s intervals high size room = omega (arith, length-spelling_more s intervals high, length-spelling s)
+
+pub count_below : (s : SequenceSet) (intervals high : List ℕ) (size : ℕ) → length (spelling (with_entry s intervals high)) ≤ size → size ≤ 32768 → length s.entries + 1 ≤ 32768
+count_below s intervals high size room most =
+    omega (arith, length-spelling (with_entry s intervals high), count_within (with_entry s intervals high).entries, length-entries_more s intervals high)
