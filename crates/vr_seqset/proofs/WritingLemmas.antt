@@ -6,11 +6,11 @@ use Rattle.std.proofs.lemmas.List.{take_more_set, take_more, take_all, length-se
 use Rattle.std.proofs.lemmas.Grind.{flat_map-append}
 use Rattle.vr_seqset.specs.Block.{two, four, two_at, area_field, padded}
 use Rattle.vr_seqset.specs.Entry.{Entry, entry_bytes}
-use Rattle.vr_seqset.specs.SequenceSet.{SequenceSet, head_bytes, spelling, image}
+use Rattle.vr_seqset.specs.SequenceSet.{SequenceSet, head_bytes, spelling, image, KeepsRules}
 use Rattle.vr_seqset.specs.Reading.{record_in}
-use Rattle.vr_seqset.specs.Writing.{with_entry}
+use Rattle.vr_seqset.specs.Writing.{with_entry, IsBegun}
 use Rattle.vr_seqset.proofs.EntryLemmas.{length-entry_bytes, length-twos, length-entries_in}
-use Rattle.vr_seqset.proofs.RecordLemmas.{length-spelling, length-head_bytes, count_within}
+use Rattle.vr_seqset.proofs.RecordLemmas.{length-spelling, length-head_bytes, count_within, record_of_image, length-image}
 
 -- ---- numbers one after another
 
@@ -132,3 +132,20 @@ has_head s intervals high size room = omega (arith, length-spelling_more s inter
 pub count_below : (s : SequenceSet) (intervals high : List ℕ) (size : ℕ) → length (spelling (with_entry s intervals high)) ≤ size → size ≤ 32768 → length s.entries + 1 ≤ 32768
 count_below s intervals high size room most =
     omega (arith, length-spelling (with_entry s intervals high), count_within (with_entry s intervals high).entries, length-entries_more s intervals high)
+
+-- where one more entry would end
+pub end_after : (cis : ℕ) (block : List ℕ) (end : ℕ) (intervals high : List ℕ) → IsBegun cis block end → length (spelling (with_entry (record_in block) intervals high)) ≡ end + (2 + 2 * length intervals + length high)
+end_after cis block end intervals high begun =
+    omega (arith, length-spelling_more (record_in block) intervals high, entry_length (record { intervals = intervals; high = high }), begun.ends)
+
+-- ---- what a writer keeps
+
+pub begun_of : (cis size : ℕ) (s : SequenceSet) (block : List ℕ) (end : ℕ) → KeepsRules cis size s → block ≡ image size s → end ≡ length (spelling s) → IsBegun cis block end × (record_in block ≡ s)
+begun_of cis size s block end rules block-is end-is =
+    let same : record_in block ≡ s = ap record_in block-is ∙ record_of_image cis size s rules in
+    let len : length block ≡ size = ap (λ (x : List ℕ). length x) block-is ∙ length-image cis size s rules in
+    (record {
+      rules = subst (λ (n : ℕ). KeepsRules cis n (record_in block)) (sym len) (subst (KeepsRules cis size) (sym same) rules);
+      image = block-is ∙ ap (λ (n : ℕ). image n s) (sym len) ∙ ap (image (length block)) (sym same);
+      ends = end-is ∙ ap (λ (t : SequenceSet). length (spelling t)) (sym same)
+    }, same)

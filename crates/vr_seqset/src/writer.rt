@@ -41,9 +41,10 @@ impl<'a> SeqWriter<'a> {
         ensures { IsTrue result ↔ (length (spelling (with_entry (written self.now) intervals.now high.now)) ≤ length (block_of self.now).now) }
     {
         let room = self.block.len() - self.end;
-        room >= 2
-            && intervals.len() <= (room - 2) / 2
-            && high.len() <= room - 2 - 2 * intervals.len()
+        if room < 2 || intervals.len() > (room - 2) / 2 {
+            return false;
+        }
+        high.len() <= room - 2 - 2 * intervals.len()
     }
 
     /// Adds an entry behind the others. With it the record has to keep the rules.
