@@ -8,3 +8,4 @@ pub mod PlaceLemmas
 pub mod SearchLemmas
 pub mod RosterLemmas
 pub mod WritingLemmas
+pub mod PrefixLemmas
