@@ -106,7 +106,7 @@ entry_back place e rest fits =
     let behind : drop 2 (entry_bytes e ++ rest) ≡ flat_map two e.intervals ++ (e.high ++ rest) = ap (drop 2) (entry_parts e rest) ∙ drop-two (length e.intervals) (flat_map two e.intervals ++ (e.high ++ rest)) in
     let numbers : numbers_in (two_at 0 (entry_bytes e ++ rest)) (drop 2 (entry_bytes e ++ rest)) ≡ e.intervals = rw (count, behind) (numbers_back e.intervals (e.high ++ rest) fits.numbers) in
     let at_high : drop (2 + 2 * two_at 0 (entry_bytes e ++ rest)) (entry_bytes e ++ rest) ≡ e.high ++ rest =
-        ap (λ (n : ℕ). drop (2 + 2 * n) (entry_bytes e ++ rest)) count ∙ sym (drop-drop (2 * length e.intervals) 2 (entry_bytes e ++ rest)) ∙ ap (drop (2 * length e.intervals)) behind ∙ drop_at (flat_map two e.intervals) (e.high ++ rest) (2 * length e.intervals) (length-twos e.intervals) in
+    ap (λ (n : ℕ). drop (2 + 2 * n) (entry_bytes e ++ rest)) count ∙ sym (drop-drop (2 * length e.intervals) 2 (entry_bytes e ++ rest)) ∙ ap (drop (2 * length e.intervals)) behind ∙ drop_at (flat_map two e.intervals) (e.high ++ rest) (2 * length e.intervals) (length-twos e.intervals) in
     let high : take place (drop (2 + 2 * two_at 0 (entry_bytes e ++ rest)) (entry_bytes e ++ rest)) ≡ e.high = ap (take place) at_high ∙ take_at e.high rest place fits.high in
     ap (λ (ns : List ℕ). record { intervals = ns; high = take place (drop (2 + 2 * two_at 0 (entry_bytes e ++ rest)) (entry_bytes e ++ rest)) }) numbers
     ∙ ap (λ (h : List ℕ). record { intervals = e.intervals; high = h }) high
@@ -164,9 +164,9 @@ unfolding entry_in
 entry_of_parts place n bytes behind numbers high n-is behind-is numbers-is len high-is =
     let half : length numbers / 2 ≡ n = omega arith in
     let first : numbers_in (length numbers / 2) numbers ≡ numbers_in (two_at 0 bytes) (drop 2 bytes) =
-        ap (λ (k : ℕ). numbers_in k numbers) half ∙ ap (numbers_in n) numbers-is ∙ numbers_take n (2 * n) behind (omega arith) ∙ ap (numbers_in n) behind-is ∙ ap (λ (k : ℕ). numbers_in k (drop 2 bytes)) n-is in
+    ap (λ (k : ℕ). numbers_in k numbers) half ∙ ap (numbers_in n) numbers-is ∙ numbers_take n (2 * n) behind (omega arith) ∙ ap (numbers_in n) behind-is ∙ ap (λ (k : ℕ). numbers_in k (drop 2 bytes)) n-is in
     let second : high ≡ take place (drop (2 + 2 * two_at 0 bytes) bytes) =
-        high-is ∙ ap (λ (x : List ℕ). take place (drop (2 * n) x)) behind-is ∙ ap (take place) (drop-drop (2 * n) 2 bytes) ∙ ap (λ (k : ℕ). take place (drop (2 + 2 * k) bytes)) n-is in
+    high-is ∙ ap (λ (x : List ℕ). take place (drop (2 * n) x)) behind-is ∙ ap (take place) (drop-drop (2 * n) 2 bytes) ∙ ap (λ (k : ℕ). take place (drop (2 + 2 * k) bytes)) n-is in
     ap (λ (ns : List ℕ). record { intervals = ns; high = high }) first
     ∙ ap (λ (h : List ℕ). record { intervals = numbers_in (two_at 0 bytes) (drop 2 bytes); high = h }) second
 
@@ -180,7 +180,7 @@ pub is_whole : (place : ℕ) (bytes : List ℕ) → 0 < two_at 0 bytes → 2 + 2
 unfolding entry_in
 is_whole place bytes some within = record {
   some = omega (arith, length-numbers_in (two_at 0 bytes) (drop 2 bytes));
-  high = omega (arith, length-take place (drop (2 + 2 * two_at 0 bytes) bytes), length-drop (2 + 2 * two_at 0 bytes) bytes)
+  high = omega (arith, length-take place (drop (2 + 2 * two_at 0 bytes) bytes), length-drop (2 + 2 * two_at 0 bytes) bytes);
 }
 
 pub first_whole : (n high place : ℕ) (bytes : List ℕ) → 0 < n → All (IsWhole high) (entries_in n place bytes) → IsWhole high (entry_in place bytes)
@@ -220,7 +220,7 @@ unfolding entries_in
 drop-entry left place bytes whole =
     let others = entries_in left place (drop (2 + 2 * two_at 0 bytes + place) bytes) in
     let len : length (entry_bytes (entry_in place bytes) ++ flat_map entry_bytes others) ≡ 2 + 2 * two_at 0 bytes + place + length (flat_map entry_bytes others) =
-        omega (arith, length-append (entry_bytes (entry_in place bytes)) (flat_map entry_bytes others), length-whole place bytes whole) in
+    omega (arith, length-append (entry_bytes (entry_in place bytes)) (flat_map entry_bytes others), length-whole place bytes whole) in
     ap (λ (n : ℕ). drop n bytes) len ∙ sym (drop-drop (length (flat_map entry_bytes others)) (2 + 2 * two_at 0 bytes + place) bytes)
 
 -- after some of the entries in bytes so many are left in rest
@@ -238,7 +238,7 @@ IsLeft-next count place bytes left fewer rest after h e after-is whole =
     record {
       all = λ others. at_left.all (whole_both fewer place rest after after-is whole others);
       others = λ all. whole_rest fewer place rest after after-is (at_left.others all);
-      behind = at_left.behind ∙ drop-entry fewer place rest whole ∙ ap (λ (x : List ℕ). drop (length (flat_map entry_bytes (entries_in fewer place x))) x) (sym after-is)
+      behind = at_left.behind ∙ drop-entry fewer place rest whole ∙ ap (λ (x : List ℕ). drop (length (flat_map entry_bytes (entries_in fewer place x))) x) (sym after-is);
     }
 
 pub IsLeft-broken : (count place : ℕ) (bytes : List ℕ) (left : ℕ) (rest : List ℕ) → IsLeft count place bytes left rest → 0 < left → (IsWhole place (entry_in place rest) → ⊥) → All (IsWhole place) (entries_in count place bytes) → ⊥
@@ -261,7 +261,7 @@ IsAt-next place bytes i left fewer rest after h e after-is =
     let at_left : IsAt place bytes i (suc fewer) rest = rw e at h in
     record {
       whole = whole_rest (suc fewer) place rest after after-is at_left.whole;
-      same = at_left.same ∙ ap (λ (x : List ℕ). slice_get (entries_in (suc fewer) place x) fewer) (sym after-is)
+      same = at_left.same ∙ ap (λ (x : List ℕ). slice_get (entries_in (suc fewer) place x) fewer) (sym after-is);
     }
 
 pub IsAt-front : (place : ℕ) (bytes : List ℕ) (i left : ℕ) (rest : List ℕ) → IsAt place bytes i left rest → left ≡ 0 → slice_get (entries_in (suc i) place bytes) i ≡ Some (entry_in place rest)

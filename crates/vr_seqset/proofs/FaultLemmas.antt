@@ -30,7 +30,7 @@ keeps_zeros cis block s is =
       gap = subst (λ (x : List ℕ). AreZeros (take 2 (drop 4 x))) (sym is.image) (subst AreZeros (sym (gap_back s zeros)) (All-replicate (λ (b : ℕ). b ≡ 0) 2 0 refl));
       second_gap = subst (λ (x : List ℕ). AreZeros (take 8 (drop 24 x))) (sym is.image) (subst AreZeros (sym (second_gap_back s zeros)) (All-replicate (λ (b : ℕ). b ≡ 0) 8 0 refl));
       chain = subst KeepsChain (sym same) is.rules.chain;
-      rest = subst (λ (x : List ℕ). AreZeros (drop (length (spelling (record_in block))) x)) (sym is.image) (subst (λ (t : SequenceSet). AreZeros (drop (length (spelling t)) (image (length block) s))) (sym same) (zeros_behind (length block) (spelling s)))
+      rest = subst (λ (x : List ℕ). AreZeros (drop (length (spelling (record_in block))) x)) (sym is.image) (subst (λ (t : SequenceSet). AreZeros (drop (length (spelling t)) (image (length block) s))) (sym same) (zeros_behind (length block) (spelling s)));
     }
 
 -- a record's block keeps each rule
@@ -38,7 +38,7 @@ pub keeps : (cis : ℕ) (block : List ℕ) (s : SequenceSet) → IsSequenceSet c
 keeps cis block s is faults.Kind = ap (λ (x : List ℕ). get_or x 0 0) is.image ∙ kind_back s (replicate (length block - length (spelling s)) 0)
 keeps cis block s is faults.Lengths = record {
   lengths = subst (HasLengths (length block)) (sym (record_is cis block s is)) is.rules.lengths;
-  some = subst (λ (t : SequenceSet). 0 < length t.entries) (sym (record_is cis block s is)) is.some
+  some = subst (λ (t : SequenceSet). 0 < length t.entries) (sym (record_is cis block s is)) is.some;
 }
 keeps cis block s is faults.Intervals = subst (HasIntervals cis (length block)) (sym (record_is cis block s is)) is.rules.numbers
 keeps cis block s is faults.Places = subst Ascends (sym (record_is cis block s is)) is.rules.ascends
@@ -50,7 +50,7 @@ fields_fit block fits = record {
   part = four_below 8 block fits;
   next = area_has_field (four_at 12 block) (four_below 12 block fits);
   top = four_below 16 block fits;
-  index_area = area_has_field (four_at 20 block) (four_below 20 block fits)
+  index_area = area_has_field (four_at 20 block) (four_below 20 block fits);
 }
 
 -- a block that keeps each rule is that of a record
@@ -58,7 +58,7 @@ pub is_record : (cis : ℕ) (block : List ℕ) → IsBytes block → get_or bloc
 is_record cis block fits kind cut numbers ascends zeros = record {
   rules = record { lengths = cut.lengths; fields = fields_fit block fits; numbers = numbers; ascends = ascends; chain = zeros.chain };
   some = cut.some;
-  image = record_again block fits kind cut zeros
+  image = record_again block fits kind cut zeros;
 }
 
 -- ---- rules, as the code tests them on the parts that it read

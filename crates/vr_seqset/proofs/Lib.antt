@@ -9,3 +9,4 @@ pub mod SearchLemmas
 pub mod RosterLemmas
 pub mod WritingLemmas
 pub mod PrefixLemmas
+pub mod CopyLemmas

@@ -39,17 +39,18 @@ twice (x ∷ xs) n there once =
 -- a number that is not marked yet
 pub mark_more : (limit : ℕ) (seen : List Bool) (xs : List ℕ) (n : ℕ) → limit ≤ length seen → n < limit → get_or seen n false ≡ false → AreOnceBelow limit xs × Marks limit seen xs
     → AreOnceBelow limit (xs ++ n ∷ []) × Marks limit (set seen n true) (xs ++ n ∷ [])
-mark_more limit seen xs n room lt fresh h =
-    (record {
-      below = All-push (λ (m : ℕ). m < limit) xs n h.0.below lt;
-      once = IsDistinct-push nat_eq_equiv xs n h.0.once (sym (h.1 n lt) ∙ fresh)
-    },
-    λ m below. elim (cases_eq m n) [
-      | inl same ↦
-          rw same (get_or-set_same seen n true false (omega arith) ∙ sym (list_any-append (eqb n) xs (n ∷ []) ∙ or_right (list_any (eqb n) xs) (list_any (eqb n) (n ∷ [])) (ap (λ (b : Bool). b || false) (eq-eqb n n refl))))
-      | inr other ↦
-          get_or-set_other seen n m true false other ∙ h.1 m below ∙ sym (list_any-append (eqb m) xs (n ∷ []) ∙ ap (λ (b : Bool). list_any (eqb m) xs || (b || false)) (ne_eqb m n other) ∙ or_false (list_any (eqb m) xs))
-    ])
+mark_more limit seen xs n room lt fresh h = (
+  record {
+    below = All-push (λ (m : ℕ). m < limit) xs n h.0.below lt;
+    once = IsDistinct-push nat_eq_equiv xs n h.0.once (sym (h.1 n lt) ∙ fresh);
+  },
+  λ m below. elim (cases_eq m n) [
+    | inl same ↦
+        rw same (get_or-set_same seen n true false (omega arith) ∙ sym (list_any-append (eqb n) xs (n ∷ []) ∙ or_right (list_any (eqb n) xs) (list_any (eqb n) (n ∷ [])) (ap (λ (b : Bool). b || false) (eq-eqb n n refl))))
+    | inr other ↦
+        get_or-set_other seen n m true false other ∙ h.1 m below ∙ sym (list_any-append (eqb m) xs (n ∷ []) ∙ ap (λ (b : Bool). list_any (eqb m) xs || (b || false)) (ne_eqb m n other) ∙ or_false (list_any (eqb m) xs))
+  ],
+)
   where
     or_false : (b : Bool) → (b || (false || false)) ≡ b
     or_false true = refl
@@ -96,5 +97,5 @@ pub once_of_all : (limit : ℕ) (all before others : List Entry) (e : Entry) →
 once_of_all limit all before others e cut whole =
     let numbers = λ (x : Entry). x.intervals in
     let same : flat_map (λ (x : Entry). x.intervals) all ≡ (flat_map (λ (x : Entry). x.intervals) before ++ e.intervals) ++ flat_map (λ (x : Entry). x.intervals) others =
-        ap (flat_map (λ (x : Entry). x.intervals)) cut ∙ flat_map-append (λ (x : Entry). x.intervals) before (e ∷ others) ∙ sym (append_assoc (flat_map (λ (x : Entry). x.intervals) before) e.intervals (flat_map (λ (x : Entry). x.intervals) others)) in
+    ap (flat_map (λ (x : Entry). x.intervals)) cut ∙ flat_map-append (λ (x : Entry). x.intervals) before (e ∷ others) ∙ sym (append_assoc (flat_map (λ (x : Entry). x.intervals) before) e.intervals (flat_map (λ (x : Entry). x.intervals) others)) in
     once_left limit (flat_map (λ (x : Entry). x.intervals) before ++ e.intervals) (flat_map (λ (x : Entry). x.intervals) others) (subst (AreOnceBelow limit) same whole)

@@ -44,10 +44,10 @@ next_none all left after e high cut high-is h =
 pub next_some : (all : List (List ℕ)) (left after : List Entry) (e : Entry) (place high : Bor (List ℕ)) → left ≡ e ∷ after → high.now ≡ e.high → slice_cmp nat_cmp place.now high.now ≡ Less → StillAscend all (Some place) left → StillAscend all (Some high) after
 next_some all left after e place high cut high-is lt h =
     let same : place.now ∷ map (λ (x : Entry). x.high) left ≡ place.now ∷ high.now ∷ map (λ (x : Entry). x.high) after =
-        ap (λ (es : List Entry). place.now ∷ map (λ (x : Entry). x.high) es) cut ∙ ap (λ (p : List ℕ). place.now ∷ p ∷ map (λ (x : Entry). x.high) after) (sym high-is) in
+    ap (λ (es : List Entry). place.now ∷ map (λ (x : Entry). x.high) es) cut ∙ ap (λ (p : List ℕ). place.now ∷ p ∷ map (λ (x : Entry). x.high) after) (sym high-is) in
     record {
       to = λ s. sorted_tail (slice_cmp nat_cmp) place.now (high.now ∷ map (λ (x : Entry). x.high) after) (subst Sorted same (h.to s));
-      back = λ s. h.back (subst Sorted (sym same) (sorted_more place.now high.now (map (λ (x : Entry). x.high) after) lt s))
+      back = λ s. h.back (subst Sorted (sym same) (sorted_more place.now high.now (map (λ (x : Entry). x.high) after) lt s));
     }
 
 pub next_still : (all : List (List ℕ)) (left after : List Entry) (e : Entry) (below : Option (Bor (List ℕ))) (high : Bor (List ℕ)) → left ≡ e ∷ after → high.now ≡ e.high → IfSome below (λ place. slice_cmp nat_cmp place.now high.now ≡ Less) → StillAscend all below left → StillAscend all (Some high) after
@@ -58,7 +58,7 @@ pub not_above : (all : List (List ℕ)) (left after : List Entry) (e : Entry) (b
 not_above all left after e None high cut high-is broken h s = broken tt
 not_above all left after e (Some place) high cut high-is broken h s =
     let same : place.now ∷ map (λ (x : Entry). x.high) left ≡ place.now ∷ high.now ∷ map (λ (x : Entry). x.high) after =
-        ap (λ (es : List Entry). place.now ∷ map (λ (x : Entry). x.high) es) cut ∙ ap (λ (p : List ℕ). place.now ∷ p ∷ map (λ (x : Entry). x.high) after) (sym high-is) in
+    ap (λ (es : List Entry). place.now ∷ map (λ (x : Entry). x.high) es) cut ∙ ap (λ (p : List ℕ). place.now ∷ p ∷ map (λ (x : Entry). x.high) after) (sym high-is) in
     broken (sorted_first place.now high.now (map (λ (x : Entry). x.high) after) (subst Sorted same (h.to s)))
 
 pub none_left : (all : List (List ℕ)) (below : Option (Bor (List ℕ))) (left : List Entry) → left ≡ [] → StillAscend all below left → Sorted all

@@ -29,18 +29,24 @@ pub earlier_keep : (cis size : ℕ) (s : SequenceSet) (es fs : List Entry) → K
 earlier_keep cis size s es fs rules =
     let bounds = cond s.first [] (s.low ∷ []) in
     let highs : bounds ++ map (λ (e : Entry). e.high) (es ++ fs) ≡ (bounds ++ map (λ (e : Entry). e.high) es) ++ map (λ (e : Entry). e.high) fs =
-        ap (λ (x : List (List ℕ)). bounds ++ x) (map-append (λ (e : Entry). e.high) es fs) ∙ sym (append_assoc bounds (map (λ (e : Entry). e.high) es) (map (λ (e : Entry). e.high) fs)) in
+    ap (λ (x : List (List ℕ)). bounds ++ x) (map-append (λ (e : Entry). e.high) es fs) ∙ sym (append_assoc bounds (map (λ (e : Entry). e.high) es) (map (λ (e : Entry). e.high) fs)) in
     record {
       lengths = record {
         block = rules.lengths.block;
         place = rules.lengths.place;
         whole = All-left (IsWhole (length s.low)) es fs rules.lengths.whole;
-        room = omega (arith, length-spelling (record s { entries = es ++ fs }), length-spelling (record s { entries = es }), rules.lengths.room,
-            ap (λ (x : List ℕ). length x) (flat_map-append entry_bytes es fs), length-append (flat_map entry_bytes es) (flat_map entry_bytes fs))
+        room = omega (
+          arith,
+          length-spelling (record s { entries = es ++ fs }),
+          length-spelling (record s { entries = es }),
+          rules.lengths.room,
+          ap (λ (x : List ℕ). length x) (flat_map-append entry_bytes es fs),
+          length-append (flat_map entry_bytes es) (flat_map entry_bytes fs),
+        );
       };
       fields = record { part = rules.fields.part; next = rules.fields.next; top = rules.fields.top; index_area = rules.fields.index_area };
       numbers = once_left (intervals_used cis size (length s.low)) (flat_map (λ (e : Entry). e.intervals) es) (flat_map (λ (e : Entry). e.intervals) fs)
-        (subst (AreOnceBelow (intervals_used cis size (length s.low))) (flat_map-append (λ (e : Entry). e.intervals) es fs) rules.numbers);
+          (subst (AreOnceBelow (intervals_used cis size (length s.low))) (flat_map-append (λ (e : Entry). e.intervals) es fs) rules.numbers);
       ascends = sorted_left (bounds ++ map (λ (e : Entry). e.high) es) (map (λ (e : Entry). e.high) fs) (subst Sorted highs rules.ascends);
-      chain = rules.chain
+      chain = rules.chain;
     }

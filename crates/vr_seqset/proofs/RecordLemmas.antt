@@ -32,7 +32,13 @@ length-spelling s = omega (arith, length-append (head_bytes s ++ s.low) (flat_ma
 
 same_record : (s t : SequenceSet) → s.first ≡ t.first → s.part ≡ t.part → s.next ≡ t.next → s.top ≡ t.top → s.index_area ≡ t.index_area → s.low ≡ t.low → s.entries ≡ t.entries → s ≡ t
 same_record s t first part next top index_area low entries = λ i. record {
-  first = first i; part = part i; next = next i; top = top i; index_area = index_area i; low = low i; entries = entries i
+  first = first i;
+  part = part i;
+  next = next i;
+  top = top i;
+  index_area = index_area i;
+  low = low i;
+  entries = entries i;
 }
 
 two_at-nil : two_at 0 [] ≡ 0
@@ -49,7 +55,7 @@ place_within block cut =
     let some = some_within (length (take (two_at 6 block) (drop 32 block))) (two_at 6 block) behind whole in
     elim (cases_lt (length block) (32 + two_at 6 block)) [
       | inl lt ↦ let none : drop (32 + two_at 6 block) block ≡ [] = drop_all (32 + two_at 6 block) block (omega arith) in
-                 absurd (omega (arith, some, ap (two_at 0) none, two_at-nil))
+          absurd (omega (arith, some, ap (two_at 0) none, two_at-nil))
       | inr le ↦ le
     ]
 
@@ -79,15 +85,15 @@ can_be_cut block fits size count place within whole =
     let low : length (take (two_at 6 block) (drop 32 block)) ≡ two_at 6 block = omega (arith, length-take (two_at 6 block) (drop 32 block), length-drop 32 block) in
     let parts = entries_again (two_at 2 block) (two_at 6 block) (drop (32 + two_at 6 block) block) (IsBytes-drop (32 + two_at 6 block) block fits) place whole in
     let room : length (flat_map entry_bytes entries) ≤ length block - (32 + two_at 6 block) =
-        omega (arith, ap (λ (x : List ℕ). length x) parts.1, length-append (flat_map entry_bytes entries) parts.0, length-drop (32 + two_at 6 block) block) in
+    omega (arith, ap (λ (x : List ℕ). length x) parts.1, length-append (flat_map entry_bytes entries) parts.0, length-drop (32 + two_at 6 block) block) in
     record {
       lengths = record {
         block = size;
         place = omega (arith, low);
         whole = subst (λ (n : ℕ). All (IsWhole n) entries) (sym low) whole;
-        room = omega (arith, length-spelling (record_in block), low, room)
+        room = omega (arith, length-spelling (record_in block), low, room);
       };
-      some = omega (arith, length-entries_in (two_at 2 block) (two_at 6 block) (drop (32 + two_at 6 block) block))
+      some = omega (arith, length-entries_in (two_at 2 block) (two_at 6 block) (drop (32 + two_at 6 block) block));
     }
 
 -- ---- what is read is spelled so
@@ -114,12 +120,12 @@ entries_cut block fits cut zeros =
     let parts = entries_again (two_at 2 block) (two_at 6 block) behind (IsBytes-drop (32 + two_at 6 block) block fits) (place_some block cut) (all_whole block cut) in
     let len : length (spelling (record_in block)) ≡ 32 + two_at 6 block + length (flat_map entry_bytes entries) = omega (arith, length-spelling (record_in block), place_is block cut) in
     let rest-is : parts.0 ≡ drop (length (spelling (record_in block))) block =
-        sym (drop_at (flat_map entry_bytes entries) parts.0 (length (flat_map entry_bytes entries)) refl)
-        ∙ ap (drop (length (flat_map entry_bytes entries))) (sym parts.1)
-        ∙ drop-drop (length (flat_map entry_bytes entries)) (32 + two_at 6 block) block
-        ∙ ap (λ (n : ℕ). drop n block) (sym len) in
+    sym (drop_at (flat_map entry_bytes entries) parts.0 (length (flat_map entry_bytes entries)) refl)
+    ∙ ap (drop (length (flat_map entry_bytes entries))) (sym parts.1)
+    ∙ drop-drop (length (flat_map entry_bytes entries)) (32 + two_at 6 block) block
+    ∙ ap (λ (n : ℕ). drop n block) (sym len) in
     let zeros-are : parts.0 ≡ replicate (length block - length (spelling (record_in block))) 0 =
-        rest-is ∙ zeros_are (drop (length (spelling (record_in block))) block) zeros ∙ ap (λ (n : ℕ). replicate n 0) (length-drop (length (spelling (record_in block))) block) in
+    rest-is ∙ zeros_are (drop (length (spelling (record_in block))) block) zeros ∙ ap (λ (n : ℕ). replicate n 0) (length-drop (length (spelling (record_in block))) block) in
     sym (take-append-drop (two_at 6 block) (drop 32 block))
     ∙ ap (λ (x : List ℕ). take (two_at 6 block) (drop 32 block) ++ x) (drop-drop (two_at 6 block) 32 block ∙ parts.1 ∙ ap (λ (x : List ℕ). flat_map entry_bytes entries ++ x) zeros-are)
 
@@ -152,7 +158,7 @@ entries_fit place (e ∷ es) short whole numbers =
     (record {
       count = omega (arith, len, length-entry_bytes e, length-twos e.intervals);
       numbers = All-left (λ (n : ℕ). n < 2 ^ 16) e.intervals (flat_map (λ (x : Entry). x.intervals) es) numbers;
-      high = (All-head (IsWhole place) e es whole).high
+      high = (All-head (IsWhole place) e es whole).high;
     })
     (entries_fit place es (omega (arith, len)) (All-tail (IsWhole place) e es whole) (All-right (λ (n : ℕ). n < 2 ^ 16) e.intervals (flat_map (λ (x : Entry). x.intervals) es) numbers))
 
@@ -176,8 +182,8 @@ has_spelling cis size s rules =
       count = omega (arith, len, most, room, count_within s.entries);
       place = omega (arith, len, most, room);
       entries = entries_fit (length s.low) s.entries (omega (arith, len, most, room)) rules.lengths.whole
-        (All-weaker (λ (n : ℕ). n < intervals_used cis size (length s.low)) (λ (n : ℕ). n < 2 ^ 16) (λ n lt. omega (arith, lt, used_below cis size (length s.low), most)) (used_by s) rules.numbers.below);
-      fields = rules.fields
+          (All-weaker (λ (n : ℕ). n < intervals_used cis size (length s.low)) (λ (n : ℕ). n < 2 ^ 16) (λ n lt. omega (arith, lt, used_below cis size (length s.low), most)) (used_by s) rules.numbers.below);
+      fields = rules.fields;
     }
 
 flag_back : (b : Bool) → eqb (cond b 1 0) 1 ≡ b
@@ -237,14 +243,14 @@ module _ (s : SequenceSet) (rest : List ℕ) where
       let block = spelling s ++ rest in
       let place : two_at 6 (spelling s ++ rest) ≡ length s.low = place_field fits.place in
       let low : take (two_at 6 (spelling s ++ rest)) (drop 32 (spelling s ++ rest)) ≡ s.low =
-          ap (λ (n : ℕ). take n (drop 32 (spelling s ++ rest))) place ∙ ap (take (length s.low)) (behind_head s rest) ∙ take_at s.low (flat_map entry_bytes s.entries ++ rest) (length s.low) refl in
+      ap (λ (n : ℕ). take n (drop 32 (spelling s ++ rest))) place ∙ ap (take (length s.low)) (behind_head s rest) ∙ take_at s.low (flat_map entry_bytes s.entries ++ rest) (length s.low) refl in
       let behind : drop (32 + two_at 6 (spelling s ++ rest)) (spelling s ++ rest) ≡ flat_map entry_bytes s.entries ++ rest =
-          ap (λ (n : ℕ). drop (32 + n) (spelling s ++ rest)) place ∙ sym (drop-drop (length s.low) 32 (spelling s ++ rest)) ∙ ap (drop (length s.low)) (behind_head s rest) ∙ drop_at s.low (flat_map entry_bytes s.entries ++ rest) (length s.low) refl in
+      ap (λ (n : ℕ). drop (32 + n) (spelling s ++ rest)) place ∙ sym (drop-drop (length s.low) 32 (spelling s ++ rest)) ∙ ap (drop (length s.low)) (behind_head s rest) ∙ drop_at s.low (flat_map entry_bytes s.entries ++ rest) (length s.low) refl in
       let entries : entries_in (two_at 2 (spelling s ++ rest)) (two_at 6 (spelling s ++ rest)) (drop (32 + two_at 6 (spelling s ++ rest)) (spelling s ++ rest)) ≡ s.entries =
-          ap (λ (n : ℕ). entries_in n (two_at 6 (spelling s ++ rest)) (drop (32 + two_at 6 (spelling s ++ rest)) (spelling s ++ rest))) (count_field fits.count)
-          ∙ ap (λ (n : ℕ). entries_in (length s.entries) n (drop (32 + two_at 6 (spelling s ++ rest)) (spelling s ++ rest))) place
-          ∙ ap (entries_in (length s.entries) (length s.low)) behind
-          ∙ entries_back (length s.low) s.entries rest fits.entries in
+      ap (λ (n : ℕ). entries_in n (two_at 6 (spelling s ++ rest)) (drop (32 + two_at 6 (spelling s ++ rest)) (spelling s ++ rest))) (count_field fits.count)
+      ∙ ap (λ (n : ℕ). entries_in (length s.entries) n (drop (32 + two_at 6 (spelling s ++ rest)) (spelling s ++ rest))) place
+      ∙ ap (entries_in (length s.entries) (length s.low)) behind
+      ∙ entries_back (length s.low) s.entries rest fits.entries in
       same_record (record_in (spelling s ++ rest)) s
       (ap (λ (b : ℕ). eqb b 1) first_back ∙ flag_back s.first)
       (part_field fits.fields.part)
@@ -271,7 +277,7 @@ image_is cis size s rules some =
     record {
       rules = subst (λ (n : ℕ). KeepsRules cis n s) (sym len) rules;
       some = some;
-      image = ap (λ (n : ℕ). image n s) (sym len)
+      image = ap (λ (n : ℕ). image n s) (sym len);
     }
 
 -- ---- what the readers need
@@ -334,7 +340,7 @@ module _ (block behind : List ℕ) (place i : ℕ) (cut : CanBeCut block) (place
   entry_found e h =
       let one : i + 1 ≡ suc i = omega arith in
       let got : slice_get (entries_in (two_at 2 block) place behind) i ≡ Some e =
-          sym (get_fewer i (two_at 2 block) place behind lt_count) ∙ ap (λ (n : ℕ). slice_get (entries_in n place behind) i) (sym one) ∙ h in
+      sym (get_fewer i (two_at 2 block) place behind lt_count) ∙ ap (λ (n : ℕ). slice_get (entries_in n place behind) i) (sym one) ∙ h in
       let fields : entries_in (two_at 2 block) (two_at 6 block) (drop (32 + two_at 6 block) block) ≡ entries_in (two_at 2 block) place behind =
-          ap (λ (n : ℕ). entries_in (two_at 2 block) n (drop (32 + n) block)) (sym place_was) ∙ ap (entries_in (two_at 2 block) place) (sym behind_was) in
+      ap (λ (n : ℕ). entries_in (two_at 2 block) n (drop (32 + n) block)) (sym place_was) ∙ ap (entries_in (two_at 2 block) place) (sym behind_was) in
       sym (ap (λ (es : List Entry). get_or es i (record { intervals = []; high = [] })) fields ∙ get_or_from_slice_get (entries_in (two_at 2 block) place behind) i e (record { intervals = []; high = [] }) got)

@@ -31,7 +31,7 @@ unfolding roster_in
 roster_again block fits kind size zeros =
     let least = at_least (length block) size in
     let rest : drop 16 block ≡ replicate (length block - length (roster_bytes (roster_in block))) 0 =
-        zeros_are (drop 16 block) zeros.rest ∙ ap (λ (n : ℕ). replicate n 0) (length-drop 16 block ∙ ap (λ (n : ℕ). length block - n) (sym (length-roster_bytes (roster_in block)))) in
+    zeros_are (drop 16 block) zeros.rest ∙ ap (λ (n : ℕ). replicate n 0) (length-drop 16 block ∙ ap (λ (n : ℕ). length block - n) (sym (length-roster_bytes (roster_in block)))) in
     let at12 = cut_four 12 block fits (omega arith) ∙ ap (λ (n : ℕ). four n ++ drop 16 block) (sym (area_again (four_at 12 block))) ∙ ap (λ (x : List ℕ). four (area_field (area_of (four_at 12 block))) ++ x) rest in
     let at8 = cut_four 8 block fits (omega arith) ∙ ap (λ (x : List ℕ). four (four_at 8 block) ++ x) at12 in
     let at4 = zeros_cut 4 4 block (omega arith) zeros.gap ∙ ap (λ (x : List ℕ). replicate 4 0 ++ x) at8 in
@@ -91,7 +91,7 @@ roster_zeros cis block r is =
     record {
       flag = ap (λ (x : List ℕ). get_or x 1 0) is.image ∙ flag_back r zeros;
       gap = subst (λ (x : List ℕ). AreZeros (take 4 (drop 4 x))) (sym is.image) (subst AreZeros (sym (gap_back r zeros)) (All-replicate (λ (b : ℕ). b ≡ 0) 4 0 refl));
-      rest = subst (λ (x : List ℕ). AreZeros (drop 16 x)) (sym is.image) (subst (λ (n : ℕ). AreZeros (drop n (roster_image (length block) r))) (length-roster_bytes r) (zeros_behind (length block) (roster_bytes r)))
+      rest = subst (λ (x : List ℕ). AreZeros (drop 16 x)) (sym is.image) (subst (λ (n : ℕ). AreZeros (drop n (roster_image (length block) r))) (length-roster_bytes r) (zeros_behind (length block) (roster_bytes r)));
     }
 
 -- a roster's block keeps each rule
@@ -111,9 +111,9 @@ is_roster cis block fits kind lengths zeros = record {
     used = lengths.used;
     field = two_below 2 block fits;
     part = four_below 8 block fits;
-    next = area_has_field (four_at 12 block) (four_below 12 block fits)
+    next = area_has_field (four_at 12 block) (four_below 12 block fits);
   };
-  image = roster_again block fits kind lengths.size zeros
+  image = roster_again block fits kind lengths.size zeros;
 }
 
 -- ---- what is written
@@ -121,7 +121,7 @@ is_roster cis block fits kind lengths zeros = record {
 pub written_roster : (cis size : ℕ) (r : Roster) (front rest : List ℕ) → KeepsRosterRules cis size r → front ≡ roster_bytes r → rest ≡ replicate (size - 16) 0 → IsRoster cis (front ++ rest) r
 written_roster cis size r front rest rules front-is rest-is =
     let whole : roster_image size r ≡ front ++ rest =
-        ap (λ (n : ℕ). roster_bytes r ++ replicate (size - n) 0) (length-roster_bytes r) ∙ ap (λ (x : List ℕ). x ++ replicate (size - 16) 0) (sym front-is) ∙ ap (λ (x : List ℕ). front ++ x) (sym rest-is) in
+    ap (λ (n : ℕ). roster_bytes r ++ replicate (size - n) 0) (length-roster_bytes r) ∙ ap (λ (x : List ℕ). x ++ replicate (size - 16) 0) (sym front-is) ∙ ap (λ (x : List ℕ). front ++ x) (sym rest-is) in
     subst (λ (x : List ℕ). IsRoster cis x r) whole (roster_image_is cis size r rules)
 
 -- the fields, byte by byte

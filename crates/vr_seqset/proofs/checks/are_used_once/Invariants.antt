@@ -8,5 +8,5 @@ abbrev pub invariant-loop-entry : goal.invariant-loop-entry
 invariant-loop-entry l = record {
   all : l.fn.entries ≡ l.yielded ++ l.entry-iterator;
   once : AreOnceBelow l.limit (flat_map (λ (e : Entry). e.intervals) l.yielded);
-  marks : Marks l.limit l.seen (flat_map (λ (e : Entry). e.intervals) l.yielded)
+  marks : Marks l.limit l.seen (flat_map (λ (e : Entry). e.intervals) l.yielded);
 }

@@ -20,8 +20,8 @@ pub returns-clause-cut : goal.returns-clause-cut
 returns-clause-cut c =
     let behind = take (length c.args.block.now - (32 + c.two_at-place.result)) (drop (32 + c.two_at-place.result) c.args.block.now) in
     IfSome_then c.after_entries.result c.after_entries.ensures.whole (λ x whole.
-        cut_from c.args.block.now behind c.two_at-count.result c.two_at-place.result c.two_at-count.ensures c.two_at-place.ensures (take_rest c.args.block.now (32 + c.two_at-place.result))
-        (λ i. omega (arith, c.type_inv.block i)) (c.if-not-is_block_size.ensures.0 refl) (omega arith) (omega arith) (omega arith) whole)
+    cut_from c.args.block.now behind c.two_at-count.result c.two_at-place.result c.two_at-count.ensures c.two_at-place.ensures (take_rest c.args.block.now (32 + c.two_at-place.result))
+    (λ i. omega (arith, c.type_inv.block i)) (c.if-not-is_block_size.ensures.0 refl) (omega arith) (omega arith) (omega arith) whole)
 
 pub returns-clause-rest : goal.returns-clause-rest
 returns-clause-rest c =
@@ -31,12 +31,12 @@ returns-clause-rest c =
     (λ rest. rest.now ≡ drop (length (flat_map entry_bytes (entries_in c.two_at-count.result c.two_at-place.result behind))) behind)
     _
     c.after_entries.ensures.whole c.after_entries.ensures.rest (λ x whole rest.
-        rest ∙ rest_from c.args.block.now behind c.two_at-count.result c.two_at-place.result c.two_at-count.ensures c.two_at-place.ensures (take_rest c.args.block.now (32 + c.two_at-place.result))
-        (cut_from c.args.block.now behind c.two_at-count.result c.two_at-place.result c.two_at-count.ensures c.two_at-place.ensures (take_rest c.args.block.now (32 + c.two_at-place.result))
-        (λ i. omega (arith, c.type_inv.block i)) (c.if-not-is_block_size.ensures.0 refl) (omega arith) (omega arith) (omega arith) whole))
+    rest ∙ rest_from c.args.block.now behind c.two_at-count.result c.two_at-place.result c.two_at-count.ensures c.two_at-place.ensures (take_rest c.args.block.now (32 + c.two_at-place.result))
+    (cut_from c.args.block.now behind c.two_at-count.result c.two_at-place.result c.two_at-count.ensures c.two_at-place.ensures (take_rest c.args.block.now (32 + c.two_at-place.result))
+    (λ i. omega (arith, c.type_inv.block i)) (c.if-not-is_block_size.ensures.0 refl) (omega arith) (omega arith) (omega arith) whole))
 
 pub returns-clause-none : goal.returns-clause-none
 returns-clause-none c =
     let behind = take (length c.args.block.now - (32 + c.two_at-place.result)) (drop (32 + c.two_at-place.result) c.args.block.now) in
     IfNone-then c.after_entries.result _ _ c.after_entries.ensures.none (λ broken cut.
-        broken (whole_from c.args.block.now behind c.two_at-count.result c.two_at-place.result c.two_at-count.ensures c.two_at-place.ensures (take_rest c.args.block.now (32 + c.two_at-place.result)) cut))
+    broken (whole_from c.args.block.now behind c.two_at-count.result c.two_at-place.result c.two_at-count.ensures c.two_at-place.ensures (take_rest c.args.block.now (32 + c.two_at-place.result)) cut))

@@ -37,7 +37,7 @@ returns-clause-image c =
     let s : SequenceSet = record_in c.args.block.now in
     let e : List ℕ = entry_bytes (record { intervals = c.args.intervals.now; high = c.args.high.now }) in
     let count : c.two_at.result + 1 ≡ length (with_entry (record_in c.args.block.now) c.args.intervals.now c.args.high.now).entries =
-        omega (arith, length-entries_more (record_in c.args.block.now) c.args.intervals.now c.args.high.now, count_is c.args.block.now, c.two_at.ensures) in
+    omega (arith, length-entries_more (record_in c.args.block.now) c.args.intervals.now c.args.high.now, count_is c.args.block.now, c.two_at.ensures) in
     entry_added s c.args.intervals.now c.args.high.now (length c.args.block.now) c.args.end c.args.block.now c.split_at_mut-free.result.0.now c.put_bytes.new.free c.to_be_bytes-count.result
     c.requires.image c.requires.end c.requires.room (c.to_be_bytes-count.ensures ∙ ap (to_be_bytes w16) count) c.split_at_mut-free.ensures.front
     (c.put_bytes.ensures.bytes ∙ ap (λ (n : ℕ). e ++ drop n c.split_at_mut-free.result.1.now) c.put_bytes.ensures.length ∙ ap (λ (x : List ℕ). e ++ drop (length e) x) c.split_at_mut-free.ensures.back)

@@ -13,12 +13,12 @@ returns-in_default-clause-only c = λ s is. c.in_default.ensures.none (keeps c.a
 pub returns-then-not-are_used_once-clause-only : goal.returns-then-not-are_used_once-clause-only
 returns-then-not-are_used_once-clause-only c = λ s is.
     absurd (cc (c.if-not-are_used_once.ensures.1 (used_from c.args.cis c.args.bytes.now c.interval_limit-limit.result c.low.result.now c.entries.result c.low.ensures c.interval_limit-limit.ensures c.entries.ensures
-        (keeps c.args.cis c.args.bytes.now s is faults.Intervals))))
+    (keeps c.args.cis c.args.bytes.now s is faults.Intervals))))
 
 pub returns-then-not-ascend-clause-only : goal.returns-then-not-ascend-clause-only
 returns-then-not-ascend-clause-only c = λ s is.
     absurd (cc (c.if-not-ascend.ensures.1 (ascends_from c.args.bytes.now c.first.result c.low-2.result.now c.entries-2.result c.first.ensures c.low-2.ensures c.entries-2.ensures
-        (keeps c.args.cis c.args.bytes.now s is faults.Places))))
+    (keeps c.args.cis c.args.bytes.now s is faults.Places))))
 
 pub returns-then-not-has_zeros-clause-only : goal.returns-then-not-has_zeros-clause-only
 returns-then-not-has_zeros-clause-only c = λ s is. absurd (cc (c.if-not-has_zeros.ensures.1 (keeps c.args.cis c.args.bytes.now s is faults.Zeros)))
