@@ -191,10 +191,8 @@ fn the_first_broken_rule_is_named(rt: HostRuntime) -> Result<(), Fail> {
         let bytes = edited(alloc, &good, edits)?;
         assert_eq!(rt; SeqView::read(&bytes, 15).err(), Some(fault));
     }
-    assert_eq!(rt;
-        SeqView::read(&good[..511], 15).err(),
-        Some(SeqFault::Lengths)
-    );
+    let odd = block(alloc, 511, &[FIRST])?;
+    assert_eq!(rt; SeqView::read(&odd, 15).err(), Some(SeqFault::Lengths));
     assert_eq!(rt; SeqView::read(&[], 15).err(), Some(SeqFault::Kind));
     // In the first of a chain no place is below the entries.
     let zeros = edited(alloc, &good, &[(38, 0)])?;
@@ -248,10 +246,8 @@ fn the_first_broken_rule_of_a_roster_is_named(rt: HostRuntime) -> Result<(), Fai
         let bytes = edited(alloc, &good, edits)?;
         assert_eq!(rt; RosterView::read(&bytes, 15).err(), Some(fault));
     }
-    assert_eq!(rt;
-        RosterView::read(&good[..500], 15).err(),
-        Some(SeqFault::Lengths)
-    );
+    let odd = block(alloc, 500, &[b"R\x00\x00\x0f"])?;
+    assert_eq!(rt; RosterView::read(&odd, 15).err(), Some(SeqFault::Lengths));
     Ok(())
 }
 
