@@ -1,18 +1,18 @@
 -- The block of a record breaks no rule, and a block that breaks none is that of the record in it.
-use Rattle.std.proofs.Common.{◌≡◌, ℕ, ◌+◌, ◌-◌, ◌<◌, ◌≤◌, Bool, true, false, cond, List, [], ◌∷◌, ◌++◌, length, get_or, take, drop, map, All, refl, sym, ap, subst, ◌∙◌, arith, replicate}
+use Rattle.std.proofs.Common.{◌≡◌, ℕ, ◌-◌, ◌<◌, Bool, true, false, cond, List, [], ◌∷◌, ◌++◌, length, get_or, take, drop, map, refl, sym, ap, subst, ◌∙◌, arith, replicate}
 use Rattle.std.specs.List.{flat_map}
 use Rattle.std.specs.List.Sorted.{IsStrictlySortedBy}
 use Rattle.std.specs.Ordering.{nat_cmp}
 use Rattle.std.specs.Cmp.Lexicographic.{slice_cmp}
-use Rattle.std.proofs.lemmas.List.Elements.{All-nil, All-cons, All-replicate}
+use Rattle.std.proofs.lemmas.List.Elements.{All-replicate}
 use Rattle.vr_seqset.specs.declared.fault.SeqFault.{SeqFault}
 use Rattle.vr_seqset.specs.declared.fault.SeqFault.TheVariants as faults
 use Rattle.vr_seqset.specs.Block.{four_at, AreZeros, intervals_used}
 use Rattle.vr_seqset.specs.Entry.{Entry}
 use Rattle.vr_seqset.specs.Numbers.{AreOnceBelow}
-use Rattle.vr_seqset.specs.SequenceSet.{SequenceSet, spelling, image, bounds_of, HasLengths, HasFields, HasIntervals, Ascends, KeepsChain, KeepsRules, IsSequenceSet}
+use Rattle.vr_seqset.specs.SequenceSet.{SequenceSet, spelling, image, bounds_of, HasLengths, HasFields, HasIntervals, Ascends, KeepsChain, IsSequenceSet}
 use Rattle.vr_seqset.specs.Reading.{record_in}
-use Rattle.vr_seqset.specs.Faults.{CanBeCut, HasZeros, Keeps, IsFirstBroken, fault_number}
+use Rattle.vr_seqset.specs.Faults.{CanBeCut, HasZeros, Keeps}
 use Rattle.vr_seqset.proofs.Bytes.{IsBytes, four_below}
 use Rattle.vr_seqset.proofs.BlockLemmas.{area_has_field, zeros_behind}
 use Rattle.vr_seqset.proofs.RecordLemmas.{record_again, record_is, kind_back, first_back, gap_back, second_gap_back}

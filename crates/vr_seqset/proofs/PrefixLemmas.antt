@@ -1,5 +1,5 @@
 -- A record without its last entries.
-use Rattle.std.proofs.Common.{◌≡◌, ℕ, ◌+◌, ◌<◌, ◌≤◌, cond, List, [], ◌∷◌, ◌++◌, length, map, All, refl, sym, ap, subst, ◌∙◌, arith, append_assoc}
+use Rattle.std.proofs.Common.{◌≡◌, ℕ, cond, List, [], ◌∷◌, ◌++◌, length, map, sym, ap, subst, ◌∙◌, arith, append_assoc}
 use Rattle.std.specs.List.{flat_map, AllByRecursion}
 use Rattle.std.specs.List.Sorted.{IsStrictlySortedBy}
 use Rattle.std.specs.declared.cmp.Ordering.TheVariants.{Less}
@@ -10,7 +10,7 @@ use Rattle.std.proofs.lemmas.Grind.{flat_map-append}
 use Rattle.vr_seqset.specs.Block.{intervals_used}
 use Rattle.vr_seqset.specs.Entry.{Entry, entry_bytes, IsWhole}
 use Rattle.vr_seqset.specs.Numbers.{AreOnceBelow}
-use Rattle.vr_seqset.specs.SequenceSet.{SequenceSet, spelling, KeepsRules}
+use Rattle.vr_seqset.specs.SequenceSet.{SequenceSet, KeepsRules}
 use Rattle.vr_seqset.proofs.BlockLemmas.{All-left}
 use Rattle.vr_seqset.proofs.RecordLemmas.{length-spelling}
 use Rattle.vr_seqset.proofs.NumberLemmas.{once_left}

@@ -1,22 +1,20 @@
 -- A block that is read is spelled so, and a record that is spelled is read.
-use Rattle.std.proofs.Common.{◌≡◌, ℕ, zero, suc, ◌+◌, ◌-◌, ◌*◌, ◌^◌, ◌<◌, ◌≤◌, Bool, true, false, cond, List, [], ◌∷◌, ◌++◌, length, get_or, take, drop, map, All, Option, Some, None, refl, sym, ap, subst, ◌∙◌, arith, append_assoc, replicate, eqb, inl, inr}
+use Rattle.std.proofs.Common.{◌≡◌, ℕ, zero, suc, ◌+◌, ◌-◌, ◌^◌, ◌<◌, ◌≤◌, Bool, true, false, cond, List, [], ◌∷◌, ◌++◌, length, get_or, take, drop, All, Option, Some, None, refl, sym, ap, subst, ◌∙◌, arith, append_assoc, replicate, eqb, inl, inr}
 use Rattle.std.specs.List.{flat_map, slice_get}
 use Rattle.std.proofs.lemmas.Option.{get_or_from_slice_get}
 use Rattle.std.specs.Prelude.{IfSome, IfNone}
-use Rattle.std.specs.Int.{w16, w32}
 use Rattle.std.proofs.lemmas.Bool.{cases_lt}
 use Rattle.std.proofs.lemmas.List.{take-append-drop, drop-drop, drop_all, length-drop, length-take, length-append, length-replicate, take_at, drop_at, take_rest}
-use Rattle.std.proofs.lemmas.List.Elements.{All-tail, All-head, All-cons, All-nil, All-replicate, All-weaker}
+use Rattle.std.proofs.lemmas.List.Elements.{All-tail, All-head, All-cons, All-nil, All-weaker}
 use Rattle.std.proofs.lemmas.Nat.{from_be_bytes-to_be_bytes_2, from_be_bytes-to_be_bytes_4}
-use Rattle.vr_seqset.specs.Block.{IsBlockSize, intervals_used, two, four, two_at, four_at, area_field, area_of, IsArea, AreZeros, padded}
-use Rattle.vr_seqset.specs.Entry.{Entry, entry_bytes, IsWhole, numbers_in, entry_in, entries_in}
-use Rattle.vr_seqset.specs.Numbers.{AreOnceBelow}
-use Rattle.vr_seqset.specs.SequenceSet.{SequenceSet, head_bytes, spelling, image, used_by, HasLengths, HasFields, HasIntervals, Ascends, KeepsChain, KeepsRules, IsSequenceSet}
+use Rattle.vr_seqset.specs.Block.{IsBlockSize, intervals_used, two, four, two_at, four_at, area_field, area_of, AreZeros}
+use Rattle.vr_seqset.specs.Entry.{Entry, entry_bytes, IsWhole, entries_in}
+use Rattle.vr_seqset.specs.SequenceSet.{SequenceSet, head_bytes, spelling, image, used_by, HasFields, KeepsRules, IsSequenceSet}
 use Rattle.vr_seqset.specs.Reading.{record_in, entry_of}
 use Rattle.vr_seqset.specs.Faults.{CanBeCut, HasZeros}
-use Rattle.vr_seqset.proofs.Bytes.{IsBytes, IsBytes-drop, cut_one, cut_two, cut_four, zeros_are, zeros_cut, two_below, four_below}
+use Rattle.vr_seqset.proofs.Bytes.{IsBytes, IsBytes-drop, cut_one, cut_two, cut_four, zeros_are, zeros_cut}
 use Rattle.vr_seqset.proofs.EntryLemmas.{CanBeSpelled, entries_again, entries_back, length-entries_in, length-numbers_in, length-entry_bytes, length-twos, first_whole, some_within, whole_fewer, get_fewer}
-use Rattle.vr_seqset.proofs.BlockLemmas.{at_least, used_below, area_back, area_again, area_has_field, field_below, length-padded, All-left, All-right, zeros_behind}
+use Rattle.vr_seqset.proofs.BlockLemmas.{at_least, used_below, area_back, area_again, field_below, length-padded, All-left, All-right}
 
 -- ---- lengths
 

@@ -1,12 +1,12 @@
 -- A roster that is read is spelled so, and one that is spelled is read.
-use Rattle.std.proofs.Common.{◌≡◌, ℕ, ◌+◌, ◌-◌, ◌^◌, ◌<◌, ◌≤◌, List, [], ◌∷◌, ◌++◌, length, get_or, take, drop, All, Option, refl, sym, ap, subst, ◌∙◌, arith, append_assoc, replicate}
+use Rattle.std.proofs.Common.{◌≡◌, ℕ, ◌-◌, ◌^◌, ◌<◌, ◌≤◌, List, [], ◌∷◌, ◌++◌, length, get_or, take, drop, refl, sym, ap, subst, ◌∙◌, arith, append_assoc, replicate}
 use Rattle.std.specs.Int.{w16, w32, to_be_bytes}
 use Rattle.std.proofs.lemmas.List.{length-drop}
 use Rattle.std.proofs.lemmas.List.Elements.{All-replicate}
 use Rattle.std.proofs.lemmas.Nat.{from_be_bytes-to_be_bytes_2, from_be_bytes-to_be_bytes_4}
 use Rattle.vr_seqset.specs.declared.fault.SeqFault.{SeqFault}
 use Rattle.vr_seqset.specs.declared.fault.SeqFault.TheVariants as faults
-use Rattle.vr_seqset.specs.Block.{IsBlockSize, two, four, two_at, four_at, area_field, area_of, AreZeros, padded}
+use Rattle.vr_seqset.specs.Block.{IsBlockSize, two, four, two_at, four_at, area_field, area_of, AreZeros}
 use Rattle.vr_seqset.specs.Roster.{Roster, roster_bytes, roster_image, KeepsRosterRules, IsRoster}
 use Rattle.vr_seqset.specs.Reading.{roster_in}
 use Rattle.vr_seqset.specs.Faults.{KeepsRoster, RosterFits, RosterHasZeros}

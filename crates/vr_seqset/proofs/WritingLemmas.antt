@@ -1,10 +1,10 @@
 -- Writing fields and entries.
-use Rattle.std.proofs.Common.{◌≡◌, ℕ, zero, suc, cond, ◌+◌, ◌-◌, ◌*◌, ◌^◌, ◌<◌, ◌≤◌, List, [], ◌∷◌, ◌++◌, length, get_or, set, take, drop, All, refl, sym, ap, subst, ◌∙◌, arith, append_assoc, replicate}
+use Rattle.std.proofs.Common.{◌≡◌, ℕ, cond, ◌+◌, ◌-◌, ◌*◌, ◌<◌, ◌≤◌, List, [], ◌∷◌, ◌++◌, length, get_or, set, take, drop, refl, sym, ap, subst, ◌∙◌, arith, append_assoc, replicate}
 use Rattle.std.specs.List.{flat_map}
 use Rattle.std.specs.Int.{w16, w32, to_be_bytes}
-use Rattle.std.proofs.lemmas.List.{take_more_set, take_more, take_all, length-set, append-nil, take-append-drop, drop-drop, length-drop, length-append, length_push, take_at, drop_at, drop-replicate}
+use Rattle.std.proofs.lemmas.List.{take_more_set, take_more, length-set, append-nil, drop-drop, length-append, length_push, take_at, drop_at, drop-replicate}
 use Rattle.std.proofs.lemmas.Grind.{flat_map-append}
-use Rattle.vr_seqset.specs.Block.{two, four, two_at, area_field, padded}
+use Rattle.vr_seqset.specs.Block.{two, four, two_at, area_field}
 use Rattle.vr_seqset.specs.Entry.{Entry, entry_bytes}
 use Rattle.vr_seqset.specs.SequenceSet.{SequenceSet, head_bytes, spelling, image, KeepsRules}
 use Rattle.vr_seqset.specs.Reading.{record_in}

@@ -1,6 +1,6 @@
 -- Blocks of a volume, and the fields of a head block: numbers high byte first, and zeros. The sizes of a control interval are
 -- those of DFSMS Using Data Sets; the layout of the fields is this project's own.
-use Rattle.std.specs.Prelude.{◌≡◌, ℕ, zero, suc, ◌+◌, ◌-◌, ◌*◌, ◌/◌, ◌%◌, ◌^◌, ◌<◌, ◌≤◌, min, List, ◌++◌, length, take, drop, replicate, All, Option, Some, None, IfSome}
+use Rattle.std.specs.Prelude.{◌≡◌, ℕ, zero, suc, ◌+◌, ◌-◌, ◌/◌, ◌%◌, ◌^◌, ◌<◌, ◌≤◌, min, List, ◌++◌, length, take, drop, replicate, All, Option, Some, None, IfSome}
 use Rattle.std.specs.Int.{w16, w32, to_be_bytes, from_be_bytes}
 
 -- a multiple of 512 up to 8,192, or of 2,048 up to 32,768

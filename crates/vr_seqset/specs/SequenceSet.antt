@@ -1,7 +1,7 @@
 -- The sequence-set record of an area of a keyed data set: which control intervals hold the records up to which place, in
 -- ascending order of places. It is the lowest level of the index of a key-sequenced data set (DFSMS Using Data Sets); its bytes
 -- are this project's own.
-use Rattle.std.specs.Prelude.{◌≡◌, ℕ, ◌<◌, ◌≤◌, ◌^◌, Bool, true, false, List, [], ◌∷◌, ◌++◌, length, map, replicate, All, Option, None, nat_eq, if◌then◌else◌, MatchBool}
+use Rattle.std.specs.Prelude.{◌≡◌, ℕ, ◌<◌, ◌≤◌, ◌^◌, Bool, List, [], ◌∷◌, ◌++◌, length, map, replicate, All, Option, None, if◌then◌else◌, MatchBool}
 use Rattle.std.specs.List.{flat_map}
 use Rattle.std.specs.List.Sorted.{IsStrictlySortedBy}
 use Rattle.std.specs.Ordering.{nat_cmp}

@@ -1,6 +1,5 @@
 -- A sequence-set record that is being written: at each moment the block spells what was added so far.
 use Rattle.std.specs.Prelude.{◌≡◌, ℕ, List, [], ◌∷◌, ◌++◌, length}
-use Rattle.vr_seqset.specs.Entry.{Entry}
 use Rattle.vr_seqset.specs.SequenceSet.{SequenceSet, spelling, image, KeepsRules}
 use Rattle.vr_seqset.specs.Reading.{record_in}
 

@@ -1,4 +1,4 @@
-use Rattle.std.proofs.Common.{◌≡◌, ℕ, List, ◌∷◌, ◌++◌, sym, ap, ◌∙◌}
+use Rattle.std.proofs.Common.{List, ◌++◌, sym, ap, ◌∙◌}
 use Rattle.std.specs.List.{flat_map}
 use Rattle.vr_seqset.specs.Entry.{Entry}
 use Rattle.vr_seqset.proofs.NumberLemmas.{none_once, none_marked, once_of_all}

@@ -1,4 +1,4 @@
-use Rattle.std.proofs.Common.{◌≡◌, ℕ, List, [], ◌∷◌, ◌++◌, ◌+◌, ◌<◌, take, length, get_or, false, true, arith, sym, ap, subst, ◌∙◌}
+use Rattle.std.proofs.Common.{◌≡◌, ℕ, [], ◌∷◌, ◌++◌, ◌+◌, ◌<◌, take, length, arith, sym, ap, subst, ◌∙◌}
 use Rattle.vr_seqset.specs.Numbers.{AreOnceBelow, Marks}
 use Rattle.vr_seqset.proofs.NumberLemmas.{mark_more, marked, past_limit, once_upto, more_used}
 use Rattle.vr_seqset.proofs.checks.mark_all.Goals as goal

@@ -1,9 +1,8 @@
-use Rattle.std.proofs.Common.{◌-◌, ◌+◌, ◌≡◌, ℕ, List, All, take, drop, length, arith, refl, ◌∙◌}
+use Rattle.std.proofs.Common.{◌-◌, ◌+◌, ◌≡◌, All, take, drop, length, arith, refl, ◌∙◌}
 use Rattle.std.specs.List.{flat_map}
 use Rattle.std.proofs.lemmas.List.{take_rest}
 use Rattle.std.proofs.lemmas.Option.{IfSome_then}
 use Rattle.vr_seqset.specs.Entry.{IsWhole, entries_in, entry_bytes}
-use Rattle.vr_seqset.specs.Faults.{CanBeCut}
 use Rattle.vr_seqset.proofs.RecordLemmas.{cut_from, whole_from, rest_from, both_some, IfNone-then, count_some, place_some, place_within}
 use Rattle.vr_seqset.proofs.checks.rest_of.Goals as goal
 use Rattle.vr_seqset.proofs.checks.rest_of.Goals.{then-count-eq0-via-then-count-eq0, then-count-eq0-via-else-count-eq0+then-place-eq0, then-count-eq0-via-else-count-eq0+else-place-eq0+then-place-block}

@@ -1,7 +1,7 @@
-use Rattle.std.proofs.Common.{◌-◌, ◌+◌, suc, ap, sym, ◌∙◌, Some, arith, refl, ◌≡◌, ℕ, All}
+use Rattle.std.proofs.Common.{◌-◌, ◌+◌, suc, ap, sym, ◌∙◌, Some, arith, ◌≡◌, ℕ}
 use Rattle.std.specs.List.{slice_get}
-use Rattle.vr_seqset.specs.Entry.{Entry, IsWhole, entries_in}
-use Rattle.vr_seqset.proofs.EntryLemmas.{IsAt, IsAt-next, IsAt-front, whole_front}
+use Rattle.vr_seqset.specs.Entry.{Entry, entries_in}
+use Rattle.vr_seqset.proofs.EntryLemmas.{IsAt-next, IsAt-front, whole_front}
 use Rattle.vr_seqset.proofs.entry.entry_at.Goals as goal
 
 pub split_entry-requires-clause-whole : goal.split_entry-requires-clause-whole

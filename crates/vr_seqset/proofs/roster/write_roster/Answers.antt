@@ -1,4 +1,4 @@
-use Rattle.std.proofs.Common.{◌≡◌, ℕ, ◌-◌, length, replicate, sym, ap, ◌∙◌, arith, rules}
+use Rattle.std.proofs.Common.{◌≡◌, ℕ, ◌-◌, length, replicate, ap, ◌∙◌, arith, rules}
 use Rattle.std.specs.Int.{w32, to_be_bytes}
 use Rattle.vr_seqset.specs.Roster.{Roster}
 use Rattle.vr_seqset.proofs.RosterLemmas.{written_roster, roster_cells}

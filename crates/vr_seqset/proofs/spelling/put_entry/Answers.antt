@@ -1,9 +1,9 @@
-use Rattle.std.proofs.Common.{◌≡◌, ℕ, ◌+◌, List, ◌++◌, length, get_or, set, drop, sym, ap, ◌∙◌, arith}
+use Rattle.std.proofs.Common.{◌≡◌, ℕ, ◌+◌, List, ◌++◌, length, get_or, set, drop, ap, ◌∙◌, arith}
 use Rattle.std.proofs.lemmas.List.{length-set}
 use Rattle.std.specs.Int.{w16, to_be_bytes}
 use Rattle.vr_seqset.specs.Block.{two}
-use Rattle.vr_seqset.specs.Entry.{Entry, entry_bytes}
-use Rattle.vr_seqset.specs.SequenceSet.{SequenceSet, spelling}
+use Rattle.vr_seqset.specs.Entry.{entry_bytes}
+use Rattle.vr_seqset.specs.SequenceSet.{SequenceSet}
 use Rattle.vr_seqset.specs.Reading.{record_in}
 use Rattle.vr_seqset.specs.Writing.{with_entry}
 use Rattle.vr_seqset.proofs.WritingLemmas.{entry_added, entry_length, length-spelling_more, length-entries_more, has_head, count_below, count_is}

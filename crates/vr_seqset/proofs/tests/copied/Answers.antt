@@ -1,6 +1,6 @@
 use Rattle.std.proofs.Common.{ℕ, ◌<◌, length, [], ap, subst, ◌∙◌}
 use Rattle.vr_seqset.specs.Entry.{Entry}
-use Rattle.vr_seqset.specs.Writer.{begun_by, written, intervals_of, block_of}
+use Rattle.vr_seqset.specs.Writer.{written, intervals_of, block_of}
 use Rattle.vr_seqset.proofs.CopyLemmas.{begun_keeps, added_keeps}
 use Rattle.vr_seqset.proofs.tests.copied.Goals as goal
 

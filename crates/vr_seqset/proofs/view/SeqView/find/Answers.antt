@@ -1,6 +1,5 @@
-use Rattle.std.proofs.Common.{◌≡◌, false, List, sym, subst, arith}
+use Rattle.std.proofs.Common.{◌≡◌, false, sym, subst, arith}
 use Rattle.std.proofs.lemmas.Grind.{common_steps}
-use Rattle.vr_seqset.specs.Entry.{Entry}
 use Rattle.vr_seqset.specs.Search.{reaches}
 use Rattle.vr_seqset.proofs.SearchLemmas.{Searches, begins, passes, is_there}
 use Rattle.vr_seqset.proofs.view.SeqView.find.Goals as goal

@@ -1,4 +1,4 @@
-use Rattle.std.proofs.Common.{ℕ, List, refl, arith}
+use Rattle.std.proofs.Common.{refl, arith}
 use Rattle.vr_seqset.specs.declared.fault.SeqFault.TheVariants as faults
 use Rattle.vr_seqset.proofs.RecordLemmas.{record_is}
 use Rattle.vr_seqset.proofs.FaultLemmas.{keeps, is_record, used_to, used_from, ascends_to, ascends_from}

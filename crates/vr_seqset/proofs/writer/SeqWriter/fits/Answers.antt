@@ -1,4 +1,4 @@
-use Rattle.std.proofs.Common.{◌≤◌, ◌-◌, ◌*◌, length, arith}
+use Rattle.std.proofs.Common.{◌-◌, ◌*◌, length, arith}
 use Rattle.std.proofs.lemmas.Bool.{leb-true, le-leb}
 use Rattle.vr_seqset.proofs.WritingLemmas.{end_after}
 use Rattle.vr_seqset.proofs.writer.SeqWriter.fits.Goals as goal
