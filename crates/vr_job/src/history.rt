@@ -33,6 +33,7 @@ impl History {
         }
     }
 
+    /// The entries, in order.
     pub fn entries(&self) -> &[Entry]
         ensures value { result.now ≡ self.now.entries }
         ensures stamped { IsStamped 0 self.now.entries }

@@ -1,4 +1,4 @@
-use crate::{Plan, plan, run_job};
+use crate::{plan, run_job};
 use std::alloc::{AllocError, Global};
 use std::process::Abort;
 use std::test::Fail;
@@ -24,10 +24,13 @@ struct Printed {
     text: Vec<u8>,
 }
 
-fn words_of(alloc: Global, given: &[&str]) -> Result<Words, OutOfMemory> {
+/// The words of a text, which blanks part.
+fn words_of(alloc: Global, text: &str) -> Result<Words, OutOfMemory> {
     let mut words = Words::new(alloc);
-    for word in given {
-        words.push(word)?;
+    for word in text.split(' ') {
+        if !word.is_empty() {
+            words.push(word)?;
+        }
     }
     Ok(words)
 }
@@ -58,7 +61,7 @@ fn expect_job(rt: &impl Abort, printed: Printed, status: u8, text: &str) {
 #[test]
 fn jobs_end_with_their_status_and_listing(rt: HostRuntime) -> Result<(), Fail> {
     let alloc = rt.alloc();
-    let words = words_of(alloc, &["run", "-", "-"])?;
+    let words = words_of(alloc, "run - -")?;
     for (text, status, listing) in [
         (FIRST_JOB, 0, FIRST_LISTING),
         (REFUSED_JOB, 0, REFUSED_LISTING),
@@ -92,14 +95,10 @@ fn jobs_end_with_their_status_and_listing(rt: HostRuntime) -> Result<(), Fail> {
 #[test]
 fn other_words_are_no_command(rt: HostRuntime) -> Result<(), Fail> {
     let alloc = rt.alloc();
-    assert!(rt; plan(&words_of(alloc, &["run", "-", "-"])?) == Some(Plan::Run));
-    for given in [
-        ["run", "-", "a"].as_slice(),
-        ["run", "-"].as_slice(),
-        [].as_slice(),
-        ["RUN", "-", "-"].as_slice(),
-    ] {
-        let words = words_of(alloc, given)?;
+    let words = words_of(alloc, "run - -")?;
+    assert!(rt; plan(&words).is_some());
+    for text in ["run - a", "run -", "RUN - -", "run - - -", "gen 0", ""] {
+        let words = words_of(alloc, text)?;
         expect_job(
             &rt,
             print_job(alloc, &words, FIRST_JOB, &[], &[])?,
@@ -113,7 +112,7 @@ fn other_words_are_no_command(rt: HostRuntime) -> Result<(), Fail> {
 #[test]
 fn a_source_or_a_sink_that_fails_is_told(rt: HostRuntime) -> Result<(), Fail> {
     let alloc = rt.alloc();
-    let words = words_of(alloc, &["run", "-", "-"])?;
+    let words = words_of(alloc, "run - -")?;
     for call in 0..12u64 {
         expect_job(
             &rt,

@@ -52,6 +52,7 @@ impl From<AllocError> for NameFault {
 }
 
 impl Name {
+    /// Its bytes.
     pub fn as_slice(&self) -> &[u8]
         ensures value { result.now ≡ self.now }
         ensures some { 0 < length self.now }
@@ -60,6 +61,7 @@ impl Name {
         self.bytes.as_slice()
     }
 
+    /// An equal value. Want of memory is its one error.
     pub fn copy(&self, alloc: Global) -> Result<Name, OutOfMemory>
         ensures { IfOk result (λ copy. copy ≡ self.now) }
     {

@@ -15,6 +15,7 @@ pub enum LockName {
 }
 
 impl LockName {
+    /// An equal value. Want of memory is its one error.
     pub fn copy(&self, alloc: Global) -> Result<LockName, OutOfMemory>
         ensures { IfOk result (λ copy. copy ≡ self.now) }
     {
@@ -120,6 +121,7 @@ impl Refusal {
         }
     }
 
+    /// An equal value. Want of memory is its one error.
     pub fn copy(&self, alloc: Global) -> Result<Refusal, OutOfMemory>
         ensures { IfOk result (λ copy. copy ≡ self.now) }
     {
@@ -171,6 +173,7 @@ pub enum Reply {
 }
 
 impl Reply {
+    /// An equal value. Want of memory is its one error.
     pub fn copy(&self, alloc: Global) -> Result<Reply, OutOfMemory>
         ensures { IfOk result (λ copy. copy ≡ self.now) }
     {

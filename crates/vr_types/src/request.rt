@@ -27,6 +27,7 @@ pub enum Find {
 }
 
 impl Find {
+    /// An equal value. Want of memory is its one error.
     pub fn copy(&self, alloc: Global) -> Result<Find, OutOfMemory>
         ensures { IfOk result (λ copy. copy ≡ self.now) }
     {
@@ -72,6 +73,7 @@ pub enum Request {
 }
 
 impl Request {
+    /// An equal value. Want of memory is its one error.
     pub fn copy(&self, alloc: Global) -> Result<Request, OutOfMemory>
         ensures { IfOk result (λ copy. copy ≡ self.now) }
     {

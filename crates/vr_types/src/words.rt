@@ -26,6 +26,7 @@ impl Words {
         }
     }
 
+    /// How many words.
     pub fn len(&self) -> usize
         ensures { result ≡ length self.now }
     {

@@ -1,0 +1,12 @@
+pub mod Bytes
+pub mod EntryLemmas
+pub mod BlockLemmas
+pub mod RecordLemmas
+pub mod FaultLemmas
+pub mod NumberLemmas
+pub mod PlaceLemmas
+pub mod SearchLemmas
+pub mod RosterLemmas
+pub mod WritingLemmas
+pub mod PrefixLemmas
+pub mod CopyLemmas

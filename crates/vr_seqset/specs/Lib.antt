@@ -1,0 +1,10 @@
+pub mod Block
+pub mod Entry
+pub mod Numbers
+pub mod SequenceSet
+pub mod Roster
+pub mod Reading
+pub mod Search
+pub mod Faults
+pub mod Writing
+pub mod Writer
