@@ -23,7 +23,7 @@ pub fn interval_limit(cis: u16, size: usize, place: usize) -> usize
     (cis as usize).min(room / (4 + place))
 }
 
-// The number in two bytes from `at` on.
+/// The number in two bytes from `at` on.
 #[tactic(auto, unfolding(crate::specs::Block::two_at))]
 pub(crate) fn two_at(bytes: &[u8], at: usize) -> u16
     requires { at + 2 ≤ length bytes.now }
@@ -32,7 +32,7 @@ pub(crate) fn two_at(bytes: &[u8], at: usize) -> u16
     u16::from_be_bytes([bytes[at], bytes[at + 1]])
 }
 
-// The number in four bytes from `at` on.
+/// The number in four bytes from `at` on.
 #[tactic(auto, unfolding(crate::specs::Block::four_at))]
 pub(crate) fn four_at(bytes: &[u8], at: usize) -> u32
     requires { at + 4 ≤ length bytes.now }
@@ -41,14 +41,14 @@ pub(crate) fn four_at(bytes: &[u8], at: usize) -> u32
     u32::from_be_bytes([bytes[at], bytes[at + 1], bytes[at + 2], bytes[at + 3]])
 }
 
-// The area that a field names.
+/// The area that a field names.
 pub(crate) fn area_of(field: u32) -> Option<u32>
     ensures { result ≡ area_named field }
 {
     if field == 0 { None } else { Some(field - 1) }
 }
 
-// The field that names an area.
+/// The field that names an area.
 pub(crate) fn area_field(area: Option<u32>) -> u32
     requires { IsArea area }
     ensures { result ≡ field_of area }
@@ -59,6 +59,7 @@ pub(crate) fn area_field(area: Option<u32>) -> u32
     }
 }
 
+/// Whether each of the bytes is zero.
 pub(crate) fn are_zeros(bytes: &[u8]) -> bool
     ensures { IsTrue result ↔ AreZeros bytes.now }
 {

@@ -17,10 +17,10 @@ use crate::block::{are_zeros, is_block_size, two_at};
 use crate::entries::SeqEntries;
 use crate::entry::SeqEntry;
 
-// No area uses more: a block of 32,768 bytes with places of one byte has room for 6,547 entries.
+/// No area uses more: a block of 32,768 bytes with places of one byte has room for 6,547 entries.
 pub(crate) const MOST_INTERVALS: usize = 6547;
 
-// Whether the kind byte is there.
+/// Whether the kind byte is there.
 pub(crate) fn begins_with(block: &[u8], kind: u8) -> bool
     requires { 0 < kind }
     ensures { IsTrue result ↔ (slice_index block.now 0 ≡ kind) }
@@ -31,7 +31,7 @@ pub(crate) fn begins_with(block: &[u8], kind: u8) -> bool
     }
 }
 
-// The bytes behind the last entry, where lengths and counts are right.
+/// The bytes behind the last entry, where lengths and counts are right.
 pub(crate) fn rest_of(block: &[u8]) -> Option<&[u8]>
     ensures cut { IfSome result (λ _. CanBeCut block.now) }
     ensures rest { IfSome result (λ rest. rest.now ≡ drop (length (spelling (record_in block.now))) block.now) }
@@ -81,7 +81,7 @@ fn after_entry(bytes: &[u8], place: usize) -> Option<&[u8]>
     Some(&bytes[2 + 2 * count + place..])
 }
 
-// Whether each interval number is below the limit, and none stands twice.
+/// Whether each interval number is below the limit, and none stands twice.
 pub(crate) fn are_used_once(entries: SeqEntries<'_>, limit: usize) -> bool
     requires { limit ≤ MOST_INTERVALS }
     ensures { IsTrue result ↔ AreOnceBelow limit (flat_map (λ entry. entry.intervals) entries.entry) }
@@ -112,8 +112,8 @@ fn mark_all(seen: &mut [bool], entry: &SeqEntry<'_>, limit: usize) -> bool
     true
 }
 
-// Whether each high place is above the one before, and the first above the low place of a record that is not the first of its
-// chain.
+/// Whether each high place is above the one before, and the first above the low place of a record that is not the first of its
+/// chain.
 pub(crate) fn ascend(first: bool, low: &[u8], entries: SeqEntries<'_>) -> bool
     ensures { IsTrue result ↔ IsStrictlySortedBy (slice_cmp nat_cmp) ((if first then [] else low.now ∷ []) ++ map (λ entry. entry.high) entries.entry) }
 {
@@ -138,7 +138,7 @@ fn is_above(high: &[u8], below: Option<&[u8]>) -> bool
     }
 }
 
-// Whether a record has what only the first of a chain may have.
+/// Whether a record has what only the first of a chain may have.
 pub(crate) fn keeps_chain(first: bool, low: &[u8], top: u32, index_area: Option<u32>) -> bool
     ensures { IsTrue result ↔ MatchBool first (AreZeros low.now) ((top ≡ 0) × (index_area ≡ None)) }
 {
@@ -149,8 +149,8 @@ pub(crate) fn keeps_chain(first: bool, low: &[u8], top: u32, index_area: Option<
     }
 }
 
-// Whether each byte without a name is zero, where `rest` is behind the last entry, and `chain` says whether the record has what
-// only the first of a chain may have.
+/// Whether each byte without a name is zero, where `rest` is behind the last entry, and `chain` says whether the record has what
+/// only the first of a chain may have.
 pub(crate) fn has_zeros(block: &[u8], rest: &[u8], chain: bool) -> bool
     requires size { 32 ≤ length block.now }
     requires rest { rest.now ≡ drop (length (spelling (record_in block.now))) block.now }

@@ -48,7 +48,7 @@ impl<'a> SeqEntry<'a> {
     }
 }
 
-// The entry at the front of the bytes, and the bytes after it.
+/// The entry at the front of the bytes, and the bytes after it.
 #[tactic(auto, using(crate::proofs::EntryLemmas::whole_within), unfolding(crate::specs::Entry::entry_in))]
 pub(crate) fn split_entry<'a>(bytes: &'a [u8], place: usize) -> (SeqEntry<'a>, &'a [u8])
     requires place { 0 < place }
@@ -62,7 +62,7 @@ pub(crate) fn split_entry<'a>(bytes: &'a [u8], place: usize) -> (SeqEntry<'a>, &
     (SeqEntry { numbers, high }, rest)
 }
 
-// Entry `i` of those that begin at the front of the bytes.
+/// Entry `i` of those that begin at the front of the bytes.
 pub(crate) fn entry_at<'a>(bytes: &'a [u8], place: usize, i: usize) -> SeqEntry<'a>
     requires place { 0 < place }
     requires whole { All (IsWhole place) (entries_in (i + 1) place bytes.now) }

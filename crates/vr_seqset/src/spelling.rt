@@ -11,7 +11,7 @@ ghost use Rattle.vr_seqset.specs.Writer.{begun_by};
 use crate::block::{area_field, two_at};
 use crate::head::SeqHead;
 
-// Writes the head, the low place, and zeros behind them. Answers where the low place ends.
+/// Writes the head, the low place, and zeros behind them. Answers where the low place ends.
 pub(crate) fn put_head(head: &SeqHead<'_>, out: &mut [u8]) -> usize
     requires room { length (spelling (begun_by head.now)) ≤ length out.old }
     requires most { length out.old ≤ 32768 }
@@ -45,7 +45,7 @@ fn flag_of(first: bool) -> u8
     if first { 1 } else { 0 }
 }
 
-// Writes an entry behind the others, which end at `end`, and counts it. Answers where it ends.
+/// Writes an entry behind the others, which end at `end`, and counts it. Answers where it ends.
 pub(crate) fn put_entry(block: &mut [u8], end: usize, intervals: &[u16], high: &[u8]) -> usize
     requires image { block.old ≡ image (length block.old) (record_in block.old) }
     requires end { end ≡ length (spelling (record_in block.old)) }
