@@ -1,0 +1,227 @@
+//! Reading a block: the value that it is of, or its first fault.
+
+ghost use Rattle.std.specs.Prelude.{◌≡◌, ◌+◌, ◌-◌, ◌*◌, ◌/◌, ◌<◌, ◌≤◌, ℕ, List, [], ◌∷◌, length, drop, take, IfOk, IfErr, MatchOption};
+ghost use Rattle.vr_ci.specs.declared.form.Shape.TheVariants.{Records};
+ghost use Rattle.vr_ci.specs.declared.form.Form.TheVariants.{Plain, Slots};
+ghost use Rattle.vr_ci.specs.Size.{IsBlockSize};
+ghost use Rattle.vr_ci.specs.Rdf.{shape_of, rdf_bytes};
+ghost use Rattle.vr_ci.specs.Compare.{Compares};
+ghost use Rattle.vr_ci.specs.Interval.{control_at};
+ghost use Rattle.vr_ci.specs.Fault.{free_end, cidf_at, is_busy, HasZeroCidf, IsBroken, IsWhole, IsFirstFault, HasRightLengths, HasWrongLengths};
+ghost use Rattle.vr_ci.specs.Tally.{IsTally, IsFound, data_end};
+
+use crate::cidf::Cidf;
+use crate::compare::{cidf_difference, first_nonzero, number_difference};
+use crate::fault::CiFault;
+use crate::form::{Form, Piece, Shape, is_block_size, slots};
+use crate::rdf::{Rdf, rdf_of, unit_before};
+use crate::tally::Tally;
+
+/// What a block was found to hold, and where its RDFs begin.
+#[derive(Clone, Copy, Debug, PartialEq, Eq)]
+pub struct Found {
+    pub shape: Shape,
+    pub count: usize,
+    pub low: usize,
+    pub busy: bool,
+}
+
+/// What the block holds, or its first fault.
+pub fn found_in(form: Form, bytes: &[u8]) -> Result<Found, CiFault>
+    ensures found { IfOk result (IsFound form bytes.now) }
+    ensures fault { IfErr result (IsFirstFault form bytes.now) }
+{
+    if !is_block_size(bytes.len()) {
+        return Err(CiFault::Size { at: 0 });
+    }
+    let top = bytes.len() - 4;
+    let cidf = Cidf::of(bytes);
+    if cidf.is_zero() {
+        return end_of_file(form, bytes);
+    }
+    let low = cidf.displacement + cidf.free;
+    if low > top {
+        return Err(CiFault::Cidf { at: top });
+    }
+    let tally = chain_of(form, bytes, low)?;
+    let (shape, fault) = match (tally.last, form) {
+        (
+            Some(Rdf::Segment {
+                piece,
+                live,
+                number,
+                length,
+            }),
+            _,
+        ) => (
+            Shape::Segment { piece, number },
+            segment_fault(form, bytes, piece, live, length, cidf.busy),
+        ),
+        (_, Form::Plain) => (Shape::Records, records_fault(bytes, low, tally, cidf.busy)),
+        (_, Form::Slots { length }) => (Shape::Records, slots_fault(bytes, low, length, cidf.busy)),
+    };
+    match fault {
+        Some(at) => Err(CiFault::Lengths { at }),
+        None => Ok(Found {
+            shape,
+            count: tally.count,
+            low,
+            busy: cidf.busy,
+        }),
+    }
+}
+
+/// An end of file, where the CIDF is zero.
+fn end_of_file(form: Form, bytes: &[u8]) -> Result<Found, CiFault>
+    requires size { IsBlockSize (length bytes.now) }
+    requires zero { HasZeroCidf bytes.now }
+    ensures found { IfOk result (IsFound form bytes.now) }
+    ensures fault { IfErr result (IsFirstFault form bytes.now) }
+{
+    let top = bytes.len() - 4;
+    match first_nonzero(bytes, 0, top) {
+        Some(_) => Err(CiFault::Cidf { at: top }),
+        None => Ok(Found {
+            shape: Shape::EndOfFile,
+            count: 0,
+            low: top,
+            busy: false,
+        }),
+    }
+}
+
+/// Where the RDFs begin: the CIDF leaves place from `low` on for so many.
+fn control_start(size: usize, low: usize) -> usize
+    requires size { 4 ≤ size }
+    requires low { low ≤ size - 4 }
+    ensures { result ≡ size - 4 - (size - 4 - low) / 3 * 3 }
+{
+    size - 4 - (size - 4 - low) / 3 * 3
+}
+
+/// All RDFs from `low` on, or the first that no block of the form has there.
+fn chain_of(form: Form, bytes: &[u8], low: usize) -> Result<Tally, CiFault>
+    requires size { IsBlockSize (length bytes.now) }
+    requires low { low ≡ free_end bytes.now }
+    requires fits { low ≤ cidf_at bytes.now }
+    ensures tally { IfOk result (λ tally. (rdfs : List Rdf) × IsWhole form bytes.now rdfs × IsTally bytes.now (data_end form (length bytes.now) rdfs) rdfs tally) }
+    ensures fault { IfErr result (λ fault. (at : ℕ) × (fault ≡ CiFault.Chain at) × IsBroken form bytes.now at) }
+{
+    let limit = match form {
+        Form::Plain => control_start(bytes.len(), low),
+        Form::Slots { .. } => 0,
+    };
+    let mut tally = Tally::new();
+    let mut end = bytes.len() - 4;
+    while low + 3 <= end {
+        let at = unit_before(bytes, low, end);
+        match rdf_of(&bytes[at..end]) {
+            Some(rdf) if rdf.may_follow(form, tally.last) => {
+                tally = tally.with(bytes, limit, at, rdf);
+            }
+            _ => return Err(CiFault::Chain { at }),
+        }
+        end = at;
+    }
+    Ok(tally)
+}
+
+/// What is wrong with the lengths of plain records.
+fn records_fault(bytes: &[u8], low: usize, tally: Tally, busy: bool) -> Option<usize>
+    requires size { IsBlockSize (length bytes.now) }
+    requires low { low ≡ free_end bytes.now }
+    requires fits { low ≤ cidf_at bytes.now }
+    requires busy { busy ≡ is_busy bytes.now }
+    ensures { (rdfs : List Rdf) → IsWhole Plain bytes.now rdfs → shape_of rdfs ≡ Records
+        → IsTally bytes.now (control_at (length bytes.now) rdfs) rdfs tally
+        → MatchOption result (HasRightLengths Plain bytes.now rdfs) (HasWrongLengths Plain bytes.now rdfs) }
+{
+    let limit = control_start(bytes.len(), low);
+    if tally.wrong.is_some() {
+        return tally.wrong;
+    }
+    if let Some(at) = first_nonzero(bytes, tally.span.min(limit), limit) {
+        return Some(at);
+    }
+    let free = limit.saturating_sub(tally.span);
+    if let Some(at) = cidf_difference(bytes, tally.span, free, busy) {
+        return Some(at);
+    }
+    tally.passed
+}
+
+/// What is wrong with the lengths of a segment.
+fn segment_fault(
+    form: Form,
+    bytes: &[u8],
+    piece: Piece,
+    live: bool,
+    len: u16,
+    busy: bool,
+) -> Option<usize>
+    requires size { IsBlockSize (length bytes.now) }
+    requires busy { busy ≡ is_busy bytes.now }
+    ensures { (number : ℕ) (rdfs : List Rdf) → rdfs ≡ Rdf.Segment piece live number len ∷ []
+        → IsWhole form bytes.now rdfs
+        → MatchOption result (HasRightLengths form bytes.now rdfs) (HasWrongLengths form bytes.now rdfs) }
+{
+    let limit = bytes.len() - 10;
+    let filled = match piece {
+        Piece::First | Piece::Inner => limit,
+        Piece::Last => usize::from(len),
+    };
+    let from = if live { filled.min(limit) } else { 0 };
+    if let Some(at) = first_nonzero(bytes, from, limit) {
+        return Some(at);
+    }
+    if let Some(at) = number_difference(bytes, limit + 4, filled) {
+        return Some(at);
+    }
+    cidf_difference(bytes, filled, limit.saturating_sub(filled), busy)
+}
+
+/// What is wrong with the lengths of slots.
+fn slots_fault(bytes: &[u8], low: usize, len: u16, busy: bool) -> Option<usize>
+    requires size { IsBlockSize (length bytes.now) }
+    requires low { low ≡ free_end bytes.now }
+    requires fits { low ≤ cidf_at bytes.now }
+    requires busy { busy ≡ is_busy bytes.now }
+    ensures { (rdfs : List Rdf) → IsWhole (Slots len) bytes.now rdfs → shape_of rdfs ≡ Records
+        → MatchOption result (HasRightLengths (Slots len) bytes.now rdfs) (HasWrongLengths (Slots len) bytes.now rdfs) }
+{
+    let count = slots(bytes.len(), len);
+    let len = usize::from(len);
+    let limit = bytes.len() - 4 - 3 * count;
+    let mut wrong = None;
+    let mut wrong_rdf = None;
+    let mut at = bytes.len() - 4;
+    for slot in 0..count {
+        at -= 3;
+        let live = at >= low && bytes[at] == 0;
+        if wrong.is_none() && !live {
+            wrong = first_nonzero(bytes, slot * len, (slot + 1) * len);
+        }
+        wrong_rdf = rdf_difference(bytes, at, live, len).or(wrong_rdf);
+    }
+    if wrong.is_some() {
+        return wrong;
+    }
+    if let Some(at) = first_nonzero(bytes, count * len, limit) {
+        return Some(at);
+    }
+    if wrong_rdf.is_some() {
+        return wrong_rdf;
+    }
+    cidf_difference(bytes, count * len, limit - count * len, busy)
+}
+
+/// The first byte at `at` that differs from the RDF of a slot.
+fn rdf_difference(bytes: &[u8], at: usize, live: bool, len: usize) -> Option<usize>
+    requires { at + 3 ≤ length bytes.now }
+    ensures { Compares at (take 3 (drop at bytes.now)) (rdf_bytes (Rdf.Single live len)) result }
+{
+    if bytes[at] != if live { 0 } else { 4 } {
+        return Some(at);
+    }
+    number_difference(bytes, at + 1, len)
+}
