@@ -105,7 +105,7 @@ not_zero {form = form} {block = block} l least z = none l.rdfs (chain_rdfs form 
     none [] v e h = omega (arith, least)
     none (r ∷ rs) v e h = omega (arith, some_span r v.0)
 
-zero_block : (block : List ℕ) → block ≡ zeros (length block) → HasZeroCidf block
+pub zero_block : (block : List ℕ) → block ≡ zeros (length block) → HasZeroCidf block
 zero_block block e = (omega (arith, byte_zero (length block - 4), byte_zero (length block - 4 + 1)), omega (arith, byte_zero (length block - 4 + 2), byte_zero (length block - 4 + 2 + 1)))
   where
     at_zeros : (n i : ℕ) → Rattle.std.specs.Prelude.slice_index (zeros n) i ≡ 0

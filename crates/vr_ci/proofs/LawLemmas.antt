@@ -20,7 +20,7 @@ use Rattle.vr_ci.proofs.LayoutLemmas.{zeros, length-zeros, length-padded}
 use Rattle.vr_ci.proofs.ChainLemmas.{size_bounds, room_kept, records_room}
 use Rattle.vr_ci.proofs.SpellingLemmas.{one_spelling, mark, single, join, spelled, Apart, join-apart, join-same, join-more}
 
-no_end : (rs : List Rdf) → shape_of rs ≡ shapes.EndOfFile → ⊥
+pub no_end : (rs : List Rdf) → shape_of rs ≡ shapes.EndOfFile → ⊥
 no_end [] e = cc
 no_end (Single live n ∷ rs) e = cc
 no_end (Run n k ∷ rs) e = cc

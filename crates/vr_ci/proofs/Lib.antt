@@ -5,3 +5,8 @@ pub mod ChainLemmas
 pub mod IntervalLemmas
 pub mod SpellingLemmas
 pub mod LawLemmas
+pub mod MaskLemmas
+pub mod FaultLemmas
+pub mod ReadLemmas
+pub mod FoundLemmas
+pub mod ShownLemmas
