@@ -10,3 +10,5 @@ pub mod FaultLemmas
 pub mod ReadLemmas
 pub mod FoundLemmas
 pub mod ShownLemmas
+pub mod CompareLemmas
+pub mod TallyLemmas

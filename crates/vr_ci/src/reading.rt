@@ -1,13 +1,13 @@
 //! Reading a block: the value that it is of, or its first fault.
 
-ghost use Rattle.std.specs.Prelude.{◌≡◌, ◌+◌, ◌-◌, ◌*◌, ◌/◌, ◌<◌, ◌≤◌, ℕ, List, [], ◌∷◌, length, drop, take, IfOk, IfErr, MatchOption};
+ghost use Rattle.std.specs.Prelude.{◌≡◌, ◌+◌, ◌-◌, ◌*◌, ◌/◌, ◌<◌, ◌≤◌, ℕ, List, [], Bool, ◌∷◌, length, drop, take, min, if◌then◌else◌, IfOk, IfErr, MatchOption};
 ghost use Rattle.vr_ci.specs.declared.form.Shape.TheVariants.{Records};
 ghost use Rattle.vr_ci.specs.declared.form.Form.TheVariants.{Plain, Slots};
 ghost use Rattle.vr_ci.specs.Size.{IsBlockSize};
-ghost use Rattle.vr_ci.specs.Rdf.{shape_of, rdf_bytes};
+ghost use Rattle.vr_ci.specs.Rdf.{shape_of, rdf_bytes, record_length};
 ghost use Rattle.vr_ci.specs.Compare.{Compares};
 ghost use Rattle.vr_ci.specs.Interval.{control_at};
-ghost use Rattle.vr_ci.specs.Fault.{free_end, cidf_at, is_busy, HasZeroCidf, IsBroken, IsWhole, IsFirstFault, HasRightLengths, HasWrongLengths};
+ghost use Rattle.vr_ci.specs.Fault.{free_end, cidf_at, is_busy, filled, HasZeroCidf, IsBroken, IsWhole, IsFirstFault, HasRightLengths, HasWrongLengths};
 ghost use Rattle.vr_ci.specs.Tally.{IsTally, IsFound, data_end};
 
 use crate::cidf::Cidf;
@@ -137,8 +137,8 @@ fn records_fault(bytes: &[u8], low: usize, tally: Tally, busy: bool) -> Option<u
         → MatchOption result (HasRightLengths Plain bytes.now rdfs) (HasWrongLengths Plain bytes.now rdfs) }
 {
     let limit = control_start(bytes.len(), low);
-    if tally.wrong.is_some() {
-        return tally.wrong;
+    if let Some(at) = tally.wrong {
+        return Some(at);
     }
     if let Some(at) = first_nonzero(bytes, tally.span.min(limit), limit) {
         return Some(at);
@@ -166,11 +166,8 @@ fn segment_fault(
         → MatchOption result (HasRightLengths form bytes.now rdfs) (HasWrongLengths form bytes.now rdfs) }
 {
     let limit = bytes.len() - 10;
-    let filled = match piece {
-        Piece::First | Piece::Inner => limit,
-        Piece::Last => usize::from(len),
-    };
-    let from = if live { filled.min(limit) } else { 0 };
+    let filled = filled_length(piece, len, limit);
+    let from = checked_from(live, filled, limit);
     if let Some(at) = first_nonzero(bytes, from, limit) {
         return Some(at);
     }
@@ -178,6 +175,24 @@ fn segment_fault(
         return Some(at);
     }
     cidf_difference(bytes, filled, limit.saturating_sub(filled), busy)
+}
+
+/// The length that a segment has in its block: all but the last fill it.
+fn filled_length(piece: Piece, len: u16, limit: usize) -> usize
+    ensures { (size number : ℕ) (live : Bool) → limit ≡ size - 10
+        → result ≡ record_length (filled size (Rdf.Segment piece live number len)) }
+{
+    match piece {
+        Piece::First | Piece::Inner => limit,
+        Piece::Last => usize::from(len),
+    }
+}
+
+/// From where on the bytes before `limit` are zero: behind a live segment, and all of a withdrawn one.
+fn checked_from(live: bool, filled: usize, limit: usize) -> usize
+    ensures { result ≡ (if live then min filled limit else 0) }
+{
+    if live { filled.min(limit) } else { 0 }
 }
 
 /// What is wrong with the lengths of slots.

@@ -1,6 +1,7 @@
 //! What the reader has found in the RDFs so far.
 
-ghost use Rattle.std.specs.Prelude.{◌≡◌, ◌+◌, ◌-◌, ◌*◌, ◌^◌, ◌<◌, ◌≤◌, ℕ, List, [], ◌∷◌, ◌++◌, length};
+ghost use Rattle.std.specs.Prelude.{◌≡◌, ◌+◌, ◌-◌, ◌*◌, ◌^◌, ◌<◌, ◌≤◌, ℕ, List, [], ◌∷◌, ◌++◌, length, drop, take, replicate, min, IsTrue, IsSome, IsNone};
+ghost use Rattle.vr_ci.specs.Compare.{Compares};
 ghost use Rattle.vr_ci.specs.Interval.{control_at};
 ghost use Rattle.vr_ci.specs.Tally.{IsTally};
 
@@ -59,17 +60,38 @@ impl Tally {
             last: Some(rdf),
             count: self.count + rdf.count(),
             span,
-            wrong: match self.wrong {
-                None if !rdf.is_live() => {
-                    first_nonzero(bytes, self.span.min(limit), span.min(limit))
-                }
-                wrong => wrong,
-            },
+            wrong: self.wrong_byte(bytes, limit, span, rdf.is_live()),
             room,
-            passed: match self.passed {
-                None if room > bytes.len() - 4 => Some(at),
-                passed => passed,
-            },
+            passed: self.passed_at(bytes.len(), room, at),
         }
+    }
+
+    /// The first wrong byte, with records up to `span`.
+    fn wrong_byte(self, bytes: &[u8], limit: usize, span: usize, live: bool) -> Option<usize>
+        requires limit { limit ≤ length bytes.now }
+        requires span { self.span ≤ span }
+        ensures kept { IsSome self.wrong → result ≡ self.wrong }
+        ensures live { IsTrue live → result ≡ self.wrong }
+        ensures zeros { IsNone self.wrong → (IsTrue live → ⊥) → Compares (min self.span limit)
+            (take (min span limit - min self.span limit) (drop (min self.span limit) bytes.now))
+            (replicate (min span limit - min self.span limit) 0) result }
+    {
+        if self.wrong.is_some() || live {
+            return self.wrong;
+        }
+        first_nonzero(bytes, self.span.min(limit), span.min(limit))
+    }
+
+    /// The RDF or pair that passes the room, with one at `at`.
+    fn passed_at(self, size: usize, room: usize, at: usize) -> Option<usize>
+        requires { 4 ≤ size }
+        ensures kept { IsSome self.passed → result ≡ self.passed }
+        ensures passes { IsNone self.passed → size - 4 < room → result ≡ Some at }
+        ensures fits { IsNone self.passed → room ≤ size - 4 → result ≡ None }
+    {
+        if self.passed.is_none() && room > size - 4 {
+            return Some(at);
+        }
+        self.passed
     }
 }
