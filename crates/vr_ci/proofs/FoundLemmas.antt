@@ -113,7 +113,7 @@ pub record Right (form : Form) (block : List ℕ) (rs : List Rdf) : Type 0 where
   pub low : free_end block ≡ control_at (length block) rs
   pub masked : masked rs block ≡ take (spans rs) block
 
-whole_end : (form : Form) (block : List ℕ) (rs : List Rdf) → 512 ≤ length block → IsWhole form block rs → length (control rs) + control_at (length block) rs ≡ cidf_at block
+pub whole_end : (form : Form) (block : List ℕ) (rs : List Rdf) → 512 ≤ length block → IsWhole form block rs → length (control rs) + control_at (length block) rs ≡ cidf_at block
 whole_end form block rs least w =
     let upto : List ℕ = take (cidf_at block) block in
     omega (arith, ap length w.right.bytes, length-drop (control_at (length block) rs) upto, length-take (cidf_at block) block, w.right.high, least)

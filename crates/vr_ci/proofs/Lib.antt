@@ -12,3 +12,4 @@ pub mod FoundLemmas
 pub mod ShownLemmas
 pub mod CompareLemmas
 pub mod TallyLemmas
+pub mod ReaderLemmas

@@ -127,3 +127,10 @@ shape_of [] = shapes.Records
 shape_of (Single live n ∷ rs) = shapes.Records
 shape_of (Run n count ∷ rs) = shapes.Records
 shape_of (Segment piece live number n ∷ rs) = shapes.Segment piece number
+
+-- the same, by the RDF farthest to the left
+abbrev pub shape_by : Option Rdf → Shape
+shape_by None = shapes.Records
+shape_by (Some (Single live n)) = shapes.Records
+shape_by (Some (Run n count)) = shapes.Records
+shape_by (Some (Segment piece live number n)) = shapes.Segment piece number

@@ -1,10 +1,10 @@
 //! Reading a block: the value that it is of, or its first fault.
 
-ghost use Rattle.std.specs.Prelude.{◌≡◌, ◌+◌, ◌-◌, ◌*◌, ◌/◌, ◌<◌, ◌≤◌, ℕ, List, [], Bool, ◌∷◌, length, drop, take, min, if◌then◌else◌, IfOk, IfErr, MatchOption};
+ghost use Rattle.std.specs.Prelude.{◌≡◌, ◌≢◌, ◌+◌, ◌-◌, ◌*◌, ◌/◌, ◌<◌, ◌≤◌, ℕ, List, [], Bool, ◌∷◌, length, drop, take, min, if◌then◌else◌, IfOk, IfErr, IfSome, IfNone, MatchOption};
 ghost use Rattle.vr_ci.specs.declared.form.Shape.TheVariants.{Records};
 ghost use Rattle.vr_ci.specs.declared.form.Form.TheVariants.{Plain, Slots};
 ghost use Rattle.vr_ci.specs.Size.{IsBlockSize};
-ghost use Rattle.vr_ci.specs.Rdf.{shape_of, rdf_bytes, record_length};
+ghost use Rattle.vr_ci.specs.Rdf.{shape_of, rdf_bytes, record_length, IsRdf, MayFollow, shape_by};
 ghost use Rattle.vr_ci.specs.Compare.{Compares};
 ghost use Rattle.vr_ci.specs.Interval.{control_at};
 ghost use Rattle.vr_ci.specs.Fault.{free_end, cidf_at, is_busy, filled, HasZeroCidf, IsBroken, IsWhole, IsFirstFault, HasRightLengths, HasWrongLengths};
@@ -44,30 +44,24 @@ pub fn found_in(form: Form, bytes: &[u8]) -> Result<Found, CiFault>
         return Err(CiFault::Cidf { at: top });
     }
     let tally = chain_of(form, bytes, low)?;
-    let (shape, fault) = match (tally.last, form) {
-        (
-            Some(Rdf::Segment {
-                piece,
-                live,
-                number,
-                length,
-            }),
-            _,
-        ) => (
-            Shape::Segment { piece, number },
-            segment_fault(form, bytes, piece, live, length, cidf.busy),
-        ),
-        (_, Form::Plain) => (Shape::Records, records_fault(bytes, low, tally, cidf.busy)),
-        (_, Form::Slots { length }) => (Shape::Records, slots_fault(bytes, low, length, cidf.busy)),
-    };
-    match fault {
+    match lengths_fault(form, bytes, low, tally, cidf.busy) {
         Some(at) => Err(CiFault::Lengths { at }),
         None => Ok(Found {
-            shape,
+            shape: shape_of(tally.last),
             count: tally.count,
             low,
             busy: cidf.busy,
         }),
+    }
+}
+
+/// What a block holds whose last RDF is this one.
+fn shape_of(last: Option<Rdf>) -> Shape
+    ensures { result ≡ shape_by last }
+{
+    match last {
+        Some(Rdf::Segment { piece, number, .. }) => Shape::Segment { piece, number },
+        _ => Shape::Records,
     }
 }
 
@@ -104,26 +98,80 @@ fn chain_of(form: Form, bytes: &[u8], low: usize) -> Result<Tally, CiFault>
     requires size { IsBlockSize (length bytes.now) }
     requires low { low ≡ free_end bytes.now }
     requires fits { low ≤ cidf_at bytes.now }
-    ensures tally { IfOk result (λ tally. (rdfs : List Rdf) × IsWhole form bytes.now rdfs × IsTally bytes.now (data_end form (length bytes.now) rdfs) rdfs tally) }
+    ensures tally { IfOk result (λ tally. (rdfs : List Rdf) × IsWhole form bytes.now rdfs
+        × IsTally bytes.now (data_end form (length bytes.now) rdfs) rdfs tally) }
     ensures fault { IfErr result (λ fault. (at : ℕ) × (fault ≡ CiFault.Chain at) × IsBroken form bytes.now at) }
 {
-    let limit = match form {
-        Form::Plain => control_start(bytes.len(), low),
-        Form::Slots { .. } => 0,
-    };
+    let limit = data_limit(form, bytes.len(), low);
     let mut tally = Tally::new();
     let mut end = bytes.len() - 4;
-    while low + 3 <= end {
+    'rdfs: while low + 3 <= end {
         let at = unit_before(bytes, low, end);
-        match rdf_of(&bytes[at..end]) {
-            Some(rdf) if rdf.may_follow(form, tally.last) => {
-                tally = tally.with(bytes, limit, at, rdf);
-            }
-            _ => return Err(CiFault::Chain { at }),
-        }
+        let Some(rdf) = rdf_behind(form, tally.last, &bytes[at..end]) else {
+            return Err(CiFault::Chain { at });
+        };
+        tally = tally.with(bytes, limit, at, rdf);
         end = at;
     }
     Ok(tally)
+}
+
+/// Where the records that are looked at with their RDFs end: slots are looked at by their own length.
+fn data_limit(form: Form, size: usize, low: usize) -> usize
+    requires size { 4 ≤ size }
+    requires low { low ≤ size - 4 }
+    ensures plain { form ≡ Plain → result ≡ size - 4 - (size - 4 - low) / 3 * 3 }
+    ensures slots { (len : ℕ) → form ≡ Slots len → result ≡ 0 }
+    ensures within { result ≤ size }
+{
+    match form {
+        Form::Plain => control_start(size, low),
+        Form::Slots { .. } => 0,
+    }
+}
+
+/// What these bytes say, if some block of the form has it to the left of `before`.
+fn rdf_behind(form: Form, before: Option<Rdf>, bytes: &[u8]) -> Option<Rdf>
+    ensures found { IfSome result (λ r. IsRdf r × MayFollow form before r × (bytes.now ≡ rdf_bytes r)) }
+    ensures none { IfNone result ((r : Rdf) → IsRdf r → MayFollow form before r → bytes.now ≢ rdf_bytes r) }
+{
+    let rdf = rdf_of(bytes)?;
+    if rdf.may_follow(form, before) {
+        Some(rdf)
+    } else {
+        None
+    }
+}
+
+/// What is wrong with the lengths.
+fn lengths_fault(
+    form: Form,
+    bytes: &[u8],
+    low: usize,
+    tally: Tally,
+    busy: bool,
+) -> Option<usize>
+    requires size { IsBlockSize (length bytes.now) }
+    requires low { low ≡ free_end bytes.now }
+    requires fits { low ≤ cidf_at bytes.now }
+    requires busy { busy ≡ is_busy bytes.now }
+    ensures { (rdfs : List Rdf) → IsWhole form bytes.now rdfs
+        → IsTally bytes.now (data_end form (length bytes.now) rdfs) rdfs tally
+        → MatchOption result (HasRightLengths form bytes.now rdfs) (HasWrongLengths form bytes.now rdfs) }
+{
+    if let Some(Rdf::Segment {
+        piece,
+        live,
+        length,
+        ..
+    }) = tally.last
+    {
+        return segment_fault(form, bytes, piece, live, length, busy);
+    }
+    match form {
+        Form::Plain => records_fault(bytes, low, tally, busy),
+        Form::Slots { length } => slots_fault(bytes, low, length, busy),
+    }
 }
 
 /// What is wrong with the lengths of plain records.

@@ -28,7 +28,8 @@ pub struct Tally {
 impl Tally {
     /// The tally of no RDF.
     pub fn new() -> Tally
-        ensures { (block : List ℕ) (limit : ℕ) → IsTally block limit [] result }
+        ensures tally { (block : List ℕ) (limit : ℕ) → IsTally block limit [] result }
+        ensures zero { (result.count ≡ 0) × (result.span ≡ 0) × (result.room ≡ 0) }
     {
         Tally {
             last: None,
