@@ -13,3 +13,4 @@ pub mod ShownLemmas
 pub mod CompareLemmas
 pub mod TallyLemmas
 pub mod ReaderLemmas
+pub mod SlotLemmas

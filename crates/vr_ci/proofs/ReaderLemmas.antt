@@ -35,7 +35,7 @@ start_is form block rs limit size w e =
     let thirds = control_thirds rs in
     omega (arith, whole_end form block rs (size_bounds (length block) size).0 w, thirds.1, w.right.low, w.whole, e)
 
-at_zero : (xs ys : List ℕ) (at : ℕ) → Compares 0 xs ys (Some at) → DifferFirst xs ys at
+pub at_zero : (xs ys : List ℕ) (at : ℕ) → Compares 0 xs ys (Some at) → DifferFirst xs ys at
 at_zero xs ys at c = let e : at - 0 ≡ at = omega arith in subst (λ (k : ℕ). DifferFirst xs ys k) e c.1
 
 -- a comparison at another name of its place or its numbers
@@ -349,7 +349,7 @@ walk_begins form block limit tally size h t c s r =
       room = omega (arith, r, most)
     }
 
-part_is : (block : List ℕ) (at end top : ℕ) → at ≤ end → end ≤ top → drop at (take top block) ≡ take (end - at) (drop at block) ++ drop end (take top block)
+pub part_is : (block : List ℕ) (at end top : ℕ) → at ≤ end → end ≤ top → drop at (take top block) ≡ take (end - at) (drop at block) ++ drop end (take top block)
 part_is block at end top l h =
     let sum : at + (end - at) ≡ end = omega arith in
     sym (take-append-drop (end - at) (drop at (take top block)))

@@ -73,7 +73,7 @@ mask_more rs r block limit h =
     more true d l = take-take d (span r) (drop (spans rs) block) l
     more false d l = take_zeros d (span r) l
 
-wrong_more : (rs : List Rdf) (r : Rdf) (block : List ℕ) (limit : ℕ) (old new : Option ℕ) → limit ≤ length block
+pub wrong_more : (rs : List Rdf) (r : Rdf) (block : List ℕ) (limit : ℕ) (old new : Option ℕ) → limit ≤ length block
     → Compares 0 (take (min (spans rs) limit) block) (take (min (spans rs) limit) (masked rs block)) old
     → (IsSome old → new ≡ old) → (IsTrue (is_live r) → new ≡ old)
     → (IsNone old → (IsTrue (is_live r) → ⊥) → Compares (min (spans rs) limit)

@@ -1,5 +1,5 @@
 -- What the reader has found in the RDFs so far.
-use Rattle.std.specs.Prelude.{◌≡◌, ℕ, ◌+◌, ◌-◌, ◌≤◌, min, List, [], ◌∷◌, length, take, Option, Some, None, MatchOption}
+use Rattle.std.specs.Prelude.{◌≡◌, ◌==◌, ◌&&◌, nat_le, slice_index, Bool, ℕ, ◌+◌, ◌-◌, ◌≤◌, min, List, [], ◌∷◌, length, take, Option, Some, None, MatchOption}
 use Rattle.std.specs.List.{flat_map}
 use Rattle.vr_ci.specs.declared.rdf.Rdf.{Rdf}
 use Rattle.vr_ci.specs.declared.form.Form.{Form}
@@ -24,6 +24,10 @@ pub record IsTally (block : List ℕ) (limit : ℕ) (rdfs : List Rdf) (tally : T
 abbrev pub data_end : Form → ℕ → List Rdf → ℕ
 data_end Plain size rdfs = control_at size rdfs
 data_end (Slots len) size rdfs = 0
+
+-- a slot's RDF stands there, and says that it is live
+abbrev pub is_live_slot : ℕ → List ℕ → ℕ → Bool
+is_live_slot low block at = nat_le low at && (slice_index block at == 0)
 
 -- what a view is made of: the value is that of the block
 pub record IsFound (form : Form) (block : List ℕ) (found : Found) : Type 0 where

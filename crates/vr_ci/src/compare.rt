@@ -1,6 +1,6 @@
 //! Comparing parts of a block with what they should be.
 
-ghost use Rattle.std.specs.Prelude.{◌≡◌, ◌+◌, ◌-◌, ◌<◌, ◌≤◌, length, drop, take, replicate};
+ghost use Rattle.std.specs.Prelude.{◌≡◌, ◌+◌, ◌-◌, ◌<◌, ◌≤◌, length, drop, take, replicate, IsTrue, IsSome, IsNone};
 ghost use Rattle.vr_ci.specs.Compare.{Compares};
 ghost use Rattle.vr_ci.specs.Rdf.{two_bytes};
 ghost use Rattle.vr_ci.specs.Interval.{cidf};
@@ -17,6 +17,27 @@ pub fn first_nonzero(bytes: &[u8], from: usize, to: usize) -> Option<usize>
         }
     }
     None
+}
+
+/// The first byte that is wrong so far, with one item more: where it is not live its bytes are to be zero.
+pub fn wrong_byte(
+    bytes: &[u8],
+    wrong: Option<usize>,
+    live: bool,
+    from: usize,
+    to: usize,
+) -> Option<usize>
+    requires order { from ≤ to }
+    requires within { to ≤ length bytes.now }
+    ensures kept { IsSome wrong → result ≡ wrong }
+    ensures live { IsTrue live → result ≡ wrong }
+    ensures zeros { IsNone wrong → (IsTrue live → ⊥)
+        → Compares from (take (to - from) (drop from bytes.now)) (replicate (to - from) 0) result }
+{
+    if wrong.is_some() || live {
+        return wrong;
+    }
+    first_nonzero(bytes, from, to)
 }
 
 /// The first of the two bytes from `at` on that differs from the number, high byte first.

@@ -1,6 +1,6 @@
 //! The kinds of control intervals, and their sizes.
 
-ghost use Rattle.std.specs.Prelude.{◌≡◌, ◌+◌, ◌-◌, ◌/◌, ◌<◌, ◌≤◌, ◌↔◌, IsTrue};
+ghost use Rattle.std.specs.Prelude.{◌≡◌, ◌+◌, ◌-◌, ◌*◌, ◌/◌, ◌<◌, ◌≤◌, ◌↔◌, IsTrue};
 ghost use Rattle.vr_ci.specs.Size.{IsBlockSize};
 
 /// How a control interval of records spells them.
@@ -42,7 +42,8 @@ pub fn is_block_size(size: usize) -> bool
 
 /// How many slots of this length a block of this size has.
 pub fn slots(size: usize, length: u16) -> usize
-    ensures { result ≡ (size - 4) / (length + 3) }
+    ensures count { result ≡ (size - 4) / (length + 3) }
+    ensures fits { result * (length + 3) ≤ size - 4 }
 {
     size.saturating_sub(4) / (usize::from(length) + 3)
 }

@@ -8,10 +8,10 @@ ghost use Rattle.vr_ci.specs.Rdf.{shape_of, rdf_bytes, record_length, IsRdf, May
 ghost use Rattle.vr_ci.specs.Compare.{Compares};
 ghost use Rattle.vr_ci.specs.Interval.{control_at};
 ghost use Rattle.vr_ci.specs.Fault.{free_end, cidf_at, is_busy, filled, HasZeroCidf, IsBroken, IsWhole, IsFirstFault, HasRightLengths, HasWrongLengths};
-ghost use Rattle.vr_ci.specs.Tally.{IsTally, IsFound, data_end};
+ghost use Rattle.vr_ci.specs.Tally.{IsTally, IsFound, data_end, is_live_slot};
 
 use crate::cidf::Cidf;
-use crate::compare::{cidf_difference, first_nonzero, number_difference};
+use crate::compare::{cidf_difference, first_nonzero, number_difference, wrong_byte};
 use crate::fault::CiFault;
 use crate::form::{Form, Piece, Shape, is_block_size, slots};
 use crate::rdf::{Rdf, rdf_of, unit_before};
@@ -254,28 +254,34 @@ fn slots_fault(bytes: &[u8], low: usize, len: u16, busy: bool) -> Option<usize>
 {
     let count = slots(bytes.len(), len);
     let len = usize::from(len);
-    let limit = bytes.len() - 4 - 3 * count;
+    let top = bytes.len() - 4;
+    let limit = top - 3 * count;
     let mut wrong = None;
     let mut wrong_rdf = None;
-    let mut at = bytes.len() - 4;
-    for slot in 0..count {
-        at -= 3;
-        let live = at >= low && bytes[at] == 0;
-        if wrong.is_none() && !live {
-            wrong = first_nonzero(bytes, slot * len, (slot + 1) * len);
-        }
+    'slots: for slot in 0..count {
+        let at = top - 3 * (slot + 1);
+        let live = slot_is_live(bytes, low, at);
+        wrong = wrong_byte(bytes, wrong, live, slot * len, (slot + 1) * len);
         wrong_rdf = rdf_difference(bytes, at, live, len).or(wrong_rdf);
     }
-    if wrong.is_some() {
-        return wrong;
+    if let Some(at) = wrong {
+        return Some(at);
     }
     if let Some(at) = first_nonzero(bytes, count * len, limit) {
         return Some(at);
     }
-    if wrong_rdf.is_some() {
-        return wrong_rdf;
+    if let Some(at) = wrong_rdf {
+        return Some(at);
     }
     cidf_difference(bytes, count * len, limit - count * len, busy)
+}
+
+/// Whether the slot whose RDF is to stand at `at` has one that says that it is live.
+fn slot_is_live(bytes: &[u8], low: usize, at: usize) -> bool
+    requires { at < length bytes.now }
+    ensures { result ≡ is_live_slot low bytes.now at }
+{
+    low <= at && bytes[at] == 0
 }
 
 /// The first byte at `at` that differs from the RDF of a slot.

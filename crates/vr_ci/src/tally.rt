@@ -1,11 +1,10 @@
 //! What the reader has found in the RDFs so far.
 
-ghost use Rattle.std.specs.Prelude.{◌≡◌, ◌+◌, ◌-◌, ◌*◌, ◌^◌, ◌<◌, ◌≤◌, ℕ, List, [], ◌∷◌, ◌++◌, length, drop, take, replicate, min, IsTrue, IsSome, IsNone};
-ghost use Rattle.vr_ci.specs.Compare.{Compares};
+ghost use Rattle.std.specs.Prelude.{◌≡◌, ◌+◌, ◌-◌, ◌*◌, ◌^◌, ◌<◌, ◌≤◌, ℕ, List, [], ◌∷◌, ◌++◌, length, IsSome, IsNone};
 ghost use Rattle.vr_ci.specs.Interval.{control_at};
 ghost use Rattle.vr_ci.specs.Tally.{IsTally};
 
-use crate::compare::first_nonzero;
+use crate::compare::wrong_byte;
 use crate::rdf::Rdf;
 
 /// What the RDFs read so far say, and what is wrong with it.
@@ -61,26 +60,16 @@ impl Tally {
             last: Some(rdf),
             count: self.count + rdf.count(),
             span,
-            wrong: self.wrong_byte(bytes, limit, span, rdf.is_live()),
+            wrong: wrong_byte(
+                bytes,
+                self.wrong,
+                rdf.is_live(),
+                self.span.min(limit),
+                span.min(limit),
+            ),
             room,
             passed: self.passed_at(bytes.len(), room, at),
         }
-    }
-
-    /// The first wrong byte, with records up to `span`.
-    fn wrong_byte(self, bytes: &[u8], limit: usize, span: usize, live: bool) -> Option<usize>
-        requires limit { limit ≤ length bytes.now }
-        requires span { self.span ≤ span }
-        ensures kept { IsSome self.wrong → result ≡ self.wrong }
-        ensures live { IsTrue live → result ≡ self.wrong }
-        ensures zeros { IsNone self.wrong → (IsTrue live → ⊥) → Compares (min self.span limit)
-            (take (min span limit - min self.span limit) (drop (min self.span limit) bytes.now))
-            (replicate (min span limit - min self.span limit) 0) result }
-    {
-        if self.wrong.is_some() || live {
-            return self.wrong;
-        }
-        first_nonzero(bytes, self.span.min(limit), span.min(limit))
     }
 
     /// The RDF or pair that passes the room, with one at `at`.
