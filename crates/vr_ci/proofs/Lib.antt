@@ -14,3 +14,4 @@ pub mod CompareLemmas
 pub mod TallyLemmas
 pub mod ReaderLemmas
 pub mod SlotLemmas
+pub mod LendLemmas

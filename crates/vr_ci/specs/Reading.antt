@@ -7,6 +7,7 @@ use Rattle.vr_ci.specs.declared.form.Piece.TheVariants.{First, Inner, Last}
 use Rattle.vr_ci.specs.declared.rdf.Rdf.{Rdf}
 use Rattle.vr_ci.specs.declared.rdf.Rdf.TheVariants.{Single, Run, Segment}
 use Rattle.vr_ci.specs.declared.form.Shape.{Shape}
+use Rattle.vr_ci.specs.declared.records.Batch.{Batch}
 use Rattle.vr_ci.specs.Rdf.{Mark, marks, spans, rdf_bytes, control, IsRdf}
 use Rattle.vr_ci.specs.Interval.{Item, Interval}
 
@@ -65,15 +66,19 @@ pub record IsShown (block : List ℕ) (low items : ℕ) : Type 0 where
   pub bytes : spans (rdfs_in block low) ≤ length block
   pub count : items ≡ length (flat_map marks (rdfs_in block low))
 
--- the items that an iterator still gives: those left of a run, and those of the RDFs up to a place
-abbrev pub items_left : List ℕ → ℕ → ℕ → ℕ → ℕ → Mark → List Item
-items_left block low end offset left mark =
-    items_at (replicate left mark ++ flat_map marks (rdfs_between low end block)) (drop offset block)
+-- the marks of the records that are left: those of a run, and those of the RDFs up to its end
+abbrev pub marks_left : List ℕ → ℕ → Batch → List Mark
+marks_left block low batch =
+    replicate batch.left (record { live = batch.live; len = batch.length }) ++ flat_map marks (rdfs_between low batch.end block)
+
+-- the items that an iterator still gives
+abbrev pub items_left : List ℕ → ℕ → Batch → ℕ → List Item
+items_left block low batch offset = items_at (marks_left block low batch) (drop offset block)
 
 -- the bytes of those items lie in the block
-pub record AreIn (block : List ℕ) (low end offset left len : ℕ) : Type 0 where
-  pub lent : AreLent block low end
-  pub bytes : offset + left * len + spans (rdfs_between low end block) ≤ length block
+pub record AreIn (block : List ℕ) (low : ℕ) (batch : Batch) (offset : ℕ) : Type 0 where
+  pub lent : AreLent block low batch.end
+  pub bytes : offset + batch.left * batch.length + spans (rdfs_between low batch.end block) ≤ length block
 
 -- a lent record with its live mark, as an item
 abbrev pub item_lent : Bor (List ℕ) × Bool → Item

@@ -159,15 +159,37 @@ fn lengths_fault(
         → IsTally bytes.now (data_end form (length bytes.now) rdfs) rdfs tally
         → MatchOption result (HasRightLengths form bytes.now rdfs) (HasWrongLengths form bytes.now rdfs) }
 {
-    if let Some(Rdf::Segment {
-        piece,
-        live,
-        length,
-        ..
-    }) = tally.last
-    {
-        return segment_fault(form, bytes, piece, live, length, busy);
+    let Some(last) = tally.last else {
+        return form_fault(form, bytes, low, tally, busy);
+    };
+    match last {
+        Rdf::Segment {
+            piece,
+            live,
+            length,
+            ..
+        } => segment_fault(form, bytes, piece, live, length, busy),
+        Rdf::Single { .. } => form_fault(form, bytes, low, tally, busy),
+        Rdf::Run { .. } => form_fault(form, bytes, low, tally, busy),
     }
+}
+
+/// What is wrong with the lengths of records or slots.
+fn form_fault(
+    form: Form,
+    bytes: &[u8],
+    low: usize,
+    tally: Tally,
+    busy: bool,
+) -> Option<usize>
+    requires size { IsBlockSize (length bytes.now) }
+    requires low { low ≡ free_end bytes.now }
+    requires fits { low ≤ cidf_at bytes.now }
+    requires busy { busy ≡ is_busy bytes.now }
+    ensures { (rdfs : List Rdf) → IsWhole form bytes.now rdfs → shape_of rdfs ≡ Records
+        → IsTally bytes.now (data_end form (length bytes.now) rdfs) rdfs tally
+        → MatchOption result (HasRightLengths form bytes.now rdfs) (HasWrongLengths form bytes.now rdfs) }
+{
     match form {
         Form::Plain => records_fault(bytes, low, tally, busy),
         Form::Slots { length } => slots_fault(bytes, low, length, busy),

@@ -1,4 +1,4 @@
-use Rattle.std.proofs.Common.{ℕ, ◌-◌, ◌∙◌, sym, arith, refl, subst, take, drop}
+use Rattle.std.proofs.Common.{ℕ, ◌+◌, ◌-◌, ◌∙◌, sym, arith, refl, subst, take, drop}
 use Rattle.std.specs.Prelude.{min}
 use Rattle.vr_ci.specs.Compare.{Compares}
 use Rattle.vr_ci.proofs.LayoutLemmas.{zeros}
