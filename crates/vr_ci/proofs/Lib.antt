@@ -15,3 +15,5 @@ pub mod TallyLemmas
 pub mod ReaderLemmas
 pub mod SlotLemmas
 pub mod LendLemmas
+pub mod PlaceLemmas
+pub mod WriterLemmas

@@ -5,11 +5,12 @@ use Rattle.vr_ci.specs.declared.form.Form.{Form}
 use Rattle.vr_ci.specs.declared.form.Form.TheVariants.{Plain, Slots}
 use Rattle.vr_ci.specs.declared.form.Piece.{Piece}
 use Rattle.vr_ci.specs.declared.form.Piece.TheVariants.{First, Inner, Last}
+use Rattle.vr_ci.specs.declared.form.Shape.TheVariants.{Records}
 use Rattle.vr_ci.specs.declared.rdf.Rdf.{Rdf}
 use Rattle.vr_ci.specs.declared.rdf.Rdf.TheVariants.{Single, Run, Segment}
 use Rattle.vr_ci.specs.declared.writer.CiWriter.{CiWriter}
 use Rattle.vr_ci.specs.Size.{IsBlockSize}
-use Rattle.vr_ci.specs.Rdf.{marks, control, IsChain, last_from}
+use Rattle.vr_ci.specs.Rdf.{marks, control, IsChain, last_from, shape_of}
 use Rattle.vr_ci.specs.Interval.{Item, IsItem, bytes_of, mark_of, room, slots_in}
 
 abbrev pub form_of : CiWriter → Form
@@ -56,9 +57,15 @@ abbrev pub IsLastRun : Form → Option Rdf → ℕ → ℕ → Type 0
 IsLastRun Plain None n count = count ≡ 0
 IsLastRun Plain (Some (Single true m)) n count = (count ≡ 1) × (n ≡ m)
 IsLastRun Plain (Some (Single false m)) n count = count ≡ 0
-IsLastRun Plain (Some (Run m k)) n count = (count ≡ k) × (n ≡ m)
+IsLastRun Plain (Some (Run m k)) n count = (count ≡ k) × (n ≡ m) × (2 ≤ k)
 IsLastRun Plain (Some (Segment piece live number m)) n count = ⊥
 IsLastRun (Slots len) last n count = count ≡ 0
+
+-- how many records a new RDF begins a run with
+abbrev pub run_started : Form → Bool → ℕ
+run_started Plain true = 1
+run_started Plain false = 0
+run_started (Slots len) live = 0
 
 -- the RDF or pair of so many live records
 abbrev pub run_rdf : ℕ → ℕ → Rdf
@@ -73,6 +80,7 @@ pub record Holds (w : CiWriter) (held : List Item) : Type 0 where
   pub rdfs : List Rdf
   pub size : IsBlockSize (length w.out.now)
   pub chain : IsChain w.form rdfs
+  pub shape : shape_of rdfs ≡ Records
   pub said : flat_map marks rdfs ≡ map mark_of held
   pub front : w.front ≡ length (flat_map bytes_of held)
   pub bytes : take w.front w.out.now ≡ flat_map bytes_of held

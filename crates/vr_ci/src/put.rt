@@ -78,7 +78,9 @@ pub fn extend_run(out: &mut [u8], at: usize, count: usize) -> usize
     requires few { count < 65535 }
     requires place { 3 ≤ at }
     requires within { at + 3 ≤ length out.old }
-    ensures { (n : ℕ) → take (length (rdf_bytes (run_rdf n count))) (drop at out.old) ≡ rdf_bytes (run_rdf n count)
+    ensures place { (result ≤ at) × (at ≤ result + 3) }
+    ensures length { length out.new ≡ length out.old }
+    ensures run { (n : ℕ) → take (length (rdf_bytes (run_rdf n count))) (drop at out.old) ≡ rdf_bytes (run_rdf n count)
         → (result + 6 ≡ at + length (rdf_bytes (run_rdf n count)))
             × (out.new ≡ placed out.old result (rdf_bytes (run_rdf n (count + 1)))) }
 {

@@ -1,6 +1,6 @@
 //! Writing a control interval into a block.
 
-ghost use Rattle.std.specs.Prelude.{◌≡◌, ◌+◌, ◌-◌, ◌*◌, ◌<◌, ◌≤◌, ◌↔◌, Bool, ℕ, List, [], ◌∷◌, ◌++◌, length, IsErr, OnOk, OnErr, IfErr};
+ghost use Rattle.std.specs.Prelude.{◌≡◌, ◌+◌, ◌-◌, ◌*◌, ◌<◌, ◌≤◌, ◌↔◌, Bool, ℕ, List, [], ◌∷◌, ◌++◌, length, IsTrue, IsErr, OnOk, OnErr, IfErr};
 ghost use Rattle.vr_ci.specs.declared.form.Shape.TheVariants as shapes;
 ghost use Rattle.vr_ci.specs.Size.{IsBlockSize};
 
@@ -80,14 +80,14 @@ impl<'a> CiWriter<'a> {
         self.front += item.len();
         self.added += 1;
         put_item(self.out, at, item, live);
-        if live && self.run_count > 0 && self.run_length == length {
+        if goes_on(live, length, self.run_length, self.run_count) {
             self.back = extend_run(self.out, self.back, self.run_count);
             self.run_count += 1;
         } else {
             self.back -= 3;
             put_rdf(self.out, self.back, Rdf::Single { live, length });
             self.run_length = length;
-            self.run_count = if live && self.form == Form::Plain { 1 } else { 0 };
+            self.run_count = run_started(self.form, live);
         }
         Ok(())
     }
@@ -102,5 +102,22 @@ impl<'a> CiWriter<'a> {
         let CiWriter { out, front, back, .. } = self;
         out[front..back].fill(0);
         put_cidf(out, front, back - front, busy);
+    }
+}
+
+/// Whether a record goes on with a run.
+fn goes_on(live: bool, length: u16, run_length: u16, run_count: usize) -> bool
+    ensures { IsTrue result ↔ (IsTrue live × (0 < run_count) × (run_length ≡ length)) }
+{
+    live && run_count > 0 && run_length == length
+}
+
+/// How many records a run begins with, if a live one begins it.
+fn run_started(form: Form, live: bool) -> usize
+    ensures { result ≡ run_started form live }
+{
+    match (form, live) {
+        (Form::Plain, true) => 1,
+        _ => 0,
     }
 }
