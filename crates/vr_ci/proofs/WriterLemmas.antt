@@ -21,7 +21,7 @@ use Rattle.vr_ci.proofs.RdfLemmas.{control-push}
 use Rattle.vr_ci.proofs.ItemLemmas.{total, total-all, room_is, length-bytes}
 use Rattle.vr_ci.proofs.LayoutLemmas.{zeros, length-zeros, padded_fits}
 use Rattle.vr_ci.proofs.ChainLemmas.{size_bounds, chain-push, chain-last, chain-front, last_from-push, all_records}
-use Rattle.vr_ci.proofs.PlaceLemmas.{length-placed, take-placed, take-placed_all, drop-placed, run_is}
+use Rattle.vr_ci.proofs.PlaceLemmas.{placed-next, length-placed, take-placed, take-placed_all, drop-placed, run_is}
 
 -- ---- lists of items
 
@@ -283,13 +283,13 @@ interval_of form block value rs size chain shape said fits place parts =
 
 -- the free space filled, and the CIDF behind it
 filled_block : (block out : List ℕ) (f b k : ℕ) (c tail : List ℕ) → length c ≡ 4 → 4 ≤ length block → f + k ≡ b → b + 4 ≤ length block → drop b (take (length block - 4) block) ≡ tail
-    → out ≡ placed (take f block ++ (zeros k ++ drop k (drop f block))) (length block - 4) c
+    → out ≡ placed (placed block f (zeros k)) (length block - 4) c
     → out ≡ ((take f block ++ zeros k) ++ tail) ++ c
 filled_block block out f b k c tail four least sum high e o =
     let top : ℕ = length block - 4 in
-    let filled : List ℕ = take f block ++ (zeros k ++ drop k (drop f block)) in
-    let past : drop k (drop f block) ≡ drop b block = drop-drop k f block ∙ ap (λ (i : ℕ). drop i block) sum in
-    let shape : filled ≡ (take f block ++ zeros k) ++ drop b block = ap (λ (z : List ℕ). take f block ++ (zeros k ++ z)) past ∙ sym (append_assoc (take f block) (zeros k) (drop b block)) in
+    let filled : List ℕ = placed block f (zeros k) in
+    let past : drop (f + length (zeros k)) block ≡ drop b block = ap (λ (i : ℕ). drop (f + i) block) (length-zeros k) ∙ ap (λ (i : ℕ). drop i block) sum in
+    let shape : filled ≡ (take f block ++ zeros k) ++ drop b block = ap (λ (z : List ℕ). take f block ++ zeros k ++ z) past in
     let front : length (take f block ++ zeros k) ≡ b = omega (arith, length-append (take f block) (zeros k), length-take f block, length-zeros k, sum, high) in
     let cut : b + (top - b) ≡ top = omega (arith, high) in
     let first : take top filled ≡ (take f block ++ zeros k) ++ tail =
@@ -302,7 +302,7 @@ filled_block block out f b k c tail four least sum high e o =
 
 pub ended : (w : CiWriter) (items : List Item) (busy : Bool) (out : List ℕ) → Holds w items → SlotsAdded w.form (length w.out.now) w.added
     → w.front + 3 * w.added + 4 ≤ length w.out.now → w.front ≤ w.back
-    → out ≡ placed (take w.front w.out.now ++ (zeros (w.back - w.front) ++ drop (w.back - w.front) (drop w.front w.out.now))) (length w.out.now - 4) (cidf w.front (w.back - w.front) busy)
+    → out ≡ placed (placed w.out.now w.front (zeros (w.back - w.front))) (length w.out.now - 4) (cidf w.front (w.back - w.front) busy)
     → IsInterval w.form out (record { shape = shapes.Records; items = items; busy = busy })
 ended w items busy out h complete room order o =
     interval_of w.form out value h.rdfs size h.chain h.shape h.said fits place parts
@@ -380,3 +380,41 @@ segment_block form piece number live busy bytes old new size low high some short
     fills_block First l w f = omega (arith, l, w, f some, short)
     fills_block Inner l w f = omega (arith, l, w, f some, short)
     fills_block Last l w f = omega (arith, l, w, short)
+
+-- the parts of a segment's block, one behind the other
+pub four_placed : (block x z r c : List ℕ) (i j k : ℕ) → i ≡ length x → j ≡ i + length z → k ≡ j + length r → k + length c ≡ length block
+    → placed (placed (placed (placed block 0 x) i z) j r) k c ≡ ((x ++ z) ++ r) ++ c
+four_placed block x z r c i j k a b d e =
+    let one : placed (placed block 0 x) i z ≡ placed block 0 (x ++ z) = placed-next block 0 i x z (omega arith) (omega (arith, a)) in
+    let two : placed (placed block 0 (x ++ z)) j r ≡ placed block 0 ((x ++ z) ++ r) = placed-next block 0 j (x ++ z) r (omega arith) (omega (arith, a, b, length-append x z)) in
+    let all : placed (placed block 0 ((x ++ z) ++ r)) k c ≡ placed block 0 (((x ++ z) ++ r) ++ c) = placed-next block 0 k ((x ++ z) ++ r) c (omega arith) (omega (arith, a, b, d, length-append x z, length-append (x ++ z) r)) in
+    let none : drop (0 + length (((x ++ z) ++ r) ++ c)) block ≡ [] = drop_all (0 + length (((x ++ z) ++ r) ++ c)) block (omega (arith, a, b, d, e, length-append x z, length-append (x ++ z) r, length-append ((x ++ z) ++ r) c)) in
+    ap (λ (y : List ℕ). placed (placed y j r) k c) one ∙ ap (λ (y : List ℕ). placed y k c) two ∙ all
+        ∙ ap (λ (y : List ℕ). (((x ++ z) ++ r) ++ c) ++ y) none ∙ append-nil (((x ++ z) ++ r) ++ c)
+
+-- the RDF or pair of a run still stands when a record's bytes are put in front of it
+pub run_stands : (w : CiWriter) (items : List Item) (x : List ℕ) → Holds w items → 0 < w.run_count → w.front + length x ≤ w.back
+    → take (length (rdf_bytes (run_rdf w.run_length w.run_count))) (drop w.back (placed w.out.now w.front x)) ≡ rdf_bytes (run_rdf w.run_length w.run_count)
+run_stands w items x h some place =
+    let block : List ℕ = w.out.now in
+    let was : Rdf = run_rdf w.run_length w.run_count in
+    let top : ℕ = length block - 4 in
+    let last = runs w.form (last_from None h.rdfs) w.run_length w.run_count h.run some in
+    let split = split_of h.rdfs was last.1 in
+    let controls : control h.rdfs ≡ rdf_bytes was ++ control split.0 = ap control split.1 ∙ control-push split.0 was in
+    let k : ℕ = length (rdf_bytes was) in
+    let high : w.back + k ≤ top = omega (arith, h.back, ap length controls, length-append (rdf_bytes was) (control split.0)) in
+    let same : drop w.back (placed block w.front x) ≡ drop w.back block = drop-placed block w.front w.back x (omega (arith, place, h.back)) place in
+    let cut : take k (drop w.back (take top block)) ≡ take k (drop w.back block) =
+        sym (drop-take w.back k (take top block)) ∙ ap (λ (z : List ℕ). drop w.back z) (take-take (w.back + k) top block high) ∙ drop-take w.back k block in
+    ap (λ (z : List ℕ). take k z) same ∙ sym cut ∙ ap (λ (z : List ℕ). take k z) (h.control ∙ controls) ∙ take_at (rdf_bytes was) (control split.0) k refl
+
+-- the same, at the record's live mark
+pub live_held : (old new : CiWriter) (items : List Item) (bytes : List ℕ) (live : Bool) → live ≡ true → Holds old items → IsItemLength old.form (length bytes)
+    → 0 < old.run_count → old.run_count < 65535 → old.run_length ≡ length bytes
+    → new.form ≡ old.form → new.front ≡ old.front + length bytes → new.added ≡ old.added + 1 → old.front + length bytes ≤ new.back
+    → new.back + 6 ≡ old.back + length (rdf_bytes (run_rdf old.run_length old.run_count))
+    → new.out.now ≡ placed (placed old.out.now old.front bytes) new.back (rdf_bytes (run_rdf old.run_length (old.run_count + 1)))
+    → new.run_length ≡ old.run_length → new.run_count ≡ old.run_count + 1 → Holds new (items ++ written bytes live ∷ [])
+live_held old new items bytes live is h len some few same form front added place back out n count =
+    subst (λ (b : Bool). Holds new (items ++ written bytes b ∷ [])) (sym is) (run_held old new items bytes h len some few same form front added place back out n count)

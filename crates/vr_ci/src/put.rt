@@ -1,11 +1,11 @@
 //! Writing the parts of a control interval into a block.
 
-ghost use Rattle.std.specs.Prelude.{◌≡◌, ◌+◌, ◌-◌, ◌*◌, ◌<◌, ◌≤◌, ℕ, length, drop, take};
+ghost use Rattle.std.specs.Prelude.{◌≡◌, ◌+◌, ◌-◌, ◌<◌, ◌≤◌, ◌↔◌, ℕ, length, drop, take, replicate, IsTrue};
 ghost use Rattle.vr_ci.specs.Rdf.{two_bytes, rdf_bytes, segment_bits, withdrawn_bit};
 ghost use Rattle.vr_ci.specs.Interval.{cidf};
-ghost use Rattle.vr_ci.specs.Writer.{placed, written, run_rdf};
+ghost use Rattle.vr_ci.specs.Writer.{placed, written, run_rdf, run_started};
 
-use crate::form::Piece;
+use crate::form::{Form, Piece};
 use crate::rdf::Rdf;
 
 /// The bytes of an item, or zeros where it is not live.
@@ -19,6 +19,15 @@ pub fn put_item(out: &mut [u8], at: usize, item: &[u8], live: bool)
     } else {
         out[at..end].fill(0);
     }
+}
+
+/// Zeros between two places.
+pub fn put_zeros(out: &mut [u8], from: usize, to: usize)
+    requires order { from ≤ to }
+    requires within { to ≤ length out.old }
+    ensures { out.new ≡ placed out.old from (replicate (to - from) 0) }
+{
+    out[from..to].fill(0);
 }
 
 /// A number in two bytes.
@@ -106,4 +115,21 @@ pub fn put_cidf(out: &mut [u8], displacement: usize, free: usize, busy: bool)
     let field = if busy { free + 32_768 } else { free };
     put_number(out, at, displacement as u16);
     put_number(out, at + 2, field as u16);
+}
+
+/// Whether a record goes on with a run.
+pub fn goes_on(live: bool, length: u16, run_length: u16, run_count: usize) -> bool
+    ensures { IsTrue result ↔ (IsTrue live × (0 < run_count) × (run_length ≡ length)) }
+{
+    live && run_count > 0 && run_length == length
+}
+
+/// How many records a run begins with, if a live one begins it.
+pub fn run_started(form: Form, live: bool) -> usize
+    ensures { result ≡ run_started form live }
+{
+    match (form, live) {
+        (Form::Plain, true) => 1,
+        _ => 0,
+    }
 }

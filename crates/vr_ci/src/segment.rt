@@ -8,7 +8,7 @@ ghost use Rattle.vr_ci.specs.Writer.{written, Fills};
 
 use crate::fault::NoRoom;
 use crate::form::{Form, Piece};
-use crate::put::{put_cidf, put_item, put_rdf};
+use crate::put::{put_cidf, put_item, put_rdf, put_zeros};
 use crate::rdf::Rdf;
 
 /// Writes a segment of a spanned record, with the record's update number, into a block, whatever it held
@@ -40,7 +40,7 @@ pub fn write_segment(
         return Err(NoRoom { need, free });
     }
     put_item(out, 0, bytes, live);
-    out[need..free].fill(0);
+    put_zeros(out, need, free);
     put_rdf(
         out,
         free,

@@ -1,12 +1,12 @@
 //! Writing a control interval into a block.
 
-ghost use Rattle.std.specs.Prelude.{◌≡◌, ◌+◌, ◌-◌, ◌*◌, ◌<◌, ◌≤◌, ◌↔◌, Bool, ℕ, List, [], ◌∷◌, ◌++◌, length, IsTrue, IsErr, OnOk, OnErr, IfErr};
+ghost use Rattle.std.specs.Prelude.{◌≡◌, ◌+◌, ◌-◌, ◌*◌, ◌<◌, ◌≤◌, ◌↔◌, Bool, ℕ, List, [], ◌∷◌, ◌++◌, length, IsErr, OnOk, OnErr, IfErr};
 ghost use Rattle.vr_ci.specs.declared.form.Shape.TheVariants as shapes;
 ghost use Rattle.vr_ci.specs.Size.{IsBlockSize};
 
 use crate::fault::NoRoom;
 use crate::form::Form;
-use crate::put::{extend_run, put_cidf, put_item, put_rdf};
+use crate::put::{extend_run, goes_on, put_cidf, put_item, put_rdf, put_zeros, run_started};
 use crate::rdf::Rdf;
 
 /// Writes records into a block, one behind the other. The block is a control interval once `end` is called.
@@ -100,24 +100,7 @@ impl<'a> CiWriter<'a> {
             → IsInterval (form_of self.entry) self.exit.0.now (record { shape = shapes.Records; items = items; busy = busy }) }
     {
         let CiWriter { out, front, back, .. } = self;
-        out[front..back].fill(0);
+        put_zeros(out, front, back);
         put_cidf(out, front, back - front, busy);
-    }
-}
-
-/// Whether a record goes on with a run.
-fn goes_on(live: bool, length: u16, run_length: u16, run_count: usize) -> bool
-    ensures { IsTrue result ↔ (IsTrue live × (0 < run_count) × (run_length ≡ length)) }
-{
-    live && run_count > 0 && run_length == length
-}
-
-/// How many records a run begins with, if a live one begins it.
-fn run_started(form: Form, live: bool) -> usize
-    ensures { result ≡ run_started form live }
-{
-    match (form, live) {
-        (Form::Plain, true) => 1,
-        _ => 0,
     }
 }
