@@ -1,24 +1,23 @@
 -- Chains of RDFs, and the room of what they say.
-use Rattle.std.proofs.Common.{◌≡◌, ◌≢◌, ℕ, zero, suc, ◌+◌, ◌-◌, ◌*◌, ◌/◌, ◌%◌, ◌<◌, ◌≤◌, ◌⊎◌, inl, inr, Bool, true, false, List, [], ◌∷◌, ◌++◌, length, take, drop, Option, Some, None, refl, sym, ap, ◌∙◌, subst, arith, append_assoc, length-append}
-use Rattle.std.specs.Prelude.{map, replicate}
+use Rattle.std.proofs.Common.{◌≡◌, ℕ, ◌+◌, ◌-◌, ◌*◌, ◌≤◌, inl, inr, Bool, true, List, [], ◌∷◌, ◌++◌, length, Option, Some, None, refl, ap, ◌∙◌, arith, length-append}
+use Rattle.std.specs.Prelude.{map}
 use Rattle.std.specs.List.{flat_map, AllByRecursion}
-use Rattle.std.proofs.lemmas.List.{length-map, append-nil, length-replicate}
+use Rattle.std.proofs.lemmas.List.{length-map, length-replicate}
 use Rattle.std.proofs.lemmas.Nat.{div-add-mod'}
 use Rattle.vr_ci.specs.declared.form.Form.{Form}
 use Rattle.vr_ci.specs.declared.form.Form.TheVariants.{Plain, Slots}
 use Rattle.vr_ci.specs.declared.form.Piece.{Piece}
 use Rattle.vr_ci.specs.declared.form.Piece.TheVariants.{First, Inner, Last}
-use Rattle.vr_ci.specs.declared.form.Shape.{Shape}
 use Rattle.vr_ci.specs.declared.form.Shape.TheVariants as shapes
 use Rattle.vr_ci.specs.declared.rdf.Rdf.{Rdf}
 use Rattle.vr_ci.specs.declared.rdf.Rdf.TheVariants.{Single, Run, Segment}
 use Rattle.vr_ci.specs.Size.{IsBlockSize}
-use Rattle.vr_ci.specs.Rdf.{Mark, marks, span, spans, rdf_bytes, control, IsCount, IsRdf, IsOfRecords, MayFollow, IsChainFrom, IsChain, last_from, shape_of}
+use Rattle.vr_ci.specs.Rdf.{Mark, marks, spans, rdf_bytes, control, IsRdf, IsOfRecords, MayFollow, IsChainFrom, IsChain, last_from, shape_of}
 use Rattle.vr_ci.specs.Interval.{Item, mark_of, room, slots_in, FitsBlock}
 use Rattle.vr_ci.proofs.ItemLemmas.{total, total-all, room_is}
 
 pub size_bounds : (n : ℕ) → IsBlockSize n → (512 ≤ n) × (n ≤ 32768)
-size_bounds n h = elim h.1 [ | inl s ↦ (omega (arith, h.0, s.0, s.1), omega (arith, s.0)) | inr s ↦ (omega (arith, h.0, s.0, s.1), s.0) ]
+size_bounds n h = elim h.1 [ inl s ↦ (omega (arith, h.0, s.0, s.1), omega (arith, s.0)) | inr s ↦ (omega (arith, h.0, s.0, s.1), s.0) ]
 
 pub chain_rdfs : (form : Form) (before : Option Rdf) (rs : List Rdf) → IsChainFrom form before rs → AllByRecursion IsRdf rs
 chain_rdfs form before [] h = tt
@@ -93,8 +92,10 @@ room_kept form size (Segment piece live number n ∷ rs) items least h f e = seg
   where
     none : rs ≡ []
     none = alone form piece live number n rs h
+
     lengths : (spans (Segment piece live number n ∷ rs) ≡ n) × (length (control (Segment piece live number n ∷ rs)) ≡ 6)
     lengths = (ap (λ (t : List Rdf). spans (Segment piece live number n ∷ t)) none ∙ omega arith, ap (λ (t : List Rdf). length (control (Segment piece live number n ∷ t))) none)
+
     segment : (p : Piece) (is : List Item) → FitsBlock form size (shapes.Segment p number) is → flat_map marks (Segment piece live number n ∷ rs) ≡ map mark_of is
         → spans (Segment piece live number n ∷ rs) + length (control (Segment piece live number n ∷ rs)) + 4 ≤ size
     segment First [] f e = absurd cc
@@ -105,9 +106,25 @@ room_kept form size (Segment piece live number n ∷ rs) items least h f e = seg
     segment Last (i ∷ is) f e = let m : n ≡ length i.bytes = ap first_len e in omega (arith, m, lengths, f.1.0)
 room_kept form size (Single live n ∷ rs) items least h f e =
     let all = Single live n ∷ rs in
-    omega (arith, records_room form size items f, room_is items, ap total e, total-all all, ap length e, length-map items mark_of,
-        control_short all (chain_rdfs form None all h) (all_records form None all h refl))
+    omega (
+      arith,
+      records_room form size items f,
+      room_is items,
+      ap total e,
+      total-all all,
+      ap length e,
+      length-map items mark_of,
+      control_short all (chain_rdfs form None all h) (all_records form None all h refl),
+    )
 room_kept form size (Run n k ∷ rs) items least h f e =
     let all = Run n k ∷ rs in
-    omega (arith, records_room form size items f, room_is items, ap total e, total-all all, ap length e, length-map items mark_of,
-        control_short all (chain_rdfs form None all h) (all_records form None all h refl))
+    omega (
+      arith,
+      records_room form size items f,
+      room_is items,
+      ap total e,
+      total-all all,
+      ap length e,
+      length-map items mark_of,
+      control_short all (chain_rdfs form None all h) (all_records form None all h refl),
+    )

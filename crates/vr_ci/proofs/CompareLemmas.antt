@@ -1,7 +1,7 @@
 -- Comparing a block part by part.
-use Rattle.std.proofs.Common.{◌≡◌, ◌≢◌, ℕ, zero, suc, ◌+◌, ◌-◌, ◌*◌, ◌/◌, ◌%◌, ◌<◌, ◌≤◌, ◌⊎◌, inl, inr, Bool, true, false, List, [], ◌∷◌, ◌++◌, length, take, drop, Option, Some, None, refl, sym, ap, ◌∙◌, subst, arith, append_assoc, length-append, length-take, length-drop, get_or}
-use Rattle.std.specs.Prelude.{map, replicate, if◌then◌else◌, slice_index, min}
-use Rattle.std.specs.List.{flat_map, AllByRecursion}
+use Rattle.std.proofs.Common.{◌≡◌, ℕ, ◌+◌, ◌-◌, ◌<◌, ◌≤◌, ◌⊎◌, inl, inr, Bool, true, false, List, [], ◌∷◌, ◌++◌, length, take, drop, Option, Some, None, sym, ap, ◌∙◌, subst, arith, append_assoc, length-append, length-take, length-drop}
+use Rattle.std.specs.Prelude.{if◌then◌else◌, slice_index, min}
+use Rattle.std.specs.List.{flat_map}
 use Rattle.std.proofs.lemmas.Bool.{cases_lt}
 use Rattle.std.proofs.lemmas.List.{take_at, drop_at, take-append-drop, take-append-le, get_or_append_left, get_or-append-add, take_all}
 use Rattle.vr_ci.specs.declared.rdf.Rdf.{Rdf}
@@ -10,7 +10,7 @@ use Rattle.vr_ci.specs.Interval.{padded, cidf}
 use Rattle.vr_ci.specs.Compare.{DifferFirst, Compares}
 use Rattle.vr_ci.specs.Fault.{masked}
 use Rattle.vr_ci.proofs.ItemLemmas.{total, total-all, take-add}
-use Rattle.vr_ci.proofs.LayoutLemmas.{zeros, length-zeros, length-padded, padded_fits}
+use Rattle.vr_ci.proofs.LayoutLemmas.{zeros, length-zeros, padded_fits}
 use Rattle.vr_ci.proofs.MaskLemmas.{masked_marks, masked_is, length-masked_marks}
 
 pub take-past : (n k : ℕ) (xs ys : List ℕ) → length xs ≡ n → take (n + k) (xs ++ ys) ≡ xs ++ take k ys
@@ -24,7 +24,7 @@ differ-left x1 x2 y1 y2 j l d =
     record {
       before = take-append-le j x1 x2 (omega (arith, d.within)) ∙ d.before ∙ sym (take-append-le j y1 y2 (omega (arith, low)));
       within = omega (arith, d.within, length-append x1 x2);
-      here = λ e. d.here (sym (get_or_append_left x1 x2 0 j d.within) ∙ e ∙ get_or_append_left y1 y2 0 j low)
+      here = λ e. d.here (sym (get_or_append_left x1 x2 0 j d.within) ∙ e ∙ get_or_append_left y1 y2 0 j low);
     }
 
 -- they differ behind parts that are the same
@@ -36,7 +36,7 @@ differ-right n x1 x2 y1 y2 j l e d =
     record {
       before = take-past n j x1 x2 l ∙ ap (λ (x : List ℕ). x ++ take j x2) e ∙ ap (λ (x : List ℕ). y1 ++ x) d.before ∙ sym (take-past n j y1 y2 m);
       within = omega (arith, d.within, length-append x1 x2, l);
-      here = λ q. d.here (sym at_x ∙ q ∙ at_y)
+      here = λ q. d.here (sym at_x ∙ q ∙ at_y);
     }
 
 pub first_part : (s : ℕ) (x1 x2 y1 y2 : List ℕ) (at : ℕ) → length x1 ≡ length y1 → Compares s x1 y1 (Some at) → Compares s (x1 ++ x2) (y1 ++ y2) (Some at)
@@ -53,7 +53,7 @@ pub in_data : (block a b c : List ℕ) (f at : ℕ) → length a ≡ f → f ≤
 in_data block a b c f at l h d =
     let one = first_part 0 (take f block) (drop f block) a (b ++ c) at (omega (arith, length-take f block, l, h)) d in
     subst (λ (x : List ℕ). Compares 0 x ((a ++ b) ++ c) (Some at)) (take-append-drop f block)
-        (subst (λ (y : List ℕ). Compares 0 (take f block ++ drop f block) y (Some at)) (sym (append_assoc a b c)) one)
+    (subst (λ (y : List ℕ). Compares 0 (take f block ++ drop f block) y (Some at)) (sym (append_assoc a b c)) one)
 
 pub in_control : (block a b c : List ℕ) (f top at : ℕ) → length a ≡ f → top ≤ length block → f + length b ≡ top → take f block ≡ a
     → Compares f (drop f (take top block)) b (Some at) → Compares 0 block ((a ++ b) ++ c) (Some at)
@@ -72,7 +72,7 @@ pub in_cidf : (block a b c : List ℕ) (f top : ℕ) (r : Option ℕ) → length
 in_cidf block a b c f top r l h lb e g d =
     let t : take f (take top block) ≡ a = Rattle.std.proofs.lemmas.List.take-take f top block (omega (arith, lb)) ∙ e in
     let whole : take top block ≡ a ++ b =
-        sym (take-append-drop f (take top block)) ∙ ap (λ (x : List ℕ). x ++ drop f (take top block)) t ∙ ap (λ (x : List ℕ). a ++ x) g in
+    sym (take-append-drop f (take top block)) ∙ ap (λ (x : List ℕ). x ++ drop f (take top block)) t ∙ ap (λ (x : List ℕ). a ++ x) g in
     let z : 0 + top ≡ top = omega arith in
     let d' : Compares (0 + top) (drop top block) c r = subst (λ (k : ℕ). Compares k (drop top block) c r) (sym z) d in
     let one = second_part 0 top (take top block) (drop top block) (a ++ b) c r (omega (arith, length-take top block, h)) whole d' in
@@ -106,15 +106,15 @@ data_parts rs block f h =
           let long : f ≤ length (masked rs block) = omega (arith, length-masked_least rs block) in
           let none : zeros (f - min (spans rs) f) ≡ [] = let z : f - min (spans rs) f ≡ 0 = omega (arith, m) in ap zeros z in
           take-append-le f (masked rs block) (zeros f) long ∙ ap (λ (k : ℕ). take k (masked rs block)) (sym m)
-              ∙ sym (Rattle.std.proofs.lemmas.List.append-nil (take (min (spans rs) f) (masked rs block)))
-              ∙ ap (λ (x : List ℕ). take (min (spans rs) f) (masked rs block) ++ x) (sym none)
+          ∙ sym (Rattle.std.proofs.lemmas.List.append-nil (take (min (spans rs) f) (masked rs block)))
+          ∙ ap (λ (x : List ℕ). take (min (spans rs) f) (masked rs block) ++ x) (sym none)
       | inr less ↦
           let m : min (spans rs) f ≡ spans rs = omega arith in
           let long : length (masked rs block) ≡ spans rs = length-masked rs block (omega (arith, h, less)) in
           let all : take (min (spans rs) f) (masked rs block) ≡ masked rs block = take_all (min (spans rs) f) (masked rs block) (omega (arith, long, m)) in
           let left : f - length (masked rs block) ≡ f - min (spans rs) f = omega (arith, long, m) in
           padded_fits f (masked rs block) (omega (arith, long, less)) ∙ ap (λ (x : List ℕ). x ++ zeros (f - length (masked rs block))) (sym all)
-              ∙ ap (λ (k : ℕ). take (min (spans rs) f) (masked rs block) ++ zeros k) left
+          ∙ ap (λ (k : ℕ). take (min (spans rs) f) (masked rs block) ++ zeros k) left
     ]
 
 pub data_wrong : (rs : List Rdf) (block : List ℕ) (f at : ℕ) → f ≤ length block
@@ -125,7 +125,7 @@ data_wrong rs block f at h c =
     let lengths : length (take m block) ≡ length (take m (masked rs block)) = omega (arith, length-take m block, length-take m (masked rs block), length-masked_least rs block, h) in
     let one = first_part 0 (take m block) (take (f - m) (drop m block)) (take m (masked rs block)) (zeros (f - m)) at lengths c in
     subst (λ (x : List ℕ). Compares 0 x (padded f (masked rs block)) (Some at)) (sym split)
-        (subst (λ (y : List ℕ). Compares 0 (take m block ++ take (f - m) (drop m block)) y (Some at)) (sym (data_parts rs block f h)) one)
+    (subst (λ (y : List ℕ). Compares 0 (take m block ++ take (f - m) (drop m block)) y (Some at)) (sym (data_parts rs block f h)) one)
 
 pub data_free : (rs : List Rdf) (block : List ℕ) (f : ℕ) (r : Option ℕ) → f ≤ length block
     → take (min (spans rs) f) block ≡ take (min (spans rs) f) (masked rs block)
@@ -138,7 +138,7 @@ data_free rs block f r h e c =
     let c' : Compares (0 + m) (take (f - m) (drop m block)) (zeros (f - m)) r = subst (λ (k : ℕ). Compares k (take (f - m) (drop m block)) (zeros (f - m)) r) (sym z) c in
     let one = second_part 0 m (take m block) (take (f - m) (drop m block)) (take m (masked rs block)) (zeros (f - m)) r (omega (arith, length-take m block, h)) e c' in
     subst (λ (x : List ℕ). Compares 0 x (padded f (masked rs block)) r) (sym split)
-        (subst (λ (y : List ℕ). Compares 0 (take m block ++ take (f - m) (drop m block)) y r) (sym (data_parts rs block f h)) one)
+    (subst (λ (y : List ℕ). Compares 0 (take m block ++ take (f - m) (drop m block)) y r) (sym (data_parts rs block f h)) one)
 
 -- the CIDF's two numbers
 pub last_two : (block : List ℕ) (d f : ℕ) (busy : Bool) (field : ℕ) (r : Option ℕ) → 4 ≤ length block
@@ -149,15 +149,15 @@ pub last_two : (block : List ℕ) (d f : ℕ) (busy : Bool) (field : ℕ) (r : O
 last_two block d f busy field r h e g c =
     let at = length block - 4 in
     let is : field ≡ f + (if busy then 32768 else 0) =
-        elim g [
-          | inl t ↦ t.1 ∙ ap (λ (b : Bool). f + (if b then 32768 else 0)) (sym t.0)
-          | inr t ↦ t.1 ∙ (let z : f ≡ f + 0 = omega arith in z) ∙ ap (λ (b : Bool). f + (if b then 32768 else 0)) (sym t.0)
-        ] in
+    elim g [
+      | inl t ↦ t.1 ∙ ap (λ (b : Bool). f + (if b then 32768 else 0)) (sym t.0)
+      | inr t ↦ t.1 ∙ (let z : f ≡ f + 0 = omega arith in z) ∙ ap (λ (b : Bool). f + (if b then 32768 else 0)) (sym t.0)
+    ] in
     let back : take 2 (drop (at + 2) block) ≡ drop 2 (drop at block) =
-        take_all 2 (drop (at + 2) block) (omega (arith, length-drop (at + 2) block, h)) ∙ sym (Rattle.std.proofs.lemmas.List.drop-drop 2 at block) in
+    take_all 2 (drop (at + 2) block) (omega (arith, length-drop (at + 2) block, h)) ∙ sym (Rattle.std.proofs.lemmas.List.drop-drop 2 at block) in
     let c' : Compares (at + 2) (drop 2 (drop at block)) (two_bytes (f + (if busy then 32768 else 0))) r =
-        subst (λ (k : ℕ). Compares (at + 2) (drop 2 (drop at block)) (two_bytes k) r) is
-            (subst (λ (x : List ℕ). Compares (at + 2) x (two_bytes field) r) back c) in
+    subst (λ (k : ℕ). Compares (at + 2) (drop 2 (drop at block)) (two_bytes k) r) is
+    (subst (λ (x : List ℕ). Compares (at + 2) x (two_bytes field) r) back c) in
     let one = second_part at 2 (take 2 (drop at block)) (drop 2 (drop at block)) (two_bytes d) (two_bytes (f + (if busy then 32768 else 0))) r
-        (omega (arith, length-take 2 (drop at block), length-drop at block, h)) e c' in
+    (omega (arith, length-take 2 (drop at block), length-drop at block, h)) e c' in
     subst (λ (x : List ℕ). Compares at x (cidf d f busy) r) (take-append-drop 2 (drop at block)) one

@@ -1,8 +1,7 @@
 -- A block with a fault is no control interval.
-use Rattle.std.proofs.Common.{◌≡◌, ◌≢◌, ℕ, zero, suc, ◌+◌, ◌-◌, ◌*◌, ◌/◌, ◌%◌, ◌<◌, ◌≤◌, ◌⊎◌, inl, inr, Bool, true, false, List, [], ◌∷◌, ◌++◌, length, take, drop, Option, Some, None, refl, sym, ap, ◌∙◌, subst, arith, append_assoc, length-append, length-take, length-drop}
-use Rattle.std.specs.Prelude.{map, replicate, if◌then◌else◌, slice_index, bit_and}
-use Rattle.std.specs.List.{flat_map, AllByRecursion}
-use Rattle.std.proofs.lemmas.List.{take_at, drop_at, take-append-drop, take-take, get_or_at, get_or-take}
+use Rattle.std.proofs.Common.{◌≡◌, ℕ, ◌+◌, ◌-◌, ◌/◌, ◌%◌, ◌≤◌, inl, inr, Bool, true, false, List, [], ◌∷◌, ◌++◌, length, take, drop, None, refl, sym, ap, ◌∙◌, subst, arith, append_assoc, length-append, length-take, length-drop}
+use Rattle.std.specs.Prelude.{slice_index, bit_and}
+use Rattle.std.proofs.lemmas.List.{drop_at, take-append-drop, take-take, get_or_at, get_or-take}
 use Rattle.vr_ci.specs.declared.form.Form.{Form}
 use Rattle.vr_ci.specs.declared.form.Form.TheVariants.{Plain, Slots}
 use Rattle.vr_ci.specs.declared.form.Piece.{Piece}
@@ -11,12 +10,10 @@ use Rattle.vr_ci.specs.declared.rdf.Rdf.{Rdf}
 use Rattle.vr_ci.specs.declared.rdf.Rdf.TheVariants.{Single, Run, Segment}
 use Rattle.vr_ci.specs.declared.fault.CiFault.{CiFault}
 use Rattle.vr_ci.specs.declared.fault.CiFault.TheVariants as faults
-use Rattle.vr_ci.specs.Size.{IsBlockSize}
 use Rattle.vr_ci.specs.Rdf.{two_bytes, withdrawn_bit, segment_bits, rdf_bytes, control, IsChain}
 use Rattle.vr_ci.specs.Interval.{Interval, control_at, IsInterval}
-use Rattle.vr_ci.specs.Compare.{DifferFirst}
-use Rattle.vr_ci.specs.Fault.{cidf_at, free_end, displacement, free_field, HasZeroCidf, IsCidfSound, StandFrom, IsUnit, IsBroken, IsWhole, described, rdfs_room, PassesRoom, IsRoomPassed, HasControl, HasWrongLengths, IsFirstFault}
-use Rattle.vr_ci.proofs.RdfLemmas.{some_bytes, rdf_size, control-append, control_prefix, control_thirds, control_same}
+use Rattle.vr_ci.specs.Fault.{cidf_at, free_end, HasZeroCidf, IsCidfSound, IsUnit, IsBroken, IsWhole, described, rdfs_room, IsRoomPassed, HasWrongLengths, IsFirstFault}
+use Rattle.vr_ci.proofs.RdfLemmas.{control_prefix, control_thirds, control_same}
 use Rattle.vr_ci.proofs.ChainLemmas.{size_bounds, chain-front}
 use Rattle.vr_ci.proofs.IntervalLemmas.{Laid, laid_says, free_end_is, not_zero, zero_block}
 use Rattle.vr_ci.proofs.MaskLemmas.{described_is, room_in, rdfs_room-append}
@@ -66,7 +63,7 @@ unit_of low block end at p (Segment piece live number n) h e l u =
 
 -- an interval with RDFs is laid out
 laid_of : (form : Form) (block : List ℕ) (value : Interval) → (HasZeroCidf block → ⊥) → IsInterval form block value → Laid form block value
-laid_of form block value some a = elim a.image [ | inl l ↦ laid_says form block value a.size a.fits l | inr e ↦ absurd (some (zero_block block e.1)) ]
+laid_of form block value some a = elim a.image [ inl l ↦ laid_says form block value a.size a.fits l | inr e ↦ absurd (some (zero_block block e.1)) ]
 
 -- before the CIDF, cut where a chain begins
 pub cut : (block : List ℕ) (at : ℕ) (rs : List Rdf) → drop at (take (cidf_at block) block) ≡ control rs → take at (take (cidf_at block) block) ++ control rs ≡ take (cidf_at block) block
@@ -86,16 +83,22 @@ not_broken form block value l least at b =
   where
     up : List ℕ
     up = take (cidf_at block) block
+
     low : ℕ
     low = control_at (length block) l.rdfs
+
     short : take b.end up ≡ take b.end block
     short = take-take b.end (cidf_at block) block b.right.high
+
     whole_up : length up ≡ cidf_at block
     whole_up = omega (arith, length-take (cidf_at block) block, least)
+
     room : free_end block ≤ at
-    room = elim b.unit [ | inl w ↦ w.1 | inr w ↦ w.1 ]
+    room = elim b.unit [ inl w ↦ w.1 | inr w ↦ w.1 ]
+
     below : at + 3 ≤ b.end
-    below = elim b.unit [ | inl w ↦ omega (arith, w.0) | inr w ↦ omega (arith, w.0) ]
+    below = elim b.unit [ inl w ↦ omega (arith, w.0) | inr w ↦ omega (arith, w.0) ]
+
     no_more : (ts : List Rdf) → l.rdfs ≡ b.rdfs ++ ts → take b.end up ≡ take low up ++ control ts → length (control b.rdfs) + b.end ≡ cidf_at block → ⊥
     no_more [] e g n = omega (arith, ap length g, length-append (take low up) [], length-take b.end up, length-take low up, whole_up, b.right.high, room, below, free_end_is l)
     no_more (t ∷ ts) e g n =

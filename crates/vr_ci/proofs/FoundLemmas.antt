@@ -1,31 +1,25 @@
 -- A block that its RDFs describe is a control interval, and a view shows its value.
-use Rattle.std.proofs.Common.{◌≡◌, ◌≢◌, ℕ, zero, suc, ◌+◌, ◌-◌, ◌*◌, ◌/◌, ◌%◌, ◌<◌, ◌≤◌, ◌⊎◌, inl, inr, Bool, true, false, List, [], ◌∷◌, ◌++◌, length, take, drop, Option, Some, None, refl, sym, ap, ◌∙◌, subst, arith, append_assoc, length-append, length-take, length-drop}
+use Rattle.std.proofs.Common.{◌≡◌, ℕ, zero, suc, ◌+◌, ◌-◌, ◌*◌, ◌%◌, ◌≤◌, ◌⊎◌, inl, inr, false, List, [], ◌∷◌, ◌++◌, length, take, drop, None, refl, sym, ap, ◌∙◌, subst, arith, append_assoc, length-append, length-take, length-drop}
 use Rattle.std.specs.Prelude.{map, replicate, if◌then◌else◌}
-use Rattle.std.specs.List.{flat_map, AllByRecursion}
-use Rattle.std.proofs.lemmas.Bool.{cases_lt}
+use Rattle.std.specs.List.{flat_map}
 use Rattle.std.proofs.lemmas.Nat.{div-add-mod'}
-use Rattle.std.proofs.lemmas.List.{take_at, drop_at, take-append-drop, length-map, length-replicate, take-append-le}
+use Rattle.std.proofs.lemmas.List.{take_at, drop_at, length-replicate}
 use Rattle.vr_ci.specs.declared.form.Form.{Form}
 use Rattle.vr_ci.specs.declared.form.Form.TheVariants.{Plain, Slots}
-use Rattle.vr_ci.specs.declared.form.Piece.{Piece}
 use Rattle.vr_ci.specs.declared.form.Piece.TheVariants.{First, Inner, Last}
-use Rattle.vr_ci.specs.declared.form.Shape.{Shape}
-use Rattle.vr_ci.specs.declared.form.Shape.TheVariants as shapes
 use Rattle.vr_ci.specs.declared.rdf.Rdf.{Rdf}
 use Rattle.vr_ci.specs.declared.rdf.Rdf.TheVariants.{Single, Run, Segment}
 use Rattle.vr_ci.specs.Size.{IsBlockSize}
-use Rattle.vr_ci.specs.Rdf.{Mark, marks, spans, rdf_bytes, control, IsCount, IsRdf, IsOfRecords, IsChain, shape_of}
-use Rattle.vr_ci.specs.Interval.{Item, Interval, IsItem, mark_of, bytes_of, room, slots_in, IsSegmentLength, FitsBlock, Fits, padded, cidf, control_at, laid, IsInterval}
-use Rattle.vr_ci.specs.Fault.{cidf_at, displacement, free_field, free_length, free_end, is_busy, StandFrom, IsWhole, masked, filled, slotted, slots_of, meant, described, rdfs_room, IsRoomKept, HasControl, HasRightLengths}
-use Rattle.vr_ci.specs.Reading.{items_at, rdfs_in, value_in, AreLent, IsShown}
-use Rattle.vr_ci.proofs.RdfLemmas.{control_thirds, control_same, some_bytes}
-use Rattle.vr_ci.proofs.ItemLemmas.{total, total-all, room_is, length-items_at, marks-items_at, bytes-items_at, take-add}
-use Rattle.vr_ci.proofs.LayoutLemmas.{zeros, length-zeros, length-padded, padded_fits, Parts, before_cidf, cidf_says, field_busy}
-use Rattle.vr_ci.proofs.ChainLemmas.{size_bounds, chain_rdfs, alone, all_records}
+use Rattle.vr_ci.specs.Rdf.{marks, spans, rdf_bytes, control, IsChain}
+use Rattle.vr_ci.specs.Interval.{slots_in, padded, cidf, control_at, laid}
+use Rattle.vr_ci.specs.Fault.{cidf_at, displacement, free_length, free_end, is_busy, IsWhole, masked, slotted, slots_of, meant, HasRightLengths}
+use Rattle.vr_ci.proofs.RdfLemmas.{control_thirds, control_same}
+use Rattle.vr_ci.proofs.ItemLemmas.{total-all}
+use Rattle.vr_ci.proofs.LayoutLemmas.{zeros, length-padded, padded_fits, Parts, before_cidf, cidf_says, field_busy}
+use Rattle.vr_ci.proofs.ChainLemmas.{size_bounds, alone, all_records}
 use Rattle.vr_ci.proofs.FaultLemmas.{cut}
 use Rattle.std.proofs.Math.Nat.{mul-le-mul_right}
-use Rattle.vr_ci.proofs.MaskLemmas.{AreSingles, singles, masked_marks, masked_is, length-masked_marks, room_of_rdfs}
-use Rattle.vr_ci.proofs.ReadLemmas.{rdfs_between-is}
+use Rattle.vr_ci.proofs.MaskLemmas.{AreSingles, singles, masked_is, length-masked_marks}
 
 abbrev pub AreSlots : ℕ → List Rdf → Type 0
 AreSlots len [] = Unit {0}
@@ -73,9 +67,10 @@ pub slots_are : (size len : ℕ) (rs : List Rdf) → AreSingles rs → AreSlots 
 slots_are size len rs h =
     let k : ℕ = slots_in size len in
     let all : List Rdf = map (slotted len) rs ++ replicate k (Single false len) in
-    let some : Rdf = Single false len in
-    (are-take len k all (are-append len (map (slotted len) rs) (replicate k some) (slotted_are len rs h) (empty_are len k)),
-        omega (arith, length-take k all, length-append (map (slotted len) rs) (replicate k some), length-replicate k some))
+    let some : Rdf = Single false len in (
+      are-take len k all (are-append len (map (slotted len) rs) (replicate k some) (slotted_are len rs h) (empty_are len k)),
+      omega (arith, length-take k all, length-append (map (slotted len) rs) (replicate k some), length-replicate k some),
+    )
 
 -- what the RDFs that are meant leave of a block
 record Leaves (form : Form) (n : ℕ) (rs : List Rdf) : Type 0 where
@@ -137,26 +132,28 @@ right_is form block rs size w right =
     free_is : (implied : List Rdf) → displacement block ≡ spans implied → free_length block ≡ control_at (length block) implied - spans implied
         → free_end block ≡ spans implied + (control_at (length block) implied - spans implied)
     free_is implied d e = omega (arith, d, e)
+
     done : spans rs ≤ control_at (length block) rs → meant form (length block) rs ≡ rs → free_end block ≡ control_at (length block) rs
         → length (control rs) + control_at (length block) rs ≡ cidf_at block → Right form block rs
     done s m low end =
         let bounds = size_bounds (length block) size in
         let layout : block ≡ laid (length block) (masked rs block) rs (is_busy block) =
-            right.same ∙ ap (λ (x : List Rdf). laid (length block) (masked x block) x (is_busy block)) m in
+        right.same ∙ ap (λ (x : List Rdf). laid (length block) (masked x block) x (is_busy block)) m in
         let f = control_at (length block) rs in
         let long : length (masked rs block) ≡ spans rs =
-            ap length (masked_is rs block) ∙ length-masked_marks (flat_map marks rs) block (omega (arith, total-all rs, s, end)) ∙ total-all rs in
+        ap length (masked_is rs block) ∙ length-masked_marks (flat_map marks rs) block (omega (arith, total-all rs, s, end)) ∙ total-all rs in
         let spread : padded f (masked rs block) ≡ masked rs block ++ zeros (f - length (masked rs block)) = padded_fits f (masked rs block) (omega (arith, long, s)) in
         let tail : List ℕ = cidf (spans rs) (f - spans rs) (is_busy block) in
         let front : take (spans rs) block ≡ masked rs block =
-            ap (λ (b : List ℕ). take (spans rs) b) layout
-                ∙ ap (λ (b : List ℕ). take (spans rs) (b ++ control rs ++ tail)) spread
-                ∙ ap (λ (b : List ℕ). take (spans rs) b) (regroup (masked rs block) (zeros (f - length (masked rs block))) (control rs) tail)
-                ∙ take_at (masked rs block) (zeros (f - length (masked rs block)) ++ (control rs ++ tail)) (spans rs) long in
+        ap (λ (b : List ℕ). take (spans rs) b) layout
+        ∙ ap (λ (b : List ℕ). take (spans rs) (b ++ control rs ++ tail)) spread
+        ∙ ap (λ (b : List ℕ). take (spans rs) b) (regroup (masked rs block) (zeros (f - length (masked rs block))) (control rs) tail)
+        ∙ take_at (masked rs block) (zeros (f - length (masked rs block)) ++ (control rs ++ tail)) (spans rs) long in
         record { place = omega (arith, s, end, bounds.0); meant = m; layout = layout; low = low; masked = sym front }
       where
         regroup : (a b c d : List ℕ) → ((a ++ b) ++ c) ++ d ≡ a ++ (b ++ (c ++ d))
         regroup a b c d = ap (λ (x : List ℕ). x ++ d) (append_assoc a b c) ∙ append_assoc a (b ++ c) d ∙ ap (λ (x : List ℕ). a ++ x) (append_assoc b c d)
+
     finish : (n : ℕ) (implied : List Rdf) → implied ≡ meant form (length block) rs → free_end block ≡ spans implied + (control_at (length block) implied - spans implied)
         → drop (control_at (length block) implied) (take (length block - 4) block) ≡ control implied → Leaves form (length block) rs
         → length (control rs) + control_at (length block) rs ≡ cidf_at block → Right form block rs
@@ -172,10 +169,10 @@ right_is form block rs size w right =
               let one = control_thirds rs in
               let two = control_thirds implied in
               let long : length (control implied) + control_at (length block) implied ≡ cidf_at block =
-                  omega (arith, ap length bytes, length-drop (control_at (length block) implied) upto, length-take (cidf_at block) block, (size_bounds (length block) size).0) in
+              omega (arith, ap length bytes, length-drop (control_at (length block) implied) upto, length-take (cidf_at block) block, (size_bounds (length block) size).0) in
               let lengths : length (control rs) ≡ length (control implied) = omega (arith, one.1, two.1, long, end, w.right.low, w.whole, free, fit) in
               let same : rs ≡ implied = control_same rs implied (take (control_at (length block) rs) upto) (take (control_at (length block) implied) upto) lengths
-                  (cut block (control_at (length block) rs) rs w.right.bytes ∙ sym (cut block (control_at (length block) implied) implied bytes)) in
+              (cut block (control_at (length block) rs) rs w.right.bytes ∙ sym (cut block (control_at (length block) implied) implied bytes)) in
               let fit_rs : spans rs ≤ control_at (length block) rs = subst (λ (x : List Rdf). spans x ≤ control_at (length block) x) (sym same) fit in
               let at_rs : control_at (length block) implied ≡ control_at (length block) rs = ap (λ (x : List Rdf). control_at (length block) x) (sym same) in
               done fit_rs (sym i ∙ sym same) (omega (arith, free, fit, at_rs)) end

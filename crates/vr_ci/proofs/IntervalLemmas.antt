@@ -1,22 +1,21 @@
 -- What a block that is a control interval says, and that it says one value.
-use Rattle.std.proofs.Common.{◌≡◌, ◌≢◌, ℕ, zero, suc, ◌+◌, ◌-◌, ◌*◌, ◌/◌, ◌%◌, ◌<◌, ◌≤◌, ◌⊎◌, inl, inr, Bool, true, false, List, [], ◌∷◌, ◌++◌, length, take, drop, Option, Some, None, refl, sym, ap, ◌∙◌, subst, arith, append_assoc, length-append}
+use Rattle.std.proofs.Common.{◌≡◌, ℕ, zero, suc, ◌+◌, ◌-◌, ◌*◌, ◌%◌, ◌<◌, ◌≤◌, inl, inr, List, [], ◌∷◌, ◌++◌, length, take, drop, None, refl, sym, ap, ◌∙◌, subst, arith, append_assoc}
 use Rattle.std.specs.Prelude.{map, replicate, if◌then◌else◌}
 use Rattle.std.specs.List.{flat_map, AllByRecursion}
-use Rattle.std.proofs.lemmas.List.{length-map, append-nil, length-replicate, drop_at, take-append-drop}
+use Rattle.std.proofs.lemmas.List.{drop_at, take-append-drop}
 use Rattle.vr_ci.specs.declared.form.Form.{Form}
-use Rattle.vr_ci.specs.declared.form.Form.TheVariants.{Plain, Slots}
 use Rattle.vr_ci.specs.declared.form.Shape.{Shape}
 use Rattle.vr_ci.specs.declared.form.Shape.TheVariants as shapes
 use Rattle.vr_ci.specs.declared.rdf.Rdf.{Rdf}
 use Rattle.vr_ci.specs.declared.rdf.Rdf.TheVariants.{Single, Run, Segment}
 use Rattle.vr_ci.specs.Size.{IsBlockSize}
-use Rattle.vr_ci.specs.Rdf.{Mark, marks, span, spans, rdf_bytes, control, IsCount, IsRdf, IsChain, shape_of}
-use Rattle.vr_ci.specs.Interval.{Item, Interval, mark_of, bytes_of, room, slots_in, FitsBlock, Fits, padded, cidf, control_at, laid, IsLaidOut, IsImage, IsInterval}
+use Rattle.vr_ci.specs.Rdf.{Mark, marks, span, spans, control, IsRdf, IsChain, shape_of}
+use Rattle.vr_ci.specs.Interval.{Item, Interval, mark_of, bytes_of, FitsBlock, Fits, padded, cidf, control_at, laid, IsLaidOut, IsInterval}
 use Rattle.vr_ci.specs.Reading.{items_at}
-use Rattle.vr_ci.specs.Fault.{cidf_at, displacement, free_field, free_length, free_end, is_busy, HasZeroCidf, IsCidfSound, StandFrom, IsWhole, HasControl}
-use Rattle.vr_ci.proofs.RdfLemmas.{control_same, some_bytes}
-use Rattle.vr_ci.proofs.ItemLemmas.{total, total-all, room_is, length-bytes, items_at-bytes}
-use Rattle.vr_ci.proofs.LayoutLemmas.{zeros, length-zeros, length-padded, padded_fits, Parts, before_cidf, cidf_says, field_busy}
+use Rattle.vr_ci.specs.Fault.{displacement, free_field, free_length, free_end, is_busy, HasZeroCidf}
+use Rattle.vr_ci.proofs.RdfLemmas.{control_same}
+use Rattle.vr_ci.proofs.ItemLemmas.{total, total-all, length-bytes, items_at-bytes}
+use Rattle.vr_ci.proofs.LayoutLemmas.{zeros, length-padded, padded_fits, Parts, before_cidf, cidf_says, field_busy}
 use Rattle.vr_ci.proofs.ChainLemmas.{size_bounds, chain_rdfs, room_kept}
 
 -- what the bytes of a block that is laid out say
@@ -46,7 +45,7 @@ laid_says form block value size fits l =
     let long : length front ≡ spans l.rdfs = length-bytes value.items ∙ ap total (sym l.said) ∙ total-all l.rdfs in
     let fits_front : length front ≤ f = omega (arith, place, long) in
     let parts : Parts block front l.rdfs (spans l.rdfs) (f - spans l.rdfs) value.busy =
-        record { whole = l.layout; fits = omega (arith, place) } in
+    record { whole = l.layout; fits = omega (arith, place) } in
     let halves = before_cidf parts in
     let numbers = cidf_says block (spans l.rdfs) ((f - spans l.rdfs) + (if value.busy then 32768 else 0)) halves.1 in
     let flags = field_busy (f - spans l.rdfs) value.busy (omega (arith, bounds.1)) in
@@ -64,7 +63,7 @@ laid_says form block value size fits l =
       control = ap (λ (b : List ℕ). drop f b) halves.0 ∙ drop_at (padded f front) (control l.rdfs) f (length-padded f front);
       rest = zeros (f - length front) ++ (control l.rdfs ++ cidf (spans l.rdfs) (f - spans l.rdfs) value.busy);
       front = l.layout ∙ ap (λ (b : List ℕ). b ++ control l.rdfs ++ cidf (spans l.rdfs) (f - spans l.rdfs) value.busy) spread ∙ regroup front (zeros (f - length front)) (control l.rdfs) (cidf (spans l.rdfs) (f - spans l.rdfs) value.busy);
-      layout = l.layout
+      layout = l.layout;
     }
   where
     regroup : (a b c d : List ℕ) → ((a ++ b) ++ c) ++ d ≡ a ++ (b ++ (c ++ d))
@@ -112,6 +111,7 @@ zero_block block e = (omega (arith, byte_zero (length block - 4), byte_zero (len
     at_zeros zero i = refl
     at_zeros (suc n) zero = refl
     at_zeros (suc n) (suc i) = at_zeros n i
+
     byte_zero : (i : ℕ) → Rattle.std.specs.Prelude.slice_index block i ≡ 0
     byte_zero i = ap (λ (b : List ℕ). Rattle.std.specs.Prelude.slice_index b i) e ∙ at_zeros (length block) i
 
@@ -126,19 +126,19 @@ pub one_value : (form : Form) (block : List ℕ) (v w : Interval) → IsInterval
 one_value form block v w a b =
     elim a.image [
       | inl la ↦ elim b.image [
-          | inl lb ↦
-              let l = laid_says form block v a.size a.fits la in
-              let m = laid_says form block w b.size b.fits lb in
-              let same : l.rdfs ≡ m.rdfs = one_chain l m in
-              same_value v w (sym l.shape ∙ ap shape_of same ∙ m.shape)
-                  (items_are l ∙ ap (λ (rs : List Rdf). items_at (flat_map marks rs) block) same ∙ sym (items_are m))
-                  (sym l.busy ∙ m.busy)
-          | inr eb ↦ absurd (not_zero (laid_says form block v a.size a.fits la) ((size_bounds (length block) a.size).0) (zero_block block eb.1))
-        ]
+        | inl lb ↦
+            let l = laid_says form block v a.size a.fits la in
+            let m = laid_says form block w b.size b.fits lb in
+            let same : l.rdfs ≡ m.rdfs = one_chain l m in
+            same_value v w (sym l.shape ∙ ap shape_of same ∙ m.shape)
+            (items_are l ∙ ap (λ (rs : List Rdf). items_at (flat_map marks rs) block) same ∙ sym (items_are m))
+            (sym l.busy ∙ m.busy)
+        | inr eb ↦ absurd (not_zero (laid_says form block v a.size a.fits la) ((size_bounds (length block) a.size).0) (zero_block block eb.1))
+      ]
       | inr ea ↦ elim b.image [
-          | inl lb ↦ absurd (not_zero (laid_says form block w b.size b.fits lb) ((size_bounds (length block) a.size).0) (zero_block block ea.1))
-          | inr eb ↦ same_value v w (ea.0 ∙ sym eb.0)
-              (end_items form (length block) v.shape v.items ea.0 a.fits.block ∙ sym (end_items form (length block) w.shape w.items eb.0 b.fits.block))
-              (a.fits.idle ea.0 ∙ sym (b.fits.idle eb.0))
-        ]
+        | inl lb ↦ absurd (not_zero (laid_says form block w b.size b.fits lb) ((size_bounds (length block) a.size).0) (zero_block block ea.1))
+        | inr eb ↦ same_value v w (ea.0 ∙ sym eb.0)
+            (end_items form (length block) v.shape v.items ea.0 a.fits.block ∙ sym (end_items form (length block) w.shape w.items eb.0 b.fits.block))
+            (a.fits.idle ea.0 ∙ sym (b.fits.idle eb.0))
+      ]
     ]

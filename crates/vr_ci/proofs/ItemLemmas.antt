@@ -1,12 +1,12 @@
 -- Items, their marks and their bytes.
-use Rattle.std.proofs.Common.{◌≡◌, ℕ, zero, suc, ◌+◌, ◌-◌, ◌*◌, ◌/◌, ◌<◌, ◌≤◌, Bool, true, false, List, [], ◌∷◌, ◌++◌, length, take, drop, refl, sym, ap, ◌∙◌, subst, arith, append_assoc, length-append, length-take, length-drop}
+use Rattle.std.proofs.Common.{◌≡◌, ℕ, zero, suc, ◌+◌, ◌*◌, ◌≤◌, List, [], ◌∷◌, ◌++◌, length, take, drop, refl, sym, ap, ◌∙◌, arith, append_assoc, length-append, length-take, length-drop}
 use Rattle.std.specs.Prelude.{map, replicate}
-use Rattle.std.specs.List.{flat_map, AllByRecursion}
-use Rattle.std.proofs.lemmas.List.{take_at, drop_at, append-nil, length-map, length-replicate, take-append-drop, length-take-le, drop-drop, take-take, drop-take, drop_all, take_all}
+use Rattle.std.specs.List.{flat_map}
+use Rattle.std.proofs.lemmas.List.{take_at, drop_at}
 use Rattle.vr_ci.specs.declared.rdf.Rdf.{Rdf}
 use Rattle.vr_ci.specs.declared.rdf.Rdf.TheVariants.{Single, Run, Segment}
-use Rattle.vr_ci.specs.Rdf.{Mark, marks, span, spans, rdf_bytes, control, IsCount, IsRdf}
-use Rattle.vr_ci.specs.Interval.{Item, IsItem, bytes_of, mark_of, live_of, room}
+use Rattle.vr_ci.specs.Rdf.{Mark, marks, span, spans}
+use Rattle.vr_ci.specs.Interval.{Item, bytes_of, mark_of, room}
 use Rattle.vr_ci.specs.Reading.{items_at}
 
 -- the bytes that marked records have

@@ -1,9 +1,9 @@
 -- Each value that a block of a size holds has one block of that size.
-use Rattle.std.proofs.Common.{◌≡◌, ◌≢◌, ℕ, zero, suc, ◌+◌, ◌-◌, ◌*◌, ◌/◌, ◌%◌, ◌<◌, ◌≤◌, ◌⊎◌, inl, inr, Bool, true, false, List, [], ◌∷◌, ◌++◌, length, take, drop, Option, Some, None, refl, sym, ap, ◌∙◌, subst, arith, append_assoc, length-append}
-use Rattle.std.specs.Prelude.{map, replicate, if◌then◌else◌, ◌==◌}
+use Rattle.std.proofs.Common.{◌≡◌, ℕ, suc, ◌+◌, ◌-◌, ◌<◌, ◌≤◌, inl, inr, Bool, true, false, List, [], ◌∷◌, ◌++◌, length, Option, Some, None, refl, sym, ap, ◌∙◌, subst, arith, length-append}
+use Rattle.std.specs.Prelude.{map, replicate, ◌==◌}
 use Rattle.std.specs.List.{flat_map, AllByRecursion}
-use Rattle.std.proofs.lemmas.Bool.{eq-eqb, ne_eqb, eqb-true, eqb-false}
-use Rattle.std.proofs.lemmas.List.{length-map, append-nil, length-replicate}
+use Rattle.std.proofs.lemmas.Bool.{eqb-true, eqb-false}
+use Rattle.std.proofs.lemmas.List.{length-map, length-replicate}
 use Rattle.vr_ci.specs.declared.form.Form.{Form}
 use Rattle.vr_ci.specs.declared.form.Form.TheVariants.{Plain, Slots}
 use Rattle.vr_ci.specs.declared.form.Piece.{Piece}
@@ -13,9 +13,9 @@ use Rattle.vr_ci.specs.declared.form.Shape.TheVariants as shapes
 use Rattle.vr_ci.specs.declared.rdf.Rdf.{Rdf}
 use Rattle.vr_ci.specs.declared.rdf.Rdf.TheVariants.{Single, Run, Segment}
 use Rattle.vr_ci.specs.Size.{IsBlockSize}
-use Rattle.vr_ci.specs.Rdf.{Mark, marks, spans, control, IsCount, IsRdf, run_length, AreApart, IsOfForm, IsOfRecords, MayFollow, IsChainFrom, IsChain, shape_of}
+use Rattle.vr_ci.specs.Rdf.{Mark, marks, spans, control, IsCount, run_length, AreApart, IsOfForm, IsOfRecords, IsChainFrom, IsChain, shape_of}
 use Rattle.vr_ci.specs.Interval.{Item, Interval, IsItem, mark_of, bytes_of, room, slots_in, FitsBlock, Fits, padded, cidf, control_at, laid, IsLaidOut, IsImage, IsInterval}
-use Rattle.vr_ci.proofs.ItemLemmas.{total, room_is}
+use Rattle.vr_ci.proofs.ItemLemmas.{room_is}
 use Rattle.vr_ci.proofs.LayoutLemmas.{zeros, length-zeros, length-padded}
 use Rattle.vr_ci.proofs.ChainLemmas.{size_bounds, room_kept, records_room}
 use Rattle.vr_ci.proofs.SpellingLemmas.{one_spelling, mark, single, join, spelled, Apart, join-apart, join-same, join-more}
@@ -31,18 +31,18 @@ pub one_block : (form : Form) (size : ℕ) (value : Interval) (one other : List 
 one_block form size value one other a b e f =
     elim a.image [
       | inl la ↦ elim b.image [
-          | inl lb ↦
-              let same : la.rdfs ≡ lb.rdfs = one_spelling form la.rdfs lb.rdfs la.chain lb.chain (la.shape ∙ sym lb.shape) (la.said ∙ sym lb.said) in
-              la.layout
-                  ∙ ap (λ (n : ℕ). laid n (flat_map bytes_of value.items) la.rdfs value.busy) (e ∙ sym f)
-                  ∙ ap (λ (rs : List Rdf). laid (length other) (flat_map bytes_of value.items) rs value.busy) same
-                  ∙ sym lb.layout
-          | inr eb ↦ absurd (no_end la.rdfs (la.shape ∙ eb.0))
-        ]
+        | inl lb ↦
+            let same : la.rdfs ≡ lb.rdfs = one_spelling form la.rdfs lb.rdfs la.chain lb.chain (la.shape ∙ sym lb.shape) (la.said ∙ sym lb.said) in
+            la.layout
+            ∙ ap (λ (n : ℕ). laid n (flat_map bytes_of value.items) la.rdfs value.busy) (e ∙ sym f)
+            ∙ ap (λ (rs : List Rdf). laid (length other) (flat_map bytes_of value.items) rs value.busy) same
+            ∙ sym lb.layout
+        | inr eb ↦ absurd (no_end la.rdfs (la.shape ∙ eb.0))
+      ]
       | inr ea ↦ elim b.image [
-          | inl lb ↦ absurd (no_end lb.rdfs (lb.shape ∙ ea.0))
-          | inr eb ↦ ea.1 ∙ ap (λ (n : ℕ). zeros n) (e ∙ sym f) ∙ sym eb.1
-        ]
+        | inl lb ↦ absurd (no_end lb.rdfs (lb.shape ∙ ea.0))
+        | inr eb ↦ ea.1 ∙ ap (λ (n : ℕ). zeros n) (e ∙ sym f) ∙ sym eb.1
+      ]
     ]
 
 -- a chain of plain records that says these marks
@@ -84,7 +84,7 @@ spelt-join m ms (Single true n ∷ rs) c l s = other m.live m.len c (m.len == n)
         let made : Spelt (mark true len ∷ ms) (Run n 2 ∷ rs) = record {
           chain = ((s.chain.0, two, omega arith), tt, after);
           said = ap (λ (x : List Mark). mark true n ∷ x) s.said ∙ ap (λ (k : ℕ). mark true k ∷ ms) (sym same);
-          records = (tt, s.records.1)
+          records = (tt, s.records.1);
         } in
         subst (λ (x : List Rdf). Spelt (mark true len ∷ ms) x) (sym joined) made
     other true len c false e =
@@ -94,6 +94,7 @@ spelt-join m ms (Run n k ∷ rs) c l s = other m.live m.len c (m.len == n) refl
   where
     few : k ≤ length ms
     few = omega (arith, ap length s.said, length-append (replicate k (mark true n)) (flat_map marks rs), length-replicate k (mark true n))
+
     other : (live : Bool) (len : ℕ) → IsCount len → (t : Bool) → (len == n) ≡ t → Spelt (mark live len ∷ ms) (join (mark live len) (Run n k ∷ rs))
     other false len c t e = spelt-cons (mark false len) ms (Run n k ∷ rs) c tt s
     other true len c true e =
@@ -105,7 +106,7 @@ spelt-join m ms (Run n k ∷ rs) c l s = other m.live m.len c (m.len == n) refl
         let made : Spelt (mark true len ∷ ms) (Run n (k + 1) ∷ rs) = record {
           chain = ((s.chain.0.0, more, omega (arith, s.chain.0.2)), tt, after);
           said = ap (λ (j : ℕ). replicate j (mark true n) ++ flat_map marks rs) step ∙ ap (λ (x : List Mark). mark true n ∷ x) s.said ∙ ap (λ (j : ℕ). mark true j ∷ ms) (sym same);
-          records = (tt, s.records.1)
+          records = (tt, s.records.1);
         } in
         subst (λ (x : List Rdf). Spelt (mark true len ∷ ms) x) (sym joined) made
     other true len c false e =
@@ -150,18 +151,22 @@ made_block form size value s f rs c h e =
     let block = laid size front rs value.busy in
     let pad = padded (control_at size rs) front in
     let tail = cidf (spans rs) (control_at size rs - spans rs) value.busy in
-    let long : length block ≡ size = omega (arith, length-append (pad ++ control rs) tail, length-append pad (control rs), length-padded (control_at size rs) front, place) in
-    (block, long, record {
-      size = subst IsBlockSize (sym long) s;
-      fits = subst (λ (n : ℕ). Fits form n value) (sym long) f;
-      image = inl (record { rdfs = rs; chain = c; shape = h; said = e; layout = ap (λ (n : ℕ). laid n front rs value.busy) (sym long) })
-    })
+    let long : length block ≡ size = omega (arith, length-append (pad ++ control rs) tail, length-append pad (control rs), length-padded (control_at size rs) front, place) in (
+      block,
+      long,
+      record {
+        size = subst IsBlockSize (sym long) s;
+        fits = subst (λ (n : ℕ). Fits form n value) (sym long) f;
+        image = inl (record { rdfs = rs; chain = c; shape = h; said = e; layout = ap (λ (n : ℕ). laid n front rs value.busy) (sym long) });
+      },
+    )
 
 pub some_block : (form : Form) (size : ℕ) (value : Interval) → IsBlockSize size → Fits form size value → (block : List ℕ) × (length block ≡ size) × IsInterval form block value
 some_block form size value s f = by_shape value.shape refl
   where
     items : List Item
     items = value.items
+
     records : (form : Form) → Fits form size value → value.shape ≡ shapes.Records → (block : List ℕ) × (length block ≡ size) × IsInterval form block value
     records form f e =
         let small = size_bounds size s in
@@ -177,6 +182,7 @@ some_block form size value s f = by_shape value.shape refl
             made_block Plain size value s f (spelled Plain (map mark_of items)) sp.chain (records_of (spelled Plain (map mark_of items)) sp.records ∙ sym e) sp.said
         by_form (Slots len) f e counts few =
             made_block (Slots len) size value s f (map single (map mark_of items)) (slots_chain len None (map mark_of items) counts (λ r x. absurd cc)) (slots_shape (map mark_of items) ∙ sym e) (slots_said (map mark_of items))
+
     segment : (piece : Piece) (number : ℕ) → value.shape ≡ shapes.Segment piece number → (block : List ℕ) × (length block ≡ size) × IsInterval form block value
     segment piece number e = one items refl f.items (subst (λ (x : Shape). FitsBlock form size x items) e f.block)
       where
@@ -184,6 +190,7 @@ some_block form size value s f = by_shape value.shape refl
         short First n h = omega (arith, h)
         short Inner n h = omega (arith, h)
         short Last n h = h
+
         one : (is : List Item) → value.items ≡ is → AllByRecursion IsItem is → FitsBlock form size (shapes.Segment piece number) is → (block : List ℕ) × (length block ≡ size) × IsInterval form block value
         one [] q v b = absurd cc
         one (i ∷ j ∷ is) q v b = absurd cc
@@ -195,12 +202,16 @@ some_block form size value s f = by_shape value.shape refl
             of_form : (g : Form) → IsOfForm g (Segment piece i.live number (length i.bytes))
             of_form Plain = tt
             of_form (Slots len) = tt
+
     by_shape : (x : Shape) → value.shape ≡ x → (block : List ℕ) × (length block ≡ size) × IsInterval form block value
     by_shape shapes.Records e = records form f e
     by_shape (shapes.Segment piece number) e = segment piece number e
-    by_shape shapes.EndOfFile e =
-        (zeros size, length-zeros size, record {
-          size = subst IsBlockSize (sym (length-zeros size)) s;
-          fits = subst (λ (n : ℕ). Fits form n value) (sym (length-zeros size)) f;
-          image = inr (e, ap (λ (n : ℕ). zeros n) (sym (length-zeros size)))
-        })
+    by_shape shapes.EndOfFile e = (
+      zeros size,
+      length-zeros size,
+      record {
+        size = subst IsBlockSize (sym (length-zeros size)) s;
+        fits = subst (λ (n : ℕ). Fits form n value) (sym (length-zeros size)) f;
+        image = inr (e, ap (λ (n : ℕ). zeros n) (sym (length-zeros size)));
+      },
+    )

@@ -1,15 +1,12 @@
 -- What the bytes of a block that is laid out from RDFs say.
-use Rattle.std.proofs.Common.{◌≡◌, ◌≢◌, ℕ, zero, suc, ◌+◌, ◌-◌, ◌*◌, ◌/◌, ◌%◌, ◌<◌, ◌≤◌, ◌⊎◌, inl, inr, Bool, true, false, List, [], ◌∷◌, ◌++◌, length, take, drop, get_or, Option, Some, None, refl, sym, ap, ◌∙◌, subst, arith, append_assoc, length-append, length-take, length-drop}
-use Rattle.std.specs.Prelude.{map, replicate, nat_le, slice_index, if◌then◌else◌}
-use Rattle.std.specs.List.{flat_map, AllByRecursion}
-use Rattle.std.proofs.lemmas.Bool.{cases_lt, le-leb, lt-leb}
-use Rattle.std.proofs.lemmas.List.{take_at, drop_at, append-nil, length-replicate, length-take-le, take-append-le, take_all, get_or-append-add, get_or-append_right, get_or_append_left}
-use Rattle.vr_ci.specs.declared.form.Form.{Form}
-use Rattle.vr_ci.specs.declared.form.Form.TheVariants.{Plain, Slots}
+use Rattle.std.proofs.Common.{◌≡◌, ℕ, zero, suc, ◌+◌, ◌-◌, ◌/◌, ◌%◌, ◌<◌, ◌≤◌, Bool, true, false, List, [], ◌∷◌, ◌++◌, length, take, drop, get_or, refl, sym, ap, ◌∙◌, arith, length-append, length-take}
+use Rattle.std.specs.Prelude.{replicate, nat_le, if◌then◌else◌}
+use Rattle.std.proofs.lemmas.Bool.{le-leb, lt-leb}
+use Rattle.std.proofs.lemmas.List.{take_at, drop_at}
 use Rattle.vr_ci.specs.declared.rdf.Rdf.{Rdf}
-use Rattle.vr_ci.specs.Rdf.{two_bytes, spans, control}
-use Rattle.vr_ci.specs.Interval.{padded, cidf, control_at, laid}
-use Rattle.vr_ci.specs.Fault.{number_at, cidf_at, displacement, free_field, free_length, free_end, is_busy}
+use Rattle.vr_ci.specs.Rdf.{two_bytes, control}
+use Rattle.vr_ci.specs.Interval.{padded, cidf, control_at}
+use Rattle.vr_ci.specs.Fault.{displacement, free_field}
 
 abbrev pub zeros : ℕ → List ℕ
 zeros n = replicate n 0
@@ -31,6 +28,7 @@ padded_fits n bytes h =
     take_zeros zero m h = refl
     take_zeros (suc k) zero h = absurd (omega arith)
     take_zeros (suc k) (suc m) h = ap (λ (t : List ℕ). 0 ∷ t) (take_zeros k m (omega arith))
+
     take_past : (bs : List ℕ) (k m : ℕ) → k ≤ m → take (length bs + k) (bs ++ zeros m) ≡ bs ++ zeros k
     take_past [] k m h = let e : 0 + k ≡ k = omega arith in ap (λ (j : ℕ). take j (zeros m)) e ∙ take_zeros k m h
     take_past (b ∷ bs) k m h =
@@ -55,9 +53,9 @@ before_cidf {block = block} {front = front} {rdfs = rdfs} {d = d} {f = f} {busy 
     let pad = padded (control_at (length block) rdfs) front in
     let long : length (pad ++ control rdfs) ≡ length block - 4 = omega (arith, length-append pad (control rdfs), length-padded (control_at (length block) rdfs) front, p.fits) in
     let one : take (length block - 4) block ≡ pad ++ control rdfs =
-        ap (λ (b : List ℕ). take (length block - 4) b) p.whole ∙ take_at (pad ++ control rdfs) (cidf d f busy) _ long in
+    ap (λ (b : List ℕ). take (length block - 4) b) p.whole ∙ take_at (pad ++ control rdfs) (cidf d f busy) _ long in
     let two : drop (length block - 4) block ≡ cidf d f busy =
-        ap (λ (b : List ℕ). drop (length block - 4) b) p.whole ∙ drop_at (pad ++ control rdfs) (cidf d f busy) _ long in
+    ap (λ (b : List ℕ). drop (length block - 4) b) p.whole ∙ drop_at (pad ++ control rdfs) (cidf d f busy) _ long in
     (one, two)
 
 pub at_drop : (block : List ℕ) (i j : ℕ) → byte block (i + j) ≡ byte (drop i block) j

@@ -1,5 +1,5 @@
 -- Lending records out of a block, one after another.
-use Rattle.std.proofs.Common.{◌≡◌, ◌≢◌, ℕ, zero, suc, ◌+◌, ◌-◌, ◌*◌, ◌<◌, ◌≤◌, Bool, true, false, List, [], ◌∷◌, ◌++◌, length, take, drop, Option, Some, None, refl, sym, ap, ◌∙◌, subst, arith, append_assoc, length-append, length-take, length-drop}
+use Rattle.std.proofs.Common.{◌≡◌, ℕ, zero, suc, ◌+◌, ◌-◌, ◌*◌, ◌<◌, ◌≤◌, Bool, true, List, [], ◌∷◌, ◌++◌, length, take, drop, refl, sym, ap, ◌∙◌, subst, arith, append_assoc, length-append, length-take, length-drop}
 use Rattle.std.specs.Prelude.{replicate}
 use Rattle.std.specs.List.{flat_map, AllByRecursion}
 use Rattle.std.proofs.lemmas.List.{take_at, drop_at, take-append-drop, take-take, drop-take, drop-drop, length-replicate}
@@ -27,21 +27,23 @@ first_of low end at block l h u = by_rdfs (rdfs_between low end block) refl
   where
     upto : List ℕ
     upto = take end block
+
     long : length (take end block) ≡ end
     long = omega (arith, length-take end block, l.within)
+
     by_rdfs : (rs : List Rdf) → rdfs_between low end block ≡ rs → First block low end at
     by_rdfs [] e = absurd (omega (arith, ap length l.control, ap (λ (x : List Rdf). length (control x)) e, length-drop low upto, long, h))
     by_rdfs (r ∷ rs) e =
         let all : drop low upto ≡ control rs ++ rdf_bytes r = l.control ∙ ap control e in
         let p : List ℕ = take low upto ++ control rs in
         let parts : upto ≡ p ++ rdf_bytes r =
-            sym (take-append-drop low upto) ∙ ap (λ (x : List ℕ). take low upto ++ x) all ∙ sym (append_assoc (take low upto) (control rs) (rdf_bytes r)) in
+        sym (take-append-drop low upto) ∙ ap (λ (x : List ℕ). take low upto ++ x) all ∙ sym (append_assoc (take low upto) (control rs) (rdf_bytes r)) in
         let front : length (take low upto) ≡ low = omega (arith, length-take low upto, long, l.order) in
         let place : length p ≡ at = unit_of low block end at p r (omega (arith, l.within)) parts (omega (arith, length-append (take low upto) (control rs), front)) u in
         let below : at ≤ end = omega (arith, ap length parts, length-append p (rdf_bytes r), long, place) in
         let sum : at + (end - at) ≡ end = omega (arith, below) in
         let here : take (end - at) (drop at block) ≡ rdf_bytes r =
-            sym (drop-take at (end - at) block) ∙ ap (λ (k : ℕ). drop at (take k block)) sum ∙ ap (λ (x : List ℕ). drop at x) parts ∙ drop_at p (rdf_bytes r) at place in
+        sym (drop-take at (end - at) block) ∙ ap (λ (k : ℕ). drop at (take k block)) sum ∙ ap (λ (x : List ℕ). drop at x) parts ∙ drop_at p (rdf_bytes r) at place in
         let left : take at block ≡ p = sym (take-take at end block below) ∙ ap (λ (x : List ℕ). take at x) parts ∙ take_at p (rdf_bytes r) at place in
         let behind : drop low (take at block) ≡ control rs = ap (λ (x : List ℕ). drop low x) left ∙ drop_at (take low upto) (control rs) low front in
         let same : rdfs_between low at block ≡ rs = rdfs_between-is low at block rs behind in
@@ -55,8 +57,8 @@ first_of low end at block l h u = by_rdfs (rdfs_between low end block) refl
             order = omega (arith, place, length-append (take low upto) (control rs), front);
             within = omega (arith, l.within, below);
             control = behind ∙ ap control (sym same);
-            rdfs = subst (λ (x : List Rdf). AllByRecursion IsRdf x) (sym same) valid.1
-          }
+            rdfs = subst (λ (x : List Rdf). AllByRecursion IsRdf x) (sym same) valid.1;
+          };
         }
 
 -- what is found there is the first
@@ -94,26 +96,27 @@ span_is (Segment piece live number n) = omega arith
 pub batch_more : (block : List ℕ) (low : ℕ) (old new : Batch) (r : Rdf) → old.left ≡ 0 → rdfs_between low old.end block ≡ r ∷ rdfs_between low new.end block → IsRdf r
     → new.left ≡ length (marks r) → new.length ≡ record_length r → new.live ≡ is_live r
     → (0 < new.left) × (marks_left block low new ≡ marks_left block low old)
-        × (new.left * new.length + spans (rdfs_between low new.end block) ≡ old.left * old.length + spans (rdfs_between low old.end block))
+    × (new.left * new.length + spans (rdfs_between low new.end block) ≡ old.left * old.length + spans (rdfs_between low old.end block))
 batch_more block low old new r none parts valid left len live =
     let behind : List Mark = flat_map marks (rdfs_between low new.end block) in
     let mine : replicate new.left (let m : Mark = record { live = new.live; len = new.length } in m) ≡ marks r =
-        ap (λ (k : ℕ). replicate k (let m : Mark = record { live = new.live; len = new.length } in m)) left
-            ∙ ap (λ (b : Bool). replicate (length (marks r)) (let m : Mark = record { live = b; len = new.length } in m)) live
-            ∙ ap (λ (k : ℕ). replicate (length (marks r)) (let m : Mark = record { live = is_live r; len = k } in m)) len
-            ∙ sym (marks_alike r) in
+    ap (λ (k : ℕ). replicate k (let m : Mark = record { live = new.live; len = new.length } in m)) left
+    ∙ ap (λ (b : Bool). replicate (length (marks r)) (let m : Mark = record { live = b; len = new.length } in m)) live
+    ∙ ap (λ (k : ℕ). replicate (length (marks r)) (let m : Mark = record { live = is_live r; len = k } in m)) len
+    ∙ sym (marks_alike r) in
     let theirs : marks_left block low old ≡ flat_map marks (rdfs_between low old.end block) =
-        ap (λ (k : ℕ). replicate k (let m : Mark = record { live = old.live; len = old.length } in m) ++ flat_map marks (rdfs_between low old.end block)) none in
+    ap (λ (k : ℕ). replicate k (let m : Mark = record { live = old.live; len = old.length } in m) ++ flat_map marks (rdfs_between low old.end block)) none in
     let product : new.left * new.length ≡ span r = ap (λ (k : ℕ). k * new.length) left ∙ ap (λ (k : ℕ). length (marks r) * k) len ∙ span_is r in
-    let zero_product : old.left * old.length ≡ 0 = ap (λ (k : ℕ). k * old.length) none ∙ omega arith in
-    (omega (arith, left, some_marks r valid),
-        ap (λ (x : List Mark). x ++ behind) mine ∙ sym (ap (flat_map marks) parts) ∙ sym theirs,
-        omega (arith, product, zero_product, ap spans parts))
+    let zero_product : old.left * old.length ≡ 0 = ap (λ (k : ℕ). k * old.length) none ∙ omega arith in (
+      omega (arith, left, some_marks r valid),
+      ap (λ (x : List Mark). x ++ behind) mine ∙ sym (ap (flat_map marks) parts) ∙ sym theirs,
+      omega (arith, product, zero_product, ap spans parts),
+    )
 
 pub none_left : (block : List ℕ) (low : ℕ) (old : Batch) → old.left ≡ 0 → rdfs_between low old.end block ≡ [] → marks_left block low old ≡ []
 none_left block low old none e =
     ap (λ (k : ℕ). replicate k (let m : Mark = record { live = old.live; len = old.length } in m) ++ flat_map marks (rdfs_between low old.end block)) none
-        ∙ ap (λ (x : List Rdf). flat_map marks x) e
+    ∙ ap (λ (x : List Rdf). flat_map marks x) e
 
 -- one item is lent, and the others are left
 pub next_items : (block : List ℕ) (low : ℕ) (old new rest : Batch) (offset : ℕ) → 0 < new.left → marks_left block low new ≡ marks_left block low old
@@ -126,8 +129,8 @@ next_items block low old new rest offset some same e =
     let first : marks_left block low new ≡ m ∷ (replicate (new.left - 1) m ++ behind) = ap (λ (k : ℕ). replicate k m ++ behind) one in
     let further : drop new.length (drop offset block) ≡ drop (offset + new.length) block = drop-drop new.length offset block in
     ap (λ (x : List Mark). items_at x (drop offset block)) (sym same ∙ first)
-        ∙ ap (λ (x : List ℕ). (let i : Item = record { bytes = take new.length (drop offset block); live = new.live } in i) ∷ items_at (replicate (new.left - 1) m ++ behind) x) further
-        ∙ ap (λ (b : Batch). (let i : Item = record { bytes = take new.length (drop offset block); live = new.live } in i) ∷ items_left block low b (offset + new.length)) (sym e)
+    ∙ ap (λ (x : List ℕ). (let i : Item = record { bytes = take new.length (drop offset block); live = new.live } in i) ∷ items_at (replicate (new.left - 1) m ++ behind) x) further
+    ∙ ap (λ (b : Batch). (let i : Item = record { bytes = take new.length (drop offset block); live = new.live } in i) ∷ items_left block low b (offset + new.length)) (sym e)
 
 pub nothing_left : (block : List ℕ) (low : ℕ) (old : Batch) (offset : ℕ) → marks_left block low old ≡ [] → items_left block low old offset ≡ []
 nothing_left block low old offset e = ap (λ (x : List Mark). items_at x (drop offset block)) e

@@ -1,8 +1,8 @@
 -- What a block describes by its RDFs is the block itself, where it is a control interval.
-use Rattle.std.proofs.Common.{◌≡◌, ◌≢◌, ℕ, zero, suc, ◌+◌, ◌-◌, ◌*◌, ◌/◌, ◌%◌, ◌<◌, ◌≤◌, ◌⊎◌, inl, inr, Bool, true, false, List, [], ◌∷◌, ◌++◌, length, take, drop, Option, Some, None, refl, sym, ap, ◌∙◌, subst, arith, append_assoc, length-append, length-take, length-drop}
+use Rattle.std.proofs.Common.{◌≡◌, ℕ, zero, suc, ◌+◌, ◌-◌, ◌*◌, ◌≤◌, Bool, true, false, List, [], ◌∷◌, ◌++◌, length, take, drop, Option, Some, None, refl, sym, ap, ◌∙◌, subst, arith, append_assoc, length-append, length-take, length-drop}
 use Rattle.std.specs.Prelude.{map, replicate, if◌then◌else◌}
 use Rattle.std.specs.List.{flat_map, AllByRecursion}
-use Rattle.std.proofs.lemmas.List.{length-map, append-nil, length-replicate, take_at, drop_at, drop-drop}
+use Rattle.std.proofs.lemmas.List.{length-map, length-replicate, take_at, drop_at, drop-drop}
 use Rattle.vr_ci.specs.declared.form.Form.{Form}
 use Rattle.vr_ci.specs.declared.form.Form.TheVariants.{Plain, Slots}
 use Rattle.vr_ci.specs.declared.form.Piece.{Piece}
@@ -12,10 +12,9 @@ use Rattle.vr_ci.specs.declared.form.Shape.TheVariants as shapes
 use Rattle.vr_ci.specs.declared.rdf.Rdf.{Rdf}
 use Rattle.vr_ci.specs.declared.rdf.Rdf.TheVariants.{Single, Run, Segment}
 use Rattle.vr_ci.specs.Rdf.{Mark, marks, span, spans, control, IsCount, IsRdf, IsOfRecords, IsChain, shape_of}
-use Rattle.vr_ci.specs.Interval.{Item, Interval, IsItem, mark_of, bytes_of, room, slots_in, FitsBlock, Fits, control_at, laid}
-use Rattle.vr_ci.specs.Fault.{is_busy, masked, is_live, filled, slotted, slots_of, meant, described, rdf_room, rdfs_room}
-use Rattle.vr_ci.specs.Reading.{items_at}
-use Rattle.vr_ci.proofs.ItemLemmas.{total, total-append, total-all, take-add, room_is}
+use Rattle.vr_ci.specs.Interval.{Item, Interval, IsItem, mark_of, bytes_of, slots_in, FitsBlock, Fits, laid}
+use Rattle.vr_ci.specs.Fault.{is_busy, masked, filled, slotted, slots_of, meant, described, rdfs_room}
+use Rattle.vr_ci.proofs.ItemLemmas.{total, total-all, take-add, room_is}
 use Rattle.vr_ci.proofs.LayoutLemmas.{zeros, length-zeros}
 use Rattle.vr_ci.proofs.ChainLemmas.{alone, all_records, records_room}
 use Rattle.vr_ci.proofs.IntervalLemmas.{Laid}
@@ -35,10 +34,10 @@ masked_run n (suc k) ms bytes =
     let rest = masked_run n k ms (drop n bytes) in
     let back : drop (n * k) (drop n bytes) ≡ drop (n + n * k) bytes = drop-drop (n * k) n bytes in
     ap (λ (x : List ℕ). take n bytes ++ x) rest
-        ∙ sym (append_assoc (take n bytes) (take (n * k) (drop n bytes)) (masked_marks ms (drop (n * k) (drop n bytes))))
-        ∙ ap (λ (x : List ℕ). x ++ masked_marks ms (drop (n * k) (drop n bytes))) (sym (take-add n (n * k) bytes))
-        ∙ ap (λ (x : List ℕ). take (n + n * k) bytes ++ masked_marks ms x) back
-        ∙ ap (λ (j : ℕ). take j bytes ++ masked_marks ms (drop j bytes)) e
+    ∙ sym (append_assoc (take n bytes) (take (n * k) (drop n bytes)) (masked_marks ms (drop (n * k) (drop n bytes))))
+    ∙ ap (λ (x : List ℕ). x ++ masked_marks ms (drop (n * k) (drop n bytes))) (sym (take-add n (n * k) bytes))
+    ∙ ap (λ (x : List ℕ). take (n + n * k) bytes ++ masked_marks ms x) back
+    ∙ ap (λ (j : ℕ). take j bytes ++ masked_marks ms (drop j bytes)) e
 
 pub masked_is : (rs : List Rdf) (bytes : List ℕ) → masked rs bytes ≡ masked_marks (flat_map marks rs) bytes
 masked_is [] bytes = refl
@@ -120,7 +119,7 @@ slots_meant len size rs items c s f e =
     let same = slots_same len rs items (singles len None rs c (all_records (Slots len) None rs c s)) e f.0 in
     let count : length rs ≡ slots_in size len = same.1 ∙ f.1 in
     ap (λ (x : List Rdf). take (slots_in size len) (x ++ replicate (slots_in size len) (Single false len))) same.0
-        ∙ take_at rs (replicate (slots_in size len) (Single false len)) (slots_in size len) count
+    ∙ take_at rs (replicate (slots_in size len) (Single false len)) (slots_in size len) count
 
 meant_records : (form : Form) (size : ℕ) (rs : List Rdf) (items : List Item) → IsChain form rs → shape_of rs ≡ shapes.Records → FitsBlock form size shapes.Records items
     → flat_map marks rs ≡ map mark_of items → meant form size rs ≡ rs
@@ -149,7 +148,7 @@ meant_is form size (Run n k ∷ rs) items c f e = meant_records form size (Run n
 meant_is form size (Segment piece live number n ∷ rs) items c f e =
     let none : rs ≡ [] = alone form piece live number n rs c in
     ap (λ (r : Rdf). r ∷ []) (meant_segment form size piece live number n items f (ap (λ (x : List Rdf). marks (Segment piece live number n) ++ flat_map marks x) (sym none) ∙ e))
-        ∙ ap (λ (x : List Rdf). Segment piece live number n ∷ x) (sym none)
+    ∙ ap (λ (x : List Rdf). Segment piece live number n ∷ x) (sym none)
 
 -- An interval is the block that it describes.
 pub described_is : (form : Form) (block : List ℕ) (value : Interval) → Fits form (length block) value → (l : Laid form block value) → described form block l.rdfs ≡ block
@@ -158,11 +157,11 @@ described_is form block value f l =
     let kept : FitsBlock form n (shape_of l.rdfs) value.items = subst (λ (x : Shape). FitsBlock form n x value.items) (sym l.shape) f.block in
     let same : meant form n l.rdfs ≡ l.rdfs = meant_is form n l.rdfs value.items l.chain kept l.said in
     let front : masked l.rdfs block ≡ flat_map bytes_of value.items =
-        masked_is l.rdfs block ∙ ap (λ (ms : List Mark). masked_marks ms block) l.said ∙ ap (λ (b : List ℕ). masked_marks (map mark_of value.items) b) l.front ∙ masked-items value.items l.rest f.items in
+    masked_is l.rdfs block ∙ ap (λ (ms : List Mark). masked_marks ms block) l.said ∙ ap (λ (b : List ℕ). masked_marks (map mark_of value.items) b) l.front ∙ masked-items value.items l.rest f.items in
     ap (λ (rs : List Rdf). laid n (masked rs block) rs (is_busy block)) same
-        ∙ ap (λ (x : List ℕ). laid n x l.rdfs (is_busy block)) front
-        ∙ ap (λ (b : Bool). laid n (flat_map bytes_of value.items) l.rdfs b) l.busy
-        ∙ sym l.layout
+    ∙ ap (λ (x : List ℕ). laid n x l.rdfs (is_busy block)) front
+    ∙ ap (λ (b : Bool). laid n (flat_map bytes_of value.items) l.rdfs b) l.busy
+    ∙ sym l.layout
 
 -- the records of an interval have room
 pub room_in : (form : Form) (block : List ℕ) (value : Interval) → Fits form (length block) value → (l : Laid form block value) → rdfs_room l.rdfs ≤ length block - 4
@@ -170,6 +169,7 @@ room_in form block value f l = by_rdfs l.rdfs l.chain (subst (λ (x : Shape). Fi
   where
     records : (rs : List Rdf) → FitsBlock form (length block) shapes.Records value.items → flat_map marks rs ≡ map mark_of value.items → rdfs_room rs ≤ length block - 4
     records rs f e = omega (arith, room_of_rdfs rs, records_room form (length block) value.items f, room_is value.items, ap total e, total-all rs, ap length e, length-map value.items mark_of)
+
     by_rdfs : (rs : List Rdf) → IsChain form rs → FitsBlock form (length block) (shape_of rs) value.items → flat_map marks rs ≡ map mark_of value.items
         → spans rs + length (control rs) + 4 ≤ length block → rdfs_room rs ≤ length block - 4
     by_rdfs [] c f e p = records [] f e

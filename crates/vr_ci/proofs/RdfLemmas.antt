@@ -1,14 +1,11 @@
 -- The spelling of RDFs can be read in one way only, from the right.
-use Rattle.std.proofs.Common.{◌≡◌, ◌≢◌, ℕ, zero, suc, ◌+◌, ◌-◌, ◌*◌, ◌/◌, ◌%◌, ◌<◌, ◌≤◌, ◌⊎◌, inl, inr, Bool, true, false, List, [], ◌∷◌, ◌++◌, length, take, drop, Option, Some, None, refl, sym, ap, ◌∙◌, subst, arith, append_assoc, length-append}
-use Rattle.std.proofs.lemmas.List.{append_cancel_left, append_cancel_right, take_at, drop_at, append-nil, nil_from_length}
-use Rattle.vr_ci.specs.declared.form.Form.{Form}
-use Rattle.vr_ci.specs.declared.form.Form.TheVariants.{Plain, Slots}
+use Rattle.std.proofs.Common.{◌≡◌, ℕ, ◌+◌, ◌*◌, ◌/◌, ◌%◌, ◌≤◌, ◌⊎◌, inl, inr, Bool, true, false, List, [], ◌∷◌, ◌++◌, length, take, drop, refl, sym, ap, ◌∙◌, arith, append_assoc, length-append}
+use Rattle.std.proofs.lemmas.List.{take_at, drop_at, append-nil}
 use Rattle.vr_ci.specs.declared.form.Piece.{Piece}
 use Rattle.vr_ci.specs.declared.form.Piece.TheVariants.{First, Inner, Last}
 use Rattle.vr_ci.specs.declared.rdf.Rdf.{Rdf}
 use Rattle.vr_ci.specs.declared.rdf.Rdf.TheVariants.{Single, Run, Segment}
-use Rattle.vr_ci.specs.Rdf.{two_bytes, withdrawn_bit, segment_bits, rdf_bytes, control, IsCount, IsRdf, MayFollow, IsChainFrom, IsChain, last_from}
-use Rattle.std.specs.List.{AllByRecursion}
+use Rattle.vr_ci.specs.Rdf.{two_bytes, withdrawn_bit, segment_bits, rdf_bytes, control}
 
 -- lists that end in parts of one length
 pub same_ends : (p a q b : List ℕ) → length a ≡ length b → p ++ a ≡ q ++ b → (p ≡ q) × (a ≡ b)
@@ -100,35 +97,35 @@ rdf_bytes-inj (Single live n) (Run m k) p q e =
     absurd (flag_low live 0 t.1)
 rdf_bytes-inj (Single live n) (Segment piece mark number m) p q e =
     let t = three (withdrawn_bit live) (n / 256) (n % 256) (64 + segment_bits piece + withdrawn_bit mark) (m / 256) (m % 256) p (q ++ (8 + segment_bits piece + withdrawn_bit mark) ∷ two_bytes number)
-        (e ∙ sym (append_assoc q ((8 + segment_bits piece + withdrawn_bit mark) ∷ two_bytes number) ((64 + segment_bits piece + withdrawn_bit mark) ∷ two_bytes m))) in
+    (e ∙ sym (append_assoc q ((8 + segment_bits piece + withdrawn_bit mark) ∷ two_bytes number) ((64 + segment_bits piece + withdrawn_bit mark) ∷ two_bytes m))) in
     absurd (flag_low live (segment_bits piece + withdrawn_bit mark) (omega (arith, t.1)))
 rdf_bytes-inj (Run m k) (Single live n) p q e =
     let t = three (withdrawn_bit live) (n / 256) (n % 256) 64 (m / 256) (m % 256) q (p ++ 8 ∷ two_bytes k) (sym e ∙ sym (append_assoc p (8 ∷ two_bytes k) (64 ∷ two_bytes m))) in
     absurd (flag_low live 0 t.1)
 rdf_bytes-inj (Segment piece mark number m) (Single live n) p q e =
     let t = three (withdrawn_bit live) (n / 256) (n % 256) (64 + segment_bits piece + withdrawn_bit mark) (m / 256) (m % 256) q (p ++ (8 + segment_bits piece + withdrawn_bit mark) ∷ two_bytes number)
-        (sym e ∙ sym (append_assoc p ((8 + segment_bits piece + withdrawn_bit mark) ∷ two_bytes number) ((64 + segment_bits piece + withdrawn_bit mark) ∷ two_bytes m))) in
+    (sym e ∙ sym (append_assoc p ((8 + segment_bits piece + withdrawn_bit mark) ∷ two_bytes number) ((64 + segment_bits piece + withdrawn_bit mark) ∷ two_bytes m))) in
     absurd (flag_low live (segment_bits piece + withdrawn_bit mark) (omega (arith, t.1)))
 rdf_bytes-inj (Run n k) (Run m l) p q e =
     let right = three 64 (n / 256) (n % 256) 64 (m / 256) (m % 256) (p ++ 8 ∷ two_bytes k) (q ++ 8 ∷ two_bytes l)
-        (append_assoc p (8 ∷ two_bytes k) (64 ∷ two_bytes n) ∙ e ∙ sym (append_assoc q (8 ∷ two_bytes l) (64 ∷ two_bytes m))) in
+    (append_assoc p (8 ∷ two_bytes k) (64 ∷ two_bytes n) ∙ e ∙ sym (append_assoc q (8 ∷ two_bytes l) (64 ∷ two_bytes m))) in
     let left = three 8 (k / 256) (k % 256) 8 (l / 256) (l % 256) p q right.0 in
     let same_length : n ≡ m = two_bytes-inj n m right.2 right.3 in
     let same_count : k ≡ l = two_bytes-inj k l left.2 left.3 in
     (cc, left.0)
 rdf_bytes-inj (Run n k) (Segment piece mark number m) p q e =
     let right = three 64 (n / 256) (n % 256) (64 + segment_bits piece + withdrawn_bit mark) (m / 256) (m % 256) (p ++ 8 ∷ two_bytes k) (q ++ (8 + segment_bits piece + withdrawn_bit mark) ∷ two_bytes number)
-        (append_assoc p (8 ∷ two_bytes k) (64 ∷ two_bytes n) ∙ e ∙ sym (append_assoc q ((8 + segment_bits piece + withdrawn_bit mark) ∷ two_bytes number) ((64 + segment_bits piece + withdrawn_bit mark) ∷ two_bytes m))) in
+    (append_assoc p (8 ∷ two_bytes k) (64 ∷ two_bytes n) ∙ e ∙ sym (append_assoc q ((8 + segment_bits piece + withdrawn_bit mark) ∷ two_bytes number) ((64 + segment_bits piece + withdrawn_bit mark) ∷ two_bytes m))) in
     absurd (bits_some piece mark 0 right.1)
 rdf_bytes-inj (Segment piece mark number m) (Run n k) p q e =
     let right = three 64 (n / 256) (n % 256) (64 + segment_bits piece + withdrawn_bit mark) (m / 256) (m % 256) (q ++ 8 ∷ two_bytes k) (p ++ (8 + segment_bits piece + withdrawn_bit mark) ∷ two_bytes number)
-        (append_assoc q (8 ∷ two_bytes k) (64 ∷ two_bytes n) ∙ sym e ∙ sym (append_assoc p ((8 + segment_bits piece + withdrawn_bit mark) ∷ two_bytes number) ((64 + segment_bits piece + withdrawn_bit mark) ∷ two_bytes m))) in
+    (append_assoc q (8 ∷ two_bytes k) (64 ∷ two_bytes n) ∙ sym e ∙ sym (append_assoc p ((8 + segment_bits piece + withdrawn_bit mark) ∷ two_bytes number) ((64 + segment_bits piece + withdrawn_bit mark) ∷ two_bytes m))) in
     absurd (bits_some piece mark 0 right.1)
 rdf_bytes-inj (Segment a x i n) (Segment b y j m) p q e =
     let right = three (64 + segment_bits a + withdrawn_bit x) (n / 256) (n % 256) (64 + segment_bits b + withdrawn_bit y) (m / 256) (m % 256)
-        (p ++ (8 + segment_bits a + withdrawn_bit x) ∷ two_bytes i) (q ++ (8 + segment_bits b + withdrawn_bit y) ∷ two_bytes j)
-        (append_assoc p ((8 + segment_bits a + withdrawn_bit x) ∷ two_bytes i) ((64 + segment_bits a + withdrawn_bit x) ∷ two_bytes n) ∙ e
-            ∙ sym (append_assoc q ((8 + segment_bits b + withdrawn_bit y) ∷ two_bytes j) ((64 + segment_bits b + withdrawn_bit y) ∷ two_bytes m))) in
+    (p ++ (8 + segment_bits a + withdrawn_bit x) ∷ two_bytes i) (q ++ (8 + segment_bits b + withdrawn_bit y) ∷ two_bytes j)
+    (append_assoc p ((8 + segment_bits a + withdrawn_bit x) ∷ two_bytes i) ((64 + segment_bits a + withdrawn_bit x) ∷ two_bytes n) ∙ e
+    ∙ sym (append_assoc q ((8 + segment_bits b + withdrawn_bit y) ∷ two_bytes j) ((64 + segment_bits b + withdrawn_bit y) ∷ two_bytes m))) in
     let left = three (8 + segment_bits a + withdrawn_bit x) (i / 256) (i % 256) (8 + segment_bits b + withdrawn_bit y) (j / 256) (j % 256) p q right.0 in
     let same_bits = bits-inj a b x y (omega (arith, right.1)) in
     let same_piece : a ≡ b = same_bits.0 in
@@ -144,7 +141,7 @@ rdf_size (Run n k) = inr refl
 rdf_size (Segment piece live number n) = inr refl
 
 pub some_bytes : (r : Rdf) → 3 ≤ length (rdf_bytes r)
-some_bytes r = elim (rdf_size r) [ | inl e ↦ omega (arith, e) | inr e ↦ omega (arith, e) ]
+some_bytes r = elim (rdf_size r) [ inl e ↦ omega (arith, e) | inr e ↦ omega (arith, e) ]
 
 pub control-append : (rs ss : List Rdf) → control (rs ++ ss) ≡ control ss ++ control rs
 control-append [] ss = sym (append-nil (control ss))

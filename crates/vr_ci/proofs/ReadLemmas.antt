@@ -1,8 +1,6 @@
 -- RDFs are read again from the right.
-use Rattle.std.proofs.Common.{◌≡◌, ℕ, zero, suc, ◌+◌, ◌-◌, ◌*◌, ◌/◌, ◌%◌, ◌<◌, ◌≤◌, Bool, true, false, List, [], ◌∷◌, ◌++◌, length, take, drop, reverse, refl, sym, ap, ◌∙◌, subst, arith, append_assoc, length-append, length-take, length-drop}
-use Rattle.std.specs.List.{AllByRecursion}
-use Rattle.std.proofs.lemmas.List.{reverse-append, length-reverse}
-use Rattle.vr_ci.specs.declared.form.Piece.{Piece}
+use Rattle.std.proofs.Common.{◌≡◌, ℕ, zero, suc, ◌+◌, ◌*◌, ◌/◌, ◌%◌, ◌≤◌, true, false, List, [], ◌∷◌, ◌++◌, length, take, drop, reverse, refl, ap, ◌∙◌, arith, length-append}
+use Rattle.std.proofs.lemmas.List.{reverse-append}
 use Rattle.vr_ci.specs.declared.form.Piece.TheVariants.{First, Inner, Last}
 use Rattle.vr_ci.specs.declared.rdf.Rdf.{Rdf}
 use Rattle.vr_ci.specs.declared.rdf.Rdf.TheVariants.{Single, Run, Segment}
@@ -39,8 +37,8 @@ rdfs_back-control [] (suc n) h = refl
 rdfs_back-control (r ∷ rs) zero h = absurd (omega (arith, some_bytes r, length-append (control rs) (rdf_bytes r), h))
 rdfs_back-control (r ∷ rs) (suc n) h =
     ap (λ (x : List ℕ). rdfs_back (suc n) x) (reverse-append (control rs) (rdf_bytes r))
-        ∙ step r n (reverse (control rs))
-        ∙ ap (λ (x : List Rdf). r ∷ x) (rdfs_back-control rs n (omega (arith, some_bytes r, length-append (control rs) (rdf_bytes r), h)))
+    ∙ step r n (reverse (control rs))
+    ∙ ap (λ (x : List Rdf). r ∷ x) (rdfs_back-control rs n (omega (arith, some_bytes r, length-append (control rs) (rdf_bytes r), h)))
 
 pub rdfs_between-is : (low end : ℕ) (block : List ℕ) (rs : List Rdf) → drop low (take end block) ≡ control rs → rdfs_between low end block ≡ rs
 rdfs_between-is low end block rs e =

@@ -1,28 +1,25 @@
 -- The reader's exits, and its walk over the RDFs.
-use Rattle.std.proofs.Common.{◌≡◌, ◌≢◌, ℕ, zero, suc, ◌+◌, ◌-◌, ◌*◌, ◌/◌, ◌%◌, ◌^◌, ◌<◌, ◌≤◌, ◌⊎◌, inl, inr, Bool, true, false, List, [], ◌∷◌, ◌++◌, length, take, drop, Option, Some, None, refl, sym, ap, ◌∙◌, subst, arith, append_assoc, length-append, length-take, length-drop}
-use Rattle.std.specs.Prelude.{map, replicate, if◌then◌else◌, min, MatchOption, slice_index}
+use Rattle.std.proofs.Common.{◌≡◌, ◌≢◌, ℕ, ◌+◌, ◌-◌, ◌*◌, ◌/◌, ◌%◌, ◌^◌, ◌<◌, ◌≤◌, inl, inr, Bool, true, false, List, [], ◌∷◌, ◌++◌, length, take, drop, Option, Some, None, refl, sym, ap, ◌∙◌, subst, arith, length-take, length-drop}
+use Rattle.std.specs.Prelude.{if◌then◌else◌, min, MatchOption}
 use Rattle.std.specs.List.{flat_map, AllByRecursion}
-use Rattle.std.proofs.lemmas.List.{take_all, take-append-le, take-take, take_at, drop_at, append-nil, take-append-drop, drop-drop, drop-take, replicate-append-replicate, take-replicate, drop_all}
+use Rattle.std.proofs.lemmas.List.{take-take, append-nil, take-append-drop, drop-drop, drop-take, replicate-append-replicate, take-replicate, drop_all}
 use Rattle.vr_ci.specs.declared.form.Form.{Form}
 use Rattle.vr_ci.specs.declared.form.Form.TheVariants.{Plain, Slots}
 use Rattle.vr_ci.specs.declared.form.Piece.{Piece}
 use Rattle.vr_ci.specs.declared.form.Piece.TheVariants.{First, Inner, Last}
-use Rattle.vr_ci.specs.declared.form.Shape.{Shape}
 use Rattle.vr_ci.specs.declared.form.Shape.TheVariants as shapes
 use Rattle.vr_ci.specs.declared.rdf.Rdf.{Rdf}
 use Rattle.vr_ci.specs.declared.rdf.Rdf.TheVariants.{Single, Run, Segment}
 use Rattle.vr_ci.specs.declared.tally.Tally.{Tally}
-use Rattle.vr_ci.specs.declared.reading.Found.{Found}
 use Rattle.vr_ci.specs.Size.{IsBlockSize}
 use Rattle.vr_ci.specs.Rdf.{Mark, marks, span, spans, two_bytes, withdrawn_bit, segment_bits, record_length, rdf_bytes, control, IsRdf, IsOfRecords, MayFollow, IsChain, last_from, shape_of, shape_by}
 use Rattle.vr_ci.specs.Interval.{Interval, Fits, padded, cidf, control_at, laid, IsInterval}
 use Rattle.vr_ci.specs.Compare.{DifferFirst, Compares}
-use Rattle.vr_ci.specs.Fault.{cidf_at, free_end, displacement, free_field, is_busy, HasZeroCidf, StandFrom, IsUnit, IsBroken, IsWhole, filled, meant, masked, is_live, described, rdfs_room, PassesRoom, IsRoomKept, IsRoomPassed, HasRightLengths, HasWrongLengths}
-use Rattle.vr_ci.specs.Reading.{items_at, rdfs_in, value_in, rdfs_between, IsShown}
+use Rattle.vr_ci.specs.Fault.{cidf_at, free_end, is_busy, HasZeroCidf, StandFrom, IsUnit, IsBroken, IsWhole, filled, masked, described, rdfs_room, PassesRoom, IsRoomKept, HasRightLengths, HasWrongLengths}
+use Rattle.vr_ci.specs.Reading.{items_at, rdfs_in, value_in}
 use Rattle.vr_ci.specs.Tally.{IsTally, IsFound, data_end}
 use Rattle.vr_ci.proofs.RdfLemmas.{control_thirds, control-push, rdf_bytes-inj}
-use Rattle.vr_ci.proofs.ItemLemmas.{take-add}
-use Rattle.vr_ci.proofs.LayoutLemmas.{cidf_says, zeros, length-zeros, length-padded, byte, at_drop}
+use Rattle.vr_ci.proofs.LayoutLemmas.{cidf_says, zeros, length-padded, byte, at_drop}
 use Rattle.vr_ci.proofs.ChainLemmas.{size_bounds, chain-push, chain-last, alone}
 use Rattle.vr_ci.proofs.FoundLemmas.{whole_end}
 use Rattle.vr_ci.proofs.CompareLemmas.{second_part, in_data, in_control, in_cidf, data_wrong, data_free}
@@ -46,7 +43,7 @@ pub cidf_same : (block : List ℕ) (d e f g : ℕ) (busy : Bool) (r : Option ℕ
     → Compares (length block - 4) (drop (length block - 4) block) (cidf d f busy) r → Compares (length block - 4) (drop (length block - 4) block) (cidf e g busy) r
 cidf_same block d e f g busy r p q c =
     subst (λ (k : ℕ). Compares (length block - 4) (drop (length block - 4) block) (cidf e k busy) r) q
-        (subst (λ (k : ℕ). Compares (length block - 4) (drop (length block - 4) block) (cidf k f busy) r) p c)
+    (subst (λ (k : ℕ). Compares (length block - 4) (drop (length block - 4) block) (cidf k f busy) r) p c)
 
 -- ---- plain records
 
@@ -68,10 +65,10 @@ records_wrong block rs tally at size w e t is =
     let f = control_at (length block) rs in
     let end = whole_end Plain block rs (size_bounds (length block) size).0 w in
     let c : Compares 0 (take (min (spans rs) f) block) (take (min (spans rs) f) (masked rs block)) (Some at) =
-        subst (λ (o : Option ℕ). Compares 0 (take (min (spans rs) f) block) (take (min (spans rs) f) (masked rs block)) o) is t.wrong in
+    subst (λ (o : Option ℕ). Compares 0 (take (min (spans rs) f) block) (take (min (spans rs) f) (masked rs block)) o) is t.wrong in
     plain_wrong block rs at e
-        (in_data block (padded f (masked rs block)) (control rs) (cidf (spans rs) (f - spans rs) (is_busy block)) f at (length-padded f (masked rs block)) (omega (arith, end))
-            (data_wrong rs block f at (omega (arith, end)) c))
+    (in_data block (padded f (masked rs block)) (control rs) (cidf (spans rs) (f - spans rs) (is_busy block)) f at (length-padded f (masked rs block)) (omega (arith, end))
+    (data_wrong rs block f at (omega (arith, end)) c))
 
 -- the free space behind records whose bytes are right
 records_data : (block : List ℕ) (rs : List Rdf) (tally : Tally) (limit : ℕ) (r : Option ℕ) → IsBlockSize (length block) → IsWhole Plain block rs
@@ -82,10 +79,10 @@ records_data block rs tally limit r size w t is place c =
     let f = control_at (length block) rs in
     let end = whole_end Plain block rs (size_bounds (length block) size).0 w in
     let same : take (min (spans rs) f) block ≡ take (min (spans rs) f) (masked rs block) =
-        subst (λ (o : Option ℕ). Compares 0 (take (min (spans rs) f) block) (take (min (spans rs) f) (masked rs block)) o) is t.wrong in
+    subst (λ (o : Option ℕ). Compares 0 (take (min (spans rs) f) block) (take (min (spans rs) f) (masked rs block)) o) is t.wrong in
     let c' : Compares (min (spans rs) f) (take (f - min (spans rs) f) (drop (min (spans rs) f) block)) (zeros (f - min (spans rs) f)) r =
-        subst (λ (k : ℕ). Compares (min k f) (take (f - min k f) (drop (min k f) block)) (zeros (f - min k f)) r) t.span
-            (subst (λ (k : ℕ). Compares (min tally.span k) (take (k - min tally.span k) (drop (min tally.span k) block)) (zeros (k - min tally.span k)) r) place c) in
+    subst (λ (k : ℕ). Compares (min k f) (take (f - min k f) (drop (min k f) block)) (zeros (f - min k f)) r) t.span
+    (subst (λ (k : ℕ). Compares (min tally.span k) (take (k - min tally.span k) (drop (min tally.span k) block)) (zeros (k - min tally.span k)) r) place c) in
     data_free rs block f r (omega (arith, end)) same c'
 
 pub records_free : (block : List ℕ) (rs : List Rdf) (tally : Tally) (limit at : ℕ) → IsBlockSize (length block) → IsWhole Plain block rs → shape_of rs ≡ shapes.Records
@@ -96,8 +93,8 @@ records_free block rs tally limit at size w e t is place c =
     let f = control_at (length block) rs in
     let end = whole_end Plain block rs (size_bounds (length block) size).0 w in
     plain_wrong block rs at e
-        (in_data block (padded f (masked rs block)) (control rs) (cidf (spans rs) (f - spans rs) (is_busy block)) f at (length-padded f (masked rs block)) (omega (arith, end))
-            (records_data block rs tally limit (Some at) size w t is place c))
+    (in_data block (padded f (masked rs block)) (control rs) (cidf (spans rs) (f - spans rs) (is_busy block)) f at (length-padded f (masked rs block)) (omega (arith, end))
+    (records_data block rs tally limit (Some at) size w t is place c))
 
 pub records_cidf : (block : List ℕ) (rs : List Rdf) (tally : Tally) (limit : ℕ) (busy : Bool) (r : Option ℕ) → IsBlockSize (length block) → IsWhole Plain block rs
     → IsTally block (control_at (length block) rs) rs tally → tally.wrong ≡ None → limit ≡ control_at (length block) rs → busy ≡ is_busy block
@@ -108,11 +105,11 @@ records_cidf block rs tally limit busy r size w t is place flag free c =
     let f = control_at (length block) rs in
     let end = whole_end Plain block rs (size_bounds (length block) size).0 w in
     let c' : Compares (length block - 4) (drop (length block - 4) block) (cidf (spans rs) (f - spans rs) (is_busy block)) r =
-        subst (λ (b : Bool). Compares (length block - 4) (drop (length block - 4) block) (cidf (spans rs) (f - spans rs) b) r) flag
-            (subst (λ (k : ℕ). Compares (length block - 4) (drop (length block - 4) block) (cidf k (f - k) busy) r) t.span
-                (subst (λ (k : ℕ). Compares (length block - 4) (drop (length block - 4) block) (cidf tally.span (k - tally.span) busy) r) place c)) in
+    subst (λ (b : Bool). Compares (length block - 4) (drop (length block - 4) block) (cidf (spans rs) (f - spans rs) b) r) flag
+    (subst (λ (k : ℕ). Compares (length block - 4) (drop (length block - 4) block) (cidf k (f - k) busy) r) t.span
+    (subst (λ (k : ℕ). Compares (length block - 4) (drop (length block - 4) block) (cidf tally.span (k - tally.span) busy) r) place c)) in
     in_cidf block (padded f (masked rs block)) (control rs) (cidf (spans rs) (f - spans rs) (is_busy block)) f (length block - 4) r
-        (length-padded f (masked rs block)) (omega arith) (omega (arith, end)) (records_data block rs tally limit None size w t is place free) w.right.bytes c'
+    (length-padded f (masked rs block)) (omega arith) (omega (arith, end)) (records_data block rs tally limit None size w t is place free) w.right.bytes c'
 
 pub records_end : (block : List ℕ) (rs : List Rdf) (tally : Tally) → shape_of rs ≡ shapes.Records → (limit : ℕ) → IsTally block limit rs tally
     → block ≡ laid (length block) (masked rs block) rs (is_busy block) → MatchOption tally.passed (HasRightLengths Plain block rs) (HasWrongLengths Plain block rs)
@@ -153,11 +150,11 @@ segment_data block piece true number n limit from r size place is c =
     let here : limit ≡ f = omega (arith, place, least) in
     let start : from ≡ min (spans (segment piece true number n)) f = omega (arith, is, here, whole) in
     let c' : Compares (min (spans (segment piece true number n)) f) (take (f - min (spans (segment piece true number n)) f) (drop (min (spans (segment piece true number n)) f) block)) (zeros (f - min (spans (segment piece true number n)) f)) r =
-        subst (λ (k : ℕ). Compares k (take (f - k) (drop k block)) (zeros (f - k)) r) start
-            (subst (λ (k : ℕ). Compares from (take (k - from) (drop from block)) (zeros (k - from)) r) here c) in
+    subst (λ (k : ℕ). Compares k (take (f - k) (drop k block)) (zeros (f - k)) r) start
+    (subst (λ (k : ℕ). Compares from (take (k - from) (drop from block)) (zeros (k - from)) r) here c) in
     let short : min (spans (segment piece true number n)) f ≤ n = omega (arith, whole) in
     let same : take (min (spans (segment piece true number n)) f) block ≡ take (min (spans (segment piece true number n)) f) (take n block ++ []) =
-        sym (ap (λ (x : List ℕ). take (min (spans (segment piece true number n)) f) x) (append-nil (take n block)) ∙ take-take (min (spans (segment piece true number n)) f) n block short) in
+    sym (ap (λ (x : List ℕ). take (min (spans (segment piece true number n)) f) x) (append-nil (take n block)) ∙ take-take (min (spans (segment piece true number n)) f) n block short) in
     data_free (segment piece true number n) block f r (omega (arith, here, place)) same c'
 segment_data block piece false number n limit from r size place is c =
     let f = control_at (length block) (segment piece false number n) in
@@ -184,10 +181,10 @@ segment_control form block piece live number n m limit r size place w c =
     let front : take 4 y ≡ x1 = ap (λ (x : List ℕ). take 4 x) bytes in
     let top : length block - 4 ≡ (f + 4) + 2 = omega (arith, least) in
     let back : drop 4 y ≡ take 2 (drop (f + 4) block) =
-        drop-drop 4 f upto ∙ ap (λ (k : ℕ). drop (f + 4) (take k block)) top ∙ drop-take (f + 4) 2 block in
+    drop-drop 4 f upto ∙ ap (λ (k : ℕ). drop (f + 4) (take k block)) top ∙ drop-take (f + 4) 2 block in
     let c' : Compares (f + 4) (drop 4 y) (two_bytes m) r =
-        subst (λ (x : List ℕ). Compares (f + 4) x (two_bytes m) r) (sym back)
-            (subst (λ (k : ℕ). Compares (k + 4) (take 2 (drop (k + 4) block)) (two_bytes m) r) here c) in
+    subst (λ (x : List ℕ). Compares (f + 4) x (two_bytes m) r) (sym back)
+    (subst (λ (k : ℕ). Compares (k + 4) (take 2 (drop (k + 4) block)) (two_bytes m) r) here c) in
     let one = second_part f 4 (take 4 y) (drop 4 y) x1 (two_bytes m) r (ap length front) front c' in
     subst (λ (x : List ℕ). Compares f x (x1 ++ two_bytes m) r) (take-append-drop 4 y) one
 
@@ -197,7 +194,7 @@ segment_wrong : (form : Form) (block : List ℕ) (piece : Piece) (live : Bool) (
 segment_wrong form block piece live number n at c =
     let m = full (length block) piece live number n in
     inl (subst (λ (x : List ℕ). DifferFirst block x at) (sym (segment_described form block piece live number n))
-        (at_zero block (laid (length block) (masked (segment piece live number m) block) (segment piece live number m) (is_busy block)) at c))
+    (at_zero block (laid (length block) (masked (segment piece live number m) block) (segment piece live number m) (is_busy block)) at c))
 
 pub segment_free : (form : Form) (block : List ℕ) (piece : Piece) (live : Bool) (number n limit from at : ℕ) → IsBlockSize (length block) → limit ≡ length block - 10
     → from ≡ (if live then min (full (length block) piece live number n) limit else 0) → Compares from (take (limit - from) (drop from block)) (zeros (limit - from)) (Some at)
@@ -207,8 +204,8 @@ segment_free form block piece live number n limit from at size place is c =
     let s = segment piece live number m in
     let f = control_at (length block) s in
     segment_wrong form block piece live number n at
-        (in_data block (padded f (masked s block)) (control s) (cidf (spans s) (f - spans s) (is_busy block)) f at (length-padded f (masked s block)) (omega arith)
-            (segment_data block piece live number m limit from (Some at) size place is c))
+    (in_data block (padded f (masked s block)) (control s) (cidf (spans s) (f - spans s) (is_busy block)) f at (length-padded f (masked s block)) (omega arith)
+    (segment_data block piece live number m limit from (Some at) size place is c))
 
 pub segment_number : (form : Form) (block : List ℕ) (piece : Piece) (live : Bool) (number n limit from at : ℕ) → IsBlockSize (length block) → limit ≡ length block - 10
     → IsWhole form block (segment piece live number n)
@@ -221,9 +218,9 @@ segment_number form block piece live number n limit from at size place w is free
     let f = control_at (length block) s in
     let least = (size_bounds (length block) size).0 in
     segment_wrong form block piece live number n at
-        (in_control block (padded f (masked s block)) (control s) (cidf (spans s) (f - spans s) (is_busy block)) f (length block - 4) at (length-padded f (masked s block)) (omega arith) (omega (arith, least))
-            (segment_data block piece live number m limit from None size place is free)
-            (segment_control form block piece live number n m limit (Some at) size place w c))
+    (in_control block (padded f (masked s block)) (control s) (cidf (spans s) (f - spans s) (is_busy block)) f (length block - 4) at (length-padded f (masked s block)) (omega arith) (omega (arith, least))
+    (segment_data block piece live number m limit from None size place is free)
+    (segment_control form block piece live number n m limit (Some at) size place w c))
 
 pub segment_end : (form : Form) (block : List ℕ) (piece : Piece) (live : Bool) (number n limit from : ℕ) (busy : Bool) (r : Option ℕ) → IsBlockSize (length block) → limit ≡ length block - 10
     → IsWhole form block (segment piece live number n) → busy ≡ is_busy block
@@ -233,26 +230,33 @@ pub segment_end : (form : Form) (block : List ℕ) (piece : Piece) (live : Bool)
     → MatchOption r (HasRightLengths form block (segment piece live number n)) (HasWrongLengths form block (segment piece live number n))
 segment_end form block piece live number n limit from busy r size place w flag is free num c =
     by_result r (in_cidf block (padded f (masked s block)) (control s) (cidf (spans s) (f - spans s) (is_busy block)) f (length block - 4) r (length-padded f (masked s block)) (omega arith) (omega (arith, least))
-        (segment_data block piece live number m limit from None size place is free)
-        (segment_control form block piece live number n m limit None size place w num) c') c'
+    (segment_data block piece live number m limit from None size place is free)
+    (segment_control form block piece live number n m limit None size place w num) c') c'
   where
     m : ℕ
     m = full (length block) piece live number n
+
     s : List Rdf
     s = segment piece live number (full (length block) piece live number n)
+
     f : ℕ
     f = control_at (length block) (segment piece live number (full (length block) piece live number n))
+
     least : 512 ≤ length block
     least = (size_bounds (length block) size).0
+
     sum : full (length block) piece live number n ≡ spans (segment piece live number (full (length block) piece live number n))
     sum = omega arith
+
     here : limit ≡ control_at (length block) (segment piece live number (full (length block) piece live number n))
     here = omega (arith, place, least)
+
     c' : Compares (length block - 4) (drop (length block - 4) block) (cidf (spans s) (f - spans s) (is_busy block)) r
     c' =
         subst (λ (b : Bool). Compares (length block - 4) (drop (length block - 4) block) (cidf (spans s) (f - spans s) b) r) flag
-            (subst (λ (k : ℕ). Compares (length block - 4) (drop (length block - 4) block) (cidf k (f - k) busy) r) sum
-                (subst (λ (k : ℕ). Compares (length block - 4) (drop (length block - 4) block) (cidf m (k - m) busy) r) here c))
+        (subst (λ (k : ℕ). Compares (length block - 4) (drop (length block - 4) block) (cidf k (f - k) busy) r) sum
+        (subst (λ (k : ℕ). Compares (length block - 4) (drop (length block - 4) block) (cidf m (k - m) busy) r) here c))
+
     room : drop (length block - 4) block ≡ cidf (spans s) (f - spans s) (is_busy block) → (g : Form) → IsRoomKept g (length block) (segment piece live number n)
     room e (Slots len) = tt
     room e Plain =
@@ -262,6 +266,7 @@ segment_end form block piece live number n limit from busy r size place w flag i
         let lengths : n ≡ m = ap record_length rdfs.0 in
         let says = cidf_says block (spans s) ((f - spans s) + (if is_busy block then 32768 else 0)) e in
         omega (arith, lengths, sum, says.0, w.right.low, least)
+
     by_result : (o : Option ℕ) → Compares 0 block (laid (length block) (masked s block) s (is_busy block)) o
         → Compares (length block - 4) (drop (length block - 4) block) (cidf (spans s) (f - spans s) (is_busy block)) o
         → MatchOption o (HasRightLengths form block (segment piece live number n)) (HasWrongLengths form block (segment piece live number n))
@@ -306,7 +311,7 @@ end_found form block size e =
     let interval : IsInterval form block value = record {
       size = size;
       fits = record { items = tt; block = fits form; idle = λ _. refl };
-      image = inr (refl, e)
+      image = inr (refl, e);
     } in
     record {
       interval = subst (λ (v : Interval). IsInterval form block v) same interval;
@@ -315,11 +320,11 @@ end_found form block size e =
           order = omega arith;
           within = omega (arith, least);
           control = nothing ∙ ap control (sym rdfs);
-          rdfs = subst (λ (x : List Rdf). AllByRecursion IsRdf x) (sym rdfs) tt
+          rdfs = subst (λ (x : List Rdf). AllByRecursion IsRdf x) (sym rdfs) tt;
         };
         bytes = omega (arith, ap spans rdfs);
-        count = ap (λ (x : List Rdf). length (flat_map marks x)) (sym rdfs)
-      }
+        count = ap (λ (x : List Rdf). length (flat_map marks x)) (sym rdfs);
+      };
     }
   where
     fits : (g : Form) → Rattle.vr_ci.specs.Interval.FitsBlock g (length block) shapes.EndOfFile []
@@ -346,18 +351,18 @@ walk_begins form block limit tally size h t c s r =
       tallied = t;
       count = omega (arith, c, most);
       span = omega (arith, s, most);
-      room = omega (arith, r, most)
+      room = omega (arith, r, most);
     }
 
 pub part_is : (block : List ℕ) (at end top : ℕ) → at ≤ end → end ≤ top → drop at (take top block) ≡ take (end - at) (drop at block) ++ drop end (take top block)
 part_is block at end top l h =
     let sum : at + (end - at) ≡ end = omega arith in
     sym (take-append-drop (end - at) (drop at (take top block)))
-        ∙ ap (λ (x : List ℕ). x ++ drop (end - at) (drop at (take top block))) (sym (drop-take at (end - at) (take top block)) ∙ ap (λ (k : ℕ). drop at (take k (take top block))) sum ∙ ap (λ (x : List ℕ). drop at x) (take-take end top block h) ∙ ap (λ (k : ℕ). drop at (take k block)) (sym sum) ∙ drop-take at (end - at) block)
-        ∙ ap (λ (x : List ℕ). take (end - at) (drop at block) ++ x) (drop-drop (end - at) at (take top block) ∙ ap (λ (k : ℕ). drop k (take top block)) sum)
+    ∙ ap (λ (x : List ℕ). x ++ drop (end - at) (drop at (take top block))) (sym (drop-take at (end - at) (take top block)) ∙ ap (λ (k : ℕ). drop at (take k (take top block))) sum ∙ ap (λ (x : List ℕ). drop at x) (take-take end top block h) ∙ ap (λ (k : ℕ). drop at (take k block)) (sym sum) ∙ drop-take at (end - at) block)
+    ∙ ap (λ (x : List ℕ). take (end - at) (drop at block) ++ x) (drop-drop (end - at) at (take top block) ∙ ap (λ (k : ℕ). drop k (take top block)) sum)
 
 unit_low : (low : ℕ) (block : List ℕ) (end at : ℕ) → IsUnit low block end at → (low ≤ at) × (at + 3 ≤ end)
-unit_low low block end at u = elim u [ | inl w ↦ (w.1, omega (arith, w.0)) | inr w ↦ (w.1, omega (arith, w.0)) ]
+unit_low low block end at u = elim u [ inl w ↦ (w.1, omega (arith, w.0)) | inr w ↦ (w.1, omega (arith, w.0)) ]
 
 -- one RDF or pair more
 pub walk_more : (form : Form) (block : List ℕ) (limit end at : ℕ) (old new : Tally) (r : Rdf) → 4 ≤ length block → (w : Walked form block limit end old) → IsUnit (free_end block) block end at
@@ -370,8 +375,8 @@ walk_more form block limit end at old new r least w u valid follows bytes more c
     let place = unit_low (free_end block) block end at u in
     let high = w.right.high in
     let longer : drop at (take top block) ≡ control (w.rdfs ++ r ∷ []) =
-        part_is block at end top (omega (arith, place.1)) high
-            ∙ ap (λ (x : List ℕ). x ++ drop end (take top block)) bytes ∙ ap (λ (x : List ℕ). rdf_bytes r ++ x) w.right.bytes ∙ sym (control-push w.rdfs r) in
+    part_is block at end top (omega (arith, place.1)) high
+    ∙ ap (λ (x : List ℕ). x ++ drop end (take top block)) bytes ∙ ap (λ (x : List ℕ). rdf_bytes r ++ x) w.right.bytes ∙ sym (control-push w.rdfs r) in
     let counted : length (control (w.rdfs ++ r ∷ [])) + at ≡ top = omega (arith, ap length longer, length-drop at (take top block), length-take top block, place.1, high, least) in
     record {
       rdfs = w.rdfs ++ r ∷ [];
@@ -379,12 +384,12 @@ walk_more form block limit end at old new r least w u valid follows bytes more c
         chain = chain-push form None w.rdfs r w.right.chain valid (subst (λ (b : Option Rdf). MayFollow form b r) w.tallied.last follows);
         low = place.0;
         high = omega (arith, place.1, high);
-        bytes = longer
+        bytes = longer;
       };
       tallied = more w.rdfs w.tallied (omega (arith, counted));
       count = omega (arith, c, w.count, place.1);
       span = omega (arith, s, w.span, place.1);
-      room = omega (arith, m, w.room, place.1)
+      room = omega (arith, m, w.room, place.1);
     }
 
 -- nothing that a block of the form has there stands to the left
@@ -399,7 +404,7 @@ walk_breaks form block limit end at tally least w u none =
       end = end;
       right = w.right;
       unit = u;
-      none = λ r h e. let l = chain-last form None w.rdfs r h in none r l.0 (subst (λ (b : Option Rdf). MayFollow form b r) (sym w.tallied.last) l.1) (sym part ∙ sym e)
+      none = λ r h e. let l = chain-last form None w.rdfs r h in none r l.0 (subst (λ (b : Option Rdf). MayFollow form b r) (sym w.tallied.last) l.1) (sym part ∙ sym e);
     }
 
 pub walk_ends : (form : Form) (block : List ℕ) (limit end : ℕ) (tally : Tally) → IsBlockSize (length block) → (w : Walked form block limit end tally) → end < free_end block + 3
@@ -410,10 +415,13 @@ walk_ends form block limit end tally size w less plain slots =
   where
     least : 512 ≤ length block
     least = (size_bounds (length block) size).0
+
     place : end ≡ control_at (length block) w.rdfs
     place = omega (arith, ap length w.right.bytes, length-drop end (take (cidf_at block) block), length-take (cidf_at block) block, w.right.high, least)
+
     whole : IsWhole form block w.rdfs
     whole = record { right = subst (λ (k : ℕ). StandFrom form block w.rdfs k) place w.right; whole = omega (arith, place, less) }
+
     limit_is : (g : Form) → form ≡ g → limit ≡ data_end form (length block) w.rdfs
     limit_is Plain e = start_is form block w.rdfs limit size whole (plain e) ∙ ap (λ (h : Form). data_end h (length block) w.rdfs) (sym e)
     limit_is (Slots len) e = slots len e ∙ ap (λ (h : Form). data_end h (length block) w.rdfs) (sym e)

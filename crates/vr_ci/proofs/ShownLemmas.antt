@@ -1,26 +1,24 @@
 -- What a view is made of, where the block is what its RDFs describe.
-use Rattle.std.proofs.Common.{◌≡◌, ◌≢◌, ℕ, zero, suc, ◌+◌, ◌-◌, ◌*◌, ◌/◌, ◌%◌, ◌<◌, ◌≤◌, ◌⊎◌, inl, inr, Bool, true, false, List, [], ◌∷◌, ◌++◌, length, take, drop, Option, Some, None, refl, sym, ap, ◌∙◌, subst, arith, append_assoc, length-append, length-take, length-drop}
-use Rattle.std.specs.Prelude.{map, replicate, if◌then◌else◌}
+use Rattle.std.proofs.Common.{◌≡◌, ℕ, zero, suc, ◌+◌, ◌-◌, ◌≤◌, inl, Bool, true, false, List, [], ◌∷◌, ◌++◌, length, take, drop, None, refl, sym, ap, ◌∙◌, subst, arith, length-take, length-drop}
+use Rattle.std.specs.Prelude.{replicate, if◌then◌else◌}
 use Rattle.std.specs.List.{flat_map, AllByRecursion}
-use Rattle.std.proofs.lemmas.List.{length-map, length-replicate}
 use Rattle.vr_ci.specs.declared.form.Form.{Form}
 use Rattle.vr_ci.specs.declared.form.Form.TheVariants.{Plain, Slots}
 use Rattle.vr_ci.specs.declared.form.Piece.{Piece}
 use Rattle.vr_ci.specs.declared.form.Piece.TheVariants.{First, Inner, Last}
-use Rattle.vr_ci.specs.declared.form.Shape.{Shape}
 use Rattle.vr_ci.specs.declared.form.Shape.TheVariants as shapes
 use Rattle.vr_ci.specs.declared.rdf.Rdf.{Rdf}
 use Rattle.vr_ci.specs.declared.rdf.Rdf.TheVariants.{Single, Run, Segment}
 use Rattle.vr_ci.specs.declared.reading.Found.{Found}
 use Rattle.vr_ci.specs.Size.{IsBlockSize}
-use Rattle.vr_ci.specs.Rdf.{Mark, marks, spans, rdf_bytes, control, IsCount, IsRdf, IsOfRecords, IsChain, shape_of}
-use Rattle.vr_ci.specs.Interval.{Item, Interval, IsItem, mark_of, bytes_of, room, slots_in, IsSegmentLength, FitsBlock, Fits, padded, cidf, control_at, laid, IsLaidOut, IsInterval}
-use Rattle.vr_ci.specs.Fault.{cidf_at, free_end, is_busy, IsWhole, masked, filled, slots_of, meant, rdfs_room, IsRoomKept, HasControl, HasRightLengths}
-use Rattle.vr_ci.specs.Reading.{items_at, rdfs_in, value_in, rdfs_between, AreLent, IsShown}
+use Rattle.vr_ci.specs.Rdf.{Mark, marks, spans, control, IsCount, IsRdf, IsChain, shape_of}
+use Rattle.vr_ci.specs.Interval.{Item, Interval, IsItem, bytes_of, IsSegmentLength, FitsBlock, control_at, laid, IsLaidOut, IsInterval}
+use Rattle.vr_ci.specs.Fault.{free_end, is_busy, IsWhole, masked, filled, slots_of, meant, IsRoomKept, HasRightLengths}
+use Rattle.vr_ci.specs.Reading.{items_at, rdfs_in, value_in, rdfs_between}
 use Rattle.vr_ci.specs.Tally.{IsFound}
 use Rattle.vr_ci.proofs.RdfLemmas.{same_ends}
 use Rattle.vr_ci.proofs.ItemLemmas.{total, total-all, room_is, length-items_at, marks-items_at, bytes-items_at, take-add}
-use Rattle.vr_ci.proofs.LayoutLemmas.{zeros, length-zeros}
+use Rattle.vr_ci.proofs.LayoutLemmas.{zeros}
 use Rattle.vr_ci.proofs.ChainLemmas.{size_bounds, chain_rdfs, alone, all_records}
 use Rattle.vr_ci.proofs.LawLemmas.{no_end}
 use Rattle.vr_ci.proofs.MaskLemmas.{masked_marks, masked_is, length-masked_marks, room_of_rdfs, singles}
@@ -50,7 +48,7 @@ items_ok (m ∷ ms) bytes c l e =
     let rest : total ms ≤ length (drop m.len bytes) = omega (arith, length-drop m.len bytes, l) in
     let split = e ∙ take-add m.len (total ms) bytes in
     let same = same_ends (if m.live then take m.len bytes else zeros m.len) (masked_marks ms (drop m.len bytes)) (take m.len bytes) (take (total ms) (drop m.len bytes))
-        (omega (arith, length-masked_marks ms (drop m.len bytes) rest, length-take (total ms) (drop m.len bytes), rest)) split in
+    (omega (arith, length-masked_marks ms (drop m.len bytes) rest, length-take (total ms) (drop m.len bytes), rest)) split in
     (record { some = omega (arith, long, c.0.low); zeros = by_live m.live same.0 long }, items_ok ms (drop m.len bytes) c.1 rest same.1)
   where
     by_live : (live : Bool) → (if live then take m.len bytes else zeros m.len) ≡ take m.len bytes → length (take m.len bytes) ≡ m.len → live ≡ false → take m.len bytes ≡ replicate (length (take m.len bytes)) 0
@@ -108,7 +106,7 @@ fits_shape form block (Segment piece live number n ∷ rs) least c r k =
     let others : items_at (flat_map marks rs) (drop n block) ≡ [] = ap (λ (x : List Rdf). items_at (flat_map marks x) (drop n block)) none in
     let fills : IsSegmentLength piece (length block) n = by_piece piece (ap first_length r.meant) (omega (arith, r.place, all, six)) in
     let one : AllByRecursion (λ item. IsSegmentLength piece (length block) (length item.bytes)) (items_at (flat_map marks rs) (drop n block)) =
-        subst (λ (x : List Item). AllByRecursion (λ item. IsSegmentLength piece (length block) (length item.bytes)) x) (sym others) tt in
+    subst (λ (x : List Item). AllByRecursion (λ item. IsSegmentLength piece (length block) (length item.bytes)) x) (sym others) tt in
     (c.0.0, (subst (λ (i : ℕ). IsSegmentLength piece (length block) i) (sym long) fills, one), ap (λ (x : List Item). suc (length x)) others)
   where
     by_piece : (p : Piece) → first_length (filled (length block) (Segment p live number n) ∷ []) ≡ n → n ≤ length block - 10 → IsSegmentLength p (length block) n
@@ -131,10 +129,10 @@ found_is form block rs found size w right low shape busy count =
     let rdfs_low : rdfs_in block found.low ≡ rs = ap (λ (k : ℕ). rdfs_between k (n - 4) block) (sym place) ∙ rdfs in
     let value : Interval = record { shape = shape_of rs; items = items; busy = is_busy block } in
     let same : value ≡ value_in block found.low found.shape found.busy =
-        let s = sym shape in
-        let b = sym busy in
-        let i : items ≡ items_at (flat_map marks (rdfs_in block found.low)) block = ap (λ (x : List Rdf). items_at (flat_map marks x) block) (sym rdfs_low) in
-        cc in
+    let s = sym shape in
+    let b = sym busy in
+    let i : items ≡ items_at (flat_map marks (rdfs_in block found.low)) block = ap (λ (x : List Rdf). items_at (flat_map marks x) block) (sym rdfs_low) in
+    cc in
     let masks : masked_marks (flat_map marks rs) block ≡ take (total (flat_map marks rs)) block = sym (masked_is rs block) ∙ r.masked ∙ ap (λ (k : ℕ). take k block) (sym (total-all rs)) in
     let front : flat_map bytes_of items ≡ masked rs block = bytes-items_at (flat_map marks rs) block ∙ sym masks ∙ sym (masked_is rs block) in
     let laid_out : IsLaidOut form block value = record {
@@ -142,16 +140,16 @@ found_is form block rs found size w right low shape busy count =
       chain = w.right.chain;
       shape = refl;
       said = sym (marks-items_at (flat_map marks rs) block fit);
-      layout = r.layout ∙ ap (λ (x : List ℕ). laid n x rs (is_busy block)) (sym front)
+      layout = r.layout ∙ ap (λ (x : List ℕ). laid n x rs (is_busy block)) (sym front);
     } in
     let interval : IsInterval form block value = record {
       size = size;
       fits = record {
         items = items_ok (flat_map marks rs) block (counts rs (chain_rdfs form None rs w.right.chain)) fit masks;
         block = fits_shape form block rs bounds.0 w.right.chain r right.room;
-        idle = λ e. absurd (no_end rs e)
+        idle = λ e. absurd (no_end rs e);
       };
-      image = inl laid_out
+      image = inl laid_out;
     } in
     record {
       interval = subst (λ (v : Interval). IsInterval form block v) same interval;
@@ -160,9 +158,9 @@ found_is form block rs found size w right low shape busy count =
           order = omega (arith, place, w.right.high);
           within = omega (arith, bounds.0);
           control = ap (λ (k : ℕ). drop k (take (n - 4) block)) (sym place) ∙ w.right.bytes ∙ ap control (sym rdfs_low);
-          rdfs = subst (λ (x : List Rdf). AllByRecursion IsRdf x) (sym rdfs_low) (chain_rdfs form None rs w.right.chain)
+          rdfs = subst (λ (x : List Rdf). AllByRecursion IsRdf x) (sym rdfs_low) (chain_rdfs form None rs w.right.chain);
         };
         bytes = omega (arith, ap spans rdfs_low, r.place);
-        count = count ∙ ap (λ (x : List Rdf). length (flat_map marks x)) (sym rdfs_low)
-      }
+        count = count ∙ ap (λ (x : List Rdf). length (flat_map marks x)) (sym rdfs_low);
+      };
     }

@@ -1,20 +1,18 @@
 -- The reader's loop over slots.
-use Rattle.std.proofs.Common.{◌≡◌, ◌≢◌, ℕ, zero, suc, ◌+◌, ◌-◌, ◌*◌, ◌/◌, ◌%◌, ◌<◌, ◌≤◌, ◌⊎◌, inl, inr, Bool, true, false, List, [], ◌∷◌, ◌++◌, length, take, drop, get_or, Option, Some, None, refl, sym, ap, ◌∙◌, subst, arith, append_assoc, length-append, length-take, length-drop}
-use Rattle.std.specs.Prelude.{map, replicate, if◌then◌else◌, min, MatchOption, slice_index, nat_le, ◌==◌, ◌&&◌, IsSome, IsNone, IsTrue}
-use Rattle.std.specs.List.{flat_map, AllByRecursion}
+use Rattle.std.proofs.Common.{◌≡◌, ℕ, zero, suc, ◌+◌, ◌-◌, ◌*◌, ◌/◌, ◌<◌, ◌≤◌, inl, inr, Bool, true, false, List, [], ◌∷◌, ◌++◌, length, take, drop, get_or, Option, Some, None, refl, sym, ap, ◌∙◌, subst, arith, length-append, length-take, length-drop}
+use Rattle.std.specs.Prelude.{map, replicate, min, MatchOption, nat_le, ◌==◌, ◌&&◌, IsSome, IsNone, IsTrue}
 use Rattle.std.specs.Option.{option_or}
 use Rattle.std.proofs.lemmas.Bool.{cases_lt, le-leb, lt-leb}
 use Rattle.std.proofs.lemmas.List.{take_all, take-take, append-nil, take-append-drop, get_or-take, get_or-drop, get_or_append_left, get_or-append_right, get_or-append-add, get_or-replicate, get_or-map, length-map, length-replicate, take_more, length_push}
-use Rattle.vr_ci.specs.declared.form.Form.{Form}
-use Rattle.vr_ci.specs.declared.form.Form.TheVariants.{Plain, Slots}
+use Rattle.vr_ci.specs.declared.form.Form.TheVariants.{Slots}
 use Rattle.vr_ci.specs.declared.form.Shape.TheVariants as shapes
 use Rattle.vr_ci.specs.declared.rdf.Rdf.{Rdf}
 use Rattle.vr_ci.specs.declared.rdf.Rdf.TheVariants.{Single, Run, Segment}
 use Rattle.vr_ci.specs.Size.{IsBlockSize}
-use Rattle.vr_ci.specs.Rdf.{span, spans, withdrawn_bit, rdf_bytes, control, IsChain, shape_of}
+use Rattle.vr_ci.specs.Rdf.{spans, withdrawn_bit, rdf_bytes, control, shape_of}
 use Rattle.vr_ci.specs.Interval.{slots_in, padded, cidf, control_at, laid}
 use Rattle.vr_ci.specs.Compare.{DifferFirst, Compares}
-use Rattle.vr_ci.specs.Fault.{cidf_at, free_end, is_busy, is_live, IsWhole, slotted, slots_of, meant, masked, described, HasRightLengths, HasWrongLengths}
+use Rattle.vr_ci.specs.Fault.{cidf_at, free_end, is_busy, is_live, IsWhole, slotted, slots_of, masked, described, HasRightLengths, HasWrongLengths}
 use Rattle.vr_ci.specs.Tally.{is_live_slot}
 use Rattle.vr_ci.proofs.RdfLemmas.{control-push}
 use Rattle.vr_ci.proofs.LayoutLemmas.{zeros, length-padded, byte}
@@ -55,54 +53,66 @@ looked_none low len block limit h =
     let top : length block - 4 - 3 * 0 ≡ length block - 4 = omega arith in
     record {
       data_wrong = ap (λ (k : ℕ). take k block) none ∙ sym (ap (λ (k : ℕ). take {A = ℕ} k []) none);
-      rdf_wrong = ap (λ (k : ℕ). drop k (take (length block - 4) block)) top ∙ Rattle.std.proofs.lemmas.List.drop_all (length block - 4) (take (length block - 4) block) (omega (arith, length-take (length block - 4) block))
+      rdf_wrong = ap (λ (k : ℕ). drop k (take (length block - 4) block)) top ∙ Rattle.std.proofs.lemmas.List.drop_all (length block - 4) (take (length block - 4) block) (omega (arith, length-take (length block - 4) block));
     }
 
 pub looked_more : (low len : ℕ) (block : List ℕ) (limit count i : ℕ) (wrong wrong_rdf new d new_rdf : Option ℕ) → limit ≤ length block → 4 ≤ length block → i < count → 3 * count ≤ length block - 4 → count * len ≤ limit
     → Looked low len block limit i wrong wrong_rdf
     → (let at = length block - 4 - 3 * (i + 1) in let live = is_live_slot low block at in
-        (IsSome wrong → new ≡ wrong) × (IsTrue live → new ≡ wrong)
-        × (IsNone wrong → (IsTrue live → ⊥) → Compares (i * len) (take ((i + 1) * len - i * len) (drop (i * len) block)) (zeros ((i + 1) * len - i * len)) new)
-        × Compares at (take 3 (drop at block)) (rdf_bytes (Single live len)) d × (new_rdf ≡ option_or d wrong_rdf))
+    (IsSome wrong → new ≡ wrong) × (IsTrue live → new ≡ wrong)
+    × (IsNone wrong → (IsTrue live → ⊥) → Compares (i * len) (take ((i + 1) * len - i * len) (drop (i * len) block)) (zeros ((i + 1) * len - i * len)) new)
+    × Compares at (take 3 (drop at block)) (rdf_bytes (Single live len)) d × (new_rdf ≡ option_or d wrong_rdf))
     → Looked low len block limit (i + 1) new new_rdf
 looked_more low len block limit count i wrong wrong_rdf new d new_rdf within least less fit room w s =
     subst (λ (k : ℕ). Looked low len block limit k new new_rdf) step (record {
       data_wrong = wrong_more ms r block limit wrong new within w.data_wrong s.0 s.1 zeros_more;
       rdf_wrong = subst (λ (o : Option ℕ). Compares (length block - 4 - 3 * suc i) (drop (length block - 4 - 3 * suc i) (take (length block - 4) block)) (control (ms ++ r ∷ [])) o) (sym s.4)
           (subst (λ (k : ℕ). Compares k (drop k (take (length block - 4) block)) (control (ms ++ r ∷ [])) (option_or d wrong_rdf)) at_suc
-              (subst (λ (x : List ℕ). Compares at (drop at (take (length block - 4) block)) x (option_or d wrong_rdf)) (sym (control-push ms r))
-                  (subst (λ (x : List ℕ). Compares at x (rdf_bytes r ++ control ms) (option_or d wrong_rdf)) (sym parts) (both d s.3))))
+          (subst (λ (x : List ℕ). Compares at (drop at (take (length block - 4) block)) x (option_or d wrong_rdf)) (sym (control-push ms r))
+          (subst (λ (x : List ℕ). Compares at x (rdf_bytes r ++ control ms) (option_or d wrong_rdf)) (sym parts) (both d s.3))));
     })
   where
     at : ℕ
     at = length block - 4 - 3 * (i + 1)
+
     ms : List Rdf
     ms = read_slots low len block i
+
     r : Rdf
     r = Single (is_live_slot low block (length block - 4 - 3 * (i + 1))) len
+
     step : suc i ≡ i + 1
     step = omega arith
+
     at_suc : length block - 4 - 3 * (i + 1) ≡ length block - 4 - 3 * suc i
     at_suc = omega arith
+
     more_room : (i + 1) * len ≤ count * len
     more_room = Rattle.std.proofs.Math.Nat.mul-le-mul_right len (omega (arith, less))
+
     old_span : i * len ≡ min (spans (read_slots low len block i)) limit
     old_span = omega (arith, read_spans low len block i, more_room, room)
+
     new_span : (i + 1) * len ≡ min (spans (read_slots low len block i) + len) limit
     new_span = omega (arith, read_spans low len block i, more_room, room)
+
     zeros_more : IsNone wrong → (IsTrue (is_live_slot low block (length block - 4 - 3 * (i + 1))) → ⊥) → Compares (min (spans (read_slots low len block i)) limit)
         (take (min (spans (read_slots low len block i) + len) limit - min (spans (read_slots low len block i)) limit) (drop (min (spans (read_slots low len block i)) limit) block))
         (zeros (min (spans (read_slots low len block i) + len) limit - min (spans (read_slots low len block i)) limit)) new
     zeros_more n dead =
         subst (λ (k : ℕ). Compares k (take (min (spans (read_slots low len block i) + len) limit - k) (drop k block)) (zeros (min (spans (read_slots low len block i) + len) limit - k)) new) old_span
-            (subst (λ (k : ℕ). Compares (i * len) (take (k - i * len) (drop (i * len) block)) (zeros (k - i * len)) new) new_span (s.2 n dead))
+        (subst (λ (k : ℕ). Compares (i * len) (take (k - i * len) (drop (i * len) block)) (zeros (k - i * len)) new) new_span (s.2 n dead))
+
     three : length block - 4 - 3 * i - (length block - 4 - 3 * (i + 1)) ≡ 3
     three = omega (arith, less, fit)
+
     parts : drop (length block - 4 - 3 * (i + 1)) (take (length block - 4) block) ≡ take 3 (drop (length block - 4 - 3 * (i + 1)) block) ++ drop (length block - 4 - 3 * i) (take (length block - 4) block)
     parts = part_is block (length block - 4 - 3 * (i + 1)) (length block - 4 - 3 * i) (length block - 4) (omega arith) (omega arith)
         ∙ ap (λ (k : ℕ). take k (drop (length block - 4 - 3 * (i + 1)) block) ++ drop (length block - 4 - 3 * i) (take (length block - 4) block)) three
+
     here : length block - 4 - 3 * (i + 1) + 3 ≡ length block - 4 - 3 * i
     here = omega (arith, less, fit)
+
     both : (o : Option ℕ) → Compares (length block - 4 - 3 * (i + 1)) (take 3 (drop (length block - 4 - 3 * (i + 1)) block)) (rdf_bytes r) o
         → Compares (length block - 4 - 3 * (i + 1)) (take 3 (drop (length block - 4 - 3 * (i + 1)) block) ++ drop (length block - 4 - 3 * i) (take (length block - 4) block)) (rdf_bytes r ++ control ms) (option_or o wrong_rdf)
     both (Some p) c = first_part (length block - 4 - 3 * (i + 1)) (take 3 (drop (length block - 4 - 3 * (i + 1)) block)) (drop (length block - 4 - 3 * i) (take (length block - 4) block)) (rdf_bytes r) (control ms) p
@@ -132,8 +142,8 @@ slot_flags (Single live n ∷ rs) (suc i) s h =
     let long : length (control rs) ≡ 3 * length rs = control-singles rs s in
     let place : 3 * suc (length rs) - 3 * (suc i + 1) ≡ 3 * length rs - 3 * (i + 1) = omega arith in
     ap (λ (k : ℕ). byte (control rs ++ rdf_bytes (Single live n)) k) place
-        ∙ get_or_append_left (control rs) (rdf_bytes (Single live n)) 0 (3 * length rs - 3 * (i + 1)) (omega (arith, long, h))
-        ∙ slot_flags rs i s (omega (arith, h))
+    ∙ get_or_append_left (control rs) (rdf_bytes (Single live n)) 0 (3 * length rs - 3 * (i + 1)) (omega (arith, long, h))
+    ∙ slot_flags rs i s (omega (arith, h))
 slot_flags (Run n k ∷ rs) i s h = absurd s
 slot_flags (Segment piece live number n ∷ rs) i s h = absurd s
 
@@ -152,41 +162,48 @@ flag_mark false x e = ap (λ (k : ℕ). k == 0) e
 slot_is : (block : List ℕ) (len : ℕ) (rs : List Rdf) (i : ℕ) → IsBlockSize (length block) → IsWhole (Slots len) block rs → AreSingles rs → i < slots_in (length block) len → 3 * slots_in (length block) len ≤ length block - 4
     → get_or (slots_of (length block) len rs) i some_rdf ≡ Single (is_live_slot (free_end block) block (length block - 4 - 3 * (i + 1))) len
 slot_is block len rs i size w s less fit =
-    get_or-take count all i some_rdf less ∙ elim (cases_lt i (length rs)) [ | inl there ↦ has there | inr past ↦ lacks past ]
+    get_or-take count all i some_rdf less ∙ elim (cases_lt i (length rs)) [ inl there ↦ has there | inr past ↦ lacks past ]
   where
     count : ℕ
     count = slots_in (length block) len
+
     all : List Rdf
     all = map (slotted len) rs ++ replicate (slots_in (length block) len) (Single false len)
+
     at : ℕ
     at = length block - 4 - 3 * (i + 1)
+
     least : 512 ≤ length block
     least = (size_bounds (length block) size).0
+
     end : length (control rs) + control_at (length block) rs ≡ cidf_at block
     end = whole_end (Slots len) block rs least w
+
     long : length (control rs) ≡ 3 * length rs
     long = control-singles rs s
+
     has : i < length rs → get_or all i some_rdf ≡ Single (is_live_slot (free_end block) block at) len
     has h =
         let f = control_at (length block) rs in
         let place : f + (3 * length rs - 3 * (i + 1)) ≡ at = omega (arith, end, long, h) in
         let upto : List ℕ = take (length block - 4) block in
         let flags : byte block at ≡ withdrawn_bit (is_live (get_or rs i some_rdf)) =
-            sym (get_or-take (length block - 4) block at 0 (omega (arith, least, less, fit)))
-                ∙ ap (λ (k : ℕ). byte upto k) (sym place) ∙ sym (get_or-drop f upto (3 * length rs - 3 * (i + 1)) 0)
-                ∙ ap (λ (x : List ℕ). byte x (3 * length rs - 3 * (i + 1))) w.right.bytes ∙ slot_flags rs i s h in
+        sym (get_or-take (length block - 4) block at 0 (omega (arith, least, less, fit)))
+        ∙ ap (λ (k : ℕ). byte upto k) (sym place) ∙ sym (get_or-drop f upto (3 * length rs - 3 * (i + 1)) 0)
+        ∙ ap (λ (x : List ℕ). byte x (3 * length rs - 3 * (i + 1))) w.right.bytes ∙ slot_flags rs i s h in
         let low : nat_le (free_end block) at ≡ true = le-leb (free_end block) at (omega (arith, place, w.right.low)) in
         let live : is_live_slot (free_end block) block at ≡ is_live (get_or rs i some_rdf) =
-            ap (λ (b : Bool). b && (byte block at == 0)) low ∙ flag_mark (is_live (get_or rs i some_rdf)) (byte block at) flags in
+        ap (λ (b : Bool). b && (byte block at == 0)) low ∙ flag_mark (is_live (get_or rs i some_rdf)) (byte block at) flags in
         get_or_append_left (map (slotted len) rs) (replicate count (Single false len)) some_rdf i (omega (arith, h, length-map rs (slotted len)))
-            ∙ get_or-map (slotted len) rs i some_rdf some_rdf h ∙ slotted_is len rs i s h ∙ ap (λ (b : Bool). Single b len) (sym live)
+        ∙ get_or-map (slotted len) rs i some_rdf some_rdf h ∙ slotted_is len rs i s h ∙ ap (λ (b : Bool). Single b len) (sym live)
+
     lacks : length rs ≤ i → get_or all i some_rdf ≡ Single (is_live_slot (free_end block) block at) len
     lacks h =
         let high : nat_le (free_end block) at ≡ false = lt-leb (free_end block) at (omega (arith, end, long, h, w.whole, less, fit)) in
         let dead : is_live_slot (free_end block) block at ≡ false = ap (λ (b : Bool). b && (byte block at == 0)) high in
         let empty : Rdf = Single false len in
         get_or-append_right (map (slotted len) rs) (replicate count empty) (length rs) i some_rdf (length-map rs (slotted len)) h
-            ∙ get_or-replicate count (i - length rs) empty some_rdf (omega (arith, less)) ∙ ap (λ (b : Bool). Single b len) (sym dead)
+        ∙ get_or-replicate count (i - length rs) empty some_rdf (omega (arith, less)) ∙ ap (λ (b : Bool). Single b len) (sym dead)
 
 pub slots_read : (block : List ℕ) (len : ℕ) (rs : List Rdf) → IsBlockSize (length block) → IsWhole (Slots len) block rs → AreSingles rs → 3 * slots_in (length block) len ≤ length block - 4
     → slots_of (length block) len rs ≡ read_slots (free_end block) len block (slots_in (length block) len)
@@ -194,19 +211,23 @@ slots_read block len rs size w s fit = sym (take_all count ms (omega (arith, lon
   where
     count : ℕ
     count = slots_in (length block) len
+
     ms : List Rdf
     ms = slots_of (length block) len rs
+
     all : List Rdf
     all = map (slotted len) rs ++ replicate (slots_in (length block) len) (Single false len)
+
     long : length (slots_of (length block) len rs) ≡ slots_in (length block) len
     long = let empty : Rdf = Single false len in omega (arith, length-take count all, length-append (map (slotted len) rs) (replicate count empty), length-replicate count empty)
+
     upto : (i : ℕ) → i ≤ slots_in (length block) len → take i (slots_of (length block) len rs) ≡ read_slots (free_end block) len block i
     upto zero h = refl
     upto (suc i) h =
         let e : suc i ≡ i + 1 = omega arith in
         ap (λ (k : ℕ). take k ms) e ∙ take_more ms i some_rdf (omega (arith, long, h))
-            ∙ ap (λ (x : List Rdf). x ++ get_or ms i some_rdf ∷ []) (upto i (omega (arith, h)))
-            ∙ ap (λ (x : Rdf). read_slots (free_end block) len block i ++ x ∷ []) (slot_is block len rs i size w s (omega (arith, h)) fit)
+        ∙ ap (λ (x : List Rdf). x ++ get_or ms i some_rdf ∷ []) (upto i (omega (arith, h)))
+        ∙ ap (λ (x : Rdf). read_slots (free_end block) len block i ++ x ∷ []) (slot_is block len rs i size w s (omega (arith, h)) fit)
 
 -- ---- the exits
 
@@ -232,7 +253,7 @@ read_is block len count limit wrong wrong_rdf l rs w e =
     let single = singles len None rs w.right.chain (all_records (Slots len) None rs w.right.chain e) in
     let fit : 3 * slots_in (length block) len ≤ length block - 4 = omega (arith, l.fit, l.count_is) in
     let same : slots_of (length block) len rs ≡ read_slots (free_end block) len block count =
-        slots_read block len rs l.size w single fit ∙ ap (λ (k : ℕ). read_slots (free_end block) len block k) (sym l.count_is) in
+    slots_read block len rs l.size w single fit ∙ ap (λ (k : ℕ). read_slots (free_end block) len block k) (sym l.count_is) in
     slots_described block len rs e ∙ ap (λ (ms : List Rdf). laid (length block) (masked ms block) ms (is_busy block)) same
 
 slots_wrong : (block : List ℕ) (len count limit : ℕ) (wrong wrong_rdf : Option ℕ) (l : Looks block len count limit wrong wrong_rdf) (rs : List Rdf) (at : ℕ)
@@ -254,12 +275,12 @@ slots_data block len count limit wrong wrong_rdf r l none c =
     let f = control_at (length block) ms in
     let place = limit_at block len count limit wrong wrong_rdf l in
     let now : Compares 0 (take (min (spans ms) limit) block) (take (min (spans ms) limit) (masked ms block)) None =
-        subst (λ (o : Option ℕ). Compares 0 (take (min (spans ms) limit) block) (take (min (spans ms) limit) (masked ms block)) o) none l.looked.data_wrong in
+    subst (λ (o : Option ℕ). Compares 0 (take (min (spans ms) limit) block) (take (min (spans ms) limit) (masked ms block)) o) none l.looked.data_wrong in
     let later : take (min (spans ms) f) block ≡ take (min (spans ms) f) (masked ms block) = subst (λ (k : ℕ). take (min (spans ms) k) block ≡ take (min (spans ms) k) (masked ms block)) place now in
     let start : count * len ≡ min (spans ms) f = omega (arith, read_spans (free_end block) len block count, l.fit, l.limit_is, place) in
     let c' : Compares (min (spans ms) f) (take (f - min (spans ms) f) (drop (min (spans ms) f) block)) (zeros (f - min (spans ms) f)) r =
-        subst (λ (k : ℕ). Compares k (take (f - k) (drop k block)) (zeros (f - k)) r) start
-            (subst (λ (k : ℕ). Compares (count * len) (take (k - count * len) (drop (count * len) block)) (zeros (k - count * len)) r) place c) in
+    subst (λ (k : ℕ). Compares k (take (f - k) (drop k block)) (zeros (f - k)) r) start
+    (subst (λ (k : ℕ). Compares (count * len) (take (k - count * len) (drop (count * len) block)) (zeros (k - count * len)) r) place c) in
     data_free ms block f r (omega (arith, place, l.limit_is)) later c'
 
 slots_rdfs : (block : List ℕ) (len count limit : ℕ) (wrong wrong_rdf r : Option ℕ) (l : Looks block len count limit wrong wrong_rdf) → wrong_rdf ≡ r
@@ -268,7 +289,7 @@ slots_rdfs block len count limit wrong wrong_rdf r l e =
     let ms = read_slots (free_end block) len block count in
     let place : length block - 4 - 3 * count ≡ control_at (length block) ms = omega (arith, read_control (free_end block) len block count) in
     subst (λ (k : ℕ). Compares k (drop k (take (length block - 4) block)) (control ms) r) place
-        (subst (λ (o : Option ℕ). Compares (length block - 4 - 3 * count) (drop (length block - 4 - 3 * count) (take (length block - 4) block)) (control ms) o) e l.looked.rdf_wrong)
+    (subst (λ (o : Option ℕ). Compares (length block - 4 - 3 * count) (drop (length block - 4 - 3 * count) (take (length block - 4) block)) (control ms) o) e l.looked.rdf_wrong)
 
 sums : (block : List ℕ) (len count limit : ℕ) (wrong wrong_rdf : Option ℕ) (l : Looks block len count limit wrong wrong_rdf)
     → (let ms = read_slots (free_end block) len block count in control_at (length block) ms + length (control ms) ≡ length block - 4)
@@ -281,12 +302,12 @@ slots_in_data block len count limit wrong wrong_rdf l rs at w e is =
     let f = control_at (length block) ms in
     let place = limit_at block len count limit wrong wrong_rdf l in
     let now : Compares 0 (take (min (spans ms) limit) block) (take (min (spans ms) limit) (masked ms block)) (Some at) =
-        subst (λ (o : Option ℕ). Compares 0 (take (min (spans ms) limit) block) (take (min (spans ms) limit) (masked ms block)) o) is l.looked.data_wrong in
+    subst (λ (o : Option ℕ). Compares 0 (take (min (spans ms) limit) block) (take (min (spans ms) limit) (masked ms block)) o) is l.looked.data_wrong in
     let later : Compares 0 (take (min (spans ms) f) block) (take (min (spans ms) f) (masked ms block)) (Some at) =
-        subst (λ (k : ℕ). Compares 0 (take (min (spans ms) k) block) (take (min (spans ms) k) (masked ms block)) (Some at)) place now in
+    subst (λ (k : ℕ). Compares 0 (take (min (spans ms) k) block) (take (min (spans ms) k) (masked ms block)) (Some at)) place now in
     slots_wrong block len count limit wrong wrong_rdf l rs at w e
-        (in_data block (padded f (masked ms block)) (control ms) (cidf (spans ms) (f - spans ms) (is_busy block)) f at (length-padded f (masked ms block)) (omega (arith, place, l.limit_is))
-            (data_wrong ms block f at (omega (arith, place, l.limit_is)) later))
+    (in_data block (padded f (masked ms block)) (control ms) (cidf (spans ms) (f - spans ms) (is_busy block)) f at (length-padded f (masked ms block)) (omega (arith, place, l.limit_is))
+    (data_wrong ms block f at (omega (arith, place, l.limit_is)) later))
 
 pub slots_in_free : (block : List ℕ) (len count limit : ℕ) (wrong wrong_rdf : Option ℕ) (l : Looks block len count limit wrong wrong_rdf) (rs : List Rdf) (at : ℕ)
     → IsWhole (Slots len) block rs → shape_of rs ≡ shapes.Records → wrong ≡ None
@@ -295,8 +316,8 @@ slots_in_free block len count limit wrong wrong_rdf l rs at w e none c =
     let ms = read_slots (free_end block) len block count in
     let f = control_at (length block) ms in
     slots_wrong block len count limit wrong wrong_rdf l rs at w e
-        (in_data block (padded f (masked ms block)) (control ms) (cidf (spans ms) (f - spans ms) (is_busy block)) f at (length-padded f (masked ms block)) (omega (arith, limit_at block len count limit wrong wrong_rdf l, l.limit_is))
-            (slots_data block len count limit wrong wrong_rdf (Some at) l none c))
+    (in_data block (padded f (masked ms block)) (control ms) (cidf (spans ms) (f - spans ms) (is_busy block)) f at (length-padded f (masked ms block)) (omega (arith, limit_at block len count limit wrong wrong_rdf l, l.limit_is))
+    (slots_data block len count limit wrong wrong_rdf (Some at) l none c))
 
 pub slots_in_rdfs : (block : List ℕ) (len count limit : ℕ) (wrong wrong_rdf : Option ℕ) (l : Looks block len count limit wrong wrong_rdf) (rs : List Rdf) (at : ℕ)
     → IsWhole (Slots len) block rs → shape_of rs ≡ shapes.Records → wrong ≡ None
@@ -305,8 +326,8 @@ slots_in_rdfs block len count limit wrong wrong_rdf l rs at w e none free is =
     let ms = read_slots (free_end block) len block count in
     let f = control_at (length block) ms in
     slots_wrong block len count limit wrong wrong_rdf l rs at w e
-        (in_control block (padded f (masked ms block)) (control ms) (cidf (spans ms) (f - spans ms) (is_busy block)) f (length block - 4) at (length-padded f (masked ms block)) (omega arith) (sums block len count limit wrong wrong_rdf l)
-            (slots_data block len count limit wrong wrong_rdf None l none free) (slots_rdfs block len count limit wrong wrong_rdf (Some at) l is))
+    (in_control block (padded f (masked ms block)) (control ms) (cidf (spans ms) (f - spans ms) (is_busy block)) f (length block - 4) at (length-padded f (masked ms block)) (omega arith) (sums block len count limit wrong wrong_rdf l)
+    (slots_data block len count limit wrong wrong_rdf None l none free) (slots_rdfs block len count limit wrong wrong_rdf (Some at) l is))
 
 pub slots_end : (block : List ℕ) (len count limit : ℕ) (wrong wrong_rdf r : Option ℕ) (busy : Bool) (l : Looks block len count limit wrong wrong_rdf) (rs : List Rdf)
     → IsWhole (Slots len) block rs → shape_of rs ≡ shapes.Records → busy ≡ is_busy block → wrong ≡ None
@@ -315,18 +336,21 @@ pub slots_end : (block : List ℕ) (len count limit : ℕ) (wrong wrong_rdf r : 
     → MatchOption r (HasRightLengths (Slots len) block rs) (HasWrongLengths (Slots len) block rs)
 slots_end block len count limit wrong wrong_rdf r busy l rs w e flag none free is c =
     by_result r (in_cidf block (padded f (masked ms block)) (control ms) (cidf (spans ms) (f - spans ms) (is_busy block)) f (length block - 4) r (length-padded f (masked ms block)) (omega arith) (sums block len count limit wrong wrong_rdf l)
-        (slots_data block len count limit wrong wrong_rdf None l none free) (slots_rdfs block len count limit wrong wrong_rdf None l is) c')
+    (slots_data block len count limit wrong wrong_rdf None l none free) (slots_rdfs block len count limit wrong wrong_rdf None l is) c')
   where
     ms : List Rdf
     ms = read_slots (free_end block) len block count
+
     f : ℕ
     f = control_at (length block) (read_slots (free_end block) len block count)
+
     c' : Compares (length block - 4) (drop (length block - 4) block) (cidf (spans ms) (f - spans ms) (is_busy block)) r
     c' =
         let sum : count * len ≡ spans ms = sym (read_spans (free_end block) len block count) in
         let left : limit - count * len ≡ f - spans ms = omega (arith, limit_at block len count limit wrong wrong_rdf l, sum) in
         cidf_same block (count * len) (spans ms) (limit - count * len) (f - spans ms) (is_busy block) r sum left
-            (subst (λ (b : Bool). Compares (length block - 4) (drop (length block - 4) block) (cidf (count * len) (limit - count * len) b) r) flag c)
+        (subst (λ (b : Bool). Compares (length block - 4) (drop (length block - 4) block) (cidf (count * len) (limit - count * len) b) r) flag c)
+
     by_result : (o : Option ℕ) → Compares 0 block (laid (length block) (masked ms block) ms (is_busy block)) o → MatchOption o (HasRightLengths (Slots len) block rs) (HasWrongLengths (Slots len) block rs)
     by_result (Some at) d = slots_wrong block len count limit wrong wrong_rdf l rs at w e d
     by_result None d = record { same = d ∙ sym (read_is block len count limit wrong wrong_rdf l rs w e); room = tt }
@@ -344,7 +368,7 @@ looks_are block low len k count limit slot wrong wrong_rdf size l e c f p a b w 
       limit_is = p;
       looked = subst (λ (i : ℕ). Looked (free_end block) len block limit i wrong wrong_rdf) all
           (subst (λ (i : ℕ). Looked (free_end block) i block limit slot wrong wrong_rdf) e
-              (subst (λ (i : ℕ). Looked i k block limit slot wrong wrong_rdf) l w))
+          (subst (λ (i : ℕ). Looked i k block limit slot wrong wrong_rdf) l w));
     }
 
 -- the zeros behind the slots, and the CIDF, at another name of the length

@@ -1,17 +1,15 @@
 -- The one chain of RDFs that says given marks: runs are joined from the back.
-use Rattle.std.proofs.Common.{◌≡◌, ◌≢◌, ℕ, zero, suc, ◌+◌, ◌-◌, ◌*◌, ◌/◌, ◌%◌, ◌<◌, ◌≤◌, ◌⊎◌, inl, inr, Bool, true, false, List, [], ◌∷◌, ◌++◌, length, take, drop, Option, Some, None, refl, sym, ap, ◌∙◌, subst, arith, append_assoc, length-append}
+use Rattle.std.proofs.Common.{◌≡◌, ℕ, zero, suc, ◌+◌, Bool, true, false, List, [], ◌∷◌, ◌++◌, Option, Some, None, refl, sym, ap, ◌∙◌, subst, arith}
 use Rattle.std.specs.Prelude.{map, replicate, if◌then◌else◌, ◌==◌}
 use Rattle.std.specs.List.{flat_map, AllByRecursion}
 use Rattle.std.proofs.lemmas.Bool.{eq-eqb, ne_eqb}
-use Rattle.std.proofs.lemmas.List.{length-map, append-nil, length-replicate}
 use Rattle.vr_ci.specs.declared.form.Form.{Form}
 use Rattle.vr_ci.specs.declared.form.Form.TheVariants.{Plain, Slots}
-use Rattle.vr_ci.specs.declared.form.Shape.{Shape}
 use Rattle.vr_ci.specs.declared.form.Shape.TheVariants as shapes
 use Rattle.vr_ci.specs.declared.rdf.Rdf.{Rdf}
 use Rattle.vr_ci.specs.declared.rdf.Rdf.TheVariants.{Single, Run, Segment}
-use Rattle.vr_ci.specs.Rdf.{Mark, marks, IsCount, IsRdf, run_length, AreApart, IsOfForm, IsOfRecords, MayFollow, IsChainFrom, IsChain, shape_of}
-use Rattle.vr_ci.proofs.ChainLemmas.{alone, all_records, chain_rdfs}
+use Rattle.vr_ci.specs.Rdf.{Mark, marks, run_length, AreApart, IsOfRecords, IsChainFrom, IsChain, shape_of}
+use Rattle.vr_ci.proofs.ChainLemmas.{alone, all_records}
 
 abbrev pub mark : Bool → ℕ → Mark
 mark live n = record { live = live; len = n }

@@ -1,20 +1,19 @@
 -- What a writer holds after each step, and the interval that it leaves.
-use Rattle.std.proofs.Common.{◌≡◌, ◌≢◌, ℕ, zero, suc, ◌+◌, ◌-◌, ◌*◌, ◌/◌, ◌%◌, ◌<◌, ◌≤◌, ◌⊎◌, inl, inr, Bool, true, false, List, [], ◌∷◌, ◌++◌, length, take, drop, Option, Some, None, refl, sym, ap, ◌∙◌, subst, arith, append_assoc, length-append, length-take, length-drop}
-use Rattle.std.specs.Prelude.{map, replicate, if◌then◌else◌, IsTrue}
+use Rattle.std.proofs.Common.{◌≡◌, ℕ, zero, suc, ◌+◌, ◌-◌, ◌*◌, ◌<◌, ◌≤◌, inl, Bool, true, false, List, [], ◌∷◌, ◌++◌, length, take, drop, Option, Some, None, refl, sym, ap, ◌∙◌, subst, arith, append_assoc, length-append, length-take, length-drop}
+use Rattle.std.specs.Prelude.{map, replicate, IsTrue}
 use Rattle.std.specs.List.{flat_map, AllByRecursion}
-use Rattle.std.proofs.lemmas.List.{take_at, drop_at, take-append-drop, take-take, drop-drop, drop-take, append-nil, length-map, map-append, length-replicate, replicate_more, replicate-append-replicate, drop_all, take_all}
+use Rattle.std.proofs.lemmas.List.{take_at, drop_at, take-append-drop, take-take, drop-drop, drop-take, append-nil, map-append, replicate_more, drop_all}
 use Rattle.std.proofs.lemmas.List.Concat.{flat_map-append}
 use Rattle.vr_ci.specs.declared.form.Form.{Form}
 use Rattle.vr_ci.specs.declared.form.Form.TheVariants.{Plain, Slots}
 use Rattle.vr_ci.specs.declared.form.Piece.{Piece}
 use Rattle.vr_ci.specs.declared.form.Piece.TheVariants.{First, Inner, Last}
-use Rattle.vr_ci.specs.declared.form.Shape.{Shape}
 use Rattle.vr_ci.specs.declared.form.Shape.TheVariants as shapes
 use Rattle.vr_ci.specs.declared.rdf.Rdf.{Rdf}
 use Rattle.vr_ci.specs.declared.rdf.Rdf.TheVariants.{Single, Run, Segment}
 use Rattle.vr_ci.specs.declared.writer.CiWriter.{CiWriter}
 use Rattle.vr_ci.specs.Size.{IsBlockSize}
-use Rattle.vr_ci.specs.Rdf.{Mark, marks, span, spans, two_bytes, rdf_bytes, control, IsCount, IsRdf, run_length, AreApart, IsOfForm, IsOfRecords, MayFollow, IsChainFrom, IsChain, last_from, shape_of}
+use Rattle.vr_ci.specs.Rdf.{Mark, marks, spans, rdf_bytes, control, IsCount, IsRdf, run_length, AreApart, IsOfForm, IsOfRecords, MayFollow, IsChain, last_from, shape_of}
 use Rattle.vr_ci.specs.Interval.{Item, Interval, IsItem, bytes_of, mark_of, room, slots_in, FitsBlock, Fits, padded, cidf, control_at, laid, IsLaidOut, IsInterval}
 use Rattle.vr_ci.specs.Writer.{Holds, IsItemLength, IsLastRun, SlotsAdded, written, placed, run_rdf, run_started}
 use Rattle.vr_ci.proofs.RdfLemmas.{control-push}
@@ -124,17 +123,17 @@ put_both block x y f r b top h e l m =
     let out : List ℕ = placed one r y in
     let fits : length out ≡ length one = length-placed one r y (omega (arith, e, l, m, long)) in
     let front : take (f + length x) out ≡ take f block ++ x =
-        take-placed one r (f + length x) y (omega (arith, e, l, m, long)) h ∙ take-placed_all block f (f + length x) x (omega (arith, h, e, l, m)) refl in
+    take-placed one r (f + length x) y (omega (arith, e, l, m, long)) h ∙ take-placed_all block f (f + length x) x (omega (arith, h, e, l, m)) refl in
     let past : drop b out ≡ drop b block =
-        drop-placed one r b y (omega (arith, e, l, m, long)) (omega (arith, e)) ∙ drop-placed block f b x (omega (arith, h, e, l, m)) (omega (arith, h, e)) in
+    drop-placed one r b y (omega (arith, e, l, m, long)) (omega (arith, e)) ∙ drop-placed block f b x (omega (arith, h, e, l, m)) (omega (arith, h, e)) in
     let sum : b + (top - b) ≡ top = omega (arith, l) in
     let upto : (z : List ℕ) → drop b (take top z) ≡ take (top - b) (drop b z) = λ z. ap (λ (k : ℕ). drop b (take k z)) (sym sum) ∙ drop-take b (top - b) z in
     let behind : drop b (take top out) ≡ drop b (take top block) = upto out ∙ ap (λ (z : List ℕ). take (top - b) z) past ∙ sym (upto block) in
     let here : take (length y) (drop r (take top out)) ≡ y =
-        sym (drop-take r (length y) (take top out)) ∙ ap (λ (k : ℕ). drop r (take k (take top out))) e ∙ ap (λ (z : List ℕ). drop r z) (take-take b top out l)
-            ∙ ap (λ (z : List ℕ). drop r z) (take-placed_all one r b y (omega (arith, e, l, m, long)) (sym e)) ∙ drop_at (take r one) y r (omega (arith, length-take r one, e, l, m, long)) in
+    sym (drop-take r (length y) (take top out)) ∙ ap (λ (k : ℕ). drop r (take k (take top out))) e ∙ ap (λ (z : List ℕ). drop r z) (take-take b top out l)
+    ∙ ap (λ (z : List ℕ). drop r z) (take-placed_all one r b y (omega (arith, e, l, m, long)) (sym e)) ∙ drop_at (take r one) y r (omega (arith, length-take r one, e, l, m, long)) in
     let rest : drop (length y) (drop r (take top out)) ≡ drop b (take top block) =
-        drop-drop (length y) r (take top out) ∙ ap (λ (k : ℕ). drop k (take top out)) e ∙ behind in
+    drop-drop (length y) r (take top out) ∙ ap (λ (k : ℕ). drop k (take top out)) e ∙ behind in
     (front, sym (take-append-drop (length y) (drop r (take top out))) ∙ ap (λ (z : List ℕ). z ++ drop (length y) (drop r (take top out))) here ∙ ap (λ (z : List ℕ). y ++ z) rest, fits ∙ long)
 
 held_back : (w : CiWriter) (items : List Item) (h : Holds w items) → length (control h.rdfs) + w.back + 4 ≡ length w.out.now
@@ -156,8 +155,8 @@ single_held old new items bytes live h len small apart form front added back pla
     let both = put_both block x (rdf_bytes r) old.front new.back old.back top (omega (arith, long, place)) back (omega (arith, h.back)) (omega arith) in
     let size : length new.out.now ≡ length block = ap length out ∙ both.2 in
     let follows : MayFollow old.form (last_from None h.rdfs) r =
-        may_follow old.form (last_from None h.rdfs) live (length bytes) old.run_length old.run_count h.run
-            (λ b e. last_record None h.rdfs b (λ s q. absurd cc) (all_records old.form None h.rdfs h.chain h.shape) e) apart in
+    may_follow old.form (last_from None h.rdfs) live (length bytes) old.run_length old.run_count h.run
+    (λ b e. last_record None h.rdfs b (λ s q. absurd cc) (all_records old.form None h.rdfs h.chain h.shape) e) apart in
     let chain : IsChain old.form (h.rdfs ++ r ∷ []) = chain-push old.form None h.rdfs r h.chain (record { low = some; high = small }) follows in
     record {
       rdfs = h.rdfs ++ r ∷ [];
@@ -177,12 +176,13 @@ single_held old new items bytes live h len small apart form front added back pla
           (all-push (λ item. IsItemLength old.form (length item.bytes)) items (written bytes live) h.lengths (subst (λ (k : ℕ). IsItemLength old.form k) (sym long) len));
       added = omega (arith, added, h.added, length-append items (written bytes live ∷ []));
       run = subst (λ (g : Form). IsLastRun g (last_from None (h.rdfs ++ r ∷ [])) new.run_length new.run_count) (sym form)
-          (subst (λ (o : Option Rdf). IsLastRun old.form o new.run_length new.run_count) (sym (last_from-push None h.rdfs r)) (started old.form live (length bytes) new.run_length new.run_count n count))
+          (subst (λ (o : Option Rdf). IsLastRun old.form o new.run_length new.run_count) (sym (last_from-push None h.rdfs r)) (started old.form live (length bytes) new.run_length new.run_count n count));
     }
   where
     positive : (form : Form) → IsItemLength form (length bytes) → 0 < length bytes
     positive Plain l = l
     positive (Slots k) l = l.0
+
     records_push : (rs : List Rdf) (live : Bool) (len : ℕ) → shape_of rs ≡ shapes.Records → shape_of (rs ++ Single live len ∷ []) ≡ shapes.Records
     records_push [] live len e = refl
     records_push (Single l k ∷ rs) live len e = refl
@@ -201,6 +201,7 @@ run_held old new items bytes h len some few same form front added place back out
   where
     m : Mark
     m = record { live = true; len = old.run_length }
+
     finish : (old.form ≡ Plain) × (last_from None h.rdfs ≡ Some (run_rdf old.run_length old.run_count)) → Holds new (items ++ written bytes true ∷ [])
     finish go =
         let block : List ℕ = old.out.now in
@@ -217,17 +218,17 @@ run_held old new items bytes h len some few same form front added place back out
         let both = put_both block bytes (rdf_bytes now) old.front new.back end top place (omega (arith, back)) (omega (arith, high)) (omega arith) in
         let size : length new.out.now ≡ length block = ap length out' ∙ both.2 in
         let behind : drop end (take top block) ≡ control init =
-            sym (drop-drop (length (rdf_bytes was)) old.back (take top block)) ∙ ap (λ (z : List ℕ). drop (length (rdf_bytes was)) z) (h.control ∙ controls) ∙ drop_at (rdf_bytes was) (control init) (length (rdf_bytes was)) refl in
+        sym (drop-drop (length (rdf_bytes was)) old.back (take top block)) ∙ ap (λ (z : List ℕ). drop (length (rdf_bytes was)) z) (h.control ∙ controls) ∙ drop_at (rdf_bytes was) (control init) (length (rdf_bytes was)) refl in
         let plain : IsChain Plain h.rdfs = subst (λ (g : Form). IsChain g h.rdfs) go.0 h.chain in
         let plain_split : IsChain Plain (init ++ was ∷ []) = subst (λ (z : List Rdf). IsChain Plain z) split.1 plain in
         let last = chain-last Plain None init was plain_split in
         let longer : IsChain Plain (init ++ now ∷ []) =
-            chain-push Plain None init now (chain-front Plain None init (was ∷ []) plain_split)
-                (run_count old.run_length old.run_count some last.0, record { low = omega arith; high = omega (arith, few) }, omega (arith, some))
-                (longer_follows (last_from None init) old.run_length old.run_count (old.run_count + 1) some last.1) in
+        chain-push Plain None init now (chain-front Plain None init (was ∷ []) plain_split)
+        (run_count old.run_length old.run_count some last.0, record { low = omega arith; high = omega (arith, few) }, omega (arith, some))
+        (longer_follows (last_from None init) old.run_length old.run_count (old.run_count + 1) some last.1) in
         let step : old.run_count + 1 ≡ suc old.run_count = omega arith in
         let more : marks now ≡ marks was ++ m ∷ [] =
-            sym (replicate_more old.run_count m) ∙ ap (λ (z : List Mark). z ++ m ∷ []) (sym (run_marks old.run_length old.run_count some)) in
+        sym (replicate_more old.run_count m) ∙ ap (λ (z : List Mark). z ++ m ∷ []) (sym (run_marks old.run_length old.run_count some)) in
         record {
           rdfs = init ++ now ∷ [];
           size = subst IsBlockSize (sym size) h.size;
@@ -248,12 +249,13 @@ run_held old new items bytes h len some few same form front added place back out
               (all-push (λ item. IsItemLength old.form (length item.bytes)) items (written bytes true) h.lengths len);
           added = omega (arith, added, h.added, length-append items (written bytes true ∷ []));
           run = subst (λ (g : Form). IsLastRun g (last_from None (init ++ now ∷ [])) new.run_length new.run_count) (sym (form ∙ go.0))
-              (subst (λ (o : Option Rdf). IsLastRun Plain o new.run_length new.run_count) (sym (last_from-push None init now)) (count, n, omega (arith, some)))
+              (subst (λ (o : Option Rdf). IsLastRun Plain o new.run_length new.run_count) (sym (last_from-push None init now)) (count, n, omega (arith, some)));
         }
       where
         positive : (form : Form) → IsItemLength form (length bytes) → 0 < length bytes
         positive Plain l = l
         positive (Slots k) l = l.0
+
         records_shape : (init : List Rdf) → shape_of (init ++ run_rdf old.run_length old.run_count ∷ []) ≡ shapes.Records → shape_of (init ++ Run old.run_length (old.run_count + 1) ∷ []) ≡ shapes.Records
         records_shape [] e = refl
         records_shape (Single l k ∷ rs) e = refl
@@ -276,9 +278,12 @@ interval_of form block value rs size chain shape said fits place parts =
       size = size;
       fits = fits;
       image = inl (record {
-        rdfs = rs; chain = chain; shape = shape; said = said;
-        layout = parts ∙ ap (λ (z : List ℕ). (z ++ control rs) ++ cidf (spans rs) (f - spans rs) value.busy) (sym spread)
-      })
+        rdfs = rs;
+        chain = chain;
+        shape = shape;
+        said = said;
+        layout = parts ∙ ap (λ (z : List ℕ). (z ++ control rs) ++ cidf (spans rs) (f - spans rs) value.busy) (sym spread);
+      });
     }
 
 -- the free space filled, and the CIDF behind it
@@ -293,9 +298,9 @@ filled_block block out f b k c tail four least sum high e o =
     let front : length (take f block ++ zeros k) ≡ b = omega (arith, length-append (take f block) (zeros k), length-take f block, length-zeros k, sum, high) in
     let cut : b + (top - b) ≡ top = omega (arith, high) in
     let first : take top filled ≡ (take f block ++ zeros k) ++ tail =
-        ap (λ (z : List ℕ). take top z) shape ∙ ap (λ (i : ℕ). take i ((take f block ++ zeros k) ++ drop b block)) (sym cut)
-            ∙ Rattle.vr_ci.proofs.CompareLemmas.take-past b (top - b) (take f block ++ zeros k) (drop b block) front
-            ∙ ap (λ (z : List ℕ). (take f block ++ zeros k) ++ z) (sym (drop-take b (top - b) block) ∙ ap (λ (i : ℕ). drop b (take i block)) cut ∙ e) in
+    ap (λ (z : List ℕ). take top z) shape ∙ ap (λ (i : ℕ). take i ((take f block ++ zeros k) ++ drop b block)) (sym cut)
+    ∙ Rattle.vr_ci.proofs.CompareLemmas.take-past b (top - b) (take f block ++ zeros k) (drop b block) front
+    ∙ ap (λ (z : List ℕ). (take f block ++ zeros k) ++ z) (sym (drop-take b (top - b) block) ∙ ap (λ (i : ℕ). drop b (take i block)) cut ∙ e) in
     let whole : length filled ≡ length block = omega (arith, ap length shape, length-append (take f block ++ zeros k) (drop b block), front, length-drop b block, high) in
     let last : drop (top + length c) filled ≡ [] = drop_all (top + length c) filled (omega (arith, whole, four, least)) in
     o ∙ ap (λ (z : List ℕ). z ++ c ++ drop (top + length c) filled) first ∙ ap (λ (z : List ℕ). ((take f block ++ zeros k) ++ tail) ++ c ++ z) last ∙ append-nil (((take f block ++ zeros k) ++ tail) ++ c)
@@ -309,26 +314,37 @@ ended w items busy out h complete room order o =
   where
     block : List ℕ
     block = w.out.now
+
     value : Interval
     value = record { shape = shapes.Records; items = items; busy = busy }
+
     k : ℕ
     k = w.back - w.front
+
     least : 512 ≤ length w.out.now
     least = (size_bounds (length w.out.now) h.size).0
+
     sum : w.front + (w.back - w.front) ≡ w.back
     sum = omega (arith, order)
+
     made : out ≡ ((take w.front w.out.now ++ zeros (w.back - w.front)) ++ control h.rdfs) ++ cidf w.front (w.back - w.front) busy
     made = filled_block w.out.now out w.front w.back (w.back - w.front) (cidf w.front (w.back - w.front) busy) (control h.rdfs) refl (omega (arith, least)) sum (omega (arith, h.back)) h.control o
+
     long : length out ≡ length w.out.now
     long = omega (arith, ap length made, length-append ((take w.front block ++ zeros k) ++ control h.rdfs) (cidf w.front k busy), length-append (take w.front block ++ zeros k) (control h.rdfs), length-append (take w.front block) (zeros k), length-take w.front block, length-zeros k, h.back, sum)
+
     size : IsBlockSize (length out)
     size = subst IsBlockSize (sym long) h.size
+
     span : w.front ≡ spans h.rdfs
     span = h.front ∙ length-bytes items ∙ ap total (sym h.said) ∙ total-all h.rdfs
+
     free : w.back - w.front ≡ control_at (length out) h.rdfs - spans h.rdfs
     free = omega (arith, h.back, long, span)
+
     place : spans h.rdfs + length (control h.rdfs) + 4 ≤ length out
     place = omega (arith, h.back, long, span, order)
+
     block_fits : (form : Form) → SlotsAdded form (length w.out.now) w.added → AllByRecursion (λ item. IsItemLength form (length item.bytes)) items → FitsBlock form (length out) shapes.Records items
     block_fits Plain c l = omega (arith, room_is items, h.front, length-bytes items, h.added, room, long)
     block_fits (Slots len) c l = (lengths items l, sym h.added ∙ c ∙ ap (λ (i : ℕ). slots_in i len) (sym long))
@@ -336,8 +352,10 @@ ended w items busy out h complete room order o =
         lengths : (is : List Item) → AllByRecursion (λ item. IsItemLength (Slots len) (length item.bytes)) is → AllByRecursion (λ item. length item.bytes ≡ len) is
         lengths [] a = tt
         lengths (i ∷ is) a = (a.0.1, lengths is a.1)
+
     fits : Fits w.form (length out) (record { shape = shapes.Records; items = items; busy = busy })
     fits = record { items = h.items; block = block_fits w.form complete h.lengths; idle = λ e. absurd cc }
+
     parts : out ≡ ((flat_map bytes_of items ++ zeros (control_at (length out) h.rdfs - spans h.rdfs)) ++ control h.rdfs) ++ cidf (spans h.rdfs) (control_at (length out) h.rdfs - spans h.rdfs) busy
     parts = made ∙ ap (λ (z : List ℕ). ((z ++ zeros k) ++ control h.rdfs) ++ cidf w.front k busy) h.bytes
         ∙ ap (λ (i : ℕ). ((flat_map bytes_of items ++ zeros i) ++ control h.rdfs) ++ cidf w.front i busy) free
@@ -365,16 +383,17 @@ segment_block form piece number live busy bytes old new size low high some short
     let span : spans rs ≡ n = omega arith in
     let free : k ≡ control_at (length new) rs - spans rs = omega (arith, whole, span, bounds.0) in
     interval_of form new value rs (subst IsBlockSize (sym whole) size) ((record { low = low; high = high }, record { low = some; high = omega (arith, short, bounds.1) }), of_form form, tt) refl
-        (ap (λ (i : ℕ). (let m : Mark = record { live = live; len = i } in m) ∷ []) (sym long))
-        (record { items = (written_ok bytes live some, tt); block = (record { low = low; high = high }, (fills_block piece (length-written bytes live) whole fills, tt), refl); idle = λ q. absurd cc })
-        (omega (arith, span, whole, short, bounds.0))
-        (e ∙ ap (λ (z : List ℕ). ((z ++ zeros k) ++ control rs) ++ cidf n k busy) (sym (append-nil x))
-            ∙ ap (λ (i : ℕ). (((x ++ []) ++ zeros i) ++ control rs) ++ cidf n i busy) free
-            ∙ ap (λ (i : ℕ). (((x ++ []) ++ zeros (control_at (length new) rs - spans rs)) ++ control rs) ++ cidf i (control_at (length new) rs - spans rs) busy) (sym span))
+    (ap (λ (i : ℕ). (let m : Mark = record { live = live; len = i } in m) ∷ []) (sym long))
+    (record { items = (written_ok bytes live some, tt); block = (record { low = low; high = high }, (fills_block piece (length-written bytes live) whole fills, tt), refl); idle = λ q. absurd cc })
+    (omega (arith, span, whole, short, bounds.0))
+    (e ∙ ap (λ (z : List ℕ). ((z ++ zeros k) ++ control rs) ++ cidf n k busy) (sym (append-nil x))
+    ∙ ap (λ (i : ℕ). (((x ++ []) ++ zeros i) ++ control rs) ++ cidf n i busy) free
+    ∙ ap (λ (i : ℕ). (((x ++ []) ++ zeros (control_at (length new) rs - spans rs)) ++ control rs) ++ cidf i (control_at (length new) rs - spans rs) busy) (sym span))
   where
     of_form : (g : Form) → IsOfForm g (Segment piece live number (length bytes))
     of_form Plain = tt
     of_form (Slots len) = tt
+
     fills_block : (p : Piece) → length (written bytes live).bytes ≡ length bytes → length new ≡ length old → Rattle.vr_ci.specs.Writer.Fills p (length old) (length bytes)
         → Rattle.vr_ci.specs.Interval.IsSegmentLength p (length new) (length (written bytes live).bytes)
     fills_block First l w f = omega (arith, l, w, f some, short)
@@ -390,7 +409,7 @@ four_placed block x z r c i j k a b d e =
     let all : placed (placed block 0 ((x ++ z) ++ r)) k c ≡ placed block 0 (((x ++ z) ++ r) ++ c) = placed-next block 0 k ((x ++ z) ++ r) c (omega arith) (omega (arith, a, b, d, length-append x z, length-append (x ++ z) r)) in
     let none : drop (0 + length (((x ++ z) ++ r) ++ c)) block ≡ [] = drop_all (0 + length (((x ++ z) ++ r) ++ c)) block (omega (arith, a, b, d, e, length-append x z, length-append (x ++ z) r, length-append ((x ++ z) ++ r) c)) in
     ap (λ (y : List ℕ). placed (placed y j r) k c) one ∙ ap (λ (y : List ℕ). placed y k c) two ∙ all
-        ∙ ap (λ (y : List ℕ). (((x ++ z) ++ r) ++ c) ++ y) none ∙ append-nil (((x ++ z) ++ r) ++ c)
+    ∙ ap (λ (y : List ℕ). (((x ++ z) ++ r) ++ c) ++ y) none ∙ append-nil (((x ++ z) ++ r) ++ c)
 
 -- the RDF or pair of a run still stands when a record's bytes are put in front of it
 pub run_stands : (w : CiWriter) (items : List Item) (x : List ℕ) → Holds w items → 0 < w.run_count → w.front + length x ≤ w.back
@@ -406,7 +425,7 @@ run_stands w items x h some place =
     let high : w.back + k ≤ top = omega (arith, h.back, ap length controls, length-append (rdf_bytes was) (control split.0)) in
     let same : drop w.back (placed block w.front x) ≡ drop w.back block = drop-placed block w.front w.back x (omega (arith, place, h.back)) place in
     let cut : take k (drop w.back (take top block)) ≡ take k (drop w.back block) =
-        sym (drop-take w.back k (take top block)) ∙ ap (λ (z : List ℕ). drop w.back z) (take-take (w.back + k) top block high) ∙ drop-take w.back k block in
+    sym (drop-take w.back k (take top block)) ∙ ap (λ (z : List ℕ). drop w.back z) (take-take (w.back + k) top block high) ∙ drop-take w.back k block in
     ap (λ (z : List ℕ). take k z) same ∙ sym cut ∙ ap (λ (z : List ℕ). take k z) (h.control ∙ controls) ∙ take_at (rdf_bytes was) (control split.0) k refl
 
 -- the same, at the record's live mark

@@ -1,7 +1,7 @@
 -- Record definition fields: what they say, how they are spelled, and which may stand side by side.
 -- That a block has RDFs of three bytes, from right to left, is DFSMS Using Data Sets, "Control interval
 -- format"; the bits, the pairing and the bytes of segments are this project's own profile.
-use Rattle.std.specs.Prelude.{◌≡◌, ◌≢◌, ℕ, ◌+◌, ◌*◌, ◌/◌, ◌%◌, ◌<◌, ◌≤◌, Bool, true, false, if◌then◌else◌, List, [], ◌∷◌, ◌++◌, Option, Some, None, replicate}
+use Rattle.std.specs.Prelude.{◌≢◌, ℕ, ◌+◌, ◌*◌, ◌/◌, ◌%◌, ◌<◌, ◌≤◌, Bool, true, false, if◌then◌else◌, List, [], ◌∷◌, ◌++◌, Option, Some, None, replicate}
 use Rattle.vr_ci.specs.declared.form.Form.{Form}
 use Rattle.vr_ci.specs.declared.form.Form.TheVariants.{Plain, Slots}
 use Rattle.vr_ci.specs.declared.form.Piece.{Piece}

@@ -1,5 +1,5 @@
 -- What the reader has found in the RDFs so far.
-use Rattle.std.specs.Prelude.{◌≡◌, ◌==◌, ◌&&◌, nat_le, slice_index, Bool, ℕ, ◌+◌, ◌-◌, ◌≤◌, min, List, [], ◌∷◌, length, take, Option, Some, None, MatchOption}
+use Rattle.std.specs.Prelude.{◌≡◌, ◌==◌, ◌&&◌, nat_le, slice_index, Bool, ℕ, ◌-◌, ◌≤◌, min, List, length, take, None, MatchOption}
 use Rattle.std.specs.List.{flat_map}
 use Rattle.vr_ci.specs.declared.rdf.Rdf.{Rdf}
 use Rattle.vr_ci.specs.declared.form.Form.{Form}

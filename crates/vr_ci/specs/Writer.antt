@@ -1,5 +1,5 @@
 -- What a writer holds before its block is ended.
-use Rattle.std.specs.Prelude.{◌≡◌, ℕ, ◌+◌, ◌-◌, ◌<◌, ◌≤◌, Bool, true, false, ◌==◌, if◌then◌else◌, List, [], ◌∷◌, ◌++◌, length, take, drop, map, replicate, Option, Some, None}
+use Rattle.std.specs.Prelude.{◌≡◌, ℕ, ◌+◌, ◌-◌, ◌<◌, ◌≤◌, Bool, true, false, ◌==◌, if◌then◌else◌, List, ◌++◌, length, take, drop, map, replicate, Option, Some, None}
 use Rattle.std.specs.List.{flat_map, AllByRecursion}
 use Rattle.vr_ci.specs.declared.form.Form.{Form}
 use Rattle.vr_ci.specs.declared.form.Form.TheVariants.{Plain, Slots}
@@ -11,13 +11,17 @@ use Rattle.vr_ci.specs.declared.rdf.Rdf.TheVariants.{Single, Run, Segment}
 use Rattle.vr_ci.specs.declared.writer.CiWriter.{CiWriter}
 use Rattle.vr_ci.specs.Size.{IsBlockSize}
 use Rattle.vr_ci.specs.Rdf.{marks, control, IsChain, last_from, shape_of}
-use Rattle.vr_ci.specs.Interval.{Item, IsItem, bytes_of, mark_of, room, slots_in}
+use Rattle.vr_ci.specs.Interval.{Item, IsItem, bytes_of, mark_of, slots_in}
 
 abbrev pub form_of : CiWriter → Form
 form_of w = w.form
 
 abbrev pub size_of : CiWriter → ℕ
 size_of w = length w.out.now
+
+-- how many items were added
+abbrev pub added_of : CiWriter → ℕ
+added_of w = w.added
 
 abbrev pub block_of : CiWriter → List ℕ
 block_of w = w.out.now

@@ -55,12 +55,7 @@ pub fn number_difference(bytes: &[u8], at: usize, number: usize) -> Option<usize
 }
 
 /// The first byte of the CIDF that differs from this one.
-pub fn cidf_difference(
-    bytes: &[u8],
-    displacement: usize,
-    free: usize,
-    busy: bool,
-) -> Option<usize>
+pub fn cidf_difference(bytes: &[u8], displacement: usize, free: usize, busy: bool) -> Option<usize>
     requires size { 4 ≤ length bytes.now }
     requires free { free < 32768 }
     ensures { Compares (length bytes.now - 4) (drop (length bytes.now - 4) bytes.now) (cidf displacement free busy) result }

@@ -16,5 +16,4 @@ pub fn one_spelling()
         → length one ≡ size → length other ≡ size → one ≡ other }
     ensures some_block { (form : Form) (size : ℕ) (value : Interval) → IsBlockSize size → Fits form size value
         → (block : List ℕ) × (length block ≡ size) × IsInterval form block value }
-{
-}
+{}

@@ -91,7 +91,7 @@ pub fn extend_run(out: &mut [u8], at: usize, count: usize) -> usize
     ensures length { length out.new ≡ length out.old }
     ensures run { (n : ℕ) → take (length (rdf_bytes (run_rdf n count))) (drop at out.old) ≡ rdf_bytes (run_rdf n count)
         → (result + 6 ≡ at + length (rdf_bytes (run_rdf n count)))
-            × (out.new ≡ placed out.old result (rdf_bytes (run_rdf n (count + 1)))) }
+        × (out.new ≡ placed out.old result (rdf_bytes (run_rdf n (count + 1)))) }
 {
     if count == 1 {
         out[at] = 0x40;

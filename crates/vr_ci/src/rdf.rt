@@ -10,9 +10,15 @@ use crate::form::{Form, Piece};
 #[derive(Clone, Copy, Debug, PartialEq, Eq)]
 pub enum Rdf {
     /// One record of this length, live or withdrawn.
-    Single { live: bool, length: u16 },
+    Single {
+        live: bool,
+        length: u16,
+    },
     /// A run of `count` neighbouring live records of one length.
-    Run { length: u16, count: u16 },
+    Run {
+        length: u16,
+        count: u16,
+    },
     /// A segment of a spanned record.
     Segment {
         piece: Piece,

@@ -144,13 +144,7 @@ fn rdf_behind(form: Form, before: Option<Rdf>, bytes: &[u8]) -> Option<Rdf>
 }
 
 /// What is wrong with the lengths.
-fn lengths_fault(
-    form: Form,
-    bytes: &[u8],
-    low: usize,
-    tally: Tally,
-    busy: bool,
-) -> Option<usize>
+fn lengths_fault(form: Form, bytes: &[u8], low: usize, tally: Tally, busy: bool) -> Option<usize>
     requires size { IsBlockSize (length bytes.now) }
     requires low { low ≡ free_end bytes.now }
     requires fits { low ≤ cidf_at bytes.now }
@@ -175,13 +169,7 @@ fn lengths_fault(
 }
 
 /// What is wrong with the lengths of records or slots.
-fn form_fault(
-    form: Form,
-    bytes: &[u8],
-    low: usize,
-    tally: Tally,
-    busy: bool,
-) -> Option<usize>
+fn form_fault(form: Form, bytes: &[u8], low: usize, tally: Tally, busy: bool) -> Option<usize>
     requires size { IsBlockSize (length bytes.now) }
     requires low { low ≡ free_end bytes.now }
     requires fits { low ≤ cidf_at bytes.now }

@@ -86,7 +86,7 @@ fn batch_from(bytes: &[u8], low: usize, batch: Batch) -> Option<Batch>
     requires { AreLent bytes.now low batch.end }
     ensures { MatchOption result (marks_left bytes.now low batch ≡ [])
         (λ next. (0 < next.left) × (marks_left bytes.now low next ≡ marks_left bytes.now low batch) × AreLent bytes.now low next.end
-            × (next.left * next.length + spans (rdfs_between low next.end bytes.now) ≡ batch.left * batch.length + spans (rdfs_between low batch.end bytes.now))) }
+        × (next.left * next.length + spans (rdfs_between low next.end bytes.now) ≡ batch.left * batch.length + spans (rdfs_between low batch.end bytes.now))) }
 {
     if batch.left > 0 {
         return Some(batch);
@@ -105,7 +105,7 @@ fn rdf_before(bytes: &[u8], low: usize, end: usize) -> Option<(usize, Rdf)>
     requires { AreLent bytes.now low end }
     ensures { MatchOption result (rdfs_between low end bytes.now ≡ [])
         (λ found. (rdfs_between low end bytes.now ≡ found.1 ∷ rdfs_between low found.0 bytes.now)
-            × AreLent bytes.now low found.0 × IsRdf found.1) }
+        × AreLent bytes.now low found.0 × IsRdf found.1) }
 {
     if end - low < 3 {
         return None;

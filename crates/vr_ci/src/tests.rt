@@ -5,31 +5,35 @@ const SIZE: usize = 512;
 
 /// Compares the end of a block with these bytes.
 fn assert_ends(rt: &impl Abort, block: &[u8], end: &[u8]) {
-    let at = block.len().saturating_sub(end.len());
-    assert!(rt; block.len() >= at);
+    assert!(rt; end.len() <= block.len());
+    let at = block.len() - end.len();
     assert_eq!(rt; &block[at..], end);
 }
 
-#[test]
-fn no_record_leaves_zeros_and_the_cidf(rt: HostRuntime) {
-    let mut block = [0xEE; SIZE];
-    CiWriter::begin(Form::Plain, &mut block).end(false);
-    assert_ends(&rt, &block, &[0, 0, 0, 0x00, 0x00, 0x01, 0xFC]);
-    assert!(rt; block[..508].iter().all(|byte| *byte == 0));
+/// Compares the fault of a block.
+fn assert_fault(rt: &impl Abort, form: Form, block: &[u8], want: CiFault) {
+    match CiView::read(form, block) {
+        Ok(_) => assert!(rt; false, "it was read, and {want:?} was wanted"),
+        Err(fault) => assert_eq!(rt; fault, want),
+    }
 }
 
 #[test]
-fn records_are_spelled_as_in_the_worked_rows(rt: HostRuntime) {
+fn records_are_spelled_as_in_the_worked_examples(rt: HostRuntime) {
     let mut block = [0xEE; SIZE];
+    CiWriter::begin(Form::Plain, &mut block).end(false);
+    assert_ends(&rt, &block, &[0x00, 0x00, 0x00, 0x00, 0x00, 0x01, 0xFC]);
+    assert!(rt; block.iter().take(508).all(|byte| *byte == 0));
+
     let mut writer = CiWriter::begin(Form::Plain, &mut block);
-    assert!(rt; writer.add(b"ABCDE", true).is_ok());
+    assert_eq!(rt; writer.add(b"ABCDE", true), Ok(()));
     writer.end(false);
-    assert_eq!(rt; &block[..5], b"ABCDE".as_slice());
+    assert!(rt; block.starts_with(b"ABCDE"));
     assert_ends(&rt, &block, &[0x00, 0x00, 0x05, 0x00, 0x05, 0x01, 0xF4]);
 
     let mut writer = CiWriter::begin(Form::Plain, &mut block);
-    assert!(rt; writer.add(b"ABCDE", true).is_ok());
-    assert!(rt; writer.add(b"FGHIJ", true).is_ok());
+    assert_eq!(rt; writer.add(b"ABCDE", true), Ok(()));
+    assert_eq!(rt; writer.add(b"FGHIJ", true), Ok(()));
     writer.end(false);
     assert_ends(
         &rt,
@@ -37,31 +41,253 @@ fn records_are_spelled_as_in_the_worked_rows(rt: HostRuntime) {
         &[0x08, 0x00, 0x02, 0x40, 0x00, 0x05, 0x00, 0x0A, 0x01, 0xEC],
     );
 
-    block[502..508].copy_from_slice(&[0x00, 0x00, 0x05, 0x00, 0x00, 0x05]);
-    assert!(rt; matches!(CiView::read(Form::Plain, &block), Err(CiFault::Chain { at: 502 })));
+    // A withdrawn record breaks a run, and its bytes are zero.
+    let mut writer = CiWriter::begin(Form::Plain, &mut block);
+    assert_eq!(rt; writer.add(b"ABCDE", true), Ok(()));
+    assert_eq!(rt; writer.add(b"FGHIJ", true), Ok(()));
+    assert_eq!(rt; writer.add(b"KLMNO", false), Ok(()));
+    assert_eq!(rt; writer.add(b"PQRST", true), Ok(()));
+    writer.end(true);
+    assert!(rt; block.starts_with(b"ABCDEFGHIJ\0\0\0\0\0PQRST\0"));
+    assert_ends(
+        &rt,
+        &block,
+        &[
+            0x00, 0x00, 0x05, 0x04, 0x00, 0x05, 0x08, 0x00, 0x02, 0x40, 0x00, 0x05, 0x00, 0x14,
+            0x81, 0xDC,
+        ],
+    );
+}
+
+#[test]
+fn slots_have_an_rdf_each(rt: HostRuntime) {
+    let mut block = [0xEE; SIZE];
+    let form = Form::Slots { length: 168 };
+    assert_eq!(rt; slots(SIZE, 168), 2);
+    let mut writer = CiWriter::begin(form, &mut block);
+    assert_eq!(rt; writer.add(&[0x5A; 168], true), Ok(()));
+    assert_eq!(rt; writer.add(&[0x5A; 168], false), Ok(()));
+    assert_eq!(rt;
+        writer.add(&[0x5A; 168], true),
+        Err(NoRoom {
+            need: 171,
+            free: 166
+        })
+    );
+    writer.end(false);
+    assert_ends(
+        &rt,
+        &block,
+        &[
+            0x00, 0x00, 0x04, 0x00, 0xA8, 0x00, 0x00, 0xA8, 0x01, 0x50, 0x00, 0xA6,
+        ],
+    );
+    match CiView::read(form, &block) {
+        Ok(view) => {
+            assert_eq!(rt; view.count(), 2);
+            assert_eq!(rt; view.item(0), [0x5A; 168].as_slice());
+            assert_eq!(rt; view.item(1), [0x00; 168].as_slice());
+            assert_eq!(rt; (view.live(0), view.live(1)), (true, false));
+        }
+        Err(fault) => assert!(rt; false, "{fault:?}"),
+    }
 }
 
 #[test]
 fn a_spanned_record_has_three_segments(rt: HostRuntime) {
-    let record = [0x5A; 1200];
     let mut block = [0xEE; SIZE];
-    for (piece, from, to, end) in [
-        (Piece::First, 0, 502, [0x18, 0x00, 0x01, 0x50, 0x01, 0xF6, 0x01, 0xF6, 0x00, 0x00]),
-        (Piece::Inner, 502, 1004, [0x38, 0x00, 0x01, 0x70, 0x01, 0xF6, 0x01, 0xF6, 0x00, 0x00]),
-        (Piece::Last, 1004, 1200, [0x28, 0x00, 0x01, 0x60, 0x00, 0xC4, 0x00, 0xC4, 0x01, 0x32]),
+    for (piece, length, end) in [
+        (
+            Piece::First,
+            502,
+            [0x18, 0x00, 0x01, 0x50, 0x01, 0xF6, 0x01, 0xF6, 0x00, 0x00],
+        ),
+        (
+            Piece::Inner,
+            502,
+            [0x38, 0x00, 0x01, 0x70, 0x01, 0xF6, 0x01, 0xF6, 0x00, 0x00],
+        ),
+        (
+            Piece::Last,
+            196,
+            [0x28, 0x00, 0x01, 0x60, 0x00, 0xC4, 0x00, 0xC4, 0x01, 0x32],
+        ),
     ] {
-        assert!(rt; from <= to && to <= 1200);
-        assert!(rt; piece == Piece::Last || to - from == 502);
-        assert!(rt; write_segment(piece, 1, true, &record[from..to], false, &mut block).is_ok());
+        let record = [0x5A; 1_200];
+        assert!(rt; length <= 1_200 && (length >= 502 || piece == Piece::Last));
+        let segment = &record[..length];
+        assert_eq!(rt;
+            write_segment(piece, 1, true, segment, false, &mut block),
+            Ok(())
+        );
         assert_ends(&rt, &block, &end);
         match CiView::read(Form::Plain, &block) {
             Ok(view) => {
                 assert_eq!(rt; view.shape(), Shape::Segment { piece, number: 1 });
                 assert_eq!(rt; view.count(), 1);
-                assert_eq!(rt; view.item(0), &record[from..to]);
-                assert!(rt; view.live(0));
+                assert_eq!(rt; view.item(0), segment);
             }
             Err(fault) => assert!(rt; false, "{fault:?}"),
         }
+    }
+    assert_eq!(rt;
+        write_segment(Piece::Last, 1, true, b"", false, &mut block),
+        Err(NoRoom { need: 0, free: 502 })
+    );
+}
+
+#[test]
+fn faults_come_at_their_offsets(rt: HostRuntime) {
+    assert_fault(&rt, Form::Plain, &[0; 511], CiFault::Size { at: 0 });
+    // Each block is zero but for its first byte and its end.
+    for (front, end, want) in [
+        // The free space passes the CIDF; an end of file has a byte.
+        (
+            0,
+            [0, 0, 0, 0, 0, 0, 0x01, 0xF4, 0x00, 0x64],
+            CiFault::Cidf { at: 508 },
+        ),
+        (
+            1,
+            [0, 0, 0, 0, 0, 0, 0x00, 0x00, 0x00, 0x00],
+            CiFault::Cidf { at: 508 },
+        ),
+        // Two single RDFs for two equal records; a pair of one record; a pair without its left half; an
+        // unknown bit; a length of 0; a segment's halves that differ.
+        (
+            1,
+            [0x00, 0, 5, 0x00, 0, 5, 0x00, 0x0A, 0x01, 0xEC],
+            CiFault::Chain { at: 502 },
+        ),
+        (
+            1,
+            [0x08, 0, 1, 0x40, 0, 5, 0x00, 0x05, 0x01, 0xF1],
+            CiFault::Chain { at: 502 },
+        ),
+        (
+            1,
+            [0, 0, 0, 0x40, 0, 5, 0x00, 0x05, 0x01, 0xF4],
+            CiFault::Chain { at: 505 },
+        ),
+        (
+            1,
+            [0, 0, 0, 0x01, 0, 5, 0x00, 0x05, 0x01, 0xF4],
+            CiFault::Chain { at: 505 },
+        ),
+        (
+            1,
+            [0, 0, 0, 0x00, 0, 0, 0x00, 0x00, 0x01, 0xF9],
+            CiFault::Chain { at: 505 },
+        ),
+        (
+            1,
+            [0x18, 0, 1, 0x60, 0x01, 0xF6, 0x01, 0xF6, 0x00, 0x00],
+            CiFault::Chain { at: 502 },
+        ),
+        // Free space that is not zero; a length, a count and a segment's length that are wrong.
+        (
+            1,
+            [9, 0, 0, 0x00, 0, 5, 0x00, 0x05, 0x01, 0xF4],
+            CiFault::Lengths { at: 502 },
+        ),
+        (
+            1,
+            [0, 0, 0, 0x00, 0, 6, 0x00, 0x05, 0x01, 0xF4],
+            CiFault::Lengths { at: 509 },
+        ),
+        (
+            1,
+            [0x08, 0, 3, 0x40, 0, 5, 0x00, 0x0A, 0x01, 0xEC],
+            CiFault::Lengths { at: 509 },
+        ),
+        (
+            1,
+            [0x18, 0, 1, 0x50, 0x01, 0xF4, 0x01, 0xF6, 0x00, 0x00],
+            CiFault::Lengths { at: 507 },
+        ),
+        // A withdrawn record with a byte; more one-byte records than the block has room for.
+        (
+            1,
+            [0, 0, 0, 0x04, 0, 5, 0x00, 0x05, 0x01, 0xF4],
+            CiFault::Lengths { at: 0 },
+        ),
+        (
+            1,
+            [0x08, 0, 0xC8, 0x40, 0, 1, 0x00, 0xC8, 0x01, 0x2E],
+            CiFault::Lengths { at: 502 },
+        ),
+    ] {
+        let mut block = [0; SIZE];
+        block[0] = front;
+        block[502..].copy_from_slice(&end);
+        assert_fault(&rt, Form::Plain, &block, want);
+    }
+    // One slot where there are to be six.
+    let mut block = [0; SIZE];
+    block[505..].copy_from_slice(&[0x00, 0x00, 0x50, 0x00, 0x50, 0x01, 0xA9]);
+    assert_fault(
+        &rt,
+        Form::Slots { length: 80 },
+        &block,
+        CiFault::Lengths { at: 490 },
+    );
+    block[502..].copy_from_slice(&[0x08, 0, 2, 0x40, 0, 80, 0x00, 0xA0, 0x01, 0x56]);
+    assert_fault(
+        &rt,
+        Form::Slots { length: 80 },
+        &block,
+        CiFault::Chain { at: 502 },
+    );
+}
+
+/// Writes one record to a block, and reads it again.
+fn assert_size(rt: &impl Abort, block: &mut [u8]) {
+    assert!(rt; is_block_size(block.len()));
+    let mut writer = CiWriter::begin(Form::Plain, block);
+    assert_eq!(rt; writer.add(b"record", true), Ok(()));
+    writer.end(true);
+    match CiView::read(Form::Plain, block) {
+        Ok(view) => {
+            assert_eq!(rt;
+                (view.shape(), view.busy(), view.count()),
+                (Shape::Records, true, 1)
+            );
+            for (record, live) in view.iter() {
+                assert_eq!(rt; record, b"record".as_slice());
+                assert!(rt; live);
+            }
+        }
+        Err(fault) => assert!(rt; false, "{fault:?}"),
+    }
+}
+
+#[test]
+fn blocks_have_every_allowed_size(rt: HostRuntime) {
+    let mut block = [0xEE; 32_768];
+    for k in 1..=16 {
+        assert_size(&rt, &mut block[..512 * k]);
+        assert_size(&rt, &mut block[..2_048 * k]);
+    }
+}
+
+#[test]
+fn one_byte_records_fill_the_largest_block(rt: HostRuntime) {
+    let mut block = [0xEE; 32_768];
+    let mut writer = CiWriter::begin(Form::Plain, &mut block);
+    let mut added = 0u16;
+    for k in 0..8_192u16 {
+        match writer.add(&[(k % 256) as u8], true) {
+            Ok(()) => added += 1,
+            Err(no_room) => assert_eq!(rt; (k, no_room), (8_191, NoRoom { need: 4, free: 0 })),
+        }
+    }
+    writer.end(false);
+    assert_eq!(rt; added, 8_191);
+    match CiView::read(Form::Plain, &block) {
+        Ok(view) => {
+            assert_eq!(rt; view.count(), 8_191);
+            assert_eq!(rt; view.item(8_190), [254].as_slice());
+        }
+        Err(fault) => assert!(rt; false, "{fault:?}"),
     }
 }

@@ -4,8 +4,8 @@ ghost use Rattle.std.specs.Prelude.{◌≡◌, ◌≤◌, ◌<◌, length, map, 
 
 use crate::fault::CiFault;
 use crate::form::{Form, Shape};
-use crate::records::Records;
 use crate::reading::found_in;
+use crate::records::Records;
 use std::marker::Model;
 
 /// A block that is a control interval. Contracts see its value: shape, items and busy flag. A segment is

@@ -29,13 +29,14 @@ pub struct CiWriter<'a> {
 
 impl<'a> CiWriter<'a> {
     ghost use Rattle.vr_ci.specs.Interval.{Item, IsInterval, room};
-    ghost use Rattle.vr_ci.specs.Writer.{Holds, IsSlotLength, IsItemLength, IsComplete, written, size_of, buffer_of, form_of, block_of};
+    ghost use Rattle.vr_ci.specs.Writer.{Holds, IsSlotLength, IsItemLength, IsComplete, written, size_of, buffer_of, form_of, block_of, added_of};
 
     /// Begins a control interval in a block, whatever it held before.
     pub fn begin(form: Form, out: &'a mut [u8]) -> CiWriter<'a>
         requires size { IsBlockSize (length out.old) }
         requires slot { IsSlotLength form }
         ensures empty { Holds result [] }
+        ensures none { added_of result ≡ 0 }
         ensures form { form_of result ≡ form }
         ensures size { size_of result ≡ length out.old }
         ensures buffer { buffer_of result ≡ out.entry.ghost_name }
@@ -65,7 +66,8 @@ impl<'a> CiWriter<'a> {
         ensures room { (items : List Item) → Holds self.old items
             → IfErr result (λ e. (e.need ≡ length item.now + 3) × (e.free ≡ size_of self.old - 4 - room items)) }
         ensures err { (items : List Item) → Holds self.old items → OnErr result (Holds self.new items) }
-        ensures untouched { OnErr result (block_of self.new ≡ block_of self.old) }
+        ensures untouched { OnErr result ((block_of self.new ≡ block_of self.old) × (added_of self.new ≡ added_of self.old)) }
+        ensures count { OnOk result (added_of self.new ≡ added_of self.old + 1) }
         ensures form { form_of self.new ≡ form_of self.old }
         ensures size { size_of self.new ≡ size_of self.old }
         ensures buffer { buffer_of self.new ≡ buffer_of self.old }
@@ -96,10 +98,16 @@ impl<'a> CiWriter<'a> {
     /// one of the items that were added.
     pub fn end(self, busy: bool)
         requires { IsComplete self }
-        ensures { (items : List Item) → Holds self.entry items
+        ensures interval { (items : List Item) → Holds self.entry items
             → IsInterval (form_of self.entry) self.exit.0.now (record { shape = shapes.Records; items = items; busy = busy }) }
+        ensures size { length self.exit.0.now ≡ size_of self.entry }
     {
-        let CiWriter { out, front, back, .. } = self;
+        let CiWriter {
+            out,
+            front,
+            back,
+            ..
+        } = self;
         put_zeros(out, front, back);
         put_cidf(out, front, back - front, busy);
     }

@@ -1,8 +1,5 @@
 use Rattle.vr_ci.proofs.law.one_spelling.Goals as goal
 use Rattle.vr_ci.proofs.IntervalLemmas.{one_value}
-use Rattle.vr_ci.proofs.FaultLemmas.{fault_excludes}
-use Rattle.vr_ci.proofs.ShownLemmas.{found_is}
-use Rattle.vr_ci.proofs.WriterLemmas.{four_placed}
 use Rattle.vr_ci.proofs.LawLemmas.{one_block, some_block}
 
 pub returns-clause-one_value : goal.returns-clause-one_value

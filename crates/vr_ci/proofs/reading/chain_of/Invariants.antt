@@ -1,4 +1,3 @@
-use Rattle.std.proofs.Common.{ℕ}
 use Rattle.vr_ci.proofs.ReaderLemmas.{Walked}
 use Rattle.vr_ci.proofs.reading.chain_of.Given as goal
 

@@ -10,7 +10,7 @@ returns-in_default c = λ rdfs w t. c.form_fault.ensures rdfs w (ap shape_of (no
 pub returns-in-Segment : goal.returns-in-Segment
 returns-in-Segment c = λ rdfs w t.
     c.segment_fault.ensures c.in-Segment.number rdfs
-        (last_segment c.args.form rdfs w.right.chain c.in-Segment.piece c.in-Segment.live c.in-Segment.number c.in-Segment.length (sym t.last ∙ c.in-Some.is ∙ ap (λ (r : Rdf). Some r) c.in-Segment.is)) w
+    (last_segment c.args.form rdfs w.right.chain c.in-Segment.piece c.in-Segment.live c.in-Segment.number c.in-Segment.length (sym t.last ∙ c.in-Some.is ∙ ap (λ (r : Rdf). Some r) c.in-Segment.is)) w
 
 pub returns-in-Single : goal.returns-in-Single
 returns-in-Single c = λ rdfs w t.

@@ -1,4 +1,4 @@
-use Rattle.std.proofs.Common.{ℕ, Bool, List, [], ◌∷◌, ◌≡◌, ◌-◌, ◌+◌, ◌∙◌, ap, sym, subst, length, take, drop, Option, Some, None, refl}
+use Rattle.std.proofs.Common.{ℕ, List, ◌-◌, ◌+◌, ◌∙◌, ap, sym, subst, length, take, drop, Option, Some, refl}
 use Rattle.std.specs.Prelude.{min, if◌then◌else◌, MatchOption}
 use Rattle.vr_ci.specs.declared.rdf.Rdf.{Rdf}
 use Rattle.vr_ci.specs.Rdf.{two_bytes}
@@ -13,7 +13,7 @@ returns-in-Some c = λ number rdfs e w.
     let whole = c.filled_length-filled.ensures n number c.args.live refl in
     let from = c.checked_from-from.ensures ∙ ap (λ (k : ℕ). if c.args.live then min k (n - 10) else 0) whole in
     subst (λ (x : List Rdf). HasWrongLengths c.args.form c.args.bytes.now x c.in-Some.at) (sym e)
-        (segment_free c.args.form c.args.bytes.now c.args.piece c.args.live number c.args.len (n - 10) c.checked_from-from.result c.in-Some.at c.requires.size refl from c.in-Some.ensures)
+    (segment_free c.args.form c.args.bytes.now c.args.piece c.args.live number c.args.len (n - 10) c.checked_from-from.result c.in-Some.at c.requires.size refl from c.in-Some.ensures)
 
 pub returns-in-Some-number_difference : goal.returns-in-Some-number_difference
 returns-in-Some-number_difference c = λ number rdfs e w.
@@ -22,10 +22,10 @@ returns-in-Some-number_difference c = λ number rdfs e w.
     let from = c.checked_from-from.ensures ∙ ap (λ (k : ℕ). if c.args.live then min k (n - 10) else 0) whole in
     let place : ℕ = n - 10 + 4 in
     let differs : Compares place (take 2 (drop place c.args.bytes.now)) (two_bytes (full n c.args.piece c.args.live number c.args.len)) (Some c.in-Some-number_difference.at) =
-        subst (λ (k : ℕ). Compares place (take 2 (drop place c.args.bytes.now)) (two_bytes k) (Some c.in-Some-number_difference.at)) whole c.in-Some-number_difference.ensures in
+    subst (λ (k : ℕ). Compares place (take 2 (drop place c.args.bytes.now)) (two_bytes k) (Some c.in-Some-number_difference.at)) whole c.in-Some-number_difference.ensures in
     subst (λ (x : List Rdf). HasWrongLengths c.args.form c.args.bytes.now x c.in-Some-number_difference.at) (sym e)
-        (segment_number c.args.form c.args.bytes.now c.args.piece c.args.live number c.args.len (n - 10) c.checked_from-from.result c.in-Some-number_difference.at c.requires.size refl
-            (subst (λ (x : List Rdf). Rattle.vr_ci.specs.Fault.IsWhole c.args.form c.args.bytes.now x) e w) from c.in_default.ensures differs)
+    (segment_number c.args.form c.args.bytes.now c.args.piece c.args.live number c.args.len (n - 10) c.checked_from-from.result c.in-Some-number_difference.at c.requires.size refl
+    (subst (λ (x : List Rdf). Rattle.vr_ci.specs.Fault.IsWhole c.args.form c.args.bytes.now x) e w) from c.in_default.ensures differs)
 
 pub returns : goal.returns
 returns c = λ number rdfs e w.
@@ -34,7 +34,7 @@ returns c = λ number rdfs e w.
     let from = c.checked_from-from.ensures ∙ ap (λ (k : ℕ). if c.args.live then min k (n - 10) else 0) whole in
     let r : Option ℕ = c.cidf_difference.result in
     subst (λ (x : List Rdf). MatchOption r (HasRightLengths c.args.form c.args.bytes.now x) (HasWrongLengths c.args.form c.args.bytes.now x)) (sym e)
-        (segment_end c.args.form c.args.bytes.now c.args.piece c.args.live number c.args.len (n - 10) c.checked_from-from.result c.args.busy r c.requires.size refl
-            (subst (λ (x : List Rdf). Rattle.vr_ci.specs.Fault.IsWhole c.args.form c.args.bytes.now x) e w) c.requires.busy from c.in_default.ensures
-            (c.in_default-number_difference.ensures ∙ ap two_bytes whole)
-            (cidf_same c.args.bytes.now c.filled_length-filled.result _ c.saturating_sub.result _ c.args.busy r whole (c.saturating_sub.ensures ∙ ap (λ (k : ℕ). n - 10 - k) whole) c.cidf_difference.ensures))
+    (segment_end c.args.form c.args.bytes.now c.args.piece c.args.live number c.args.len (n - 10) c.checked_from-from.result c.args.busy r c.requires.size refl
+    (subst (λ (x : List Rdf). Rattle.vr_ci.specs.Fault.IsWhole c.args.form c.args.bytes.now x) e w) c.requires.busy from c.in_default.ensures
+    (c.in_default-number_difference.ensures ∙ ap two_bytes whole)
+    (cidf_same c.args.bytes.now c.filled_length-filled.result _ c.saturating_sub.result _ c.args.busy r whole (c.saturating_sub.ensures ∙ ap (λ (k : ℕ). n - 10 - k) whole) c.cidf_difference.ensures))

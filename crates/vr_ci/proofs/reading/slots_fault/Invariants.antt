@@ -1,4 +1,3 @@
-use Rattle.std.proofs.Common.{ℕ}
 use Rattle.vr_ci.proofs.SlotLemmas.{Looked}
 use Rattle.vr_ci.proofs.reading.slots_fault.Given as goal
 

@@ -1,4 +1,3 @@
-use Rattle.std.proofs.Common.{arith}
 use Rattle.vr_ci.proofs.LendLemmas.{first_of, found_first, none_lent}
 use Rattle.vr_ci.proofs.records.rdf_before.Goals as goal
 

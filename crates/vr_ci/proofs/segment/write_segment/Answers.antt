@@ -1,6 +1,6 @@
-use Rattle.std.proofs.Common.{ℕ, List, [], ◌∷◌, ◌≡◌, ◌<◌, ◌+◌, ◌-◌, ◌∙◌, ap, length, arith, refl}
+use Rattle.std.proofs.Common.{ℕ, List, ◌≡◌, ◌<◌, ◌-◌, ◌∙◌, ap, length, arith}
 use Rattle.vr_ci.specs.declared.rdf.Rdf.TheVariants.{Segment}
-use Rattle.vr_ci.specs.Rdf.{rdf_bytes, control}
+use Rattle.vr_ci.specs.Rdf.{rdf_bytes}
 use Rattle.vr_ci.specs.Interval.{cidf}
 use Rattle.vr_ci.specs.Writer.{placed, written}
 use Rattle.vr_ci.proofs.LayoutLemmas.{zeros, length-zeros}
@@ -32,6 +32,6 @@ returns-clause-ok c = λ form.
     let cc4 : List ℕ = cidf need (free - need) c.args.busy in
     let top : length b3 - 4 ≡ length block - 4 = omega (arith, l1, l2, l3) in
     segment_block form c.args.piece c.args.number c.args.live c.args.busy item block c.put_cidf.new.out c.requires.size c.requires.number small
-        (omega (arith, c.if-need-eq0.false)) (omega (arith, c.if-need-free.false)) c.requires.fills
-        (c.put_cidf.ensures ∙ ap (λ (z : List ℕ). placed z (length z - 4) cc4) c3 ∙ ap (λ (i : ℕ). placed b3 i cc4) top
-            ∙ four_placed block x (zeros (free - need)) r cc4 need free (length block - 4) (omega (arith, long)) (omega (arith, length-zeros (free - need), short)) (omega (arith, bounds.0)) (omega (arith, bounds.0)))
+    (omega (arith, c.if-need-eq0.false)) (omega (arith, c.if-need-free.false)) c.requires.fills
+    (c.put_cidf.ensures ∙ ap (λ (z : List ℕ). placed z (length z - 4) cc4) c3 ∙ ap (λ (i : ℕ). placed b3 i cc4) top
+    ∙ four_placed block x (zeros (free - need)) r cc4 need free (length block - 4) (omega (arith, long)) (omega (arith, length-zeros (free - need), short)) (omega (arith, bounds.0)) (omega (arith, bounds.0)))
