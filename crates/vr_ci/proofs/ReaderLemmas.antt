@@ -315,15 +315,18 @@ end_found form block size e =
     } in
     record {
       interval = subst (λ (v : Interval). IsInterval form block v) same interval;
-      shown = record {
-        lent = record {
-          order = omega arith;
-          within = omega (arith, least);
-          control = nothing ∙ ap control (sym rdfs);
-          rdfs = subst (λ (x : List Rdf). AllByRecursion IsRdf x) (sym rdfs) tt;
+      view = record {
+        shown = record {
+          lent = record {
+            order = omega arith;
+            within = omega (arith, least);
+            control = nothing ∙ ap control (sym rdfs);
+            rdfs = subst (λ (x : List Rdf). AllByRecursion IsRdf x) (sym rdfs) tt;
+          };
+          bytes = omega (arith, ap spans rdfs);
+          count = ap (λ (x : List Rdf). length (flat_map marks x)) (sym rdfs);
         };
-        bytes = omega (arith, ap spans rdfs);
-        count = ap (λ (x : List Rdf). length (flat_map marks x)) (sym rdfs);
+        count = refl;
       };
     }
   where

@@ -6,6 +6,7 @@ use Rattle.vr_ci.specs.declared.form.Form.{Form}
 use Rattle.vr_ci.specs.declared.form.Form.TheVariants.{Plain, Slots}
 use Rattle.vr_ci.specs.declared.form.Piece.{Piece}
 use Rattle.vr_ci.specs.declared.form.Piece.TheVariants.{First, Inner, Last}
+use Rattle.vr_ci.specs.declared.form.Shape.{Shape}
 use Rattle.vr_ci.specs.declared.form.Shape.TheVariants as shapes
 use Rattle.vr_ci.specs.declared.rdf.Rdf.{Rdf}
 use Rattle.vr_ci.specs.declared.rdf.Rdf.TheVariants.{Single, Run, Segment}
@@ -14,7 +15,7 @@ use Rattle.vr_ci.specs.Size.{IsBlockSize}
 use Rattle.vr_ci.specs.Rdf.{Mark, marks, spans, control, IsCount, IsRdf, IsChain, shape_of}
 use Rattle.vr_ci.specs.Interval.{Item, Interval, IsItem, bytes_of, IsSegmentLength, FitsBlock, control_at, laid, IsLaidOut, IsInterval}
 use Rattle.vr_ci.specs.Fault.{free_end, is_busy, IsWhole, masked, filled, slots_of, meant, IsRoomKept, HasRightLengths}
-use Rattle.vr_ci.specs.Reading.{items_at, rdfs_in, value_in, rdfs_between}
+use Rattle.vr_ci.specs.Reading.{items_at, rdfs_in, value_in, rdfs_between, CountFits}
 use Rattle.vr_ci.specs.Tally.{IsFound}
 use Rattle.vr_ci.proofs.RdfLemmas.{same_ends}
 use Rattle.vr_ci.proofs.ItemLemmas.{total, total-all, room_is, length-items_at, marks-items_at, bytes-items_at, take-add}
@@ -114,6 +115,12 @@ fits_shape form block (Segment piece live number n ∷ rs) least c r k =
     by_piece Inner e h = sym e
     by_piece Last e h = h
 
+count_fits : (form : Form) (size : ℕ) (shape : Shape) (items : List Item) → FitsBlock form size shape items → CountFits shape (length items)
+count_fits form size shapes.Records items f = tt
+count_fits form size (shapes.Segment piece number) items f = f.2
+count_fits Plain size shapes.EndOfFile items f = ap length f
+count_fits (Slots len) size shapes.EndOfFile items f = ap length f
+
 -- The view's value is that of the block.
 pub found_is : (form : Form) (block : List ℕ) (rs : List Rdf) (found : Found) → IsBlockSize (length block) → IsWhole form block rs → HasRightLengths form block rs
     → found.low ≡ free_end block → found.shape ≡ shape_of rs → found.busy ≡ is_busy block → found.count ≡ length (flat_map marks rs) → IsFound form block found
@@ -153,14 +160,19 @@ found_is form block rs found size w right low shape busy count =
     } in
     record {
       interval = subst (λ (v : Interval). IsInterval form block v) same interval;
-      shown = record {
-        lent = record {
-          order = omega (arith, place, w.right.high);
-          within = omega (arith, bounds.0);
-          control = ap (λ (k : ℕ). drop k (take (n - 4) block)) (sym place) ∙ w.right.bytes ∙ ap control (sym rdfs_low);
-          rdfs = subst (λ (x : List Rdf). AllByRecursion IsRdf x) (sym rdfs_low) (chain_rdfs form None rs w.right.chain);
+      view = record {
+        shown = record {
+          lent = record {
+            order = omega (arith, place, w.right.high);
+            within = omega (arith, bounds.0);
+            control = ap (λ (k : ℕ). drop k (take (n - 4) block)) (sym place) ∙ w.right.bytes ∙ ap control (sym rdfs_low);
+            rdfs = subst (λ (x : List Rdf). AllByRecursion IsRdf x) (sym rdfs_low) (chain_rdfs form None rs w.right.chain);
+          };
+          bytes = omega (arith, ap spans rdfs_low, r.place);
+          count = count ∙ ap (λ (x : List Rdf). length (flat_map marks x)) (sym rdfs_low);
         };
-        bytes = omega (arith, ap spans rdfs_low, r.place);
-        count = count ∙ ap (λ (x : List Rdf). length (flat_map marks x)) (sym rdfs_low);
+        count = subst (λ (s : Shape). CountFits s found.count) (sym shape)
+            (subst (λ (k : ℕ). CountFits (shape_of rs) k) (length-items_at (flat_map marks rs) block ∙ sym count)
+            (count_fits form n (shape_of rs) items (fits_shape form block rs bounds.0 w.right.chain r right.room)));
       };
     }

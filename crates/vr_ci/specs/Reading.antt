@@ -7,6 +7,7 @@ use Rattle.vr_ci.specs.declared.form.Piece.TheVariants.{First, Inner, Last}
 use Rattle.vr_ci.specs.declared.rdf.Rdf.{Rdf}
 use Rattle.vr_ci.specs.declared.rdf.Rdf.TheVariants.{Single, Run, Segment}
 use Rattle.vr_ci.specs.declared.form.Shape.{Shape}
+use Rattle.vr_ci.specs.declared.form.Shape.TheVariants as shapes
 use Rattle.vr_ci.specs.declared.records.Batch.{Batch}
 use Rattle.vr_ci.specs.Rdf.{Mark, marks, spans, rdf_bytes, control, IsRdf}
 use Rattle.vr_ci.specs.Interval.{Item, Interval}
@@ -65,6 +66,17 @@ pub record IsShown (block : List ℕ) (low items : ℕ) : Type 0 where
   pub lent : AreLent block low (length block - 4)
   pub bytes : spans (rdfs_in block low) ≤ length block
   pub count : items ≡ length (flat_map marks (rdfs_in block low))
+
+-- a segment is one item, and an end of file has none
+abbrev pub CountFits : Shape → ℕ → Type 0
+CountFits shapes.Records n = Unit {0}
+CountFits (shapes.Segment piece number) n = n ≡ 1
+CountFits shapes.EndOfFile n = n ≡ 0
+
+-- what always holds of a view
+pub record IsView (block : List ℕ) (low : ℕ) (shape : Shape) (items : ℕ) : Type 0 where
+  pub shown : IsShown block low items
+  pub count : CountFits shape items
 
 -- the marks of the records that are left: those of a run, and those of the RDFs up to its end
 abbrev pub marks_left : List ℕ → ℕ → Batch → List Mark

@@ -9,7 +9,7 @@ use Rattle.vr_ci.specs.declared.reading.Found.{Found}
 use Rattle.vr_ci.specs.Rdf.{marks, spans, last_from}
 use Rattle.vr_ci.specs.Compare.{Compares}
 use Rattle.vr_ci.specs.Interval.{IsInterval, control_at}
-use Rattle.vr_ci.specs.Reading.{value_in, IsShown}
+use Rattle.vr_ci.specs.Reading.{value_in, IsView}
 use Rattle.vr_ci.specs.Fault.{masked, rdfs_room, PassesRoom}
 
 -- the tally of these RDFs, for records that end before the limit
@@ -32,4 +32,4 @@ is_live_slot low block at = nat_le low at && (slice_index block at == 0)
 -- what a view is made of: the value is that of the block
 pub record IsFound (form : Form) (block : List ℕ) (found : Found) : Type 0 where
   pub interval : IsInterval form block (value_in block found.low found.shape found.busy)
-  pub shown : IsShown block found.low found.count
+  pub view : IsView block found.low found.shape found.count

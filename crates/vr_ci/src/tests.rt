@@ -136,108 +136,64 @@ fn a_spanned_record_has_three_segments(rt: HostRuntime) {
     );
 }
 
-#[test]
-fn faults_come_at_their_offsets(rt: HostRuntime) {
-    assert_fault(&rt, Form::Plain, &[0; 511], CiFault::Size { at: 0 });
-    // Each block is zero but for its first byte and its end.
-    for (front, end, want) in [
-        // The free space passes the CIDF; an end of file has a byte.
-        (
-            0,
-            [0, 0, 0, 0, 0, 0, 0x01, 0xF4, 0x00, 0x64],
-            CiFault::Cidf { at: 508 },
-        ),
-        (
-            1,
-            [0, 0, 0, 0, 0, 0, 0x00, 0x00, 0x00, 0x00],
-            CiFault::Cidf { at: 508 },
-        ),
-        // Two single RDFs for two equal records; a pair of one record; a pair without its left half; an
-        // unknown bit; a length of 0; a segment's halves that differ.
-        (
-            1,
-            [0x00, 0, 5, 0x00, 0, 5, 0x00, 0x0A, 0x01, 0xEC],
-            CiFault::Chain { at: 502 },
-        ),
-        (
-            1,
-            [0x08, 0, 1, 0x40, 0, 5, 0x00, 0x05, 0x01, 0xF1],
-            CiFault::Chain { at: 502 },
-        ),
-        (
-            1,
-            [0, 0, 0, 0x40, 0, 5, 0x00, 0x05, 0x01, 0xF4],
-            CiFault::Chain { at: 505 },
-        ),
-        (
-            1,
-            [0, 0, 0, 0x01, 0, 5, 0x00, 0x05, 0x01, 0xF4],
-            CiFault::Chain { at: 505 },
-        ),
-        (
-            1,
-            [0, 0, 0, 0x00, 0, 0, 0x00, 0x00, 0x01, 0xF9],
-            CiFault::Chain { at: 505 },
-        ),
-        (
-            1,
-            [0x18, 0, 1, 0x60, 0x01, 0xF6, 0x01, 0xF6, 0x00, 0x00],
-            CiFault::Chain { at: 502 },
-        ),
-        // Free space that is not zero; a length, a count and a segment's length that are wrong.
-        (
-            1,
-            [9, 0, 0, 0x00, 0, 5, 0x00, 0x05, 0x01, 0xF4],
-            CiFault::Lengths { at: 502 },
-        ),
-        (
-            1,
-            [0, 0, 0, 0x00, 0, 6, 0x00, 0x05, 0x01, 0xF4],
-            CiFault::Lengths { at: 509 },
-        ),
-        (
-            1,
-            [0x08, 0, 3, 0x40, 0, 5, 0x00, 0x0A, 0x01, 0xEC],
-            CiFault::Lengths { at: 509 },
-        ),
-        (
-            1,
-            [0x18, 0, 1, 0x50, 0x01, 0xF4, 0x01, 0xF6, 0x00, 0x00],
-            CiFault::Lengths { at: 507 },
-        ),
-        // A withdrawn record with a byte; more one-byte records than the block has room for.
-        (
-            1,
-            [0, 0, 0, 0x04, 0, 5, 0x00, 0x05, 0x01, 0xF4],
-            CiFault::Lengths { at: 0 },
-        ),
-        (
-            1,
-            [0x08, 0, 0xC8, 0x40, 0, 1, 0x00, 0xC8, 0x01, 0x2E],
-            CiFault::Lengths { at: 502 },
-        ),
-    ] {
-        let mut block = [0; SIZE];
-        block[0] = front;
-        block[502..].copy_from_slice(&end);
-        assert_fault(&rt, Form::Plain, &block, want);
-    }
-    // One slot where there are to be six.
+/// Compares the fault of a plain block that is zero but for its first byte, 1, and its end.
+fn assert_end_fault(rt: &impl Abort, end: [u8; 10], want: CiFault) {
     let mut block = [0; SIZE];
-    block[505..].copy_from_slice(&[0x00, 0x00, 0x50, 0x00, 0x50, 0x01, 0xA9]);
-    assert_fault(
+    block[0] = 1;
+    block[502..].copy_from_slice(&end);
+    assert_fault(rt, Form::Plain, &block, want);
+}
+
+#[test]
+fn sizes_cidfs_and_chains_have_faults(rt: HostRuntime) {
+    assert_fault(&rt, Form::Plain, &[0; 511], CiFault::Size { at: 0 });
+    // The free space passes the CIDF; an end of file has a byte.
+    let cidf = CiFault::Cidf { at: 508 };
+    assert_end_fault(&rt, [0, 0, 0, 0, 0, 0, 1, 0xF4, 0, 100], cidf);
+    assert_end_fault(&rt, [0; 10], cidf);
+    // Two single RDFs for two equal records; a pair of one record; a segment's halves that differ.
+    let pair = CiFault::Chain { at: 502 };
+    assert_end_fault(&rt, [0, 0, 5, 0, 0, 5, 0, 10, 1, 0xEC], pair);
+    assert_end_fault(&rt, [8, 0, 1, 0x40, 0, 5, 0, 5, 1, 0xF1], pair);
+    assert_end_fault(&rt, [0x18, 0, 1, 0x60, 1, 0xF6, 1, 0xF6, 0, 0], pair);
+    // A pair without its left half; an unknown bit; a length of 0.
+    let single = CiFault::Chain { at: 505 };
+    assert_end_fault(&rt, [0, 0, 0, 0x40, 0, 5, 0, 5, 1, 0xF4], single);
+    assert_end_fault(&rt, [0, 0, 0, 1, 0, 5, 0, 5, 1, 0xF4], single);
+    assert_end_fault(&rt, [0, 0, 0, 0, 0, 0, 0, 0, 1, 0xF9], single);
+}
+
+#[test]
+fn lengths_have_faults(rt: HostRuntime) {
+    // Free space that is not zero; a length and a count that are wrong; a first segment that is too short.
+    assert_end_fault(
         &rt,
-        Form::Slots { length: 80 },
-        &block,
-        CiFault::Lengths { at: 490 },
+        [9, 0, 0, 0, 0, 5, 0, 5, 1, 0xF4],
+        CiFault::Lengths { at: 502 },
     );
-    block[502..].copy_from_slice(&[0x08, 0, 2, 0x40, 0, 80, 0x00, 0xA0, 0x01, 0x56]);
-    assert_fault(
+    let cidf = CiFault::Lengths { at: 509 };
+    assert_end_fault(&rt, [0, 0, 0, 0, 0, 6, 0, 5, 1, 0xF4], cidf);
+    assert_end_fault(&rt, [8, 0, 3, 0x40, 0, 5, 0, 10, 1, 0xEC], cidf);
+    let segment = [0x18, 0, 1, 0x50, 1, 0xF4, 1, 0xF6, 0, 0];
+    assert_end_fault(&rt, segment, CiFault::Lengths { at: 507 });
+    // A withdrawn record with a byte; more records of one byte than have room.
+    assert_end_fault(
         &rt,
-        Form::Slots { length: 80 },
-        &block,
-        CiFault::Chain { at: 502 },
+        [0, 0, 0, 4, 0, 5, 0, 5, 1, 0xF4],
+        CiFault::Lengths { at: 0 },
     );
+    assert_end_fault(
+        &rt,
+        [8, 0, 200, 0x40, 0, 1, 0, 200, 1, 0x2E],
+        CiFault::Lengths { at: 502 },
+    );
+    // One slot where there are to be six; a pair of slots.
+    let form = Form::Slots { length: 80 };
+    let mut block = [0; SIZE];
+    block[505..].copy_from_slice(&[0, 0, 80, 0, 80, 1, 0xA9]);
+    assert_fault(&rt, form, &block, CiFault::Lengths { at: 490 });
+    block[502..].copy_from_slice(&[8, 0, 2, 0x40, 0, 80, 0, 160, 1, 0x56]);
+    assert_fault(&rt, form, &block, CiFault::Chain { at: 502 });
 }
 
 /// Writes one record to a block, and reads it again.

@@ -24,16 +24,17 @@ impl<'a> Model for CiView<'a> {
 
     ghost Value = { Interval };
 
-    ghost use Rattle.vr_ci.specs.Reading.{value_in, IsShown};
+    ghost use Rattle.vr_ci.specs.Reading.{value_in, IsView};
 
     ghost view = { λ v. value_in v.bytes.now v.low v.shape v.busy };
 
-    ghost invariant = { λ v. IsShown v.bytes.now v.low v.count };
+    ghost invariant = { λ v. IsView v.bytes.now v.low v.shape v.count };
 }
 
 impl<'a> CiView<'a> {
     ghost use Rattle.vr_ci.specs.Interval.{Interval, IsInterval, bytes_of, live_of};
     ghost use Rattle.vr_ci.specs.Fault.{IsFirstFault};
+    ghost use Rattle.vr_ci.specs.Reading.{CountFits};
 
     /// Reads a block in one pass. It answers Ok exactly for the control intervals of the form, and otherwise the
     /// first fault. The form says how records are spelled; segments and an end of file are the same in both.
@@ -71,7 +72,8 @@ impl<'a> CiView<'a> {
 
     /// How many items the block has: its records or slots, 1 for a segment, 0 for an end of file.
     pub fn count(&self) -> usize
-        ensures { result ≡ length self.now.items }
+        ensures count { result ≡ length self.now.items }
+        ensures whole { CountFits self.now.shape result }
     {
         self.count
     }
