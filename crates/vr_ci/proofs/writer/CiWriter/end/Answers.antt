@@ -1,0 +1,16 @@
+use Rattle.std.proofs.Common.{◌-◌, ◌∙◌, ℕ, List, ap, length, arith}
+use Rattle.vr_ci.specs.Interval.{cidf}
+use Rattle.vr_ci.specs.Writer.{placed}
+use Rattle.vr_ci.proofs.LayoutLemmas.{zeros, length-zeros}
+use Rattle.vr_ci.proofs.PlaceLemmas.{length-placed}
+use Rattle.vr_ci.proofs.WriterLemmas.{ended}
+use Rattle.vr_ci.proofs.writer.CiWriter.end.Goals as goal
+
+pub returns-clause-interval : goal.returns-clause-interval
+returns-clause-interval c = λ items h.
+    let w = c.args.self in
+    let block : List ℕ = w.out.now in
+    let k : ℕ = w.back - w.front in
+    ended w items c.args.busy c.put_cidf.new.out h c.requires w.room (omega (arith, w.room, w.control))
+    (c.put_cidf.ensures ∙ ap (λ (z : List ℕ). placed z (length z - 4) (cidf w.front k c.args.busy)) c.put_zeros.ensures
+    ∙ ap (λ (i : ℕ). placed (placed block w.front (zeros k)) (i - 4) (cidf w.front k c.args.busy)) (length-placed block w.front (zeros k) (omega (arith, length-zeros k, w.room, w.control, w.back_in))))

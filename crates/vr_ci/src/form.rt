@@ -1,0 +1,49 @@
+//! The kinds of control intervals, and their sizes.
+
+ghost use Rattle.std.specs.Prelude.{◌≡◌, ◌+◌, ◌-◌, ◌*◌, ◌/◌, ◌<◌, ◌≤◌, ◌↔◌, IsTrue};
+ghost use Rattle.vr_ci.specs.Size.{IsBlockSize};
+
+/// How a control interval of records spells them.
+#[derive(Clone, Copy, Debug, PartialEq, Eq)]
+pub enum Form {
+    /// Records of any lengths; neighbouring live records of one length share a pair of RDFs.
+    Plain,
+    /// As many slots of `length` bytes as the block holds, each with an RDF of its own.
+    Slots { length: u16 },
+}
+
+/// Which part of a spanned record a segment is.
+#[derive(Clone, Copy, Debug, PartialEq, Eq)]
+pub enum Piece {
+    First,
+    Inner,
+    Last,
+}
+
+/// What a control interval holds.
+#[derive(Clone, Copy, Debug, PartialEq, Eq)]
+pub enum Shape {
+    /// Records, or slots.
+    Records,
+    /// One segment of a spanned record, and the record's update number.
+    Segment { piece: Piece, number: u16 },
+    /// The software end of file.
+    EndOfFile,
+}
+
+/// Whether a block may have this size in bytes: a multiple of 512 up to 8,192, or of 2,048 up to 32,768
+/// (DFSMS Using Data Sets, control interval size).
+pub fn is_block_size(size: usize) -> bool
+    ensures { IsTrue result ↔ IsBlockSize size }
+{
+    (0 < size && size <= 8_192 && size % 512 == 0)
+        || (0 < size && size <= 32_768 && size % 2_048 == 0)
+}
+
+/// How many slots of this length a block of this size has.
+pub fn slots(size: usize, length: u16) -> usize
+    ensures count { result ≡ (size - 4) / (length + 3) }
+    ensures fits { result * (length + 3) ≤ size - 4 }
+{
+    size.saturating_sub(4) / (usize::from(length) + 3)
+}

@@ -1,0 +1,177 @@
+//! Record definition fields: reading one, or two that are paired, and what they say.
+
+ghost use Rattle.std.specs.Prelude.{◌≡◌, ◌≢◌, ◌+◌, ◌≤◌, ◌↔◌, ◌∷◌, ◌++◌, length, IsTrue, IfSome, IfNone};
+ghost use Rattle.vr_ci.specs.Rdf.{marks, span, two_bytes, rdf_bytes, IsRdf, MayFollow, run_length, record_length};
+ghost use Rattle.vr_ci.specs.Fault.{IsUnit, is_live};
+
+use crate::form::{Form, Piece};
+
+/// What one RDF says, or two that are paired.
+#[derive(Clone, Copy, Debug, PartialEq, Eq)]
+pub enum Rdf {
+    /// One record of this length, live or withdrawn.
+    Single {
+        live: bool,
+        length: u16,
+    },
+    /// A run of `count` neighbouring live records of one length.
+    Run {
+        length: u16,
+        count: u16,
+    },
+    /// A segment of a spanned record.
+    Segment {
+        piece: Piece,
+        live: bool,
+        number: u16,
+        length: u16,
+    },
+}
+
+impl Rdf {
+    /// How many records it is of.
+    pub fn count(self) -> usize
+        ensures { result ≡ length (marks self) }
+    {
+        match self {
+            Rdf::Single { .. } | Rdf::Segment { .. } => 1,
+            Rdf::Run { count, .. } => usize::from(count),
+        }
+    }
+
+    /// The length of each of its records.
+    pub fn length(self) -> usize
+        ensures { result ≡ record_length self }
+    {
+        match self {
+            Rdf::Single { length, .. } | Rdf::Run { length, .. } | Rdf::Segment { length, .. } => {
+                usize::from(length)
+            }
+        }
+    }
+
+    /// How many bytes its records have.
+    pub fn span(self) -> usize
+        ensures { result ≡ span self }
+    {
+        match self {
+            Rdf::Single { length, .. } | Rdf::Segment { length, .. } => usize::from(length),
+            Rdf::Run { length, count } => usize::from(length) * usize::from(count),
+        }
+    }
+
+    /// Whether its records are live.
+    pub fn is_live(self) -> bool
+        ensures { result ≡ is_live self }
+    {
+        match self {
+            Rdf::Single { live, .. } | Rdf::Segment { live, .. } => live,
+            Rdf::Run { .. } => true,
+        }
+    }
+
+    /// The length of the live records that a run could go on with.
+    fn run_length(self) -> Option<u16>
+        ensures { result ≡ run_length self }
+    {
+        match self {
+            Rdf::Single { live: true, length } | Rdf::Run { length, .. } => Some(length),
+            _ => None,
+        }
+    }
+
+    /// Whether it may stand to the left of `before`, or at the right end where there is none.
+    pub fn may_follow(self, form: Form, before: Option<Rdf>) -> bool
+        ensures { IsTrue result ↔ MayFollow form before self }
+    {
+        if form != Form::Plain && matches!(self, Rdf::Run { .. }) {
+            return false;
+        }
+        let Some(before) = before else { return true };
+        match (before, self) {
+            (Rdf::Segment { .. }, _) | (_, Rdf::Segment { .. }) => false,
+            _ => match (form, before.run_length(), self.run_length()) {
+                (Form::Plain, Some(one), Some(other)) => one != other,
+                _ => true,
+            },
+        }
+    }
+}
+
+/// Where what ends before `end` begins: an RDF with X'40' is paired with the one to its left, if `low`
+/// leaves place for one.
+pub fn unit_before(bytes: &[u8], low: usize, end: usize) -> usize
+    requires place { low + 3 ≤ end }
+    requires within { end ≤ length bytes.now }
+    ensures { IsUnit low bytes.now end result }
+{
+    if end - low >= 6 && bytes[end - 3] & 0x40 != 0 {
+        end - 6
+    } else {
+        end - 3
+    }
+}
+
+/// What these bytes say, if they are an RDF or a pair that some block has.
+pub fn rdf_of(bytes: &[u8]) -> Option<Rdf>
+    ensures found { IfSome result (λ r. IsRdf r × (bytes.now ≡ rdf_bytes r)) }
+    ensures none { IfNone result ((r : Rdf) → IsRdf r → bytes.now ≢ rdf_bytes r) }
+{
+    match bytes {
+        [flags, high, low] => single_of(*flags, u16::from_be_bytes([*high, *low])),
+        [left, high, low, right, more, less] => pair_of(
+            *left,
+            u16::from_be_bytes([*high, *low]),
+            *right,
+            u16::from_be_bytes([*more, *less]),
+        ),
+        _ => None,
+    }
+}
+
+/// An RDF that is not paired.
+fn single_of(flags: u8, length: u16) -> Option<Rdf>
+    ensures found { IfSome result (λ r. IsRdf r × (flags ∷ two_bytes length ≡ rdf_bytes r)) }
+    ensures none { IfNone result ((r : Rdf) → IsRdf r → flags ∷ two_bytes length ≢ rdf_bytes r) }
+{
+    match flags {
+        _ if length == 0 => None,
+        0x00 => Some(Rdf::Single { live: true, length }),
+        0x04 => Some(Rdf::Single {
+            live: false,
+            length,
+        }),
+        _ => None,
+    }
+}
+
+/// A pair: a count or an update number to the left of a length.
+fn pair_of(left: u8, number: u16, right: u8, length: u16) -> Option<Rdf>
+    ensures found { IfSome result (λ r. IsRdf r × (left ∷ two_bytes number ++ right ∷ two_bytes length ≡ rdf_bytes r)) }
+    ensures none { IfNone result ((r : Rdf) → IsRdf r → left ∷ two_bytes number ++ right ∷ two_bytes length ≢ rdf_bytes r) }
+{
+    if length == 0 || number == 0 {
+        return None;
+    }
+    let (piece, live) = match (left, right) {
+        (0x08, 0x40) if number >= 2 => {
+            return Some(Rdf::Run {
+                length,
+                count: number,
+            });
+        }
+        (0x18, 0x50) => (Piece::First, true),
+        (0x1C, 0x54) => (Piece::First, false),
+        (0x38, 0x70) => (Piece::Inner, true),
+        (0x3C, 0x74) => (Piece::Inner, false),
+        (0x28, 0x60) => (Piece::Last, true),
+        (0x2C, 0x64) => (Piece::Last, false),
+        _ => return None,
+    };
+    Some(Rdf::Segment {
+        piece,
+        live,
+        number,
+        length,
+    })
+}

@@ -1,0 +1,109 @@
+//! A control interval that lends its records.
+
+ghost use Rattle.std.specs.Prelude.{◌≡◌, ◌≤◌, ◌<◌, length, map, slice_get, IfOk, IfErr, ℕ};
+
+use crate::fault::CiFault;
+use crate::form::{Form, Shape};
+use crate::reading::found_in;
+use crate::records::Records;
+use std::marker::Model;
+
+/// A block that is a control interval. Contracts see its value: shape, items and busy flag. A segment is
+/// one item, and an end of file has none.
+#[derive(Debug, Drop)]
+pub struct CiView<'a> {
+    bytes: &'a [u8],
+    shape: Shape,
+    busy: bool,
+    count: usize,
+    low: usize,
+}
+
+impl<'a> Model for CiView<'a> {
+    ghost use Rattle.vr_ci.specs.Interval.{Interval};
+
+    ghost Value = { Interval };
+
+    ghost use Rattle.vr_ci.specs.Reading.{value_in, IsView};
+
+    ghost view = { λ v. value_in v.bytes.now v.low v.shape v.busy };
+
+    ghost invariant = { λ v. IsView v.bytes.now v.low v.shape v.count };
+}
+
+impl<'a> CiView<'a> {
+    ghost use Rattle.vr_ci.specs.Interval.{Interval, IsInterval, bytes_of, live_of};
+    ghost use Rattle.vr_ci.specs.Fault.{IsFirstFault};
+    ghost use Rattle.vr_ci.specs.Reading.{CountFits};
+
+    /// Reads a block in one pass. It answers Ok exactly for the control intervals of the form, and otherwise the
+    /// first fault. The form says how records are spelled; segments and an end of file are the same in both.
+    pub fn read(form: Form, bytes: &'a [u8]) -> Result<CiView<'a>, CiFault>
+        // What is read is the block's value.
+        ensures ok { IfOk result (IsInterval form bytes.now) }
+        // A block that is refused has none.
+        ensures only { IfErr result (λ fault. (value : Interval) → IsInterval form bytes.now value → ⊥) }
+        // Which fault it is, and where.
+        ensures fault { IfErr result (IsFirstFault form bytes.now) }
+    {
+        let found = found_in(form, bytes)?;
+        Ok(CiView {
+            bytes,
+            shape: found.shape,
+            busy: found.busy,
+            count: found.count,
+            low: found.low,
+        })
+    }
+
+    /// What the block holds.
+    pub fn shape(&self) -> Shape
+        ensures { result ≡ self.now.shape }
+    {
+        self.shape
+    }
+
+    /// The busy flag.
+    pub fn busy(&self) -> bool
+        ensures { result ≡ self.now.busy }
+    {
+        self.busy
+    }
+
+    /// How many items the block has: its records or slots, 1 for a segment, 0 for an end of file.
+    pub fn count(&self) -> usize
+        ensures count { result ≡ length self.now.items }
+        ensures whole { CountFits self.now.shape result }
+    {
+        self.count
+    }
+
+    /// The bytes of item `i`, lent out of the block. Items before it are gone over; `iter` goes over all.
+    pub fn item(&self, i: usize) -> &'a [u8]
+        requires { i < length self.now.items }
+        ensures { slice_get (map bytes_of self.now.items) i ≡ Some result.now }
+    {
+        match self.iter().nth(i) {
+            Some((bytes, _)) => bytes,
+            None => unreachable!(),
+        }
+    }
+
+    /// Whether item `i` is live: a withdrawn record and an empty slot are not.
+    pub fn live(&self, i: usize) -> bool
+        requires { i < length self.now.items }
+        ensures { slice_get (map live_of self.now.items) i ≡ Some result }
+    {
+        match self.iter().nth(i) {
+            Some((_, live)) => live,
+            None => unreachable!(),
+        }
+    }
+
+    /// The items with their live marks, in order, at a constant cost for each: those that `item` and `live` give.
+    pub fn iter(&self) -> Records<'a>
+        ensures { result ≡ self.now.items }
+    {
+        Records::of(self.bytes, self.low)
+    }
+}
