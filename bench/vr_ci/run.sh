@@ -12,7 +12,7 @@ mkdir -p "$work/crates/ci_bench/proofs/fill"
 cp "$here/invariants.txt" "$work/crates/ci_bench/proofs/fill/Invariants.antt"
 printf 'vr_ci:\nci_bench: vr_ci\n' >"$work/crates.txt"
 rustc -O -o "$work/plain" "$here/plain.rs"
-(cd "$work/crates/ci_bench" && rt run) | grep -E '^[0-9]+ [0-9]+ [0-9]+ [0-9]+ [0-9]+$' >"$work/proved.txt"
+(cd "$work/crates/ci_bench" && rt run 2>/dev/null) | grep -E '^[0-9]+ [0-9]+ [0-9]+ [0-9]+ [0-9]+$' >"$work/proved.txt"
 "$work/plain" >"$work/plain.txt"
 paste -d ' ' "$work/proved.txt" "$work/plain.txt" | awk -v rounds=20000 '
     { printf "%3d bytes: written %.0f a second, plain Rust %.0f, ratio %.2f; read %.0f a second, plain Rust %.0f, ratio %.2f\n",
