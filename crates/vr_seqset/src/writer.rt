@@ -62,11 +62,5 @@ impl<'a> SeqWriter<'a> {
     pub fn end(self)
         requires { 0 < length (written self).entries }
         ensures { IsSequenceSet (intervals_of self.entry) self.exit.0.now (written self.entry) }
-    {
-        let SeqWriter {
-            block: _,
-            end: _,
-            cis: _,
-        } = self;
-    }
+    {}
 }
