@@ -1,10 +1,10 @@
 -- What a call of the device leaves is what blocks that are written through promise.
-use Rattle.std.proofs.Common.{◌≡◌, ◌⊎◌, inl, inr, ⊎_elim, ℕ, Bool, Result, Ok, Err, IsTrue, OnOk, IfErr, is_ok, true, false, true≢false, sym, ap, subst, arith}
+use Rattle.std.proofs.Common.{◌≡◌, ◌⊎◌, inl, inr, ⊎_elim, ℕ, Bool, Result, Ok, Err, IsTrue, ◌<◌, OnOk, IfErr, is_ok, true, false, true≢false, sym, ap, subst, arith}
 use Rattle.std.specs.Result.{IsErrOf}
 use Rattle.vr_types.specs.Image.{Block, Image, IsImage, block_at}
 use Rattle.vr_types.specs.Moments.{During}
 use Rattle.vr_types.specs.Blocks.{Keeps, Puts}
-use Rattle.vr_types.specs.Faults.{Rises, HasCause}
+use Rattle.vr_types.specs.Faults.{HasCause}
 use Rattle.vr_types.specs.declared.fault.DeviceFault.{DeviceFault}
 use Rattle.vr_types.specs.declared.fault.DeviceFault.TheVariants.{Read, Write}
 use Rattle.vr_types.proofs.Moments.{during-weaken}
@@ -53,7 +53,7 @@ not-read {T} is = true≢false (ap (λ (r : Result T DeviceFault). is_write r) i
     is_write (Err Write) = true
 
 -- a fault of a write or a sync, handed on
-pub write-cause : {T : Type 0} (rb rn wb wn : ℕ) (result : Result T DeviceFault) → rn ≡ rb → OnOk result (wn ≡ wb) → IfErr result (λ e. Rises wb wn × (e ≡ Write)) → HasCause rb rn wb wn result
+pub write-cause : {T : Type 0} (rb rn wb wn : ℕ) (result : Result T DeviceFault) → rn ≡ rb → OnOk result (wn ≡ wb) → IfErr result (λ e. wb < wn × (e ≡ Write)) → HasCause rb rn wb wn result
 write-cause rb rn wb wn (Ok x) same ok err = record {
   reads = omega (arith, same);
   writes = omega (arith, ok);
@@ -68,7 +68,7 @@ write-cause {T} rb rn wb wn (Err e) same ok err = record {
 }
 
 -- a fault of a read, handed on
-pub read-cause : {T : Type 0} (rb rn wb wn : ℕ) → wn ≡ wb → Rises rb rn → HasCause {T = T} rb rn wb wn (Err Read)
+pub read-cause : {T : Type 0} (rb rn wb wn : ℕ) → wn ≡ wb → rb < rn → HasCause {T = T} rb rn wb wn (Err Read)
 read-cause {T} rb rn wb wn same rises = record {
   reads = omega (arith, rises);
   writes = omega (arith, same);

@@ -1,11 +1,11 @@
 -- Which calls of a device in memory fail, and what it counts.
-use Rattle.std.specs.Prelude.{◌⊎◌, ℕ, ◌≤◌, List, Option, Some, None, min, unwrap_or, Contains, IsSomeAnd}
-use Rattle.vr_types.specs.Faults.{raised}
+use Rattle.std.specs.Prelude.{◌⊎◌, ℕ, ◌+◌, ◌≤◌, List, Option, Some, None, min, unwrap_or, Contains, IsSomeAnd}
+use Rattle.vr_types.specs.Count.{next_call}
 
--- the reads, writes and syncs made so far; the numbers of the calls that fail, from 0, and the number from which on
--- every call fails; how many writes and syncs failed for want of memory, and the two fault counts
+-- the number of the next read, write or sync; the numbers of the calls that fail, and the number from which on every
+-- call fails; how many writes and syncs failed for want of memory, and the two fault counts
 pub record Calls : Type 0 where
-  pub made : ℕ
+  pub next : ℕ
   pub fails : List ℕ
   pub stop : Option ℕ
   pub refused : ℕ
@@ -14,25 +14,25 @@ pub record Calls : Type 0 where
 
 -- no call was made, and those of these numbers fail
 abbrev pub uncalled : List ℕ → Calls
-uncalled fails = record { made = 0; fails = fails; stop = None; refused = 0; read_faults = 0; write_faults = 0 }
+uncalled fails = record { next = 0; fails = fails; stop = None; refused = 0; read_faults = 0; write_faults = 0 }
 
 -- the next call fails
 abbrev pub IsToFail : Calls → Type 0
-IsToFail calls = Contains calls.fails calls.made ⊎ IsSomeAnd calls.stop (λ first. first ≤ calls.made)
+IsToFail calls = Contains calls.fails calls.next ⊎ IsSomeAnd calls.stop (λ first. first ≤ calls.next)
 
 -- after one more call
 abbrev pub counted : Calls → Calls
-counted calls = record calls { made = raised calls.made }
+counted calls = record calls { next = next_call calls.next }
 
 abbrev pub read_failed : Calls → Calls
-read_failed calls = record calls { read_faults = raised calls.read_faults }
+read_failed calls = record calls { read_faults = calls.read_faults + 1 }
 
 abbrev pub write_failed : Calls → Calls
-write_failed calls = record calls { write_faults = raised calls.write_faults }
+write_failed calls = record calls { write_faults = calls.write_faults + 1 }
 
 -- a write or a sync failed for want of memory
 abbrev pub write_refused : Calls → Calls
-write_refused calls = record calls { write_faults = raised calls.write_faults; refused = raised calls.refused }
+write_refused calls = record calls { write_faults = calls.write_faults + 1; refused = calls.refused + 1 }
 
 -- every call from this number on is to fail
 abbrev pub stopped : ℕ → Calls → Calls

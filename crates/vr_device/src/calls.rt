@@ -1,19 +1,21 @@
 // Which calls of a device in memory fail, and what it counts.
 ghost use Rattle.std.specs.Prelude.{◌≡◌, ◌↔◌, IsTrue};
+ghost use Rattle.vr_types.specs.Count.{shown_of};
 ghost use Rattle.vr_device.specs.Calls.{IsToFail, uncalled, counted, read_failed, write_failed, write_refused, stopped};
 
 use std::marker::Model;
+use vr_types::FaultCount;
 
-/// The calls of a device in memory. A clause sees what it counts and which calls it fails. A count stands still at its
-/// type's end.
+/// The calls of a device in memory. A clause sees what it counts and which calls it fails. The calls from 2^64 - 1 on
+/// share that number.
 #[derive(Drop)]
 pub(crate) struct Script {
     calls: u64,
     failing: Vec<u64>,
     first_stopped: Option<u64>,
-    memory_faults: u64,
-    reads: u64,
-    writes: u64,
+    memory_faults: FaultCount,
+    reads: FaultCount,
+    writes: FaultCount,
 }
 
 impl Model for Script {
@@ -21,7 +23,7 @@ impl Model for Script {
 
     ghost Value = { Calls };
 
-    ghost view = { λ s. record { made = s.calls; fails = s.failing.items; stop = s.first_stopped; refused = s.memory_faults; read_faults = s.reads; write_faults = s.writes } };
+    ghost view = { λ s. record { next = s.calls; fails = s.failing.items; stop = s.first_stopped; refused = s.memory_faults; read_faults = s.reads; write_faults = s.writes } };
 }
 
 impl Script {
@@ -33,9 +35,9 @@ impl Script {
             calls: 0,
             failing,
             first_stopped: None,
-            memory_faults: 0,
-            reads: 0,
-            writes: 0,
+            memory_faults: FaultCount::new(),
+            reads: FaultCount::new(),
+            writes: FaultCount::new(),
         }
     }
 
@@ -54,22 +56,22 @@ impl Script {
     pub(crate) fn fail_read(&mut self)
         ensures { self.new ≡ read_failed self.old }
     {
-        self.reads = self.reads.saturating_add(1);
+        self.reads.raise();
     }
 
     /// Counts a write or a sync that was to fail.
     pub(crate) fn fail_write(&mut self)
         ensures { self.new ≡ write_failed self.old }
     {
-        self.writes = self.writes.saturating_add(1);
+        self.writes.raise();
     }
 
     /// Counts a write or a sync that failed for want of memory.
     pub(crate) fn refuse(&mut self)
         ensures { self.new ≡ write_refused self.old }
     {
-        self.writes = self.writes.saturating_add(1);
-        self.memory_faults = self.memory_faults.saturating_add(1);
+        self.writes.raise();
+        self.memory_faults.raise();
     }
 
     /// Makes every call from that number on fail.
@@ -82,17 +84,17 @@ impl Script {
         });
     }
 
-    /// The number of calls so far.
+    /// The number of calls so far, up to 2^64 - 1.
     pub(crate) fn made(&self) -> u64
-        ensures { result ≡ self.now.made }
+        ensures { result ≡ self.now.next }
     {
         self.calls
     }
 
-    /// How many writes and syncs failed for want of memory.
+    /// How many writes and syncs failed for want of memory, up to 2^64 - 1.
     pub(crate) fn refused(&self) -> u64
-        ensures { result ≡ self.now.refused }
+        ensures { result ≡ shown_of self.now.refused }
     {
-        self.memory_faults
+        self.memory_faults.shown()
     }
 }

@@ -4,7 +4,7 @@ ghost use Rattle.std.specs.Prelude.{◌≡◌};
 use crate::device::BlockDevice;
 use std::fs::{File, Files, OpenOptions};
 use std::os::unix::fs::FileExt;
-use vr_types::Failed;
+use vr_types::{Failed, FaultCount};
 
 /// A device over one file of the host. Block `n` lies at byte `n * size` of the file, and a sync is the host's sync of
 /// the file's data. It tells no content, since no contract can say what a file holds. A missing or a short file is a
@@ -14,8 +14,8 @@ pub struct FileDevice {
     file: Option<File>,
     size: u32,
     blocks: u32,
-    reads_failed: u64,
-    writes_failed: u64,
+    reads_failed: FaultCount,
+    writes_failed: FaultCount,
 }
 
 impl FileDevice {
@@ -51,8 +51,8 @@ impl FileDevice {
             file,
             size,
             blocks,
-            reads_failed: 0,
-            writes_failed: 0,
+            reads_failed: FaultCount::new(),
+            writes_failed: FaultCount::new(),
         }
     }
 
@@ -108,7 +108,7 @@ impl BlockDevice for FileDevice {
         {
             return Ok(());
         }
-        self.reads_failed = self.reads_failed.saturating_add(1);
+        self.reads_failed.raise();
         Err(Failed)
     }
 
@@ -121,7 +121,7 @@ impl BlockDevice for FileDevice {
         {
             return Ok(());
         }
-        self.writes_failed = self.writes_failed.saturating_add(1);
+        self.writes_failed.raise();
         Err(Failed)
     }
 
@@ -129,7 +129,7 @@ impl BlockDevice for FileDevice {
         if self.file.as_ref().is_some_and(|f| f.sync_data().is_ok()) {
             return Ok(());
         }
-        self.writes_failed = self.writes_failed.saturating_add(1);
+        self.writes_failed.raise();
         Err(Failed)
     }
 }

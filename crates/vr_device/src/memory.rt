@@ -5,6 +5,7 @@ ghost use Rattle.vr_device.specs.Disk.{MayHold, IsMisfit, IsChosen, IsSomeChoice
 ghost use Rattle.vr_device.specs.History.{disk_of, ImageAt, wrote, failed, forced, with_event, unwritten};
 ghost use Rattle.vr_device.specs.declared.memory.ImageNo.TheVariants.{Memory};
 ghost use Rattle.vr_device.specs.Memory.{past_in, calls_in};
+ghost use Rattle.vr_types.specs.Count.{shown_of};
 ghost use Rattle.vr_device.specs.Calls.{IsToFail, uncalled, counted, read_failed, write_failed, write_refused, stopped};
 
 use crate::calls::Script;
@@ -35,7 +36,7 @@ impl From<OutOfMemory> for ImageNo {
 /// A device in memory. It keeps each write and each sync, from which it tells what a crash at every moment may leave,
 /// so its memory grows with what is written. A call fails where its number, counted from 0, is among those that it was
 /// made with, and from the number of `stop` on. A write or a sync fails beside that only for want of memory to keep it.
-/// No count goes past the end of its type.
+/// The calls from 2^64 - 1 on share that number.
 #[derive(Drop)]
 pub struct MemoryDevice {
     history: History,
@@ -160,16 +161,16 @@ impl MemoryDevice {
         self.script.stop(call);
     }
 
-    /// The number of reads, writes and syncs so far, those that failed among them.
+    /// The number of reads, writes and syncs so far, those that failed among them, up to 2^64 - 1.
     pub fn calls(&self) -> u64
-        ensures { result ≡ (calls_in self.now).made }
+        ensures { result ≡ (calls_in self.now).next }
     {
         self.script.made()
     }
 
-    /// The number of writes and syncs that failed for want of memory.
+    /// The number of writes and syncs that failed for want of memory, up to 2^64 - 1.
     pub fn refused(&self) -> u64
-        ensures { result ≡ (calls_in self.now).refused }
+        ensures { result ≡ shown_of (calls_in self.now).refused }
     {
         self.script.refused()
     }

@@ -1,6 +1,6 @@
 ghost use Rattle.std.specs.Prelude.{◌≡◌, ◌+◌, ◌^◌, ◌<◌, ◌≤◌, length, take, vec_len, IfOk, IfErr, OnOk};
 ghost use Rattle.std.specs.Io.KnownBytes.{IsAtEnd};
-ghost use Rattle.vr_outside.specs.Faults.{CountsFailure};
+ghost use Rattle.vr_types.specs.Faults.{CountsFault};
 ghost use Rattle.vr_job.specs.Input.{IsAll, CauseOf, ReadsBehind};
 
 use std::alloc::{AllocError, Global};
@@ -68,7 +68,7 @@ fn read_behind<S: Source>(source: &mut S, buffer: &mut [u8], filled: usize) -> R
     ensures within { IfOk result (λ n. filled + n ≤ length buffer.old) }
     ensures bytes { IfOk result (λ n. ReadsBehind (S.left source.old) (S.left source.new) (take filled buffer.old) (take (filled + n) buffer.new)) }
     ensures end { IfOk result (λ n. n ≡ 0 → filled < length buffer.old → IsAtEnd (S.left source.old)) }
-    ensures cause { CountsFailure (S.faults source.old) (S.faults source.new) result }
+    ensures cause { CountsFault (S.faults source.old) (S.faults source.new) result }
 {
     source.read(&mut buffer[filled..])
 }

@@ -1,4 +1,4 @@
-use Rattle.std.specs.Prelude.{ℕ, ◌+◌, ◌-◌, ◌^◌, ◌==◌, min, Bool, List}
+use Rattle.std.specs.Prelude.{ℕ, ◌==◌, Bool, List}
 use Rattle.std.specs.List.{list_any}
 
 -- The calls of a source or a sink in memory are numbered from 0.
@@ -6,7 +6,3 @@ use Rattle.std.specs.List.{list_any}
 -- whether a call's number is in a list
 abbrev pub is_listed : ℕ → List ℕ → Bool
 is_listed call numbers = list_any (λ number. number == call) numbers
-
--- the number of the call after this one; those from 2^64 - 1 on share that number
-abbrev pub next_call : ℕ → ℕ
-next_call call = min (call + 1) (2 ^ 64 - 1)

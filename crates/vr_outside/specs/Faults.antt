@@ -1,11 +1,7 @@
 use Rattle.std.specs.Prelude.{◌≡◌, ℕ, ◌<◌, List, length, Result, MatchResult}
 use Rattle.vr_types.specs.declared.fault.Failed.{Failed}
 
--- When the fault counts of a source and a sink rise. The rules are this project's own.
-
--- A source's count rises exactly where the call failed.
-abbrev pub CountsFailure : ℕ → ℕ → Result ℕ Failed → Type 0
-CountsFailure old new result = MatchResult result (λ _. new ≡ old) (λ _. old < new)
+-- When the fault count of a sink rises. The rules are this project's own.
 
 -- A sink that took nothing of a piece, though there was something to take, counts a fault. No other success does.
 pub record CountsNone (old new : ℕ) (piece : List ℕ) (n : ℕ) : Type 0 where

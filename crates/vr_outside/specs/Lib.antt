@@ -1,5 +1,4 @@
 pub mod Calls
-pub mod Count
 pub mod Faults
 pub mod MemorySink
 pub mod MemorySource

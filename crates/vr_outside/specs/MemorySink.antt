@@ -1,5 +1,6 @@
 use Rattle.std.specs.Prelude.{◌≡◌, ℕ, ◌+◌, ◌==◌, ◌&&◌, nat_lt, min, if◌then◌else◌, List, length, take, ◌++◌}
-use Rattle.vr_outside.specs.Calls.{is_listed, next_call}
+use Rattle.vr_types.specs.Count.{next_call}
+use Rattle.vr_outside.specs.Calls.{is_listed}
 
 -- A sink in memory, as clauses see it.
 pub record SinkState : Type 0 where

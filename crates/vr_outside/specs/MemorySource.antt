@@ -1,5 +1,5 @@
 use Rattle.std.specs.Prelude.{◌≡◌, ℕ, ◌+◌, min, List, length, take, drop, ◌++◌}
-use Rattle.vr_outside.specs.Calls.{next_call}
+use Rattle.vr_types.specs.Count.{next_call}
 
 -- A source in memory, as clauses see it.
 pub record SourceState : Type 0 where

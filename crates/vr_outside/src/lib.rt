@@ -1,11 +1,10 @@
 // The program's ends: where the bytes of a job come from and where those of a listing go. A source tells, where it
 // can, which bytes are left, a sink which bytes it took, and each counts its faults. The layer stands on the fault
-// word of vr_types and on std. It promises that no byte is handed out twice or lost, that a call fails only where
+// word and the fault count of vr_types and on std. It promises that no byte is handed out twice or lost, that a call fails only where
 // the count of faults rose, and that a sink which takes nothing of a piece counts that as a fault. Sources and sinks
 // in memory fail exactly where they are told to; those over a std reader or writer tell no content.
 #![tactic(auto)]
 
-pub mod count;
 pub mod laws;
 pub mod memory_sink;
 pub mod memory_source;
@@ -18,7 +17,6 @@ pub mod steady;
 mod tests;
 pub mod whole;
 
-pub use count::FaultCount;
 pub use laws::{reads_end, reads_join, takes_join};
 pub use memory_sink::MemorySink;
 pub use memory_source::MemorySource;

@@ -2,14 +2,13 @@ ghost use Rattle.std.specs.Prelude.{◌≡◌, ℕ, ◌+◌, ◌-◌, ◌^◌, �
 ghost use Rattle.vr_outside.specs.Told.{Takes};
 ghost use Rattle.vr_outside.specs.Faults.{CountsRefusal};
 ghost use Rattle.vr_outside.specs.Calls.{is_listed};
-ghost use Rattle.vr_outside.specs.Count.{shown_of};
+ghost use Rattle.vr_types.specs.Count.{shown_of};
 ghost use Rattle.vr_outside.specs.MemorySink.{TakesFront, FailsWriting};
 
-use crate::count::FaultCount;
 use crate::sink::Sink;
 use std::alloc::Global;
 use std::marker::Model;
-use vr_types::Failed;
+use vr_types::{Failed, FaultCount};
 
 /// A sink in memory that keeps what it takes. Its calls fail where their numbers are in a list, take nothing where
 /// they are in another, and beside that fail where memory runs out, which is counted apart. The first call has

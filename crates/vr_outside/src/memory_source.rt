@@ -1,16 +1,15 @@
 ghost use Rattle.std.specs.Prelude.{◌≡◌, ◌↔◌, ℕ, ◌-◌, ◌^◌, ◌<◌, ◌≤◌, Option, List, [], Some, length, take, min, IsErr, IsTrue, IfOk, OnErr};
 ghost use Rattle.std.specs.Io.KnownBytes.{IsAtEnd};
 ghost use Rattle.vr_outside.specs.Told.{Reads};
-ghost use Rattle.vr_outside.specs.Faults.{CountsFailure};
+ghost use Rattle.vr_types.specs.Faults.{CountsFault};
 ghost use Rattle.vr_outside.specs.Calls.{is_listed};
-ghost use Rattle.vr_outside.specs.Count.{shown_of};
+ghost use Rattle.vr_types.specs.Count.{shown_of};
 ghost use Rattle.vr_outside.specs.MemorySource.{HandsOut, FailsReading};
 
-use crate::count::FaultCount;
 use crate::source::Source;
 use crate::steady::SteadySource;
 use std::marker::Model;
-use vr_types::Failed;
+use vr_types::{Failed, FaultCount};
 
 /// A source of bytes in memory whose calls fail where their numbers are in a list, and nowhere else. The first call
 /// has number 0; those from 2^64 - 1 on share that number.
@@ -94,7 +93,7 @@ impl Source for MemorySource {
         ensures bytes { IfOk result (λ n. Reads (Some self.old.left) (Some self.new.left) (take n into.new)) }
         ensures end { IfOk result (λ n. n ≡ 0 → 0 < length into.new → IsAtEnd (Some self.old.left)) }
         ensures kept { OnErr result (Some self.new.left ≡ Some self.old.left) }
-        ensures cause { CountsFailure self.old.faults self.new.faults result }
+        ensures cause { CountsFault self.old.faults self.new.faults result }
     {
         let call = self.calls;
         self.calls = call.saturating_add(1);

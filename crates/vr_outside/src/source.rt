@@ -1,7 +1,7 @@
 ghost use Rattle.std.specs.Prelude.{◌≡◌, ℕ, List, Option, ◌<◌, ◌≤◌, length, take, IfOk, OnErr};
 ghost use Rattle.std.specs.Io.KnownBytes.{IsAtEnd};
 ghost use Rattle.vr_outside.specs.Told.{Reads};
-ghost use Rattle.vr_outside.specs.Faults.{CountsFailure};
+ghost use Rattle.vr_types.specs.Faults.{CountsFault};
 
 use vr_types::Failed;
 
@@ -21,5 +21,5 @@ pub trait Source {
         ensures bytes { IfOk result (λ n. Reads (left self.old) (left self.new) (take n into.new)) }
         ensures end { IfOk result (λ n. n ≡ 0 → 0 < length into.new → IsAtEnd (left self.old)) }
         ensures kept { OnErr result (left self.new ≡ left self.old) }
-        ensures cause { CountsFailure (faults self.old) (faults self.new) result };
+        ensures cause { CountsFault (faults self.old) (faults self.new) result };
 }

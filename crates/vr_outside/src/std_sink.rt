@@ -3,12 +3,11 @@ ghost use Rattle.std.specs.Io.KnownBytes.{WriteAppends};
 ghost use Rattle.vr_outside.specs.Told.{Takes};
 ghost use Rattle.vr_outside.specs.Faults.{CountsRefusal};
 ghost use Rattle.vr_outside.specs.StdPair.{writer_of, sink_faults};
-ghost use Rattle.vr_outside.specs.Count.{shown_of};
+ghost use Rattle.vr_types.specs.Count.{shown_of};
 
-use crate::count::FaultCount;
 use crate::sink::Sink;
 use std::io::Write;
-use vr_types::Failed;
+use vr_types::{Failed, FaultCount};
 
 /// A sink over a std writer. It tells no content. Each `Err` of the writer is a fault, an interrupted write too, and
 /// so is an answer of 0 for a piece that isn't empty.

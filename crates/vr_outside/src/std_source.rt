@@ -1,14 +1,13 @@
 ghost use Rattle.std.specs.Prelude.{◌≡◌, ℕ, Option, List, None, ◌≤◌, length, take, IfOk, OnErr};
 ghost use Rattle.std.specs.Io.KnownBytes.{IsAtEnd, ReadConsumes};
 ghost use Rattle.vr_outside.specs.Told.{Reads};
-ghost use Rattle.vr_outside.specs.Faults.{CountsFailure};
+ghost use Rattle.vr_types.specs.Faults.{CountsFault};
 ghost use Rattle.vr_outside.specs.StdPair.{reader_of, source_faults};
-ghost use Rattle.vr_outside.specs.Count.{shown_of};
+ghost use Rattle.vr_types.specs.Count.{shown_of};
 
-use crate::count::FaultCount;
 use crate::source::Source;
 use std::io::Read;
-use vr_types::Failed;
+use vr_types::{Failed, FaultCount};
 
 /// A source over a std reader. It tells no content. Each `Err` of the reader is a fault, an interrupted read too.
 #[derive(Drop)]
@@ -56,7 +55,7 @@ impl<R: Read> Source for StdSource<R> {
         // The trait's clauses.
         ensures within { IfOk result (λ n. n ≤ length into.new) }
         ensures bytes { IfOk result (λ n. Reads None None (take n into.new)) }
-        ensures cause { CountsFailure (source_faults self.old) (source_faults self.new) result }
+        ensures cause { CountsFault (source_faults self.old) (source_faults self.new) result }
     {
         match self.reader.read(into) {
             Ok(n) => Ok(n),

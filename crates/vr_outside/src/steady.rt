@@ -1,7 +1,8 @@
 ghost use Rattle.std.specs.Prelude.{◌≡◌, ℕ, Option, List, None, Some, ◌<◌, ◌≤◌, ◌++◌, length, take, drop, min, IsOk, IfOk, OnErr};
 ghost use Rattle.std.specs.Io.KnownBytes.{IsAtEnd};
 ghost use Rattle.vr_outside.specs.Told.{Reads, Takes};
-ghost use Rattle.vr_outside.specs.Faults.{CountsFailure, CountsRefusal};
+ghost use Rattle.vr_types.specs.Faults.{CountsFault};
+ghost use Rattle.vr_outside.specs.Faults.{CountsRefusal};
 
 use crate::sink::Sink;
 use crate::source::Source;
@@ -70,7 +71,7 @@ impl Source for SteadySource {
         ensures bytes { IfOk result (λ n. Reads (Some self.old) (Some self.new) (take n into.new)) }
         ensures end { IfOk result (λ n. n ≡ 0 → 0 < length into.new → IsAtEnd (Some self.old)) }
         ensures kept { OnErr result (self.new ≡ self.old) }
-        ensures cause { CountsFailure 0 0 result }
+        ensures cause { CountsFault 0 0 result }
     {
         let most = into.len();
         Ok(self.hand_out(into, most))

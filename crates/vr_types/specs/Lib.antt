@@ -1,5 +1,6 @@
 pub mod Blocks
 pub mod Content
+pub mod Count
 pub mod Faults
 pub mod Image
 pub mod Moments

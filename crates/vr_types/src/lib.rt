@@ -1,11 +1,12 @@
 // The words that every layer of the record manager shares: places, bytes and names of data sets, units of
-// recovery, requests, replies and refusals with the number that each shows, the content of a data set, and the
-// trait of blocks with what a crash may leave of them. It stands on std alone. It promises that each value built
+// recovery, requests, replies and refusals with the number that each shows, the content of a data set, the count of
+// faults, and the trait of blocks with what a crash may leave of them. It stands on std alone. It promises that each value built
 // here is the list of bytes that it was built from, that a copy equals what it was copied from, and that a data
 // set name is taken exactly where the catalog's rules allow it.
 #![tactic(auto)]
 
 pub mod blocks;
+pub mod count;
 pub mod fault;
 pub mod geometry;
 pub mod makers;
@@ -20,6 +21,7 @@ pub mod values;
 pub mod words;
 
 pub use blocks::Blocks;
+pub use count::FaultCount;
 pub use fault::{DeviceFault, Failed};
 pub use geometry::Geometry;
 pub use makers::{bytes, empty_place, number_place, place};

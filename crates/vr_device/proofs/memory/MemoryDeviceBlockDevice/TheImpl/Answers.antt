@@ -1,8 +1,7 @@
 -- What the device's own clauses say of a call is what a block device promises.
-use Rattle.std.proofs.Common.{◌≡◌, ◌⊎◌, inl, inr, ⊎_elim, ℕ, length, ap, ◌∙◌, arith}
+use Rattle.std.proofs.Common.{◌≡◌, ◌⊎◌, inl, inr, ⊎_elim, ℕ, ◌<◌, length, ap, ◌∙◌, arith}
 use Rattle.vr_types.specs.Image.{Block, Image, IsImage}
 use Rattle.vr_types.specs.Moments.{During}
-use Rattle.vr_types.specs.Faults.{Rises}
 use Rattle.vr_device.specs.Disk.{MayHold, MayHaveWritten, written, synced}
 use Rattle.vr_device.specs.Choices.{image-written, image-synced}
 use Rattle.vr_device.specs.Told.{readable-of}
@@ -29,7 +28,7 @@ read-tells x c =
       moments = λ told. during-same past_in old new (IsImage (length (past_in old).start) (MayHold (disk_of (past_in old)))) c.ensures.past (λ image is. is);
       fault = (
         on_ok c.result (calls_in new ≡ counted (calls_in old)) ((calls_in new).read_faults ≡ (calls_in old).read_faults) c.ensures.ok (λ e. ap (λ (k : Calls). k.read_faults) e),
-        on_err c.result (calls_in new ≡ read_failed (counted (calls_in old))) (Rises (calls_in old).read_faults (calls_in new).read_faults) c.ensures.err (λ e. omega (arith, ap (λ (k : Calls). k.read_faults) e)),
+        on_err c.result (calls_in new ≡ read_failed (counted (calls_in old))) ((calls_in old).read_faults < (calls_in new).read_faults) c.ensures.err (λ e. omega (arith, ap (λ (k : Calls). k.read_faults) e)),
       );
       write_faults = either c.result (calls_in new ≡ counted (calls_in old)) (calls_in new ≡ read_failed (counted (calls_in old))) ((calls_in new).write_faults ≡ (calls_in old).write_faults) c.ensures.ok c.ensures.err
           (λ e. ap (λ (k : Calls). k.write_faults) e) (λ e. ap (λ (k : Calls). k.write_faults) e);
@@ -61,7 +60,7 @@ write-tells x c =
           (λ f. during-same past_in old new P f.past (before n bytes old)) no);
       fault = (
         on_ok c.result Counted ((calls_in new).write_faults ≡ (calls_in old).write_faults) c.ensures.counted (λ e. ap (λ (k : Calls). k.write_faults) e),
-        on_err c.result Not (Rises (calls_in old).write_faults (calls_in new).write_faults) c.ensures.err
+        on_err c.result Not ((calls_in old).write_faults < (calls_in new).write_faults) c.ensures.err
             (λ no. ⊎_elim (λ f. omega (arith, ap (λ (k : Calls). k.write_faults) f.calls)) (λ f. omega (arith, ap (λ (k : Calls). k.write_faults) f.calls)) no),
       );
       read_faults = either c.result Counted Not ((calls_in new).read_faults ≡ (calls_in old).read_faults) c.ensures.counted c.ensures.err
@@ -90,7 +89,7 @@ sync-tells x c =
           (λ no. during-same past_in old new P (same no) (λ image is. is));
       fault = (
         on_ok c.result Counted ((calls_in new).write_faults ≡ (calls_in old).write_faults) c.ensures.counted (λ e. ap (λ (k : Calls). k.write_faults) e),
-        on_err c.result Not (Rises (calls_in old).write_faults (calls_in new).write_faults) c.ensures.err
+        on_err c.result Not ((calls_in old).write_faults < (calls_in new).write_faults) c.ensures.err
             (λ no. ⊎_elim (λ f. omega (arith, ap (λ (k : Calls). k.write_faults) f.calls)) (λ f. omega (arith, ap (λ (k : Calls). k.write_faults) f.calls)) no),
       );
       read_faults = either c.result Counted Not ((calls_in new).read_faults ≡ (calls_in old).read_faults) c.ensures.counted c.ensures.err

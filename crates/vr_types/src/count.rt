@@ -1,5 +1,5 @@
 ghost use Rattle.std.specs.Prelude.{◌≡◌, ℕ, ◌+◌};
-ghost use Rattle.vr_outside.specs.Count.{shown_of};
+ghost use Rattle.vr_types.specs.Count.{shown_of};
 
 use std::marker::Model;
 use std::snapshot::Snapshot;
@@ -12,7 +12,7 @@ enum Tally {
     After(Snapshot<Tally>),
 }
 
-/// How often a source or a sink has failed. Clauses see a number without an end.
+/// How often a source, a sink or a device has failed. Clauses see a number without an end.
 #[derive(Drop)]
 pub struct FaultCount {
     tally: Tally,
@@ -21,7 +21,7 @@ pub struct FaultCount {
 
 impl Model for FaultCount {
     ghost use Rattle.std.specs.Prelude.{◌≡◌, ℕ};
-    ghost use Rattle.vr_outside.specs.Count.{count_of, shown_of};
+    ghost use Rattle.vr_types.specs.Count.{count_of, shown_of};
 
     ghost Value = { ℕ };
 
