@@ -8,3 +8,4 @@ pub mod Readings
 pub mod Ends
 pub mod Printing
 pub mod Completes
+pub mod PositionLemmas

@@ -1,4 +1,5 @@
 pub mod Definition
+pub mod Positions
 pub mod State
 pub mod Refusals
 pub mod Step

@@ -1,4 +1,4 @@
-use Rattle.std.specs.Prelude.{◌≡◌, ℕ, ◌+◌, ◌≤◌, List, [], ◌∷◌, ◌++◌, take}
+use Rattle.std.specs.Prelude.{◌≡◌, ℕ, ◌+◌, ◌≤◌, List, [], ◌∷◌, ◌++◌, take, Option, Some, None}
 use Rattle.vr_types.specs.declared.request.Request.{Request}
 use Rattle.vr_types.specs.declared.request.Request.TheVariants.{Commit}
 use Rattle.vr_types.specs.declared.reply.Reply.{Reply}
@@ -7,8 +7,10 @@ use Rattle.vr_types.specs.Content.{Content}
 use Rattle.vr_deck.specs.declared.bound.Bound.{Bound}
 use Rattle.vr_job.specs.declared.entry.Entry.{Entry}
 use Rattle.vr_job.specs.declared.entry.What.TheVariants.{Asked}
-use Rattle.vr_job.specs.State.{opening_state}
-use Rattle.vr_job.specs.Step.{IsOffered}
+use Rattle.vr_job.specs.declared.positions.FilePosition.{FilePosition}
+use Rattle.vr_job.specs.Positions.{position_of, without_held, without_deck}
+use Rattle.vr_job.specs.State.{State, opening_state}
+use Rattle.vr_job.specs.Step.{IsOffered, slot_of}
 use Rattle.vr_job.specs.History.{IsLegal, state_of, last_stamp, part_of_deck}
 use Rattle.vr_job.specs.Serve.{Serves}
 
@@ -23,21 +25,36 @@ abbrev pub next_number : Request → Reply → ℕ → ℕ
 next_number Commit (Done feedback place bytes) number = number + 1
 next_number _ _ number = number
 
+-- the positions that were set are those of the state
+abbrev pub IsPositioned : State → List FilePosition → Type 0
+IsPositioned state files = (deck slot : ℕ) → state.positions deck slot ≡ position_of files deck slot
+
+-- these positions when a request on a file of this slot begins, and when a reply ends the unit
+abbrev pub files_begun : Option ℕ → List FilePosition → List FilePosition
+files_begun (Some slot) files = without_held 1 slot files
+files_begun None files = files
+
+abbrev pub files_ended : Request → Reply → List FilePosition → List FilePosition
+files_ended Commit (Done feedback place bytes) files = without_deck 1 files
+files_ended _ _ files = files
+
 -- the entry of a request that was answered
 abbrev pub entry_of : ℕ → ℕ → Bound → Reply → Entry
 entry_of stamp number bound reply = record { stamp = stamp; unit = record { deck = 1; number = number }; line = bound.line; what = Asked bound.request reply }
 
 -- one request was answered and entered
-pub record Enters (bound : Bound) (number next : ℕ) (old new : List Entry) (content content' : Content) : Type 0 where
+pub record Enters (bound : Bound) (number next : ℕ) (old new : List Entry) (content content' : Content) (files files' : List FilePosition) : Type 0 where
   pub reply : Reply
   pub entered : new ≡ old ++ entry_of (last_stamp 0 old + 1) number bound reply ∷ []
   pub served : Serves bound.request reply content content'
   pub counted : next ≡ next_number bound.request reply number
+  pub positioned : files' ≡ files_ended bound.request reply (files_begun (slot_of bound.request) files)
 
 -- the first i requests were answered and entered, from the opening state on
-pub record Running (requests : List Bound) (i : ℕ) (entries : List Entry) (content : Content) (number : ℕ) : Type 0 where
+pub record Running (requests : List Bound) (i : ℕ) (entries : List Entry) (content : Content) (files : List FilePosition) (number : ℕ) : Type 0 where
   pub legal : IsLegal opening_state entries
   pub content_is : (state_of opening_state entries).contents 1 ≡ content
+  pub positions_are : IsPositioned (state_of opening_state entries) files
   pub number_is : (state_of opening_state entries).numbers 1 ≡ number
   pub few : number ≤ i + 1
   pub part : part_of_deck 0 1 entries ≡ take i requests

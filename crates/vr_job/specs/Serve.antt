@@ -9,18 +9,20 @@ use Rattle.vr_types.specs.declared.reply.Reply.{Reply}
 use Rattle.vr_types.specs.declared.reply.Reply.TheVariants.{Refused}
 use Rattle.vr_types.specs.Content.{Content}
 use Rattle.vr_deck.specs.Bound.{first_file}
+use Rattle.vr_job.specs.declared.entry.What.TheVariants.{Asked}
+use Rattle.vr_job.specs.Positions.{first_position}
 use Rattle.vr_job.specs.State.{State}
-use Rattle.vr_job.specs.Step.{MayReply, answer_of, after_reply}
+use Rattle.vr_job.specs.Step.{MayReply, answer_of, after_what}
 
 -- What a request on VRM.FIRST does, by the content alone.
 
 -- The reply is one that the request may have in each state with the old content, and the new content is that of the state after it.
 abbrev pub Serves : Request → Reply → Content → Content → Type 0
-Serves request reply old new = (state : State) (deck : ℕ) → state.contents 1 ≡ old → MayReply state request reply × ((after_reply deck request reply state).contents 1 ≡ new)
+Serves request reply old new = (state : State) (deck : ℕ) → state.contents 1 ≡ old → MayReply state request reply × ((after_what deck (Asked request reply) state).contents 1 ≡ new)
 
 -- a state with a content
 abbrev pub state_with : Content → State
-state_with content = record { contents = λ _. content; numbers = λ _. 1 }
+state_with content = record { contents = λ _. content; positions = λ _ _. first_position; numbers = λ _. 1 }
 
 -- a GET of a key, and a PUT that adds a record
 abbrev pub get_request : List ℕ → Request
@@ -34,7 +36,7 @@ abbrev pub reply_to : Content → Request → Reply
 reply_to content request = answer_of (state_with content) request
 
 abbrev pub content_after : Content → Request → Reply → Content
-content_after content request reply = (after_reply 1 request reply (state_with content)).contents 1
+content_after content request reply = (after_what 1 (Asked request reply) (state_with content)).contents 1
 
 -- the reply, or the refusal for want of memory
 abbrev pub or_refused : Result Reply OutOfMemory → Reply

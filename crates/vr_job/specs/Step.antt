@@ -1,9 +1,9 @@
-use Rattle.std.specs.Prelude.{◌≡◌, ◌≢◌, ◌⊎◌, ℕ, ◌+◌, false, ◌==◌, if◌then◌else◌, List, Option, Some, None}
+use Rattle.std.specs.Prelude.{◌≡◌, ◌≢◌, ◌⊎◌, ℕ, ◌+◌, false, ◌==◌, ◌&&◌, if◌then◌else◌, List, Option, Some, None}
 use Rattle.vr_types.specs.declared.unit.Unit.{Unit as UnitOfRecovery}
 use Rattle.vr_types.specs.declared.unit.Integrity.TheVariants.{Nri}
 use Rattle.vr_types.specs.declared.request.Find.TheVariants.{Equal}
 use Rattle.vr_types.specs.declared.request.Request.{Request}
-use Rattle.vr_types.specs.declared.request.Request.TheVariants.{Get, Add, Commit}
+use Rattle.vr_types.specs.declared.request.Request.TheVariants.{Get, Point, Add, Update, Erase, EndReq, Commit, Backout}
 use Rattle.vr_types.specs.declared.reply.Refusal.{Refusal}
 use Rattle.vr_types.specs.declared.reply.Refusal.TheVariants.{Memory}
 use Rattle.vr_types.specs.declared.reply.Reply.{Reply}
@@ -14,6 +14,7 @@ use Rattle.vr_job.specs.declared.entry.Entry.{Entry}
 use Rattle.vr_job.specs.declared.entry.What.{What}
 use Rattle.vr_job.specs.declared.entry.What.TheVariants.{Asked}
 use Rattle.vr_job.specs.Definition.{first_definition, key_of}
+use Rattle.vr_job.specs.Positions.{unheld}
 use Rattle.vr_job.specs.State.{State}
 use Rattle.vr_job.specs.Refusals.{first_refusal}
 
@@ -48,9 +49,12 @@ MayReply state request reply = (reply ≡ answer_of state request) ⊎ ((reply �
 abbrev pub adds_record : ℕ → List ℕ → State → State
 adds_record part bytes state = record state { contents = λ q. if q == part then with_item (state.contents q) (key_of first_definition bytes) (Standing bytes) else state.contents q }
 
--- the deck's next unit of recovery begun
+-- the deck's next unit of recovery begun, and what the deck's files held dropped
 abbrev pub ends_unit : ℕ → State → State
-ends_unit deck state = record state { numbers = λ d. if d == deck then state.numbers d + 1 else state.numbers d }
+ends_unit deck state = record state {
+  numbers = λ d. if d == deck then state.numbers d + 1 else state.numbers d;
+  positions = λ d s. if d == deck then unheld (state.positions d s) else state.positions d s;
+}
 
 -- what a request that was done changes
 abbrev pub effect : ℕ → Request → State → State
@@ -58,13 +62,30 @@ effect deck (Add file place bytes) state = adds_record file.base.0 bytes state
 effect deck Commit state = ends_unit deck state
 effect deck _ state = state
 
--- a refused request changes nothing
+-- a refused request changes nothing else than what it first drops
 abbrev pub after_reply : ℕ → Request → Reply → State → State
 after_reply deck request (Done feedback place bytes) state = effect deck request state
 after_reply deck request (Refused refusal) state = state
 
+-- the slot of the file that a request is on
+abbrev pub slot_of : Request → Option ℕ
+slot_of (Get file find update integrity) = Some file.slot
+slot_of (Point file find) = Some file.slot
+slot_of (Add file place bytes) = Some file.slot
+slot_of (Update file bytes) = Some file.slot
+slot_of (Erase file) = Some file.slot
+slot_of (EndReq file) = Some file.slot
+slot_of Commit = None
+slot_of Backout = None
+
+-- what the deck's file of this slot holds for update is dropped
+abbrev pub drops_held : ℕ → Option ℕ → State → State
+drops_held deck (Some slot) state = record state { positions = λ d s. if d == deck && s == slot then unheld (state.positions d s) else state.positions d s }
+drops_held deck None state = state
+
+-- a request on a file first drops what the file holds, also where it is refused then
 abbrev pub after_what : ℕ → What → State → State
-after_what deck (Asked request reply) state = after_reply deck request reply state
+after_what deck (Asked request reply) state = after_reply deck request reply (drops_held deck (slot_of request) state)
 after_what deck _ state = state
 
 -- the state after an entry

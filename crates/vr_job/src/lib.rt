@@ -12,6 +12,9 @@ pub mod history;
 pub mod input;
 pub mod job;
 pub mod listing;
+#[cfg(test)]
+mod plain;
+pub mod positions;
 pub mod record_file;
 pub mod run;
 #[cfg(test)]
@@ -23,5 +26,6 @@ pub use command::Plan;
 pub use entry::{Entry, What};
 pub use history::History;
 pub use job::{JobEnd, run_job};
+pub use positions::{Position, Positions, Stand};
 pub use trace::Trace;
 pub use words::plan;

@@ -1,11 +1,13 @@
 ghost use Rattle.std.specs.Prelude.{◌≡◌, ◌<◌, ◌≤◌, ◌^◌, ◌-◌, [], IfOk, OnOk, OnErr, All, length};
 ghost use Rattle.vr_job.specs.State.{opening_state};
 ghost use Rattle.vr_job.specs.History.{IsLegal, last_stamp, part_of_deck};
-ghost use Rattle.vr_job.specs.Run.{IsHere, IsFrontOf, Enters, next_number};
+ghost use Rattle.vr_job.specs.Step.{slot_of};
+ghost use Rattle.vr_job.specs.Run.{IsHere, IsFrontOf, Enters, next_number, files_begun, files_ended};
 
 use crate::answer::answer;
 use crate::entry::{Entry, What};
 use crate::history::History;
+use crate::positions::Positions;
 use crate::record_file::RecordFile;
 use std::alloc::Global;
 use vr_deck::{Bound, DeckRequests};
@@ -29,9 +31,10 @@ pub fn run_deck(
     ensures front { IsFrontOf (part_of_deck 0 1 history.new.entries) requests.now }
 {
     let mut file = RecordFile::new(alloc);
+    let mut positions = Positions::new(alloc);
     let mut number = 1u32;
     for bound in requests.as_slice() {
-        number = run_one(alloc, &mut file, history, bound, number)?;
+        number = run_one(alloc, &mut file, &mut positions, history, bound, number)?;
     }
     Ok(())
 }
@@ -40,6 +43,7 @@ pub fn run_deck(
 fn run_one(
     alloc: Global,
     file: &mut RecordFile,
+    positions: &mut Positions,
     history: &mut History,
     bound: &Bound,
     number: u32,
@@ -47,12 +51,14 @@ fn run_one(
     requires here { IsHere bound.now }
     requires number { number < 2 ^ 32 - 1 }
     requires stamp { last_stamp 0 history.old.entries < 2 ^ 64 - 1 }
-    ensures ok { IfOk result (λ next. Enters bound.now number next history.old.entries history.new.entries file.old file.new) }
+    ensures ok { IfOk result (λ next. Enters bound.now number next history.old.entries history.new.entries file.old file.new positions.old.files positions.new.files) }
     ensures err { OnErr result (history.new.entries ≡ history.old.entries) }
 {
     history.reserve(1)?;
     let request = bound.request.copy(alloc)?;
+    begin(positions, &request);
     let reply = answer(alloc, file, &request);
+    end(positions, &request, &reply);
     let next = number_after(&request, &reply, number);
     history.push(Entry {
         stamp: history.last() + 1,
@@ -61,6 +67,39 @@ fn run_one(
         what: What::Asked { request, reply },
     });
     Ok(next)
+}
+
+/// A request on a file first drops what the file holds for update.
+fn begin(positions: &mut Positions, request: &Request)
+    ensures { positions.new.files ≡ files_begun (slot_of request.now) positions.old.files }
+{
+    if let Some(slot) = slot_of(request) {
+        positions.drop_held(DECK, slot);
+    }
+}
+
+/// The slot of the file that a request is on.
+fn slot_of(request: &Request) -> Option<u32>
+    ensures { result ≡ slot_of request.now }
+{
+    match request {
+        Request::Get { file, .. } => Some(file.slot),
+        Request::Point { file, .. } => Some(file.slot),
+        Request::Add { file, .. } => Some(file.slot),
+        Request::Update { file, .. } => Some(file.slot),
+        Request::Erase { file } => Some(file.slot),
+        Request::EndReq { file } => Some(file.slot),
+        Request::Commit | Request::Backout => None,
+    }
+}
+
+/// The end of a unit drops what the deck's files hold for update.
+fn end(positions: &mut Positions, request: &Request, reply: &Reply)
+    ensures { positions.new.files ≡ files_ended request.now reply.now positions.old.files }
+{
+    if let (Request::Commit, Reply::Done { .. }) = (request, reply) {
+        positions.drop_deck(DECK);
+    }
 }
 
 /// The number of a deck's unit after a reply: a COMMIT that was done ends the unit.

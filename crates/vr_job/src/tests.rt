@@ -1,14 +1,14 @@
-use crate::{plan, run_job};
+use crate::{Entry, Position, Positions, Stand, What, plan, run_job};
 use std::alloc::{AllocError, Global};
 use std::process::Abort;
 use std::test::Fail;
 use vr_outside::{MemorySink, MemorySource};
-use vr_types::{OutOfMemory, Words};
+use vr_types::{OutOfMemory, PartNo, Place, Unit, Words, place};
 
-const FIRST_JOB: &str =
+pub(crate) const FIRST_JOB: &str =
     "//S EXEC PGM=VRMDECK\n//DECK1 DD *\nFILE F VRM.FIRST\nPUT F DATA=C'00000001HELLO'\nGET F KEY=C'00000001'\nGET F KEY=C'00000002'\n";
 
-const FIRST_LISTING: &str =
+pub(crate) const FIRST_LISTING: &str =
     "STEP S DECKS\nDECK 1 LINE 4 VOL 0 PUT F RC=0 FB=0 AT=C'00000001'\nDECK 1 LINE 5 VOL 0 GET F RC=0 FB=0 AT=C'00000001' DATA=C'00000001HELLO'\nDECK 1 LINE 6 VOL 0 GET F RC=8 FB=16\nDECK 1 LINE 0 VOL 0 COMMIT RC=0 FB=0\nSTEP S CODE 0\nJOB CODE 0\n";
 
 const REFUSED_JOB: &str =
@@ -19,13 +19,13 @@ const REFUSED_LISTING: &str =
 
 /// What a job ended with, and what it printed.
 #[derive(Drop)]
-struct Printed {
-    status: u8,
-    text: Vec<u8>,
+pub(crate) struct Printed {
+    pub(crate) status: u8,
+    pub(crate) text: Vec<u8>,
 }
 
 /// The words of a text, which blanks part.
-fn words_of(alloc: Global, text: &str) -> Result<Words, OutOfMemory> {
+pub(crate) fn words_of(alloc: Global, text: &str) -> Result<Words, OutOfMemory> {
     let mut words = Words::new(alloc);
     for word in text.split(' ') {
         if !word.is_empty() {
@@ -36,7 +36,7 @@ fn words_of(alloc: Global, text: &str) -> Result<Words, OutOfMemory> {
 }
 
 /// Runs a job over ends in memory that hand on at most 10 bytes at a call, and fail at these calls.
-fn print_job(
+pub(crate) fn print_job(
     alloc: Global,
     words: &Words,
     text: &str,
@@ -53,7 +53,7 @@ fn print_job(
     })
 }
 
-fn expect_job(rt: &impl Abort, printed: Printed, status: u8, text: &str) {
+pub(crate) fn expect_job(rt: &impl Abort, printed: Printed, status: u8, text: &str) {
     assert!(rt; printed.status == status);
     assert!(rt; printed.text.as_slice() == text.as_bytes());
 }
@@ -135,5 +135,110 @@ fn a_source_or_a_sink_that_fails_is_told(rt: HostRuntime) -> Result<(), Fail> {
         16,
         "JOB REFUSE",
     );
+    Ok(())
+}
+
+/// Sets a file at the place of one byte, which it holds too.
+fn hold(
+    alloc: Global,
+    positions: &mut Positions,
+    deck: u32,
+    slot: u32,
+    byte: u8,
+) -> Result<(), OutOfMemory> {
+    let to = Position {
+        stand: Stand::At(place(alloc, &[byte])?),
+        held: Some(place(alloc, &[byte])?),
+    };
+    positions.reserve()?;
+    positions.set(deck, slot, to);
+    Ok(())
+}
+
+fn first_byte(of: &Place) -> Option<u8> {
+    of.as_slice().first().copied()
+}
+
+/// Each row is a deck, a slot, the byte that its file stands at, and the byte that it holds.
+fn expect_positions(rt: &impl Abort, positions: &Positions, rows: [(u32, u32, u8, Option<u8>); 3]) {
+    for (deck, slot, stands, holds) in rows {
+        let position = positions.get(deck, slot).expect(rt, "the file was set");
+        let at = match &position.stand {
+            Stand::At(at) => first_byte(at),
+            _ => None,
+        };
+        assert!(rt; at == Some(stands));
+        assert!(rt; position.held.as_ref().and_then(first_byte) == holds);
+    }
+}
+
+#[test]
+fn positions_are_kept_by_deck_and_slot(rt: HostRuntime) -> Result<(), Fail> {
+    let alloc = rt.alloc();
+    let mut positions = Positions::new(alloc);
+    for (deck, slot, byte) in [(1, 4, b'C'), (2, 0, b'D'), (1, 0, b'A')] {
+        hold(alloc, &mut positions, deck, slot, byte)?;
+    }
+    expect_positions(
+        &rt,
+        &positions,
+        [
+            (1, 0, b'A', Some(b'A')),
+            (1, 4, b'C', Some(b'C')),
+            (2, 0, b'D', Some(b'D')),
+        ],
+    );
+    positions.drop_held(1, 4);
+    expect_positions(
+        &rt,
+        &positions,
+        [
+            (1, 0, b'A', Some(b'A')),
+            (1, 4, b'C', None),
+            (2, 0, b'D', Some(b'D')),
+        ],
+    );
+    positions.drop_deck(1);
+    hold(alloc, &mut positions, 1, 4, b'B')?;
+    expect_positions(
+        &rt,
+        &positions,
+        [
+            (1, 0, b'A', None),
+            (1, 4, b'B', Some(b'B')),
+            (2, 0, b'D', Some(b'D')),
+        ],
+    );
+    assert!(rt; positions.get(2, 4).is_none());
+    Ok(())
+}
+
+/// Whether the entry tells that a before-image of K1 was put back, at stamp 5 for the second unit of deck 1.
+fn puts_back_k1(entry: &Entry) -> bool {
+    match &entry.what {
+        What::Undone { part, place } => {
+            entry.stamp == 5
+                && entry.unit == (Unit { deck: 1, number: 2 })
+                && entry.line == 7
+                && *part == PartNo(1)
+                && place.as_slice() == b"K1".as_slice()
+        }
+        _ => false,
+    }
+}
+
+#[test]
+fn an_entry_is_copied_where_there_is_memory(rt: HostRuntime) -> Result<(), Fail> {
+    let alloc = rt.alloc();
+    let entry = Entry {
+        stamp: 5,
+        unit: Unit { deck: 1, number: 2 },
+        line: 7,
+        what: What::Undone {
+            part: PartNo(1),
+            place: place(alloc, b"K1")?,
+        },
+    };
+    assert!(rt; puts_back_k1(&entry.copy(alloc)?));
     Ok(())
 }

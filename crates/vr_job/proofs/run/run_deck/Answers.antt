@@ -8,7 +8,7 @@ use Rattle.vr_job.proofs.Runs.{Running-start, Running-step}
 use Rattle.vr_job.proofs.run.run_deck.Goals as goal
 
 pub loop-bound-init : goal.loop-bound-init
-loop-bound-init c = Running-start _ _ _ c.requires.fresh c.new-file.ensures
+loop-bound-init c = Running-start _ _ _ c.requires.fresh c.new-file.ensures _ c.new-positions.ensures
 
 pub loop-bound-preserved : goal.loop-bound-preserved
 loop-bound-preserved c =
@@ -20,7 +20,7 @@ loop-bound-preserved c =
     let inside : i < length requests = subst L c.as_slice-bound-items.ensures c.loop-bound-test.true in
     let at : bound ≡ get_or requests i bound = subst G c.as_slice-bound-items.ensures c.bound-item.is in
     let here : IsHere bound = subst IsHere (sym at) (c.requires.here i bound inside) in
-    Running-step requests i bound _ _ _ _ _ _ inside at here c.loop-bound.invariant c.in_ok-number.ensures.ok
+    Running-step requests i bound _ _ _ _ _ _ _ _ inside at here c.loop-bound.invariant c.in_ok-number.ensures.ok
 
 pub returns-in_err-number-clause-front : goal.returns-in_err-number-clause-front
 returns-in_err-number-clause-front c =

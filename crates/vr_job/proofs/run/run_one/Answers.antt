@@ -3,7 +3,8 @@ use Rattle.vr_types.specs.declared.request.Request.{Request}
 use Rattle.vr_job.specs.declared.entry.Entry.{Entry}
 use Rattle.vr_job.specs.declared.entry.What.TheVariants.{Asked}
 use Rattle.vr_job.specs.History.{last_stamp}
-use Rattle.vr_job.specs.Run.{next_number}
+use Rattle.vr_job.specs.Step.{slot_of}
+use Rattle.vr_job.specs.Run.{next_number, files_begun, files_ended}
 use Rattle.vr_job.specs.Serve.{Serves}
 use Rattle.vr_job.proofs.run.run_one.Goals as goal
 
@@ -14,6 +15,7 @@ returns-clause-ok c =
     let old : c.reserve.new.self.entries ≡ c.args.history.now.entries = c.reserve.ensures.entries in
     let stamp : c.last.result ≡ last_stamp 0 c.args.history.now.entries = c.last.ensures ∙ ap (last_stamp 0) old in
     let added : List Entry → ℕ → Request → List Entry = λ entries last request. entries ++ record { stamp = last + 1; unit = record { deck = 1; number = c.args.number }; line = c.args.bound.now.line; what = Asked request reply } ∷ [] in
+    let F : Request → Type 0 = λ request. c.end.new.positions.files ≡ files_ended request reply (files_begun (slot_of request) c.args.positions.now.files) in
     let S : Request → Type 0 = λ request. Serves request reply c.args.file.now c.answer-reply.new.file in
     record {
       reply = reply;
@@ -21,4 +23,5 @@ returns-clause-ok c =
           ∙ ap (λ last. added c.args.history.now.entries last c.in_ok-request.request) stamp ∙ ap (λ request. added c.args.history.now.entries (last_stamp 0 c.args.history.now.entries) request) same;
       served = subst S same c.answer-reply.ensures;
       counted = c.number_after-next.ensures ∙ ap (λ request. next_number request reply c.args.number) same;
+      positioned = subst F same (c.end.ensures ∙ ap (files_ended c.in_ok-request.request reply) c.begin.ensures);
     }
