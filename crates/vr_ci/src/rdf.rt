@@ -1,9 +1,12 @@
 //! Record definition fields: reading one, or two that are paired, and what they say.
 
-ghost use Rattle.std.specs.Prelude.{◌≡◌, ◌≢◌, ◌+◌, ◌≤◌, ◌↔◌, ◌∷◌, ◌++◌, length, IsTrue, IfSome, IfNone};
+ghost use Rattle.std.specs.Prelude.{◌≡◌, ◌≢◌, ◌+◌, ◌^◌, ◌<◌, ◌≤◌, ◌↔◌, ◌∷◌, ◌++◌, length, IsTrue, IfSome, IfNone};
+ghost use Rattle.vr_ci.specs.Compare.{Compares};
 ghost use Rattle.vr_ci.specs.Rdf.{marks, span, two_bytes, rdf_bytes, IsRdf, MayFollow, run_length, record_length};
+ghost use Rattle.vr_ci.specs.Tally.{with_length};
 ghost use Rattle.vr_ci.specs.Fault.{IsUnit, is_live};
 
+use crate::compare::number_apart;
 use crate::form::{Form, Piece};
 
 /// What one RDF says, or two that are paired.
@@ -31,7 +34,8 @@ pub enum Rdf {
 impl Rdf {
     /// How many records it is of.
     pub fn count(self) -> usize
-        ensures { result ≡ length (marks self) }
+        ensures count { result ≡ length (marks self) }
+        ensures small { result < 65536 }
     {
         match self {
             Rdf::Single { .. } | Rdf::Segment { .. } => 1,
@@ -67,6 +71,18 @@ impl Rdf {
         match self {
             Rdf::Single { live, .. } | Rdf::Segment { live, .. } => live,
             Rdf::Run { .. } => true,
+        }
+    }
+
+    /// The first byte in which it differs from the same RDF or pair with this length, where its leftmost byte is
+    /// at `at`.
+    pub fn length_difference(self, at: usize, wanted: usize) -> Option<usize>
+        requires { at < 2 ^ 32 }
+        ensures { Compares at (rdf_bytes self) (rdf_bytes (with_length self wanted)) result }
+    {
+        match self {
+            Rdf::Single { .. } => number_apart(at + 1, self.length(), wanted),
+            Rdf::Run { .. } | Rdf::Segment { .. } => number_apart(at + 4, self.length(), wanted),
         }
     }
 
