@@ -1,5 +1,5 @@
 -- Comparing a block part by part.
-use Rattle.std.proofs.Common.{◌≡◌, ℕ, ◌+◌, ◌-◌, ◌/◌, ◌%◌, ◌<◌, ◌≤◌, inl, inr, Bool, true, false, List, [], ◌∷◌, ◌++◌, length, take, drop, Option, Some, None, refl, sym, ap, ◌∙◌, subst, arith, append_assoc, length-append, length-take, length-drop}
+use Rattle.std.proofs.Common.{◌≡◌, ℕ, ◌+◌, ◌-◌, ◌*◌, ◌/◌, ◌%◌, ◌<◌, ◌≤◌, inl, inr, Bool, true, false, List, [], ◌∷◌, ◌++◌, length, take, drop, Option, Some, None, refl, sym, ap, ◌∙◌, subst, arith, append_assoc, length-append, length-take, length-drop}
 use Rattle.std.specs.Prelude.{if◌then◌else◌, slice_index, min, nat_le}
 use Rattle.std.specs.List.{flat_map}
 use Rattle.std.proofs.lemmas.Bool.{cases_lt, le-leb, lt-leb}
@@ -148,7 +148,48 @@ data_free rs block f r h e c =
     subst (λ (x : List ℕ). Compares 0 x (padded f (masked rs block)) r) (sym split)
     (subst (λ (y : List ℕ). Compares 0 (take m block ++ take (f - m) (drop m block)) y r) (sym (data_parts rs block f h)) one)
 
--- ---- the CIDF
+-- ---- RDFs, and the CIDF
+
+three : (xs : List ℕ) → 3 ≤ length xs → take 3 xs ≡ byte xs 0 ∷ byte xs 1 ∷ byte xs 2 ∷ []
+three [] l = absurd (omega arith)
+three (w ∷ []) l = absurd (omega arith)
+three (w ∷ x ∷ []) l = absurd (omega arith)
+three (w ∷ x ∷ y ∷ xs) l = refl
+
+-- an RDF, or half a pair, before an end: flags and a number
+pub half_at : (block : List ℕ) (at end n : ℕ) → at + 3 ≡ end → end ≤ length block → ((i : ℕ) → byte block i < 256) → n ≡ byte block (end - 2) * 256 + byte block (end - 1)
+    → take (end - at) (drop at block) ≡ byte block at ∷ two_bytes n
+half_at block at end n sum within small is =
+    let width : end - at ≡ 3 = omega (arith, sum) in
+    let z : at + 0 ≡ at = omega arith in
+    let one : at + 1 ≡ end - 2 = omega (arith, sum) in
+    let two : at + 2 ≡ end - 1 = omega (arith, sum) in
+    let b0 : byte (drop at block) 0 ≡ byte block at = sym (at_drop block at 0) ∙ ap (byte block) z in
+    let b1 : byte (drop at block) 1 ≡ n / 256 = sym (at_drop block at 1) ∙ ap (byte block) one ∙ omega (arith, is, small (end - 1)) in
+    let b2 : byte (drop at block) 2 ≡ n % 256 = sym (at_drop block at 2) ∙ ap (byte block) two ∙ omega (arith, is, small (end - 1)) in
+    ap (λ (k : ℕ). take k (drop at block)) width ∙ three (drop at block) (omega (arith, length-drop at block, sum, within))
+    ∙ ap (λ (x : ℕ). x ∷ byte (drop at block) 1 ∷ byte (drop at block) 2 ∷ []) b0
+    ∙ ap (λ (x : ℕ). byte block at ∷ x ∷ byte (drop at block) 2 ∷ []) b1 ∙ ap (λ (x : ℕ). byte block at ∷ n / 256 ∷ x ∷ []) b2
+
+pub pair_at : (block : List ℕ) (at end m n : ℕ) → at + 6 ≡ end → end ≤ length block → ((i : ℕ) → byte block i < 256) → m ≡ byte block (end - 5) * 256 + byte block (end - 4)
+    → n ≡ byte block (end - 2) * 256 + byte block (end - 1) → take (end - at) (drop at block) ≡ byte block at ∷ two_bytes m ++ byte block (end - 3) ∷ two_bytes n
+pair_at block at end m n sum within small left right =
+    let middle : at + 3 ≡ end - 3 = omega (arith, sum) in
+    let five : end - 3 - 2 ≡ end - 5 = omega arith in
+    let four : end - 3 - 1 ≡ end - 4 = omega arith in
+    let width : end - at ≡ 3 + 3 = omega (arith, sum) in
+    let half : end - 3 - at ≡ 3 = omega (arith, sum) in
+    let rest : end - (end - 3) ≡ 3 = omega (arith, sum) in
+    let back : end - 3 + 3 ≡ end = omega (arith, sum) in
+    let one : take 3 (drop at block) ≡ byte block at ∷ two_bytes m =
+    ap (λ (k : ℕ). take k (drop at block)) (sym half)
+    ∙ half_at block at (end - 3) m middle (omega (arith, within)) small (left ∙ ap (λ (k : ℕ). byte block k * 256 + byte block (end - 4)) (sym five) ∙ ap (λ (k : ℕ). byte block (end - 3 - 2) * 256 + byte block k) (sym four)) in
+    let two : take 3 (drop (end - 3) block) ≡ byte block (end - 3) ∷ two_bytes n =
+    ap (λ (k : ℕ). take k (drop (end - 3) block)) (sym rest) ∙ half_at block (end - 3) end n back within small right in
+    ap (λ (k : ℕ). take k (drop at block)) width ∙ take-add 3 3 (drop at block)
+    ∙ ap (λ (x : List ℕ). x ++ take 3 (drop 3 (drop at block))) one
+    ∙ ap (λ (x : List ℕ). byte block at ∷ two_bytes m ++ take 3 x) (drop-drop 3 at block ∙ ap (λ (k : ℕ). drop k block) middle)
+    ∙ ap (λ (x : List ℕ). byte block at ∷ two_bytes m ++ x) two
 
 four : (xs : List ℕ) → length xs ≡ 4 → xs ≡ byte xs 0 ∷ byte xs 1 ∷ byte xs 2 ∷ byte xs 3 ∷ []
 four [] l = absurd cc

@@ -1,5 +1,6 @@
 -- The reader's walk over the RDFs.
-use Rattle.std.proofs.Common.{◌≡◌, ◌≢◌, ℕ, ◌+◌, ◌-◌, ◌*◌, ◌^◌, ◌<◌, ◌≤◌, inl, inr, List, [], ◌∷◌, ◌++◌, length, take, drop, Option, None, sym, ap, ◌∙◌, subst, arith, length-take}
+use Rattle.std.proofs.Common.{◌≡◌, ◌≢◌, ℕ, ◌+◌, ◌-◌, ◌*◌, ◌^◌, ◌<◌, ◌≤◌, inl, inr, List, [], ◌∷◌, ◌++◌, length, take, drop, Option, Some, None, refl, sym, ap, ◌∙◌, subst, arith, length-take}
+use Rattle.std.specs.Prelude.{IfSome, IfNone}
 use Rattle.std.proofs.lemmas.List.{drop-take, drop_all}
 use Rattle.vr_ci.specs.declared.form.Form.{Form}
 use Rattle.vr_ci.specs.declared.rdf.Rdf.{Rdf}
@@ -8,7 +9,7 @@ use Rattle.vr_ci.specs.Size.{IsBlockSize}
 use Rattle.vr_ci.specs.Rdf.{rdf_bytes, control, IsRdf, MayFollow}
 use Rattle.vr_ci.specs.Fault.{cidf_at, free_end, StandFrom, IsUnit, IsBroken, IsWhole}
 use Rattle.vr_ci.specs.Tally.{IsTally}
-use Rattle.vr_ci.proofs.RdfLemmas.{control-push}
+use Rattle.vr_ci.proofs.RdfLemmas.{control-push, rdf_bytes-inj}
 use Rattle.vr_ci.proofs.ChainLemmas.{size_bounds, chain-push, chain-last}
 use Rattle.vr_ci.proofs.CompareLemmas.{part_is}
 use Rattle.vr_ci.proofs.TallyLemmas.{place_is}
@@ -90,3 +91,16 @@ walk_ends form block end tally size w less =
 -- the bounds of what was compared
 pub walk_bounds : (form : Form) (block : List ℕ) (end : ℕ) (tally : Tally) → Walked form block end tally → (tally.compared.span ≤ 2 ^ 47) × (tally.compared.from ≤ cidf_at block)
 walk_bounds form block end tally w = (omega (arith, w.span), omega (arith, w.tallied.compared.from))
+
+-- what was read stands there
+pub some_read : (bytes : List ℕ) (read : Option Rdf) (r : Rdf) → IfSome read (λ r. IsRdf r × (bytes ≡ rdf_bytes r)) → read ≡ Some r → IsRdf r × (bytes ≡ rdf_bytes r)
+some_read bytes read r found is = subst (λ (o : Option Rdf). IfSome o (λ r. IsRdf r × (bytes ≡ rdf_bytes r))) is found
+
+-- nothing that may follow stands there, since what was read is all that does
+pub none_follows : (form : Form) (before : Option Rdf) (bytes : List ℕ) (read : Option Rdf) → IfSome read (λ r. IsRdf r × (bytes ≡ rdf_bytes r))
+    → IfNone read ((r : Rdf) → IsRdf r → bytes ≢ rdf_bytes r) → ((r : Rdf) → read ≡ Some r → MayFollow form before r → ⊥)
+    → (r : Rdf) → IsRdf r → MayFollow form before r → bytes ≢ rdf_bytes r
+none_follows form before bytes None found none not r valid follows e = none r valid e
+none_follows form before bytes (Some s) found none not r valid follows e =
+    let same : s ≡ r = (rdf_bytes-inj s r [] [] (sym found.1 ∙ e)).0 in
+    not s refl (subst (λ (x : Rdf). MayFollow form before x) (sym same) follows)

@@ -40,7 +40,7 @@ pub fn wrong_byte(
     first_nonzero(bytes, from, to)
 }
 
-/// The first of the two bytes from `at` on, which are of one number, that differs from the other's, high byte first.
+/// The first of the two bytes from `at` on in which two numbers differ, high byte first.
 pub fn number_apart(at: usize, found: usize, wanted: usize) -> Option<usize>
     requires { at + 1 < 2 ^ 64 }
     ensures { Compares at (two_bytes found) (two_bytes wanted) result }

@@ -68,7 +68,7 @@ impl Compared {
         }
     }
 
-    /// The first byte before `limit` that differs from the records' and the zeros behind them.
+    /// The first byte before `limit` that differs from the records' bytes and the zeros behind them.
     pub fn data_difference(self, bytes: &[u8], limit: usize) -> Option<usize>
         requires { limit ≤ length bytes.now }
         ensures { (rdfs : List Rdf) → IsCompared bytes.now limit rdfs self

@@ -1,8 +1,8 @@
 //! Reading a block: the value that it is of, or its first fault.
 
-ghost use Rattle.std.specs.Prelude.{◌≡◌, ◌≢◌, ◌+◌, ◌-◌, ◌*◌, ◌/◌, ◌^◌, ◌<◌, ◌≤◌, ℕ, List, length, IfOk, IfErr, IfSome, IfNone, MatchOption};
+ghost use Rattle.std.specs.Prelude.{◌≡◌, ◌≢◌, ◌+◌, ◌-◌, ◌*◌, ◌/◌, ◌^◌, ◌<◌, ◌≤◌, ℕ, List, length, Some, IfOk, IfErr, IfSome, IfNone, MatchOption};
 ghost use Rattle.vr_ci.specs.Size.{IsBlockSize};
-ghost use Rattle.vr_ci.specs.Rdf.{rdf_bytes, IsRdf, MayFollow, shape_by};
+ghost use Rattle.vr_ci.specs.Rdf.{MayFollow, shape_by};
 ghost use Rattle.vr_ci.specs.Fault.{displacement, free_length, free_end, cidf_at, is_busy, HasZeroCidf, IsBroken, IsWhole, IsFirstFault, HasRightLengths, HasWrongLengths};
 ghost use Rattle.vr_ci.specs.Layout.{IsLayout};
 ghost use Rattle.vr_ci.specs.Tally.{IsTally, IsFound};
@@ -12,7 +12,7 @@ use crate::compare::first_nonzero;
 use crate::fault::CiFault;
 use crate::form::{Form, Shape, is_block_size};
 use crate::layout::Layout;
-use crate::rdf::{Rdf, rdf_of, unit_before};
+use crate::rdf::{Rdf, unit_before};
 use crate::tally::Tally;
 
 /// What a block was found to hold, and where its RDFs begin.
@@ -95,8 +95,8 @@ fn chain_of(form: Form, layout: Layout, bytes: &[u8]) -> Result<Tally, CiFault>
     let mut tally = Tally::new(bytes.len());
     let mut end = bytes.len() - 4;
     'rdfs: while layout.low + 3 <= end {
-        let at = unit_before(bytes, layout.low, end);
-        let Some(rdf) = rdf_behind(form, tally.last, &bytes[at..end]) else {
+        let (at, read) = unit_before(bytes, layout.low, end);
+        let Some(rdf) = rdf_behind(form, tally.last, read) else {
             return Err(CiFault::Chain { at });
         };
         tally = tally.with(form, layout, bytes, at, rdf);
@@ -105,12 +105,12 @@ fn chain_of(form: Form, layout: Layout, bytes: &[u8]) -> Result<Tally, CiFault>
     Ok(tally)
 }
 
-/// What these bytes say, if some block of the form has it to the left of `before`.
-fn rdf_behind(form: Form, before: Option<Rdf>, bytes: &[u8]) -> Option<Rdf>
-    ensures found { IfSome result (λ r. IsRdf r × MayFollow form before r × (bytes.now ≡ rdf_bytes r)) }
-    ensures none { IfNone result ((r : Rdf) → IsRdf r → MayFollow form before r → bytes.now ≢ rdf_bytes r) }
+/// What was read, if some block of the form has it to the left of `before`.
+fn rdf_behind(form: Form, before: Option<Rdf>, read: Option<Rdf>) -> Option<Rdf>
+    ensures found { IfSome result (λ r. (read ≡ Some r) × MayFollow form before r) }
+    ensures none { IfNone result ((r : Rdf) → read ≡ Some r → MayFollow form before r → ⊥) }
 {
-    let rdf = rdf_of(bytes)?;
+    let rdf = read?;
     if rdf.may_follow(form, before) {
         Some(rdf)
     } else {
