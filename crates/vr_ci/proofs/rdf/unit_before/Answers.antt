@@ -1,7 +1,7 @@
-use Rattle.std.proofs.Common.{ℕ, ◌≡◌, ◌≢◌, ◌-◌, List, take, drop, ◌∷◌, ◌++◌, slice_index, sym, subst, arith}
+use Rattle.std.proofs.Common.{ℕ, ◌≡◌, ◌≢◌, ◌-◌, List, sym, subst, arith}
 use Rattle.std.specs.Prelude.{IfSome, IfNone}
 use Rattle.vr_ci.specs.declared.rdf.Rdf.{Rdf}
-use Rattle.vr_ci.specs.Rdf.{two_bytes, rdf_bytes, IsRdf}
+use Rattle.vr_ci.specs.Rdf.{rdf_bytes, IsRdf}
 use Rattle.vr_ci.proofs.CompareLemmas.{half_at, pair_at}
 use Rattle.vr_ci.proofs.rdf.unit_before.Goals as goal
 
