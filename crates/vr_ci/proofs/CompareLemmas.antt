@@ -1,21 +1,29 @@
 -- Comparing a block part by part.
-use Rattle.std.proofs.Common.{◌≡◌, ℕ, ◌+◌, ◌-◌, ◌<◌, ◌≤◌, ◌⊎◌, inl, inr, Bool, true, false, List, [], ◌∷◌, ◌++◌, length, take, drop, Option, Some, None, sym, ap, ◌∙◌, subst, arith, append_assoc, length-append, length-take, length-drop}
-use Rattle.std.specs.Prelude.{if◌then◌else◌, slice_index, min}
+use Rattle.std.proofs.Common.{◌≡◌, ℕ, ◌+◌, ◌-◌, ◌*◌, ◌/◌, ◌%◌, ◌<◌, ◌≤◌, inl, inr, Bool, true, false, List, [], ◌∷◌, ◌++◌, length, take, drop, Option, Some, None, refl, sym, ap, ◌∙◌, subst, arith, append_assoc, length-append, length-take, length-drop}
+use Rattle.std.specs.Prelude.{if◌then◌else◌, slice_index, min, nat_le}
 use Rattle.std.specs.List.{flat_map}
-use Rattle.std.proofs.lemmas.Bool.{cases_lt}
-use Rattle.std.proofs.lemmas.List.{take_at, drop_at, take-append-drop, take-append-le, get_or_append_left, get_or-append-add, take_all}
+use Rattle.std.proofs.lemmas.Bool.{cases_lt, le-leb, lt-leb}
+use Rattle.std.proofs.lemmas.List.{take_at, drop_at, drop-drop, drop-take, take-take, take-append-drop, take-append-le, get_or_append_left, get_or-append-add, take_all}
 use Rattle.vr_ci.specs.declared.rdf.Rdf.{Rdf}
 use Rattle.vr_ci.specs.Rdf.{Mark, marks, spans, two_bytes}
 use Rattle.vr_ci.specs.Interval.{padded, cidf}
 use Rattle.vr_ci.specs.Compare.{DifferFirst, Compares}
-use Rattle.vr_ci.specs.Fault.{masked}
+use Rattle.vr_ci.specs.Fault.{masked, cidf_at, displacement, free_field, free_length, is_busy}
 use Rattle.vr_ci.proofs.ItemLemmas.{total, total-all, take-add}
-use Rattle.vr_ci.proofs.LayoutLemmas.{zeros, length-zeros, padded_fits}
+use Rattle.vr_ci.proofs.LayoutLemmas.{zeros, length-zeros, padded_fits, byte, at_drop}
 use Rattle.vr_ci.proofs.MaskLemmas.{masked_marks, masked_is, length-masked_marks}
 
 pub take-past : (n k : ℕ) (xs ys : List ℕ) → length xs ≡ n → take (n + k) (xs ++ ys) ≡ xs ++ take k ys
 take-past n k xs ys e =
     take-add n k (xs ++ ys) ∙ ap (λ (x : List ℕ). x ++ take k (drop n (xs ++ ys))) (take_at xs ys n e) ∙ ap (λ (x : List ℕ). xs ++ take k x) (drop_at xs ys n e)
+
+-- two neighbouring parts of a block
+pub part_is : (block : List ℕ) (at end top : ℕ) → at ≤ end → end ≤ top → drop at (take top block) ≡ take (end - at) (drop at block) ++ drop end (take top block)
+part_is block at end top l h =
+    let sum : at + (end - at) ≡ end = omega arith in
+    sym (take-append-drop (end - at) (drop at (take top block)))
+    ∙ ap (λ (x : List ℕ). x ++ drop (end - at) (drop at (take top block))) (sym (drop-take at (end - at) (take top block)) ∙ ap (λ (k : ℕ). drop at (take k (take top block))) sum ∙ ap (λ (x : List ℕ). drop at x) (take-take end top block h) ∙ ap (λ (k : ℕ). drop at (take k block)) (sym sum) ∙ drop-take at (end - at) block)
+    ∙ ap (λ (x : List ℕ). take (end - at) (drop at block) ++ x) (drop-drop (end - at) at (take top block) ∙ ap (λ (k : ℕ). drop k (take top block)) sum)
 
 -- they differ in their first parts
 pub differ-left : (x1 x2 y1 y2 : List ℕ) (j : ℕ) → length x1 ≡ length y1 → DifferFirst x1 y1 j → DifferFirst (x1 ++ x2) (y1 ++ y2) j
@@ -140,24 +148,79 @@ data_free rs block f r h e c =
     subst (λ (x : List ℕ). Compares 0 x (padded f (masked rs block)) r) (sym split)
     (subst (λ (y : List ℕ). Compares 0 (take m block ++ take (f - m) (drop m block)) y r) (sym (data_parts rs block f h)) one)
 
--- the CIDF's two numbers
-pub last_two : (block : List ℕ) (d f : ℕ) (busy : Bool) (field : ℕ) (r : Option ℕ) → 4 ≤ length block
-    → take 2 (drop (length block - 4) block) ≡ two_bytes d
-    → ((busy ≡ true) × (field ≡ f + 32768)) ⊎ ((busy ≡ false) × (field ≡ f))
-    → Compares (length block - 4 + 2) (take 2 (drop (length block - 4 + 2) block)) (two_bytes field) r
-    → Compares (length block - 4) (drop (length block - 4) block) (cidf d f busy) r
-last_two block d f busy field r h e g c =
-    let at = length block - 4 in
-    let is : field ≡ f + (if busy then 32768 else 0) =
-    elim g [
-      | inl t ↦ t.1 ∙ ap (λ (b : Bool). f + (if b then 32768 else 0)) (sym t.0)
-      | inr t ↦ t.1 ∙ (let z : f ≡ f + 0 = omega arith in z) ∙ ap (λ (b : Bool). f + (if b then 32768 else 0)) (sym t.0)
-    ] in
-    let back : take 2 (drop (at + 2) block) ≡ drop 2 (drop at block) =
-    take_all 2 (drop (at + 2) block) (omega (arith, length-drop (at + 2) block, h)) ∙ sym (Rattle.std.proofs.lemmas.List.drop-drop 2 at block) in
-    let c' : Compares (at + 2) (drop 2 (drop at block)) (two_bytes (f + (if busy then 32768 else 0))) r =
-    subst (λ (k : ℕ). Compares (at + 2) (drop 2 (drop at block)) (two_bytes k) r) is
-    (subst (λ (x : List ℕ). Compares (at + 2) x (two_bytes field) r) back c) in
-    let one = second_part at 2 (take 2 (drop at block)) (drop 2 (drop at block)) (two_bytes d) (two_bytes (f + (if busy then 32768 else 0))) r
-    (omega (arith, length-take 2 (drop at block), length-drop at block, h)) e c' in
-    subst (λ (x : List ℕ). Compares at x (cidf d f busy) r) (take-append-drop 2 (drop at block)) one
+-- ---- RDFs, and the CIDF
+
+three : (xs : List ℕ) → 3 ≤ length xs → take 3 xs ≡ byte xs 0 ∷ byte xs 1 ∷ byte xs 2 ∷ []
+three [] l = absurd (omega arith)
+three (w ∷ []) l = absurd (omega arith)
+three (w ∷ x ∷ []) l = absurd (omega arith)
+three (w ∷ x ∷ y ∷ xs) l = refl
+
+-- an RDF, or half a pair, before an end: flags and a number
+pub half_at : (block : List ℕ) (at end n : ℕ) → at + 3 ≡ end → end ≤ length block → ((i : ℕ) → byte block i < 256) → n ≡ byte block (end - 2) * 256 + byte block (end - 1)
+    → take (end - at) (drop at block) ≡ byte block at ∷ two_bytes n
+half_at block at end n sum within small is =
+    let width : end - at ≡ 3 = omega (arith, sum) in
+    let z : at + 0 ≡ at = omega arith in
+    let one : at + 1 ≡ end - 2 = omega (arith, sum) in
+    let two : at + 2 ≡ end - 1 = omega (arith, sum) in
+    let b0 : byte (drop at block) 0 ≡ byte block at = sym (at_drop block at 0) ∙ ap (byte block) z in
+    let b1 : byte (drop at block) 1 ≡ n / 256 = sym (at_drop block at 1) ∙ ap (byte block) one ∙ omega (arith, is, small (end - 1)) in
+    let b2 : byte (drop at block) 2 ≡ n % 256 = sym (at_drop block at 2) ∙ ap (byte block) two ∙ omega (arith, is, small (end - 1)) in
+    ap (λ (k : ℕ). take k (drop at block)) width ∙ three (drop at block) (omega (arith, length-drop at block, sum, within))
+    ∙ ap (λ (x : ℕ). x ∷ byte (drop at block) 1 ∷ byte (drop at block) 2 ∷ []) b0
+    ∙ ap (λ (x : ℕ). byte block at ∷ x ∷ byte (drop at block) 2 ∷ []) b1 ∙ ap (λ (x : ℕ). byte block at ∷ n / 256 ∷ x ∷ []) b2
+
+pub pair_at : (block : List ℕ) (at end m n : ℕ) → at + 6 ≡ end → end ≤ length block → ((i : ℕ) → byte block i < 256) → m ≡ byte block (end - 5) * 256 + byte block (end - 4)
+    → n ≡ byte block (end - 2) * 256 + byte block (end - 1) → take (end - at) (drop at block) ≡ byte block at ∷ two_bytes m ++ byte block (end - 3) ∷ two_bytes n
+pair_at block at end m n sum within small left right =
+    let middle : at + 3 ≡ end - 3 = omega (arith, sum) in
+    let five : end - 3 - 2 ≡ end - 5 = omega arith in
+    let four : end - 3 - 1 ≡ end - 4 = omega arith in
+    let width : end - at ≡ 3 + 3 = omega (arith, sum) in
+    let half : end - 3 - at ≡ 3 = omega (arith, sum) in
+    let rest : end - (end - 3) ≡ 3 = omega (arith, sum) in
+    let back : end - 3 + 3 ≡ end = omega (arith, sum) in
+    let one : take 3 (drop at block) ≡ byte block at ∷ two_bytes m =
+    ap (λ (k : ℕ). take k (drop at block)) (sym half)
+    ∙ half_at block at (end - 3) m middle (omega (arith, within)) small (left ∙ ap (λ (k : ℕ). byte block k * 256 + byte block (end - 4)) (sym five) ∙ ap (λ (k : ℕ). byte block (end - 3 - 2) * 256 + byte block k) (sym four)) in
+    let two : take 3 (drop (end - 3) block) ≡ byte block (end - 3) ∷ two_bytes n =
+    ap (λ (k : ℕ). take k (drop (end - 3) block)) (sym rest) ∙ half_at block (end - 3) end n back within small right in
+    ap (λ (k : ℕ). take k (drop at block)) width ∙ take-add 3 3 (drop at block)
+    ∙ ap (λ (x : List ℕ). x ++ take 3 (drop 3 (drop at block))) one
+    ∙ ap (λ (x : List ℕ). byte block at ∷ two_bytes m ++ take 3 x) (drop-drop 3 at block ∙ ap (λ (k : ℕ). drop k block) middle)
+    ∙ ap (λ (x : List ℕ). byte block at ∷ two_bytes m ++ x) two
+
+four : (xs : List ℕ) → length xs ≡ 4 → xs ≡ byte xs 0 ∷ byte xs 1 ∷ byte xs 2 ∷ byte xs 3 ∷ []
+four [] l = absurd cc
+four (w ∷ []) l = absurd cc
+four (w ∷ x ∷ []) l = absurd cc
+four (w ∷ x ∷ y ∷ []) l = absurd cc
+four (w ∷ x ∷ y ∷ z ∷ []) l = refl
+four (w ∷ x ∷ y ∷ z ∷ v ∷ vs) l = absurd (omega (arith, l))
+
+-- a field of two bytes, by its busy flag and what is left of it
+field_is : (f : ℕ) → f < 65536 → f % 32768 + (if nat_le 32768 f then 32768 else 0) ≡ f
+field_is f h =
+    elim (cases_lt f 32768) [
+      | inl low ↦ ap (λ (b : Bool). f % 32768 + (if b then 32768 else 0)) (lt-leb 32768 f low) ∙ omega (arith, low)
+      | inr high ↦ ap (λ (b : Bool). f % 32768 + (if b then 32768 else 0)) (le-leb 32768 f high) ∙ omega (arith, high, h)
+    ]
+
+-- the last four bytes of a block are the CIDF that they say
+pub cidf_is : (block : List ℕ) → 4 ≤ length block → ((i : ℕ) → byte block i < 256) → drop (cidf_at block) block ≡ cidf (displacement block) (free_length block) (is_busy block)
+cidf_is block least small =
+    let at : ℕ = length block - 4 in
+    let z : at + 0 ≡ at = omega arith in
+    let t : at + 3 ≡ at + 2 + 1 = omega arith in
+    let b0 : byte (drop at block) 0 ≡ displacement block / 256 = sym (at_drop block at 0) ∙ ap (byte block) z ∙ omega (arith, small (at + 1)) in
+    let b1 : byte (drop at block) 1 ≡ displacement block % 256 = sym (at_drop block at 1) ∙ omega (arith, small (at + 1)) in
+    let b2 : byte (drop at block) 2 ≡ free_field block / 256 = sym (at_drop block at 2) ∙ omega (arith, small (at + 2 + 1)) in
+    let b3 : byte (drop at block) 3 ≡ free_field block % 256 = sym (at_drop block at 3) ∙ ap (byte block) t ∙ omega (arith, small (at + 2 + 1)) in
+    let f = field_is (free_field block) (omega (arith, small (at + 2), small (at + 2 + 1))) in
+    four (drop at block) (omega (arith, length-drop at block, least))
+    ∙ ap (λ (x : ℕ). x ∷ byte (drop at block) 1 ∷ byte (drop at block) 2 ∷ byte (drop at block) 3 ∷ []) b0
+    ∙ ap (λ (x : ℕ). displacement block / 256 ∷ x ∷ byte (drop at block) 2 ∷ byte (drop at block) 3 ∷ []) b1
+    ∙ ap (λ (x : ℕ). two_bytes (displacement block) ++ x ∷ byte (drop at block) 3 ∷ []) b2
+    ∙ ap (λ (x : ℕ). two_bytes (displacement block) ++ free_field block / 256 ∷ x ∷ []) b3
+    ∙ ap (λ (x : ℕ). two_bytes (displacement block) ++ two_bytes x) (sym f)

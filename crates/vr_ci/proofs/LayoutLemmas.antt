@@ -35,9 +35,6 @@ padded_fits n bytes h =
         let e : suc (length bs) + k ≡ suc (length bs + k) = omega arith in
         ap (λ (j : ℕ). take j (b ∷ (bs ++ zeros m))) e ∙ ap (λ (t : List ℕ). b ∷ t) (take_past bs k m h)
 
-pub length-cidf : (d f : ℕ) (busy : Bool) → length (cidf d f busy) ≡ 4
-length-cidf d f busy = refl
-
 abbrev pub byte : List ℕ → ℕ → ℕ
 byte block i = get_or block i 0
 

@@ -132,9 +132,6 @@ next_items block low old new rest offset some same e =
     ∙ ap (λ (x : List ℕ). (let i : Item = record { bytes = take new.length (drop offset block); live = new.live } in i) ∷ items_at (replicate (new.left - 1) m ++ behind) x) further
     ∙ ap (λ (b : Batch). (let i : Item = record { bytes = take new.length (drop offset block); live = new.live } in i) ∷ items_left block low b (offset + new.length)) (sym e)
 
-pub nothing_left : (block : List ℕ) (low : ℕ) (old : Batch) (offset : ℕ) → marks_left block low old ≡ [] → items_left block low old offset ≡ []
-nothing_left block low old offset e = ap (λ (x : List Mark). items_at x (drop offset block)) e
-
 -- what is left stays in the block
 pub lend_in : (block : List ℕ) (low : ℕ) (old new : Batch) (offset : ℕ) → AreIn block low old offset → 0 < new.left → AreLent block low new.end
     → new.left * new.length + spans (rdfs_between low new.end block) ≡ old.left * old.length + spans (rdfs_between low old.end block)

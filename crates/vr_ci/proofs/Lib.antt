@@ -11,9 +11,12 @@ pub mod ReadLemmas
 pub mod FoundLemmas
 pub mod ShownLemmas
 pub mod CompareLemmas
-pub mod TallyLemmas
+pub mod ComparedLemmas
 pub mod ReaderLemmas
-pub mod SlotLemmas
+pub mod JudgedLemmas
+pub mod TallyLemmas
+pub mod WalkLemmas
+pub mod EndLemmas
 pub mod LendLemmas
 pub mod PlaceLemmas
 pub mod WriterLemmas

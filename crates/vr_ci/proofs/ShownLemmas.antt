@@ -64,9 +64,6 @@ slots_lengths len (Single live n ∷ rs) bytes a h =
 slots_lengths len (Run n k ∷ rs) bytes a h = absurd a
 slots_lengths len (Segment piece live number n ∷ rs) bytes a h = absurd a
 
-items_in : List ℕ → List Rdf → List Item
-items_in block rs = items_at (flat_map marks rs) block
-
 -- what the RDFs say fits the block
 fits_records : (form : Form) (block : List ℕ) (rs : List Rdf) → IsChain form rs → shape_of rs ≡ shapes.Records → Right form block rs → IsRoomKept form (length block) rs
     → FitsBlock form (length block) shapes.Records (items_at (flat_map marks rs) block)

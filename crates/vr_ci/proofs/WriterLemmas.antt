@@ -45,10 +45,6 @@ last_record : (before : Option Rdf) (rs : List Rdf) (b : Rdf) → ((r : Rdf) →
 last_record before [] b o h e = o b e
 last_record before (r ∷ rs) b o h e = last_record (Some r) rs b (λ s q. let same : r ≡ s = cc in subst IsOfRecords same h.0) h.1 e
 
-last_rdf : (before : Option Rdf) (rs : List Rdf) (b : Rdf) → ((r : Rdf) → before ≡ Some r → IsRdf r) → AllByRecursion IsRdf rs → last_from before rs ≡ Some b → IsRdf b
-last_rdf before [] b o h e = o b e
-last_rdf before (r ∷ rs) b o h e = last_rdf (Some r) rs b (λ s q. let same : r ≡ s = cc in subst IsRdf same h.0) h.1 e
-
 split_last : (r : Rdf) (rs : List Rdf) (b : Rdf) → last_from (Some r) rs ≡ Some b → (init : List Rdf) × (r ∷ rs ≡ init ++ b ∷ [])
 split_last r [] b e = let same : r ≡ b = cc in ([], ap (λ (x : Rdf). x ∷ []) same)
 split_last r (s ∷ rs) b e = let rest = split_last s rs b e in (r ∷ rest.0, ap (λ (x : List Rdf). r ∷ x) rest.1)
@@ -98,11 +94,6 @@ run_length_is n zero h = absurd (omega arith)
 run_length_is n (suc zero) h = refl
 run_length_is n (suc (suc k)) h = ap run_length (run_is n (suc (suc k)) (omega arith))
 
-run_records : (n count : ℕ) → IsOfRecords (run_rdf n count)
-run_records n zero = tt
-run_records n (suc zero) = tt
-run_records n (suc (suc k)) = subst IsOfRecords (sym (run_is n (suc (suc k)) (omega arith))) tt
-
 run_count : (n count : ℕ) → 0 < count → IsRdf (run_rdf n count) → IsCount n
 run_count n zero h r = absurd (omega arith)
 run_count n (suc zero) h r = r
@@ -135,9 +126,6 @@ put_both block x y f r b top h e l m =
     let rest : drop (length y) (drop r (take top out)) ≡ drop b (take top block) =
     drop-drop (length y) r (take top out) ∙ ap (λ (k : ℕ). drop k (take top out)) e ∙ behind in
     (front, sym (take-append-drop (length y) (drop r (take top out))) ∙ ap (λ (z : List ℕ). z ++ drop (length y) (drop r (take top out))) here ∙ ap (λ (z : List ℕ). y ++ z) rest, fits ∙ long)
-
-held_back : (w : CiWriter) (items : List Item) (h : Holds w items) → length (control h.rdfs) + w.back + 4 ≡ length w.out.now
-held_back w items h = omega (arith, h.back)
 
 -- a record with an RDF of its own
 pub single_held : (old new : CiWriter) (items : List Item) (bytes : List ℕ) (live : Bool) → Holds old items → IsItemLength old.form (length bytes) → length bytes < 65536

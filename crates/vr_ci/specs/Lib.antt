@@ -3,6 +3,7 @@ pub mod Rdf
 pub mod Interval
 pub mod Compare
 pub mod Fault
+pub mod Layout
 pub mod Reading
 pub mod Tally
 pub mod Writer

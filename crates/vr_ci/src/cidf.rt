@@ -1,8 +1,11 @@
 //! The CIDF: where the free space of a block lies, and whether it is busy.
 
-ghost use Rattle.std.specs.Prelude.{◌≡◌, ◌+◌, ◌-◌, ◌*◌, ◌<◌, ◌≤◌, ◌↔◌, Bool, IsTrue, MatchOption, length, drop, take, replicate};
+ghost use Rattle.std.specs.Prelude.{◌≡◌, ◌+◌, ◌-◌, ◌*◌, ◌^◌, ◌<◌, ◌≤◌, ◌↔◌, Bool, IsTrue, MatchOption, length, drop, take, replicate};
+ghost use Rattle.vr_ci.specs.Compare.{Compares};
 ghost use Rattle.vr_ci.specs.Interval.{cidf};
 ghost use Rattle.vr_ci.specs.Fault.{displacement, free_length, free_field, is_busy, cidf_at, HasZeroCidf};
+
+use crate::compare::number_apart;
 
 /// The control interval definition field.
 #[derive(Clone, Copy, Debug, PartialEq, Eq)]
@@ -36,5 +39,20 @@ impl Cidf {
         ensures { IsTrue result ↔ ((self.displacement ≡ 0) × (self.free ≡ 0) × (IsTrue self.busy → ⊥)) }
     {
         self.displacement == 0 && self.free == 0 && !self.busy
+    }
+
+    /// The first byte in which it differs from the CIDF of this free space with its own busy flag, where it stands
+    /// at `at`.
+    pub fn difference(self, at: usize, displacement: usize, free: usize) -> Option<usize>
+        requires place { at + 3 < 2 ^ 64 }
+        requires own { self.free < 2 ^ 32 }
+        requires small { free < 2 ^ 32 }
+        ensures { Compares at (cidf self.displacement self.free self.busy) (cidf displacement free self.busy) result }
+    {
+        if let Some(at) = number_apart(at, self.displacement, displacement) {
+            return Some(at);
+        }
+        let busy = if self.busy { 32_768 } else { 0 };
+        number_apart(at + 2, self.free + busy, free + busy)
     }
 }

@@ -1,9 +1,9 @@
 //! Comparing parts of a block with what they should be.
 
-ghost use Rattle.std.specs.Prelude.{◌≡◌, ◌+◌, ◌-◌, ◌<◌, ◌≤◌, length, drop, take, replicate, IsTrue, IsSome, IsNone};
+ghost use Rattle.std.specs.Prelude.{◌≡◌, ◌+◌, ◌-◌, ◌*◌, ◌^◌, ◌<◌, ◌≤◌, false, length, drop, take, replicate, IsTrue, IsSome, IsNone};
+ghost use Rattle.vr_ci.specs.declared.rdf.Rdf.TheVariants.{Single};
 ghost use Rattle.vr_ci.specs.Compare.{Compares};
-ghost use Rattle.vr_ci.specs.Rdf.{two_bytes};
-ghost use Rattle.vr_ci.specs.Interval.{cidf};
+ghost use Rattle.vr_ci.specs.Rdf.{two_bytes, rdf_bytes, control};
 
 /// The first byte between the two places that is not zero.
 pub fn first_nonzero(bytes: &[u8], from: usize, to: usize) -> Option<usize>
@@ -40,30 +40,54 @@ pub fn wrong_byte(
     first_nonzero(bytes, from, to)
 }
 
-/// The first of the two bytes from `at` on that differs from the number, high byte first.
-pub fn number_difference(bytes: &[u8], at: usize, number: usize) -> Option<usize>
-    requires { at + 2 ≤ length bytes.now }
-    ensures { Compares at (take 2 (drop at bytes.now)) (two_bytes number) result }
+/// The first of the two bytes from `at` on in which two numbers differ, high byte first.
+pub fn number_apart(at: usize, found: usize, wanted: usize) -> Option<usize>
+    requires { at + 1 < 2 ^ 64 }
+    ensures { Compares at (two_bytes found) (two_bytes wanted) result }
 {
-    if usize::from(bytes[at]) != number / 256 {
+    if found / 256 != wanted / 256 {
         return Some(at);
     }
-    if usize::from(bytes[at + 1]) != number % 256 {
+    if found % 256 != wanted % 256 {
         return Some(at + 1);
     }
     None
 }
 
-/// The first byte of the CIDF that differs from this one.
-pub fn cidf_difference(bytes: &[u8], displacement: usize, free: usize, busy: bool) -> Option<usize>
-    requires size { 4 ≤ length bytes.now }
-    requires free { free < 32768 }
-    ensures { Compares (length bytes.now - 4) (drop (length bytes.now - 4) bytes.now) (cidf displacement free busy) result }
+/// The first of the two bytes from `at` on that differs from the number.
+fn number_difference(bytes: &[u8], at: usize, number: usize) -> Option<usize>
+    requires { at + 2 ≤ length bytes.now }
+    ensures { Compares at (take 2 (drop at bytes.now)) (two_bytes number) result }
 {
-    let at = bytes.len() - 4;
-    if let Some(at) = number_difference(bytes, at, displacement) {
+    let found = u16::from_be_bytes([bytes[at], bytes[at + 1]]);
+    number_apart(at, usize::from(found), number)
+}
+
+/// The first byte from `from` on that differs from the RDFs of so many empty slots of this length.
+pub fn empty_difference(
+    bytes: &[u8],
+    from: usize,
+    count: usize,
+    slot_length: usize,
+) -> Option<usize>
+    requires { from + 3 * count ≤ length bytes.now }
+    ensures { Compares from (take (3 * count) (drop from bytes.now)) (control (replicate count (Single false slot_length))) result }
+{
+    for slot in 0..count {
+        if let Some(at) = empty_slot_difference(bytes, from + 3 * slot, slot_length) {
+            return Some(at);
+        }
+    }
+    None
+}
+
+/// The first of the three bytes at `at` that differs from the RDF of an empty slot of this length.
+fn empty_slot_difference(bytes: &[u8], at: usize, slot_length: usize) -> Option<usize>
+    requires { at + 3 ≤ length bytes.now }
+    ensures { Compares at (take 3 (drop at bytes.now)) (rdf_bytes (Single false slot_length)) result }
+{
+    if bytes[at] != 4 {
         return Some(at);
     }
-    let field = if busy { free + 32_768 } else { free };
-    number_difference(bytes, at + 2, field)
+    number_difference(bytes, at + 1, slot_length)
 }

@@ -2,6 +2,7 @@
 
 ghost use Rattle.std.specs.Prelude.{◌≡◌, ◌+◌, ◌-◌, ◌*◌, ◌/◌, ◌<◌, ◌≤◌, ◌↔◌, IsTrue};
 ghost use Rattle.vr_ci.specs.Size.{IsBlockSize};
+ghost use Rattle.vr_ci.specs.Layout.{slot_length};
 
 /// How a control interval of records spells them.
 #[derive(Clone, Copy, Debug, PartialEq, Eq)]
@@ -10,6 +11,19 @@ pub enum Form {
     Plain,
     /// As many slots of `length` bytes as the block holds, each with an RDF of its own.
     Slots { length: u16 },
+}
+
+impl Form {
+    /// The length of the slots, where the form has some.
+    pub(crate) fn slot_length(self) -> usize
+        ensures length { result ≡ slot_length self }
+        ensures small { result < 65536 }
+    {
+        match self {
+            Form::Plain => 0,
+            Form::Slots { length } => usize::from(length),
+        }
+    }
 }
 
 /// Which part of a spanned record a segment is.

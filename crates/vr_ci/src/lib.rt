@@ -6,9 +6,11 @@
 
 mod cidf;
 mod compare;
+mod compared;
 mod fault;
 mod form;
 mod law;
+mod layout;
 mod put;
 mod rdf;
 mod reading;

@@ -1,9 +1,12 @@
 //! Record definition fields: reading one, or two that are paired, and what they say.
 
-ghost use Rattle.std.specs.Prelude.{◌≡◌, ◌≢◌, ◌+◌, ◌≤◌, ◌↔◌, ◌∷◌, ◌++◌, length, IsTrue, IfSome, IfNone};
+ghost use Rattle.std.specs.Prelude.{◌≡◌, ◌≢◌, ◌+◌, ◌^◌, ◌<◌, ◌≤◌, ◌↔◌, ◌-◌, ◌∷◌, ◌++◌, length, drop, take, IsTrue, IfSome, IfNone};
+ghost use Rattle.vr_ci.specs.Compare.{Compares};
 ghost use Rattle.vr_ci.specs.Rdf.{marks, span, two_bytes, rdf_bytes, IsRdf, MayFollow, run_length, record_length};
+ghost use Rattle.vr_ci.specs.Tally.{with_length};
 ghost use Rattle.vr_ci.specs.Fault.{IsUnit, is_live};
 
+use crate::compare::number_apart;
 use crate::form::{Form, Piece};
 
 /// What one RDF says, or two that are paired.
@@ -31,7 +34,8 @@ pub enum Rdf {
 impl Rdf {
     /// How many records it is of.
     pub fn count(self) -> usize
-        ensures { result ≡ length (marks self) }
+        ensures count { result ≡ length (marks self) }
+        ensures small { result < 65536 }
     {
         match self {
             Rdf::Single { .. } | Rdf::Segment { .. } => 1,
@@ -70,6 +74,18 @@ impl Rdf {
         }
     }
 
+    /// The first byte in which it differs from the same RDF or pair with this length, where its leftmost byte is
+    /// at `at`.
+    pub fn length_difference(self, at: usize, wanted: usize) -> Option<usize>
+        requires { at < 2 ^ 32 }
+        ensures { Compares at (rdf_bytes self) (rdf_bytes (with_length self wanted)) result }
+    {
+        match self {
+            Rdf::Single { .. } => number_apart(at + 1, self.length(), wanted),
+            Rdf::Run { .. } | Rdf::Segment { .. } => number_apart(at + 4, self.length(), wanted),
+        }
+    }
+
     /// The length of the live records that a run could go on with.
     fn run_length(self) -> Option<u16>
         ensures { result ≡ run_length self }
@@ -98,35 +114,23 @@ impl Rdf {
     }
 }
 
-/// Where what ends before `end` begins: an RDF with X'40' is paired with the one to its left, if `low`
-/// leaves place for one.
-pub fn unit_before(bytes: &[u8], low: usize, end: usize) -> usize
+/// Where what ends before `end` begins, and what it says, if some block has it: an RDF with X'40' is paired with
+/// the one to its left, if `low` leaves place for one.
+pub fn unit_before(bytes: &[u8], low: usize, end: usize) -> (usize, Option<Rdf>)
     requires place { low + 3 ≤ end }
     requires within { end ≤ length bytes.now }
-    ensures { IsUnit low bytes.now end result }
+    ensures place { IsUnit low bytes.now end result.0 }
+    ensures found { IfSome result.1 (λ r. IsRdf r × (take (end - result.0) (drop result.0 bytes.now) ≡ rdf_bytes r)) }
+    ensures none { IfNone result.1 ((r : Rdf) → IsRdf r → take (end - result.0) (drop result.0 bytes.now) ≢ rdf_bytes r) }
 {
-    if end - low >= 6 && bytes[end - 3] & 0x40 != 0 {
-        end - 6
-    } else {
-        end - 3
+    let flags = bytes[end - 3];
+    let length = u16::from_be_bytes([bytes[end - 2], bytes[end - 1]]);
+    if end - low >= 6 && flags & 0x40 != 0 {
+        let left = bytes[end - 6];
+        let number = u16::from_be_bytes([bytes[end - 5], bytes[end - 4]]);
+        return (end - 6, pair_of(left, number, flags, length));
     }
-}
-
-/// What these bytes say, if they are an RDF or a pair that some block has.
-pub fn rdf_of(bytes: &[u8]) -> Option<Rdf>
-    ensures found { IfSome result (λ r. IsRdf r × (bytes.now ≡ rdf_bytes r)) }
-    ensures none { IfNone result ((r : Rdf) → IsRdf r → bytes.now ≢ rdf_bytes r) }
-{
-    match bytes {
-        [flags, high, low] => single_of(*flags, u16::from_be_bytes([*high, *low])),
-        [left, high, low, right, more, less] => pair_of(
-            *left,
-            u16::from_be_bytes([*high, *low]),
-            *right,
-            u16::from_be_bytes([*more, *less]),
-        ),
-        _ => None,
-    }
+    (end - 3, single_of(flags, length))
 }
 
 /// An RDF that is not paired.

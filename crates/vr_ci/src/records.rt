@@ -6,7 +6,7 @@ ghost use Rattle.vr_ci.specs.declared.form.Shape.{Shape};
 ghost use Rattle.vr_ci.specs.Rdf.{IsRdf, spans};
 ghost use Rattle.vr_ci.specs.Reading.{rdfs_between, AreLent, IsShown, value_in, marks_left};
 
-use crate::rdf::{Rdf, rdf_of, unit_before};
+use crate::rdf::{Rdf, unit_before};
 use std::marker::Model;
 
 /// The records that are left of an RDF or pair, and where it begins.
@@ -110,7 +110,6 @@ fn rdf_before(bytes: &[u8], low: usize, end: usize) -> Option<(usize, Rdf)>
     if end - low < 3 {
         return None;
     }
-    let at = unit_before(bytes, low, end);
-    let rdf = rdf_of(&bytes[at..end])?;
-    Some((at, rdf))
+    let (at, read) = unit_before(bytes, low, end);
+    Some((at, read?))
 }

@@ -36,7 +36,7 @@ impl<'a> CiView<'a> {
     ghost use Rattle.vr_ci.specs.Fault.{IsFirstFault};
     ghost use Rattle.vr_ci.specs.Reading.{CountFits};
 
-    /// Reads a block, in time linear in its size. It answers Ok exactly for the control intervals of the form, and otherwise
+    /// Reads a block in one pass. It answers Ok exactly for the control intervals of the form, and otherwise
     /// the first fault. The form says how records are spelled; segments and an end of file are the same in both.
     pub fn read(form: Form, bytes: &'a [u8]) -> Result<CiView<'a>, CiFault>
         // What is read is the block's value.
