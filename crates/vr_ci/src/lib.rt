@@ -29,4 +29,6 @@ pub use view::CiView;
 pub use writer::CiWriter;
 
 #[cfg(test)]
+mod plain;
+#[cfg(test)]
 mod tests;

@@ -10,7 +10,7 @@ use vr_types::{Find, Request};
 const CARDS: &[u8] = b"//S EXEC PGM=VRMDECK\n//DECK1 DD *\n";
 
 /// A job text of the two cards and these lines.
-fn with_cards(alloc: Global, lines: &[u8]) -> Result<Vec<u8>, AllocError> {
+pub(crate) fn with_cards(alloc: Global, lines: &[u8]) -> Result<Vec<u8>, AllocError> {
     let mut text = Vec::from_slice(alloc, CARDS)?;
     text.extend_from_slice(lines)?;
     Ok(text)
@@ -34,14 +34,24 @@ fn shown(alloc: Global, job: &JobText) -> Result<Vec<u8>, AllocError> {
     Ok(shown)
 }
 
-fn assert_job(rt: &impl Abort, alloc: Global, text: &[u8], expected: &[u8]) -> Result<(), Fail> {
+pub(crate) fn assert_job(
+    rt: &impl Abort,
+    alloc: Global,
+    text: &[u8],
+    expected: &[u8],
+) -> Result<(), Fail> {
     assert!(rt; text.len() <= 1 << 26);
     let job = parse_job(alloc, text)?;
     assert_eq!(rt; shown(alloc, &job)?.as_slice(), expected);
     Ok(())
 }
 
-fn assert_fault(rt: &impl Abort, alloc: Global, text: &[u8], line: u32) -> Result<(), Fail> {
+pub(crate) fn assert_fault(
+    rt: &impl Abort,
+    alloc: Global,
+    text: &[u8],
+    line: u32,
+) -> Result<(), Fail> {
     assert!(rt; text.len() <= 1 << 26);
     match parse_job(alloc, text) {
         Ok(_job) => assert!(rt; false, "a job, and no fault at line {line}"),

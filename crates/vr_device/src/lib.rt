@@ -22,4 +22,6 @@ pub use named::write_named;
 pub use through::Direct;
 
 #[cfg(test)]
+mod plain;
+#[cfg(test)]
 mod tests;

@@ -29,4 +29,6 @@ pub use view::SeqView;
 pub use writer::SeqWriter;
 
 #[cfg(test)]
+mod plain;
+#[cfg(test)]
 mod tests;

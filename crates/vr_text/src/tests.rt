@@ -1,3 +1,4 @@
+use crate::plain::expect_read;
 use crate::{LiteralFault, number, read_literal, write_literal};
 use std::test::Fail;
 use vr_types::Bytes;
@@ -33,12 +34,14 @@ fn literals_of_records_and_keys(rt: HostRuntime) -> Result<(), Fail> {
         assert_eq!(rt; out.as_slice(), written.as_bytes());
         assert_eq!(rt; read_literal(rt.alloc(), written)?.as_slice(), bytes);
         assert_eq!(rt; read_literal(rt.alloc(), other)?.as_slice(), bytes);
+        expect_read(&rt, rt.alloc(), written)?;
+        expect_read(&rt, rt.alloc(), other)?;
     }
     Ok(())
 }
 
 #[test]
-fn texts_that_are_no_literal(rt: HostRuntime) {
+fn texts_that_are_no_literal(rt: HostRuntime) -> Result<(), Fail> {
     let unclosed = LiteralFault::Unclosed;
     let cases = [
         ("", unclosed),
@@ -64,7 +67,9 @@ fn texts_that_are_no_literal(rt: HostRuntime) {
     for (text, want) in cases {
         let found = read_literal(rt.alloc(), text).err();
         assert_eq!(rt; found, Some(want), "at {text}");
+        expect_read(&rt, rt.alloc(), text)?;
     }
+    Ok(())
 }
 
 #[test]
