@@ -29,6 +29,4 @@ pub use view::CiView;
 pub use writer::CiWriter;
 
 #[cfg(test)]
-mod plain;
-#[cfg(test)]
 mod tests;

@@ -12,8 +12,6 @@ pub mod laws;
 mod line;
 pub mod parse;
 #[cfg(test)]
-mod plain;
-#[cfg(test)]
 mod tests;
 pub mod text;
 

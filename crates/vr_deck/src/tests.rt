@@ -6,11 +6,13 @@ use std::process::Abort;
 use std::test::Fail;
 use vr_types::{Find, Request};
 
+mod plain;
+
 /// The two cards before a deck. Its first line is line 3.
 const CARDS: &[u8] = b"//S EXEC PGM=VRMDECK\n//DECK1 DD *\n";
 
 /// A job text of the two cards and these lines.
-pub(crate) fn with_cards(alloc: Global, lines: &[u8]) -> Result<Vec<u8>, AllocError> {
+fn with_cards(alloc: Global, lines: &[u8]) -> Result<Vec<u8>, AllocError> {
     let mut text = Vec::from_slice(alloc, CARDS)?;
     text.extend_from_slice(lines)?;
     Ok(text)
@@ -34,24 +36,14 @@ fn shown(alloc: Global, job: &JobText) -> Result<Vec<u8>, AllocError> {
     Ok(shown)
 }
 
-pub(crate) fn assert_job(
-    rt: &impl Abort,
-    alloc: Global,
-    text: &[u8],
-    expected: &[u8],
-) -> Result<(), Fail> {
+fn assert_job(rt: &impl Abort, alloc: Global, text: &[u8], expected: &[u8]) -> Result<(), Fail> {
     assert!(rt; text.len() <= 1 << 26);
     let job = parse_job(alloc, text)?;
     assert_eq!(rt; shown(alloc, &job)?.as_slice(), expected);
     Ok(())
 }
 
-pub(crate) fn assert_fault(
-    rt: &impl Abort,
-    alloc: Global,
-    text: &[u8],
-    line: u32,
-) -> Result<(), Fail> {
+fn assert_fault(rt: &impl Abort, alloc: Global, text: &[u8], line: u32) -> Result<(), Fail> {
     assert!(rt; text.len() <= 1 << 26);
     match parse_job(alloc, text) {
         Ok(_job) => assert!(rt; false, "a job, and no fault at line {line}"),

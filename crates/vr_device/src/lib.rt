@@ -22,6 +22,4 @@ pub use named::write_named;
 pub use through::Direct;
 
 #[cfg(test)]
-mod plain;
-#[cfg(test)]
 mod tests;

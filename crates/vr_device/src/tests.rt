@@ -7,10 +7,12 @@ use std::fs;
 use std::test::Fail;
 use vr_types::{Blocks, DeviceFault, Failed};
 
+mod plain;
+
 const OLD: [u8; 2] = [0, 0];
 
 // Writes a block, if there is one of that number and size.
-pub(crate) fn write_pair(device: &mut MemoryDevice, n: u32, bytes: &[u8; 2]) -> bool {
+fn write_pair(device: &mut MemoryDevice, n: u32, bytes: &[u8; 2]) -> bool {
     n < device.blocks() && device.size() == 2 && device.write(n, bytes).is_ok()
 }
 
@@ -25,7 +27,7 @@ fn written(alloc: Global, fails: &[u64]) -> Result<MemoryDevice, Fail> {
 }
 
 // The blocks of the image that a choice gives.
-pub(crate) fn image_blocks(
+fn image_blocks(
     alloc: Global,
     device: &MemoryDevice,
     choice: &[u32],

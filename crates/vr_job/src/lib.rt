@@ -12,8 +12,6 @@ pub mod history;
 pub mod input;
 pub mod job;
 pub mod listing;
-#[cfg(test)]
-mod plain;
 pub mod positions;
 pub mod record_file;
 pub mod run;

@@ -83,12 +83,12 @@ fn slot_of(request: &Request) -> Option<u32>
     ensures { result ≡ slot_of request.now }
 {
     match request {
-        Request::Get { file, .. } => Some(file.slot),
-        Request::Point { file, .. } => Some(file.slot),
-        Request::Add { file, .. } => Some(file.slot),
-        Request::Update { file, .. } => Some(file.slot),
-        Request::Erase { file } => Some(file.slot),
-        Request::EndReq { file } => Some(file.slot),
+        Request::Get { file, .. }
+        | Request::Point { file, .. }
+        | Request::Add { file, .. }
+        | Request::Update { file, .. }
+        | Request::Erase { file }
+        | Request::EndReq { file } => Some(file.slot),
         Request::Commit | Request::Backout => None,
     }
 }

@@ -5,10 +5,12 @@ use std::test::Fail;
 use vr_outside::{MemorySink, MemorySource};
 use vr_types::{OutOfMemory, PartNo, Place, Unit, Words, place};
 
-pub(crate) const FIRST_JOB: &str =
+mod plain;
+
+const FIRST_JOB: &str =
     "//S EXEC PGM=VRMDECK\n//DECK1 DD *\nFILE F VRM.FIRST\nPUT F DATA=C'00000001HELLO'\nGET F KEY=C'00000001'\nGET F KEY=C'00000002'\n";
 
-pub(crate) const FIRST_LISTING: &str =
+const FIRST_LISTING: &str =
     "STEP S DECKS\nDECK 1 LINE 4 VOL 0 PUT F RC=0 FB=0 AT=C'00000001'\nDECK 1 LINE 5 VOL 0 GET F RC=0 FB=0 AT=C'00000001' DATA=C'00000001HELLO'\nDECK 1 LINE 6 VOL 0 GET F RC=8 FB=16\nDECK 1 LINE 0 VOL 0 COMMIT RC=0 FB=0\nSTEP S CODE 0\nJOB CODE 0\n";
 
 const REFUSED_JOB: &str =
@@ -19,13 +21,13 @@ const REFUSED_LISTING: &str =
 
 /// What a job ended with, and what it printed.
 #[derive(Drop)]
-pub(crate) struct Printed {
-    pub(crate) status: u8,
-    pub(crate) text: Vec<u8>,
+struct Printed {
+    status: u8,
+    text: Vec<u8>,
 }
 
 /// The words of a text, which blanks part.
-pub(crate) fn words_of(alloc: Global, text: &str) -> Result<Words, OutOfMemory> {
+fn words_of(alloc: Global, text: &str) -> Result<Words, OutOfMemory> {
     let mut words = Words::new(alloc);
     for word in text.split(' ') {
         if !word.is_empty() {
@@ -36,7 +38,7 @@ pub(crate) fn words_of(alloc: Global, text: &str) -> Result<Words, OutOfMemory> 
 }
 
 /// Runs a job over ends in memory that hand on at most 10 bytes at a call, and fail at these calls.
-pub(crate) fn print_job(
+fn print_job(
     alloc: Global,
     words: &Words,
     text: &str,
@@ -53,7 +55,7 @@ pub(crate) fn print_job(
     })
 }
 
-pub(crate) fn expect_job(rt: &impl Abort, printed: Printed, status: u8, text: &str) {
+fn expect_job(rt: &impl Abort, printed: Printed, status: u8, text: &str) {
     assert!(rt; printed.status == status);
     assert!(rt; printed.text.as_slice() == text.as_bytes());
 }
@@ -163,11 +165,7 @@ fn first_byte(of: &Place) -> Option<u8> {
 fn expect_positions(rt: &impl Abort, positions: &Positions, rows: [(u32, u32, u8, Option<u8>); 3]) {
     for (deck, slot, stands, holds) in rows {
         let position = positions.get(deck, slot).expect(rt, "the file was set");
-        let at = match &position.stand {
-            Stand::At(at) => first_byte(at),
-            _ => None,
-        };
-        assert!(rt; at == Some(stands));
+        assert!(rt; matches!(&position.stand, Stand::At(at) if first_byte(at) == Some(stands)));
         assert!(rt; position.held.as_ref().and_then(first_byte) == holds);
     }
 }
@@ -213,32 +211,23 @@ fn positions_are_kept_by_deck_and_slot(rt: HostRuntime) -> Result<(), Fail> {
     Ok(())
 }
 
-/// Whether the entry tells that a before-image of K1 was put back, at stamp 5 for the second unit of deck 1.
-fn puts_back_k1(entry: &Entry) -> bool {
-    match &entry.what {
-        What::Undone { part, place } => {
-            entry.stamp == 5
-                && entry.unit == (Unit { deck: 1, number: 2 })
-                && entry.line == 7
-                && *part == PartNo(1)
-                && place.as_slice() == b"K1".as_slice()
-        }
-        _ => false,
-    }
-}
-
 #[test]
 fn an_entry_is_copied_where_there_is_memory(rt: HostRuntime) -> Result<(), Fail> {
     let alloc = rt.alloc();
+    let unit = Unit { deck: 1, number: 2 };
     let entry = Entry {
         stamp: 5,
-        unit: Unit { deck: 1, number: 2 },
+        unit,
         line: 7,
         what: What::Undone {
-            part: PartNo(1),
+            part: PartNo(3),
             place: place(alloc, b"K1")?,
         },
     };
-    assert!(rt; puts_back_k1(&entry.copy(alloc)?));
+    let copy = entry.copy(alloc)?;
+    assert_eq!(rt; (copy.stamp, copy.unit, copy.line), (5, unit, 7));
+    let is_undone =
+        matches!(&copy.what, What::Undone { part: PartNo(3), place } if place.as_slice() == b"K1".as_slice());
+    assert!(rt; is_undone);
     Ok(())
 }

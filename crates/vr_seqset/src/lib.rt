@@ -29,6 +29,4 @@ pub use view::SeqView;
 pub use writer::SeqWriter;
 
 #[cfg(test)]
-mod plain;
-#[cfg(test)]
 mod tests;

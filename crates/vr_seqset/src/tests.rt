@@ -1,12 +1,13 @@
 ghost use Rattle.std.specs.Prelude.{◌≡◌, IfOk};
 
 use super::*;
-use crate::plain::first_fault;
 use std::alloc::{AllocError, Global};
 use std::test::*;
 
+mod plain;
+
 // The pieces one after another, and zeros up to the size.
-pub(crate) fn block(alloc: Global, size: usize, pieces: &[&[u8]]) -> Result<Vec<u8>, AllocError> {
+fn block(alloc: Global, size: usize, pieces: &[&[u8]]) -> Result<Vec<u8>, AllocError> {
     let mut out = Vec::new(alloc);
     for piece in pieces {
         out.extend_from_slice(piece)?;
@@ -68,12 +69,12 @@ const FRESH: &[u8; 52] =
 
 // The first of a chain: the next area is 5, the top index record is block 9, the first index area is 3. One of its two entries
 // has two intervals.
-pub(crate) const FIRST: &[u8; 48] =
+const FIRST: &[u8; 48] =
     b"S\x01\x00\x02\x00\x00\x00\x02\x00\x00\x00\x07\x00\x00\x00\x06\x00\x00\x00\x09\x00\x00\x00\x04\x00\x00\x00\x00\x00\x00\x00\x00\
     \x00\x00\x00\x01\x00\x03\x10\x00\x00\x02\x00\x00\x00\x04\x20\x00";
 
 // The last of a chain, above the place X'2000'.
-pub(crate) const LAST: &[u8; 46] =
+const LAST: &[u8; 46] =
     b"S\x00\x00\x02\x00\x00\x00\x02\x00\x00\x00\x07\x00\x00\x00\x00\x00\x00\x00\x00\x00\x00\x00\x00\x00\x00\x00\x00\x00\x00\x00\x00\
     \x20\x00\x00\x01\x00\x01\x20\x01\x00\x01\x00\x00\xff\xff";
 
@@ -191,7 +192,6 @@ fn the_first_broken_rule_is_named(rt: HostRuntime) -> Result<(), Fail> {
     for (edits, fault) in cases {
         let bytes = edited(alloc, &good, edits)?;
         assert_eq!(rt; SeqView::read(&bytes, 15).err(), Some(fault));
-        assert_eq!(rt; first_fault(alloc, &bytes, 15)?, Some(fault));
     }
     let odd = block(alloc, 511, &[FIRST])?;
     assert_eq!(rt; SeqView::read(&odd, 15).err(), Some(SeqFault::Lengths));

@@ -15,6 +15,4 @@ pub use spelling::write_literal;
 pub use theorems::{one_outcome, one_value, written_is_read};
 
 #[cfg(test)]
-mod plain;
-#[cfg(test)]
 mod tests;

@@ -12,8 +12,6 @@ pub mod geometry;
 pub mod makers;
 pub mod memory;
 pub mod name;
-#[cfg(test)]
-mod plain;
 pub mod reply;
 pub mod request;
 #[cfg(test)]

@@ -1,9 +1,10 @@
-use crate::plain::expect_judged;
 use crate::{
     FileRef, Find, Integrity, Kind, LockName, Mode, NameFault, PartNo, Refusal, Reply, Request,
     Unit, Words, bytes, dataset_name, empty_place, number_place, place,
 };
 use std::test::Fail;
+
+mod plain;
 
 const FILE: FileRef = FileRef {
     volume: 0,
@@ -26,7 +27,6 @@ fn names_of_data_sets_are_read_in_capitals(rt: HostRuntime) -> Result<(), Fail> 
             name.as_bytes(),
             "{text}"
         );
-        expect_judged(&rt, rt.alloc(), text)?;
     }
     let long = "AAAAAAAA.AAAAAAAA.AAAAAAAA.AAAAAAAA.AAAAAAAAA";
     for (text, fault) in [
@@ -38,7 +38,6 @@ fn names_of_data_sets_are_read_in_capitals(rt: HostRuntime) -> Result<(), Fail> 
         ("A.", NameFault::Qualifier { at: 2 }),
     ] {
         assert_eq!(rt; dataset_name(rt.alloc(), text).err(), Some(fault), "{text}");
-        expect_judged(&rt, rt.alloc(), text)?;
     }
     Ok(())
 }

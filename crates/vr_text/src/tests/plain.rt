@@ -69,8 +69,7 @@ fn read(alloc: Global, text: &str) -> Result<Result<Vec<u8>, LiteralFault>, Allo
     }
 }
 
-/// Reads the text both ways.
-pub(crate) fn expect_read(rt: &impl Abort, alloc: Global, text: &str) -> Result<(), AllocError> {
+fn expect_read(rt: &impl Abort, alloc: Global, text: &str) -> Result<(), AllocError> {
     match (read_literal(alloc, text), read(alloc, text)?) {
         (Ok(bytes), Ok(plain)) => assert!(rt; bytes.as_slice() == plain.as_slice(), "{text}"),
         (Err(fault), Err(plain)) => assert_eq!(rt; fault, plain, "{text}"),
@@ -82,6 +81,18 @@ pub(crate) fn expect_read(rt: &impl Abort, alloc: Global, text: &str) -> Result<
 #[test]
 fn every_short_text_is_read_as_the_grammar_says(rt: HostRuntime) -> Result<(), Fail> {
     let alloc = rt.alloc();
+    for worked in [
+        "C'00000001HELLO'",
+        "X'303030303030303148454C4C4F'",
+        "X'4b32'",
+        "C'O''NEIL'",
+        "C'O'NEIL'",
+        "X'4100aB'",
+        "X'4B'32'",
+        "X'4B3'",
+    ] {
+        expect_read(&rt, alloc, worked)?;
+    }
     for begin in ["C'", "X'", "C", "X", "", "c'"] {
         for first in ALPHABET {
             for second in ALPHABET {

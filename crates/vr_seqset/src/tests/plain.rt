@@ -4,7 +4,7 @@
 
 ghost use Rattle.std.specs.Prelude.{◌<◌};
 
-use crate::tests::{FIRST, LAST, block};
+use super::{FIRST, LAST};
 use crate::{SeqFault, SeqView};
 use std::alloc::{AllocError, Global};
 use std::test::Fail;
@@ -71,7 +71,7 @@ fn are_once_below(numbers: &[usize], limit: usize) -> bool {
 }
 
 /// The first rule that a block breaks as a record of an area of so many intervals.
-pub(crate) fn first_fault(
+fn first_fault(
     alloc: Global,
     bytes: &[u8],
     intervals: usize,
@@ -116,7 +116,7 @@ pub(crate) fn first_fault(
 fn every_change_of_a_byte_is_judged_as_the_rules_say(rt: HostRuntime) -> Result<(), Fail> {
     let alloc = rt.alloc();
     for (record, intervals) in [(FIRST.as_slice(), 15u16), (LAST.as_slice(), 2)] {
-        let mut bytes = block(alloc, 512, &[record])?;
+        let mut bytes = super::block(alloc, 512, &[record])?;
         for at in 0..60usize {
             for byte in 0..=255u8 {
                 if at < bytes.len() {

@@ -1,7 +1,7 @@
 // Decks, plainly and slowly: a table says what each of some lines means alone, and a deck is gone through from its
 // front. Every deck of three such lines has to be read so by `parse_job` too.
 
-use crate::tests::{assert_fault, assert_job, with_cards};
+use super::{assert_fault, assert_job, with_cards};
 use std::alloc::{AllocError, Global};
 use std::test::Fail;
 

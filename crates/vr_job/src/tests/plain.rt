@@ -1,7 +1,7 @@
 // The record file as its rules tell it, plainly and slowly: a list of records in no order, gone through from its front
 // at each request. Every small deck is run through it and through `run_job`, which has to print the same.
 
-use crate::tests::{FIRST_JOB, FIRST_LISTING, expect_job, print_job, words_of};
+use super::{FIRST_JOB, FIRST_LISTING, expect_job, print_job, words_of};
 use std::alloc::{AllocError, Global};
 use std::test::Fail;
 
@@ -62,10 +62,8 @@ fn reply(
 
 /// A deck's job text, and the listing that it has.
 fn job_of(alloc: Global, deck: [Asked; 3]) -> Result<(String, String), AllocError> {
-    let mut text = String::from_str(
-        alloc,
-        "//S EXEC PGM=VRMDECK\n//DECK1 DD *\nFILE F VRM.FIRST\n",
-    )?;
+    let cards = "//S EXEC PGM=VRMDECK\n//DECK1 DD *\nFILE F VRM.FIRST\n";
+    let mut text = String::from_str(alloc, cards)?;
     let mut listing = String::from_str(alloc, "STEP S DECKS\n")?;
     let mut records = Vec::new(alloc);
     for (line, asked) in [4, 5, 6].into_iter().zip(deck) {

@@ -47,8 +47,7 @@ fn fault_of(text: &str) -> Option<NameFault> {
     None
 }
 
-/// Judges the text both ways.
-pub(crate) fn expect_judged(rt: &impl Abort, alloc: Global, text: &str) -> Result<(), AllocError> {
+fn expect_judged(rt: &impl Abort, alloc: Global, text: &str) -> Result<(), AllocError> {
     match dataset_name(alloc, text) {
         Ok(name) => {
             let mut capitals = String::from_str(alloc, text)?;
@@ -67,6 +66,19 @@ pub(crate) fn expect_judged(rt: &impl Abort, alloc: Global, text: &str) -> Resul
 #[test]
 fn every_short_text_is_judged_as_the_rule_says(rt: HostRuntime) -> Result<(), Fail> {
     let alloc = rt.alloc();
+    for worked in [
+        "PAY.MASTER",
+        "a.b",
+        "#X.@2-Y",
+        "A.1B",
+        "ABCDEFGHI",
+        "A..B",
+        "A.",
+        "",
+        "AAAAAAAA.AAAAAAAA.AAAAAAAA.AAAAAAAA.AAAAAAAAA",
+    ] {
+        expect_judged(&rt, alloc, worked)?;
+    }
     for first in ["", "A", "z.", "$9"] {
         for second in ALPHABET {
             for third in ALPHABET {

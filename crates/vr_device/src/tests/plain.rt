@@ -1,7 +1,7 @@
 // What a crash may leave, plainly and slowly: for each block the list of what it may hold. Every short run of writes and
 // syncs, whichever of them fail, has to leave the same images on a device in memory.
 
-use crate::tests::{image_blocks, write_pair};
+use super::{image_blocks, write_pair};
 use crate::{BlockDevice, ImageNo, memory_device};
 use std::alloc::{AllocError, Global};
 use std::process::Abort;
