@@ -1,6 +1,6 @@
 //! How a block compares with what its RDFs describe.
 
-ghost use Rattle.std.specs.Prelude.{◌≡◌, ◌+◌, ◌-◌, ◌*◌, ◌^◌, ◌<◌, ◌≤◌, ℕ, Bool, false, List, [], ◌∷◌, ◌++◌, length, take, drop, replicate};
+ghost use Rattle.std.specs.Prelude.{◌≡◌, ◌+◌, ◌-◌, ◌*◌, ◌^◌, ◌<◌, ◌≤◌, ℕ, Bool, false, List, [], ◌∷◌, ◌++◌, length, take, drop, replicate, IsSome};
 ghost use Rattle.vr_ci.specs.declared.rdf.Rdf.TheVariants.{Single};
 ghost use Rattle.vr_ci.specs.Rdf.{control};
 ghost use Rattle.vr_ci.specs.Compare.{Compares};
@@ -71,7 +71,8 @@ impl Compared {
     /// The first byte before `limit` that differs from the records' bytes and the zeros behind them.
     pub fn data_difference(self, bytes: &[u8], limit: usize) -> Option<usize>
         requires { limit ≤ length bytes.now }
-        ensures { (rdfs : List Rdf) → IsCompared bytes.now limit rdfs self
+        ensures kept { IsSome self.wrong → result ≡ self.wrong }
+        ensures data_wrong { (rdfs : List Rdf) → IsCompared bytes.now limit rdfs self
             → Compares 0 (take limit bytes.now) (padded limit (masked rdfs bytes.now)) result }
     {
         if let Some(at) = self.wrong {

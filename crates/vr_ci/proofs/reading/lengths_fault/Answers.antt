@@ -17,7 +17,7 @@ returns-in-Some c = λ rdfs w t.
     let here = c.data_end-limit.ensures c.args.form (free_end block) c.requires.layout in
     let ends = ends_are c.args.form block rdfs c.args.tally limit _ c.requires.size w t here refl in
     let k = compared_is c.args.form block rdfs c.args.tally limit w t here in
-    lengths_data c.args.form block rdfs limit _ c.in-Some.at (omega (arith, (size_bounds (length block) c.requires.size).0)) ends (c.in-Some.ensures _ k)
+    lengths_data c.args.form block rdfs limit _ c.in-Some.at (omega (arith, (size_bounds (length block) c.requires.size).0)) ends (c.in-Some.ensures.data_wrong _ k)
 
 pub returns-in-Some-control_difference : goal.returns-in-Some-control_difference
 returns-in-Some-control_difference c = λ rdfs w t.
@@ -28,7 +28,7 @@ returns-in-Some-control_difference c = λ rdfs w t.
     let here = c.data_end-limit.ensures c.args.form (free_end block) c.requires.layout in
     let ends = ends_are c.args.form block rdfs c.args.tally limit empty c.requires.size w t here (ap (λ (k : ℕ). k / 3) c.saturating_sub-empty.ensures) in
     let k = compared_is c.args.form block rdfs c.args.tally limit w t here in
-    lengths_control c.args.form block rdfs limit empty c.in-Some-control_difference.at (omega (arith, (size_bounds (length block) c.requires.size).0)) ends (c.in_default.ensures ms k)
+    lengths_control c.args.form block rdfs limit empty c.in-Some-control_difference.at (omega (arith, (size_bounds (length block) c.requires.size).0)) ends (c.in_default.ensures.data_wrong ms k)
     (subst (λ (j : ℕ). Compares limit (drop limit (take (length block - 4) block)) (control (ms ++ empties empty j)) (Some c.in-Some-control_difference.at)) c.slot_length-slot_length.ensures.length
     (c.in-Some-control_difference.ensures ms k (place_empty c.args.form block rdfs limit empty ends)))
 
@@ -45,7 +45,7 @@ returns c = λ rdfs w t.
     let wide : ℕ = c.args.tally.compared.span + empty * c.slot_length-slot_length.result in
     let r : Option ℕ = c.difference.result in
     subst (λ (o : Option ℕ). MatchOption o (HasRightLengths c.args.form block rdfs) (HasWrongLengths c.args.form block rdfs)) (sym c.or.ensures)
-    (lengths_end c.args.form block rdfs limit empty wide c.saturating_sub.result c.args.tally r least ends t (c.in_default.ensures ms k)
+    (lengths_end c.args.form block rdfs limit empty wide c.saturating_sub.result c.args.tally r least ends t (c.in_default.ensures.data_wrong ms k)
     (subst (λ (j : ℕ). Compares limit (drop limit (take (length block - 4) block)) (control (ms ++ empties empty j)) None) c.slot_length-slot_length.ensures.length
     (c.in_default-control_difference.ensures ms k (place_empty c.args.form block rdfs limit empty ends)))
     (ap (λ (j : ℕ). c.args.tally.compared.span + empty * j) c.slot_length-slot_length.ensures.length) c.saturating_sub.ensures
