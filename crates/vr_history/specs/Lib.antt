@@ -1,0 +1,17 @@
+pub mod Address
+pub mod Case
+pub mod Change
+pub mod Committed
+pub mod Effects
+pub mod Found
+pub mod Legal
+pub mod LogSpace
+pub mod Merged
+pub mod Names
+pub mod Opened
+pub mod RefusedFile
+pub mod RefusedRecord
+pub mod RefusedRoom
+pub mod Replies
+pub mod State
+pub mod Step
