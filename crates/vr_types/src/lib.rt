@@ -12,6 +12,7 @@ pub mod geometry;
 pub mod makers;
 pub mod memory;
 pub mod name;
+mod order;
 pub mod reply;
 pub mod request;
 #[cfg(test)]
