@@ -7,6 +7,8 @@ pub mod Faults
 pub mod Fields
 pub mod Geometry
 pub mod Image
+pub mod Locks
+pub mod LogSpace
 pub mod Moments
 pub mod Name
 pub mod PlaceBuffer
