@@ -5,7 +5,7 @@ use Rattle.std.specs.Prelude.{ℕ, Bool, true, false, not, cond, List, [], ◌�
 use Rattle.std.specs.Int.{w32, to_be_bytes}
 use Rattle.std.specs.Option.{option_map_or}
 use Rattle.vr_altkey.specs.Pairs.{field_of}
-use Rattle.vr_catalog.specs.Alternate.{Alternate}
+use Rattle.vr_catalog.specs.Catalog.{Alternate}
 use Rattle.vr_catalog.specs.Definition.{Definition, key_of}
 use Rattle.vr_types.specs.Content.{Item, Standing, record_at}
 use Rattle.vr_types.specs.declared.request.Request.{Request}
@@ -64,7 +64,7 @@ pub record PairMove : Type 0 where
   pub taken : Option (List ℕ)
 
 abbrev pub field_in : Alternate → Option (List ℕ) → Option (List ℕ)
-field_in alternate bytes = option_and_then (field_of alternate.length alternate.offset) bytes
+field_in alternate bytes = option_and_then (field_of alternate.key_length alternate.key_offset) bytes
 
 abbrev pub move_of : Case → List ℕ → Alternate → PairMove
 move_of case place alternate = record { alternate = alternate; place = place; given_up = field_in alternate (old_record case); taken = field_in alternate (new_record case.request) }
@@ -84,4 +84,4 @@ abbrev pub moves_at : Case → List ℕ → List PairMove
 moves_at case place = filter moves_key (map (move_of case place) (built_over case.state (base_of case)))
 
 abbrev pub pair_moves : Case → List PairMove
-pair_moves case = option_map_or (moves_at case) [] (place_changed case)
+pair_moves case = option_map_or (moves_at case) (place_changed case) []

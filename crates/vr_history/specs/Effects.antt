@@ -3,8 +3,13 @@
 use Rattle.std.specs.Prelude.{ℕ, ◌+◌, Bool, true, false, not, cond, if◌then◌else◌, List, [], ◌∷◌, ◌++◌, Option, Some, None, ◌==◌, ◌&&◌, ◌||◌, nat_eq, length, filter, map, option_map, option_and_then, option_to_list}
 use Rattle.std.specs.List.{list_any}
 use Rattle.std.specs.Option.{option_map_or}
-use Rattle.vr_catalog.specs.Catalog.{parts_in, built_parts_in}
+use Rattle.vr_catalog.specs.Catalog.{parts_in}
+use Rattle.vr_catalog.specs.declared.entry.CatEntry.{CatEntry}
+use Rattle.vr_catalog.specs.declared.entry.EntryKind.{EntryKind}
+use Rattle.vr_catalog.specs.declared.entry.EntryKind.TheVariants.{Cluster, Alternate, Path}
 use Rattle.vr_types.specs.Content.{Content, Item, item_at, with_item, without_item}
+use Rattle.vr_types.specs.Locks.{Lock}
+use Rattle.vr_types.specs.Position.{unheld}
 use Rattle.vr_types.specs.declared.position.Position.{Position}
 use Rattle.vr_types.specs.declared.position.Stand.{Stand}
 use Rattle.vr_types.specs.declared.position.Stand.TheVariants.{At, After, End, None as Nowhere}
@@ -16,14 +21,11 @@ use Rattle.vr_history.specs.Change.{Change}
 use Rattle.vr_history.specs.LogSpace.{Logging}
 use Rattle.vr_history.specs.Names.{with_locks}
 use Rattle.vr_history.specs.Opened.{catalog_of}
-use Rattle.vr_history.specs.State.{BeforeImage, Lock, Logged, Owned, State, is_kept, is_live, is_unit}
+use Rattle.vr_history.specs.State.{BeforeImage, Logged, Owned, State, is_kept, is_live, is_unit}
 
 -- one file's position changes
 abbrev pub moves_file : ℕ → ℕ → (Position → Position) → State → State
 moves_file deck slot to state = record state { positions = λ d s. if d == deck && s == slot then to (state.positions d s) else state.positions d s }
-
-abbrev pub unheld : Position → Position
-unheld position = record position { held = None }
 
 abbrev pub holding : List ℕ → Position → Position
 holding place position = record position { held = Some place }
@@ -118,6 +120,15 @@ without_unit unit state =
 abbrev pub has_part : List ℕ → ℕ → Bool
 has_part parts part = list_any (nat_eq part) (0 ∷ parts)
 
+-- a cluster has areas, and an alternate index that is built
+abbrev pub has_areas : EntryKind → CatEntry → Bool
+has_areas Cluster entry = true
+has_areas Alternate entry = entry.built
+has_areas Path entry = false
+
+abbrev pub parts_laid : List CatEntry → List ℕ
+parts_laid entries = parts_in (filter (λ entry. has_areas entry.entry_kind entry) entries)
+
 abbrev pub is_utility_live : State → Bool
 is_utility_live state = list_any (λ logged. logged.unit.deck == 0) state.logged
 
@@ -127,7 +138,7 @@ contents_left state part = if has_part (parts_in (catalog_of state)) part then s
 abbrev pub gives_back : State → State
 gives_back state = cond (is_utility_live state) state (record state {
   contents = contents_left state;
-  owned = filter (λ owned. has_part (built_parts_in (catalog_of state)) owned.part) state.owned;
+  owned = filter (λ owned. has_part (parts_laid (catalog_of state)) owned.part) state.owned;
 })
 
 abbrev pub ends_unit : UnitOfRecovery → State → State

@@ -4,7 +4,7 @@
 use Rattle.std.specs.Prelude.{ℕ, Bool, true, false, not, cond, List, [], ◌∷◌, ◌++◌, Option, Some, None, ◌==◌, ◌&&◌, take, filter, filter_map, bytes_eq, option_map, option_and_then}
 use Rattle.std.specs.Ordering.{is_lt, is_le}
 use Rattle.vr_altkey.specs.Pairs.{field_of}
-use Rattle.vr_catalog.specs.Alternate.{Alternate}
+use Rattle.vr_catalog.specs.Catalog.{Alternate}
 use Rattle.vr_catalog.specs.Definition.{Definition}
 use Rattle.vr_types.specs.Content.{Content, Placed, Item, Standing, Withdrawn, record_of, place_cmp}
 use Rattle.vr_types.specs.declared.position.Stand.{Stand}
@@ -40,7 +40,7 @@ kept_by_others unit part befores = filter_map (λ kept. standing_at kept.place k
 abbrev pub candidate_in : Opened → Standing_at → Option Candidate
 candidate_in Unknown record_at = None
 candidate_in (Cluster definition) record_at = Some (record { at = record_at.0; base = record_at.0; bytes = record_at.1 })
-candidate_in (ByPath definition alternate) record_at = option_map (λ field. record { at = field ++ record_at.0; base = record_at.0; bytes = record_at.1 }) (field_of alternate.length alternate.offset record_at.1)
+candidate_in (ByPath definition alternate) record_at = option_map (λ field. record { at = field ++ record_at.0; base = record_at.0; bytes = record_at.1 }) (field_of alternate.key_length alternate.key_offset record_at.1)
 
 abbrev pub seen_by : Bool → Case → List Standing_at
 seen_by true case = records_in (case.state.contents (base_of case)) ++ kept_by_others case.unit (base_of case) case.state.befores
@@ -61,7 +61,7 @@ is_past Nowhere at = false
 abbrev pub is_at : Opened → List ℕ → List ℕ → Bool
 is_at Unknown place at = false
 is_at (Cluster definition) place at = bytes_eq place at
-is_at (ByPath definition alternate) key at = bytes_eq key (take alternate.length at)
+is_at (ByPath definition alternate) key at = bytes_eq key (take alternate.key_length at)
 
 abbrev pub is_asked : Opened → Stand → Find → Candidate → Bool
 is_asked opened stand Next candidate = is_past stand candidate.at

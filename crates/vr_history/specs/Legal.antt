@@ -36,17 +36,17 @@ is_backout (Update file bytes) = false
 is_backout (Erase file) = false
 is_backout (EndReq file) = false
 
+abbrev pub backs_out : What → Bool → Bool
+backs_out (Asked request reply) later = is_backout request
+backs_out (Undone part place) later = later
+backs_out (Claimed part area) later = later
+backs_out (Split part) later = later
+backs_out (Faulted fault) later = later
+
 -- the unit's next request, if it has one, is a BACKOUT
 abbrev pub asks_backout : UnitOfRecovery → List Entry → Bool
 asks_backout unit [] = true
-asks_backout unit (entry ∷ entries) = cond (is_unit unit entry.unit) (backs_out entry.what) (asks_backout unit entries)
-  where
-    backs_out : What → Bool
-    backs_out (Asked request reply) = is_backout request
-    backs_out (Undone part place) = asks_backout unit entries
-    backs_out (Claimed part area) = asks_backout unit entries
-    backs_out (Split part) = asks_backout unit entries
-    backs_out (Faulted fault) = asks_backout unit entries
+asks_backout unit (entry ∷ entries) = cond (is_unit unit entry.unit) (backs_out entry.what (asks_backout unit entries)) (asks_backout unit entries)
 
 abbrev pub BacksOutAfter : Entry → List Entry → What → Type 0
 BacksOutAfter entry rest (Undone part place) = asks_backout entry.unit rest ≡ true

@@ -4,6 +4,7 @@ pub mod Change
 pub mod Committed
 pub mod Effects
 pub mod Found
+pub mod Kept
 pub mod Legal
 pub mod LogSpace
 pub mod Merged

@@ -4,6 +4,7 @@
 use Rattle.std.specs.Prelude.{ℕ, Bool, true, false, not, cond, List, [], ◌∷◌, ◌++◌, Option, Some, None, ◌==◌, ◌&&◌, ◌||◌, find, filter, map, flat_map, option_map, option_to_list, option_and_then}
 use Rattle.std.specs.Option.{option_map_or, option_or}
 use Rattle.std.specs.List.{list_any}
+use Rattle.vr_types.specs.Locks.{Lock}
 use Rattle.vr_types.specs.declared.reply.LockName.{LockName}
 use Rattle.vr_types.specs.declared.reply.LockName.TheVariants.{Record, Unique}
 use Rattle.vr_types.specs.declared.request.Request.{Request}
@@ -17,7 +18,7 @@ use Rattle.vr_history.specs.Case.{Case}
 use Rattle.vr_history.specs.Change.{PairMove, pair_moves, place_changed}
 use Rattle.vr_history.specs.Found.{place_read}
 use Rattle.vr_history.specs.Opened.{base_of}
-use Rattle.vr_history.specs.State.{Lock, State, is_name, is_unit}
+use Rattle.vr_history.specs.State.{State, is_name, is_unit}
 
 abbrev pub record_name : Case → List ℕ → LockName
 record_name case place = Record (record { 0 = base_of case }) place
@@ -47,7 +48,7 @@ read_mode false integrity = mode_by integrity
 
 -- the names that a request asks for, each in the order in which they are tried, and how
 abbrev pub lock_names : Case → Request → List LockName
-lock_names case (Get file find update integrity) = option_map_or (λ mode. read_names case) [] (read_mode update integrity)
+lock_names case (Get file find update integrity) = option_map_or (λ mode. read_names case) (read_mode update integrity) []
 lock_names case (Point file find) = []
 lock_names case (Add file place bytes) = change_names case
 lock_names case (Update file bytes) = change_names case

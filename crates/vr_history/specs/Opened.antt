@@ -2,8 +2,7 @@
 -- indexes (DFSMS Using Data Sets, alternate indexes and paths).
 use Rattle.std.specs.Prelude.{ℕ, Bool, true, false, cond, List, [], Option, Some, None, ◌==◌, filter, find, option_and_then, option_map}
 use Rattle.std.specs.Option.{option_map_or}
-use Rattle.vr_catalog.specs.Catalog.{entries_in, definition_of, alternates_over}
-use Rattle.vr_catalog.specs.Alternate.{Alternate}
+use Rattle.vr_catalog.specs.Catalog.{Alternate, entries_in, definition_of, alternates_over}
 use Rattle.vr_catalog.specs.Definition.{Definition}
 use Rattle.vr_catalog.specs.declared.entry.CatEntry.{CatEntry}
 use Rattle.vr_types.specs.declared.request.FileRef.{FileRef}
@@ -42,11 +41,11 @@ abbrev pub opened_file : State → FileRef → Opened
 opened_file state file = cond file.known (opened_base state file (definition_of (catalog_of state) file.base.0)) Unknown
 
 abbrev pub opened : Case → Opened
-opened case = option_map_or (opened_file case.state) Unknown (file_of case.request)
+opened case = option_map_or (opened_file case.state) (file_of case.request) Unknown
 
 -- the part of the base cluster of the request's file, 0 where there is no file
 abbrev pub base_of : Case → ℕ
-base_of case = option_map_or (λ file. file.base.0) 0 (file_of case.request)
+base_of case = option_map_or (λ file. file.base.0) (file_of case.request) 0
 
 -- the definition of the base cluster
 abbrev pub definition_in : Opened → Option Definition

@@ -4,7 +4,7 @@
 use Rattle.std.specs.Prelude.{ℕ, ◌+◌, ◌-◌, ◌^◌, Bool, true, false, not, cond, min, nat_eq, nat_le, List, [], ◌∷◌, Option, Some, None, ◌==◌, ◌&&◌, ◌||◌, length, is_none, bytes_eq, option_map, option_and_then}
 use Rattle.std.specs.List.{list_any}
 use Rattle.std.specs.Option.{option_map_or}
-use Rattle.vr_catalog.specs.Alternate.{Alternate}
+use Rattle.vr_catalog.specs.Catalog.{Alternate}
 use Rattle.vr_catalog.specs.Definition.{Definition, is_valid_record}
 use Rattle.vr_types.specs.declared.reply.Refusal.{Refusal}
 use Rattle.vr_types.specs.declared.reply.Refusal.TheVariants.{NoFile, Stopped, NotAllowed, BadSlot, BadLength}
@@ -72,7 +72,7 @@ allows_point opened (AtLeast place) = goes_with opened place
 abbrev pub allows_slot : Kind → Option (List ℕ) → Bool
 allows_slot Keyed named = is_none named
 allows_slot Entry named = is_none named
-allows_slot Relative named = option_map_or (has_form Relative) false named
+allows_slot Relative named = option_map_or (has_form Relative) named false
 
 abbrev pub kind_allows : (Kind → Bool) → Opened → Bool
 kind_allows test Unknown = true
@@ -138,7 +138,7 @@ has_length wanted place = refused_if (not (nat_eq (length place) wanted)) (BadLe
 -- this project's own rule: a key that is named has the length of the file's keys
 abbrev pub key_length_wrong : Opened → List ℕ → Option Refusal
 key_length_wrong Unknown place = None
-key_length_wrong (ByPath definition alternate) place = has_length alternate.length place
+key_length_wrong (ByPath definition alternate) place = has_length alternate.key_length place
 key_length_wrong (Cluster definition) place = has_key_length definition.kind
   where
     has_key_length : Kind → Option Refusal

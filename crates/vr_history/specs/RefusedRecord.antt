@@ -6,6 +6,7 @@ use Rattle.std.specs.List.{list_any}
 use Rattle.std.specs.Option.{option_map_or}
 use Rattle.vr_catalog.specs.Definition.{Definition, key_of}
 use Rattle.vr_types.specs.Content.{record_at}
+use Rattle.vr_types.specs.Locks.{Lock}
 use Rattle.vr_types.specs.declared.position.Stand.{Stand}
 use Rattle.vr_types.specs.declared.position.Stand.TheVariants.{Start, At, After, End, None as Nowhere}
 use Rattle.vr_types.specs.declared.reply.Refusal.{Refusal}
@@ -22,7 +23,7 @@ use Rattle.vr_history.specs.Found.{Standing_at, found, place_read, records_in, s
 use Rattle.vr_history.specs.Names.{conflict_on, lock_names, mode_asked}
 use Rattle.vr_history.specs.Opened.{Opened, Unknown, Cluster, ByPath, opened, base_of}
 use Rattle.vr_history.specs.RefusedFile.{refused_if}
-use Rattle.vr_history.specs.State.{Lock, State}
+use Rattle.vr_history.specs.State.{State}
 
 abbrev pub is_nowhere : Stand → Bool
 is_nowhere Start = false
@@ -45,7 +46,7 @@ is_sequential Backout = false
 
 -- a sequential GET of a file that stands nowhere
 abbrev pub no_position : Case → Option Refusal
-no_position case = refused_if (is_sequential case.request && option_map_or is_nowhere false (stand_of case)) NoPosition
+no_position case = refused_if (is_sequential case.request && option_map_or is_nowhere (stand_of case) false) NoPosition
 
 -- an update or an erase, and the file holds nothing for update
 abbrev pub no_get : Case → Option Refusal
@@ -67,7 +68,7 @@ changes_key case (Cluster definition) place bytes = other_key definition.kind de
 changes_key case (ByPath definition alternate) place bytes = other_key definition.kind definition place bytes || moves_key (move_of case place alternate)
 
 abbrev pub key_changes : Case → Request → Bool
-key_changes case (Update file bytes) = option_map_or (λ place. changes_key case (opened case) place bytes) false (dropped case)
+key_changes case (Update file bytes) = option_map_or (λ place. changes_key case (opened case) place bytes) (dropped case) false
 key_changes case (Get file find update integrity) = false
 key_changes case (Point file find) = false
 key_changes case (Add file place bytes) = false
@@ -82,7 +83,7 @@ key_changed case = refused_if (key_changes case case.request) KeyChanged
 -- an entry-sequenced record keeps its length
 abbrev pub other_length : Kind → Option (List ℕ) → List ℕ → Bool
 other_length Keyed old bytes = false
-other_length Entry old bytes = option_map_or (λ record_now. not (nat_eq (length record_now) (length bytes))) false old
+other_length Entry old bytes = option_map_or (λ record_now. not (nat_eq (length record_now) (length bytes))) old false
 other_length Relative old bytes = false
 
 abbrev pub changes_length : Case → Opened → List ℕ → Bool
@@ -156,10 +157,10 @@ duplicate case = refused_if (is_add case.request && has_record case) (Duplicate 
 
 -- another record of the base has the key
 abbrev pub has_key : PairMove → List ℕ → Standing_at → Bool
-has_key move key record_at = not (bytes_eq record_at.0 move.place) && option_map_or (bytes_eq key) false (field_in move.alternate (Some record_at.1))
+has_key move key record_at = not (bytes_eq record_at.0 move.place) && option_map_or (bytes_eq key) (field_in move.alternate (Some record_at.1)) false
 
 abbrev pub is_taken : Case → PairMove → Bool
-is_taken case move = option_map_or (λ key. list_any (has_key move key) (records_in (case.state.contents (base_of case)))) false move.taken
+is_taken case move = option_map_or (λ key. list_any (has_key move key) (records_in (case.state.contents (base_of case)))) move.taken false
 
 -- a change takes a key of a unique alternate index that another record has: of the first such by part number
 abbrev pub taken_twice : Case → Option PairMove

@@ -9,7 +9,8 @@ use Rattle.vr_types.specs.declared.reply.Refusal.TheVariants.{NoSpace, LogFull}
 use Rattle.vr_history.specs.Address.{areas_needed, interval_needed}
 use Rattle.vr_history.specs.Case.{Case, new_record}
 use Rattle.vr_history.specs.Change.{place_changed}
-use Rattle.vr_history.specs.LogSpace.{log_need, log_size}
+use Rattle.vr_types.specs.LogSpace.{log_size}
+use Rattle.vr_history.specs.LogSpace.{log_need}
 use Rattle.vr_history.specs.Opened.{base_of, definition_in, opened}
 use Rattle.vr_history.specs.RefusedFile.{refused_if}
 use Rattle.vr_history.specs.State.{State, areas_of}

@@ -5,7 +5,7 @@ use Rattle.std.specs.Prelude.{◌≡◌, ◌⊎◌, ◌<◌, ℕ, Bool, true, fa
 use Rattle.std.specs.List.{list_any}
 use Rattle.std.specs.Option.{option_map_or}
 use Rattle.std.specs.Ordering.{is_lt}
-use Rattle.vr_catalog.specs.Alternate.{Alternate}
+use Rattle.vr_catalog.specs.Catalog.{Alternate}
 use Rattle.vr_catalog.specs.Definition.{Definition}
 use Rattle.vr_types.specs.Content.{place_cmp}
 use Rattle.vr_types.specs.declared.reply.Refusal.{Refusal}
@@ -46,7 +46,7 @@ all_refusals case = before_room case ++ log_full case ∷ []
 
 -- through a path, a later pair has the key of the one that was found
 abbrev pub is_later : Alternate → Candidate → Candidate → Bool
-is_later alternate this other = bytes_eq (take alternate.length this.at) (take alternate.length other.at) && is_lt (place_cmp this.at other.at)
+is_later alternate this other = bytes_eq (take alternate.key_length this.at) (take alternate.key_length other.at) && is_lt (place_cmp this.at other.at)
 
 abbrev pub pairs_seen : Case → List Candidate
 pairs_seen case = filter_map (candidate_in (opened case)) (records_in (case.state.contents (base_of case)))
@@ -62,7 +62,7 @@ feedback_if true = 8
 feedback_if false = 0
 
 abbrev pub read_feedback : Case → ℕ
-read_feedback case = feedback_if (option_map_or (has_later (opened case) case) false (found case))
+read_feedback case = feedback_if (option_map_or (has_later (opened case) case) (found case) false)
 
 -- feedback 8: a key of an alternate index that isn't unique was taken, and another record has it
 abbrev pub is_shared : Case → PairMove → Bool
@@ -119,7 +119,7 @@ is_keyed Entry = false
 is_keyed Relative = false
 
 abbrev pub fills_base : Case → Bool
-fills_base case = option_map_or (λ definition. is_keyed definition.kind) false (definition_in (opened case))
+fills_base case = option_map_or (λ definition. is_keyed definition.kind) (definition_in (opened case)) false
 
 abbrev pub gains_pair : PairMove → Bool
 gains_pair move = not (is_none move.taken)

@@ -4,19 +4,12 @@
 use Rattle.std.specs.Prelude.{ℕ, Bool, List, [], Option, None, ◌==◌, ◌&&◌, ◌-◌, false, length, filter, bytes_eq}
 use Rattle.std.specs.List.{list_any}
 use Rattle.vr_types.specs.Content.{Content, Item}
-use Rattle.vr_types.specs.Places.{position_at_start}
-use Rattle.vr_types.specs.declared.geometry.Geometry.{Geometry}
+use Rattle.vr_types.specs.Locks.{Lock}
+use Rattle.vr_types.specs.Position.{first_position}
 use Rattle.vr_types.specs.declared.position.Position.{Position}
 use Rattle.vr_types.specs.declared.reply.LockName.{LockName}
 use Rattle.vr_types.specs.declared.reply.LockName.TheVariants.{Record, Unique}
-use Rattle.vr_types.specs.declared.unit.Mode.{Mode}
 use Rattle.vr_types.specs.declared.unit.Unit.{Unit as UnitOfRecovery}
-
--- a lock: what it is on, whose it is, and how it is held
-pub record Lock : Type 0 where
-  pub name : LockName
-  pub unit : UnitOfRecovery
-  pub mode : Mode
 
 -- what stood at a place of a cluster before a unit first changed it
 pub record BeforeImage : Type 0 where
@@ -63,7 +56,7 @@ opening_state contents owned = record {
   befores = [];
   logged = [];
   used = 0;
-  positions = λ deck slot. position_at_start;
+  positions = λ deck slot. first_position;
   numbers = λ deck. 1;
   owned = owned;
   stopped = None;

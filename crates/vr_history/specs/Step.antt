@@ -21,7 +21,7 @@ use Rattle.vr_types.specs.declared.request.Request.TheVariants.{Get, Point, Add,
 use Rattle.vr_types.specs.declared.unit.Integrity.{Integrity}
 use Rattle.vr_types.specs.declared.unit.Integrity.TheVariants.{Nri, Cr, Cre}
 use Rattle.vr_types.specs.declared.unit.Kind.{Kind}
-use Rattle.vr_types.specs.declared.unit.Kind.TheVariants.{Keyed, Entry, Relative}
+use Rattle.vr_types.specs.declared.unit.Kind.TheVariants.{Keyed, Entry as EntrySequenced, Relative}
 use Rattle.vr_types.specs.declared.unit.Unit.{Unit as UnitOfRecovery}
 use Rattle.vr_history.specs.declared.entry.Entry.{Entry}
 use Rattle.vr_history.specs.declared.entry.What.{What}
@@ -47,7 +47,7 @@ case_of geometry state unit request = record { geometry = geometry; state = stat
 abbrev pub withdrawn_by : Kind → Option Item → Option Item
 withdrawn_by Keyed now = None
 withdrawn_by Relative now = None
-withdrawn_by Entry now = option_map (λ item. Withdrawn (length_of item)) now
+withdrawn_by EntrySequenced now = option_map (λ item. Withdrawn (length_of item)) now
 
 abbrev pub put_back : State → BeforeImage → Option Item → Option Item
 put_back state kept (Some old) = Some old
@@ -77,7 +77,7 @@ read_on (AtLeast place) at = None
 
 abbrev pub stands_after : Case → Option Stand → State → State
 stands_after case None state = state
-stands_after case (Some stand) state = option_map_or (λ file. moves_file case.unit.deck file.slot (standing stand) state) state (file_of case.request)
+stands_after case (Some stand) state = option_map_or (λ file. moves_file case.unit.deck file.slot (standing stand) state) (file_of case.request) state
 
 abbrev pub reads_on : Case → Find → State → State
 reads_on case find state = stands_after case (option_and_then (λ candidate. read_on find candidate.at) (found case)) state
@@ -89,7 +89,7 @@ keeps_shared case Cr state = state
 keeps_shared case Cre state = locks case.unit Shared (lock_names case case.request) state
 
 abbrev pub holds : Case → State → State
-holds case state = option_map_or (λ file. option_map_or (λ place. moves_file case.unit.deck file.slot (holding place) state) state (place_read case)) state (file_of case.request)
+holds case state = option_map_or (λ file. option_map_or (λ place. moves_file case.unit.deck file.slot (holding place) state) (place_read case) state) (file_of case.request) state
 
 abbrev pub keeps_read : Case → Bool → Integrity → State → State
 keeps_read case true integrity state = holds case (locks case.unit Exclusive (lock_names case case.request) state)
@@ -100,7 +100,7 @@ abbrev pub makes : Case → Change → State → State
 makes case change state = changes change (logs case.unit (new_loggings case) (log_need case) (keeps_before case.unit change (locks case.unit Exclusive (lock_names case case.request) state)))
 
 abbrev pub makes_change : Case → State → State
-makes_change case state = option_map_or (λ change. makes case change state) state (change_of case)
+makes_change case state = option_map_or (λ change. makes case change state) (change_of case) state
 
 -- POINT stands at what it found; ENDREQ stands nowhere
 abbrev pub points_at : Case → State → State
@@ -158,7 +158,7 @@ after_asked case reply = after_reply case reply (drops_held case.unit.deck (file
 
 -- the unit's last kept before-image is put back and taken out
 abbrev pub puts_back : UnitOfRecovery → State → State
-puts_back unit state = option_map_or (λ kept. takes_out unit (changes (change_back state kept) state)) state (last_kept state unit)
+puts_back unit state = option_map_or (λ kept. takes_out unit (changes (change_back state kept) state)) (last_kept state unit) state
 
 -- the state after an entry
 abbrev pub after_what : Geometry → State → UnitOfRecovery → ℕ → What → State

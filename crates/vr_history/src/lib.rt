@@ -1,13 +1,8 @@
-// A library with one function.
+//! The record file of a volume, defined whole: which reply a request may have, and what each entry leaves of the state.
 #![tactic(auto)]
 
-ghost use Rattle.std.specs.Prelude.{◌≡◌};
-ghost use Rattle.vr_history.specs.Echo.{echo_of};
+mod entry;
+mod history;
 
-// The `ensures` clause is the contract: what `echo` returns is `echo_of` of its argument, a definition
-// in `specs/Echo.antt`, which a caller's clause can cite too.
-pub fn echo(x: usize) -> usize
-    ensures { result ≡ echo_of x }
-{
-    x
-}
+pub use entry::{Entry, What};
+pub use history::History;

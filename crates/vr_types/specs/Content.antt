@@ -57,7 +57,7 @@ records_of content = filter_map record_at_place content
 abbrev pub Agree : Content → Content → Type 0
 Agree one other = records_of one ≡ records_of other
 
-abbrev pub found_by : Ordering → Option (List ℕ) → Option (List ℕ) → Option (List ℕ)
+abbrev pub found_by : {X : Type 0} → Ordering → Option X → Option X → Option X
 found_by Less here further = further
 found_by Equal here further = here
 found_by Greater here further = further
@@ -76,3 +76,18 @@ put_by Greater new entry content further = entry ∷ further
 abbrev pub with_item : Content → List ℕ → Item → Content
 with_item [] place item = (place, item) ∷ []
 with_item (entry ∷ content) place item = put_by (place_cmp place entry.0) (place, item) entry content (with_item content place item)
+
+-- what stands at a place
+abbrev pub item_at : Content → List ℕ → Option Item
+item_at [] place = None
+item_at (entry ∷ content) place = found_by (place_cmp place entry.0) (Some entry.1) (item_at content place)
+
+abbrev pub dropped_by : Ordering → Placed → Content → Content → Content
+dropped_by Less entry content further = entry ∷ content
+dropped_by Equal entry content further = content
+dropped_by Greater entry content further = entry ∷ further
+
+-- the content without what stands at a place
+abbrev pub without_item : Content → List ℕ → Content
+without_item [] place = []
+without_item (entry ∷ content) place = dropped_by (place_cmp place entry.0) entry content (without_item content place)
