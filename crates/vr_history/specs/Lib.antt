@@ -5,6 +5,7 @@ pub mod Committed
 pub mod Effects
 pub mod Found
 pub mod Kept
+pub mod Laws
 pub mod Legal
 pub mod LogSpace
 pub mod Merged

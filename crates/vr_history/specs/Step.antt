@@ -14,6 +14,7 @@ use Rattle.vr_types.specs.declared.reply.Refusal.{Refusal}
 use Rattle.vr_types.specs.declared.reply.Refusal.TheVariants.{EndOfData, Duplicate, NotFound, NoAddress, NoSpace, NoPosition, NoGet, KeyChanged, LengthChanged, BadLength, BadSlot, Held, LogFull, Stopped, ReadFault, WriteFault, Memory, NotAllowed, NoFile}
 use Rattle.vr_types.specs.declared.reply.Reply.{Reply}
 use Rattle.vr_types.specs.declared.reply.Reply.TheVariants.{Done, Refused}
+use Rattle.vr_types.specs.declared.request.FileRef.{FileRef}
 use Rattle.vr_types.specs.declared.request.Find.{Find}
 use Rattle.vr_types.specs.declared.request.Find.TheVariants.{Next, Equal, AtLeast}
 use Rattle.vr_types.specs.declared.request.Request.{Request}
@@ -75,9 +76,13 @@ read_on Next at = Some (After at)
 read_on (Equal place) at = None
 read_on (AtLeast place) at = None
 
+abbrev pub stands_in : ℕ → Option FileRef → Option Stand → State → State
+stands_in deck None stand state = state
+stands_in deck (Some file) None state = state
+stands_in deck (Some file) (Some stand) state = moves_file deck file.slot (standing stand) state
+
 abbrev pub stands_after : Case → Option Stand → State → State
-stands_after case None state = state
-stands_after case (Some stand) state = option_map_or (λ file. moves_file case.unit.deck file.slot (standing stand) state) (file_of case.request) state
+stands_after case stand state = stands_in case.unit.deck (file_of case.request) stand state
 
 abbrev pub reads_on : Case → Find → State → State
 reads_on case find state = stands_after case (option_and_then (λ candidate. read_on find candidate.at) (found case)) state

@@ -1,4 +1,4 @@
-use Rattle.std.specs.Prelude.{◌≡◌, ℕ, ◌<◌, List, [], ◌∷◌, map, All, Option, Some, None}
+use Rattle.std.specs.Prelude.{◌≡◌, ℕ, ◌<◌, not, List, [], ◌∷◌, map, filter, bytes_eq, All, Option, Some, None}
 use Rattle.std.specs.List.{filter_map}
 use Rattle.std.specs.List.Sorted.{IsStrictlySortedBy}
 use Rattle.std.specs.Ordering.{nat_cmp}
@@ -82,12 +82,6 @@ abbrev pub item_at : Content → List ℕ → Option Item
 item_at [] place = None
 item_at (entry ∷ content) place = found_by (place_cmp place entry.0) (Some entry.1) (item_at content place)
 
-abbrev pub dropped_by : Ordering → Placed → Content → Content → Content
-dropped_by Less entry content further = entry ∷ content
-dropped_by Equal entry content further = content
-dropped_by Greater entry content further = entry ∷ further
-
 -- the content without what stands at a place
 abbrev pub without_item : Content → List ℕ → Content
-without_item [] place = []
-without_item (entry ∷ content) place = dropped_by (place_cmp place entry.0) entry content (without_item content place)
+without_item content place = filter (λ (entry : Placed). not (bytes_eq place entry.0)) content
