@@ -18,7 +18,7 @@ pub second_holds : (a b : Bool) → (a && b) ≡ true → b ≡ true
 second_holds true b both = both
 second_holds false b both = absurd (false≢true both)
 
-nat_same : (m n : ℕ) → (m == n) ≡ true → m ≡ n
+pub nat_same : (m n : ℕ) → (m == n) ≡ true → m ≡ n
 nat_same m n same = grind (arith, nat_tests, same)
 
 two_of : {A B C : Type 0} (f : A → B → C) (a a' : A) (b b' : B) → a ≡ a' → b ≡ b' → f a b ≡ f a' b'

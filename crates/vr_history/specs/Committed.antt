@@ -34,7 +34,7 @@ is_commit (Erase file) = false
 is_commit (EndReq file) = false
 
 abbrev pub commits : What → Bool
-commits (Asked request reply) = is_commit request && is_done reply
+commits (Asked request reply) = is_done reply && is_commit request
 commits (Undone part place) = false
 commits (Claimed part area) = false
 commits (Split part) = false
