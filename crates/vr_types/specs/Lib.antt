@@ -7,6 +7,7 @@ pub mod Faults
 pub mod Fields
 pub mod Geometry
 pub mod Image
+pub mod LockName
 pub mod Locks
 pub mod LogSpace
 pub mod Moments
