@@ -1,6 +1,7 @@
 pub mod Befores
 pub mod CallerLemmas
 pub mod Endings
+pub mod Holding
 pub mod Items
 pub mod LockLemmas
 pub mod LockRuns

@@ -5,7 +5,7 @@ use Rattle.std.specs.List.{list_any}
 use Rattle.std.specs.Option.{option_or}
 use Rattle.std.proofs.lemmas.Bool.{true≢false, false≢true}
 use Rattle.vr_types.specs.Locks.{Conflict, Lock}
-use Rattle.vr_types.specs.declared.reply.LockName.{LockName}
+use Rattle.vr_types.specs.declared.lock_name.LockName.{LockName}
 use Rattle.vr_types.specs.declared.unit.Mode.{Mode}
 use Rattle.vr_types.specs.declared.unit.Mode.TheVariants.{Shared, Exclusive}
 use Rattle.vr_types.specs.declared.unit.Unit.{Unit as UnitOfRecovery}

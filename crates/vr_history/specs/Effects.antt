@@ -13,7 +13,7 @@ use Rattle.vr_types.specs.Position.{unheld}
 use Rattle.vr_types.specs.declared.position.Position.{Position}
 use Rattle.vr_types.specs.declared.position.Stand.{Stand}
 use Rattle.vr_types.specs.declared.position.Stand.TheVariants.{At, After, End, None as Nowhere}
-use Rattle.vr_types.specs.declared.reply.LockName.{LockName}
+use Rattle.vr_types.specs.declared.lock_name.LockName.{LockName}
 use Rattle.vr_types.specs.declared.request.FileRef.{FileRef}
 use Rattle.vr_types.specs.declared.unit.Mode.{Mode}
 use Rattle.vr_types.specs.declared.unit.Unit.{Unit as UnitOfRecovery}

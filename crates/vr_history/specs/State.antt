@@ -7,8 +7,8 @@ use Rattle.vr_types.specs.Content.{Content, Item}
 use Rattle.vr_types.specs.Locks.{Lock}
 use Rattle.vr_types.specs.Position.{first_position}
 use Rattle.vr_types.specs.declared.position.Position.{Position}
-use Rattle.vr_types.specs.declared.reply.LockName.{LockName}
-use Rattle.vr_types.specs.declared.reply.LockName.TheVariants.{Record, Unique}
+use Rattle.vr_types.specs.declared.lock_name.LockName.{LockName}
+use Rattle.vr_types.specs.declared.lock_name.LockName.TheVariants.{Record, Unique}
 use Rattle.vr_types.specs.declared.unit.Unit.{Unit as UnitOfRecovery}
 
 -- what stood at a place of a cluster before a unit first changed it
