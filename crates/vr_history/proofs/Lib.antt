@@ -9,3 +9,4 @@ pub mod Merging
 pub mod Positions
 pub mod Replying
 pub mod Same
+pub mod Settling

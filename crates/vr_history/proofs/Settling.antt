@@ -1,0 +1,168 @@
+-- What one entry leaves of the committed contents: at each place the record of the state, or the one that a unit which
+-- doesn't count keeps.
+use Rattle.std.proofs.Common.{◌≡◌, ◌≢◌, ◌⊎◌, ⊎_elim, inl, inr, ℕ, Bool, true, false, cond, not, ◌==◌, ◌&&◌, ◌||◌, List, [], ◌∷◌, ◌++◌, filter, find, bytes_eq, Some, None, refl, sym, ap, ◌∙◌, subst, eq-eqb, ne_eqb}
+use Rattle.std.specs.Prelude.{Option, if◌then◌else◌, option_and_then, option_map}
+use Rattle.std.specs.List.{list_any}
+use Rattle.std.proofs.lemmas.Bool.{true≢false, false≢true}
+use Rattle.std.proofs.lemmas.Slice.Eq.{bytes_eq-Decides}
+use mathlib.Core.Logic.{dite}
+use native.Mathlib.Decide.{ℕ_discrete}
+use Rattle.vr_catalog.specs.Definition.{Definition}
+use Rattle.vr_types.specs.Content.{Content, Item, item_at, record_of}
+use Rattle.vr_types.specs.Locks.{Lock}
+use Rattle.vr_types.specs.declared.lock_name.LockName.{LockName}
+use Rattle.vr_types.specs.declared.lock_name.LockName.TheVariants.{Record}
+use Rattle.vr_types.specs.declared.unit.Kind.{Kind}
+use Rattle.vr_types.specs.declared.unit.Kind.TheVariants.{Keyed, Entry as EntrySequenced, Relative}
+use Rattle.vr_types.specs.declared.unit.Mode.TheVariants.{Shared, Exclusive}
+use Rattle.vr_types.specs.declared.unit.Unit.{Unit as UnitOfRecovery}
+use Rattle.vr_history.specs.Change.{Change}
+use Rattle.vr_history.specs.Committed.{is_kept_of, kept_or, settled_item}
+use Rattle.vr_history.specs.Effects.{is_other, placed_in, with_change, without_last}
+use Rattle.vr_history.specs.Laws.{record_in, record_now, settled_record}
+use Rattle.vr_history.specs.State.{BeforeImage, State, is_unit}
+use Rattle.vr_history.specs.Step.{change_back, put_back, withdrawn_by}
+use Rattle.vr_history.proofs.Befores.{AreApart, IsLast, and_false, append_apart, filter_apart, filter_none, find_append_new, find_append_other, find_filter, find_narrow, is_place, last_found, last_gone, or_false, out_apart, out_other}
+use Rattle.vr_history.proofs.Holding.{Holds, first_holds_it, filtered_holds, free_unheld}
+use Rattle.vr_history.proofs.Items.{placed_elsewhere, placed_here}
+use Rattle.vr_history.proofs.LockLemmas.{FreeIn}
+use Rattle.vr_history.proofs.Same.{first_holds, nat_same, second_holds, unit_same, unit_self}
+
+-- the place of a before-image is held by its unit
+abbrev pub place_name : ℕ → List ℕ → LockName
+place_name part place = Record (record { 0 = part }) place
+
+abbrev pub AllHeld : List BeforeImage → List Lock → Type 0
+AllHeld [] locks = Unit {0}
+AllHeld (kept ∷ befores) locks = Holds kept.unit (place_name kept.part kept.place) locks × AllHeld befores locks
+
+abbrev pub HoldMore : List Lock → List Lock → Type 0
+HoldMore old new = (unit : UnitOfRecovery) (name : LockName) → Holds unit name old → Holds unit name new
+
+pub record Sound (befores : List BeforeImage) (locks : List Lock) : Type 0 where
+  pub apart : AreApart befores
+  pub held : AllHeld befores locks
+
+pub more_held : (befores : List BeforeImage) (old new : List Lock) → HoldMore old new → AllHeld befores old → AllHeld befores new
+more_held [] old new more held = tt
+more_held (kept ∷ befores) old new more held = (more kept.unit (place_name kept.part kept.place) held.0, more_held befores old new more held.1)
+
+-- no before-image is of a place that is free to a unit which keeps none there
+abbrev is_own_place : UnitOfRecovery → ℕ → List ℕ → BeforeImage → Bool
+is_own_place unit part place kept = is_unit unit kept.unit && is_place part place kept
+
+name_at : (part : ℕ) (place : List ℕ) (kept : BeforeImage) → is_place part place kept ≡ true → place_name kept.part kept.place ≡ place_name part place
+name_at part place kept is =
+    let parts : kept.part ≡ part = nat_same kept.part part (first_holds _ _ is) in
+    let places : place ≡ kept.place = (bytes_eq-Decides place kept.place).0 (second_holds (kept.part == part) _ is) in
+    ap (λ (p : ℕ). place_name p kept.place) parts ∙ ap (λ (q : List ℕ). place_name part q) (sym places)
+
+own_there : (unit : UnitOfRecovery) (part : ℕ) (place : List ℕ) (locks : List Lock) (kept : BeforeImage) → FreeIn unit Exclusive (place_name part place) locks
+    → Holds kept.unit (place_name kept.part kept.place) locks → is_place part place kept ≡ true → is_own_place unit part place kept ≡ true
+own_there unit part place locks kept free held is =
+    let same : unit ≡ kept.unit = free_unheld unit kept.unit (place_name part place) locks free (subst (λ (name : LockName). Holds kept.unit name locks) (name_at part place kept is) held) in
+    ap (λ (b : Bool). b && is_place part place kept) (subst (λ (u : UnitOfRecovery). is_unit unit u ≡ true) same (unit_self unit)) ∙ is
+
+not_there : (unit : UnitOfRecovery) (part : ℕ) (place : List ℕ) (locks : List Lock) (kept : BeforeImage) → FreeIn unit Exclusive (place_name part place) locks
+    → Holds kept.unit (place_name kept.part kept.place) locks → is_own_place unit part place kept ≡ false → is_place part place kept ≡ false
+not_there unit part place locks kept free held other = by_test (is_place part place kept) refl
+  where
+    by_test : (test : Bool) → is_place part place kept ≡ test → is_place part place kept ≡ false
+    by_test true is = absurd (true≢false (sym (own_there unit part place locks kept free held is) ∙ other))
+    by_test false is = is
+
+pub none_there : (unit : UnitOfRecovery) (part : ℕ) (place : List ℕ) (befores : List BeforeImage) (locks : List Lock) → FreeIn unit Exclusive (place_name part place) locks
+    → AllHeld befores locks → list_any (is_own_place unit part place) befores ≡ false → list_any (is_place part place) befores ≡ false
+none_there unit part place [] locks free held none = refl
+none_there unit part place (kept ∷ befores) locks free held none =
+    let here = or_false (is_own_place unit part place kept) (list_any (is_own_place unit part place) befores) none in
+    ap (λ (b : Bool). b || list_any (is_place part place) befores) (not_there unit part place locks kept free held.0 here.0) ∙ none_there unit part place befores locks free held.1 here.1
+
+all_held_append : (befores : List BeforeImage) (new : BeforeImage) (locks : List Lock) → AllHeld befores locks → Holds new.unit (place_name new.part new.place) locks → AllHeld (befores ++ new ∷ []) locks
+all_held_append [] new locks held holds = (holds, tt)
+all_held_append (kept ∷ befores) new locks held holds = (held.0, all_held_append befores new locks held.1 holds)
+
+-- a change keeps the first before-image of its place
+pub change_sound : (befores : List BeforeImage) (old new : List Lock) (image : BeforeImage) → FreeIn image.unit Exclusive (place_name image.part image.place) old → HoldMore old new
+    → Holds image.unit (place_name image.part image.place) new → Sound befores old → Sound (cond (list_any (is_own_place image.unit image.part image.place) befores) befores (befores ++ image ∷ [])) new
+change_sound befores old new image free more holds sound = by_test (list_any (is_own_place image.unit image.part image.place) befores) refl
+  where
+    by_test : (test : Bool) → list_any (is_own_place image.unit image.part image.place) befores ≡ test → Sound (cond test befores (befores ++ image ∷ [])) new
+    by_test true is = record { apart = sound.apart; held = more_held befores old new more sound.held }
+    by_test false is = record {
+      apart = append_apart befores image sound.apart (none_there image.unit image.part image.place befores old free sound.held is);
+      held = all_held_append befores image new (more_held befores old new more sound.held) holds;
+    }
+
+held_out : (unit : UnitOfRecovery) (befores : List BeforeImage) (locks : List Lock) → AllHeld befores locks → AllHeld (without_last unit befores) locks
+held_out unit [] locks held = tt
+held_out unit (kept ∷ befores) locks held = by_test (is_unit unit kept.unit && not (list_any (λ other. is_unit unit other.unit) befores)) (held_out unit befores locks held.1)
+  where
+    by_test : (test : Bool) → AllHeld (without_last unit befores) locks → AllHeld (cond test befores (kept ∷ without_last unit befores)) locks
+    by_test true further = held.1
+    by_test false further = (held.0, further)
+
+pub undone_sound : (unit : UnitOfRecovery) (befores : List BeforeImage) (locks : List Lock) → Sound befores locks → Sound (without_last unit befores) locks
+undone_sound unit befores locks sound = record { apart = out_apart unit befores sound.apart; held = held_out unit befores locks sound.held }
+
+held_filter : (ended : UnitOfRecovery) (befores : List BeforeImage) (locks : List Lock) → AllHeld befores locks → AllHeld (filter (λ kept. is_other ended kept.unit) befores) (filter (λ lock. is_other ended lock.unit) locks)
+held_filter ended [] locks held = tt
+held_filter ended (kept ∷ befores) locks held = by_test (is_unit ended kept.unit) refl (held_filter ended befores locks held.1)
+  where
+    by_test : (test : Bool) → is_unit ended kept.unit ≡ test → AllHeld (filter (λ other. is_other ended other.unit) befores) (filter (λ lock. is_other ended lock.unit) locks)
+        → AllHeld (cond (not test) (kept ∷ filter (λ other. is_other ended other.unit) befores) (filter (λ other. is_other ended other.unit) befores)) (filter (λ lock. is_other ended lock.unit) locks)
+    by_test true is further = further
+    by_test false is further = (filtered_holds kept.unit ended (place_name kept.part kept.place) locks is held.0, further)
+
+pub ended_sound : (ended : UnitOfRecovery) (befores : List BeforeImage) (locks : List Lock) → Sound befores locks → Sound (filter (λ kept. is_other ended kept.unit) befores) (filter (λ lock. is_other ended lock.unit) locks)
+ended_sound ended befores locks sound = record { apart = filter_apart (λ kept. is_other ended kept.unit) befores sound.apart; held = held_filter ended befores locks sound.held }
+
+-- what is looked for at a place is of that place
+pub narrow : (counts : UnitOfRecovery → Bool) (part : ℕ) (place : List ℕ) (kept : BeforeImage) → is_place part place kept ≡ false → is_kept_of counts part place kept ≡ false
+narrow counts part place kept other = ap (λ (b : Bool). not (counts kept.unit) && b) other ∙ and_false (not (counts kept.unit))
+
+-- contents once a change was made
+here_part : (change : Change) (contents : ℕ → Content) (part : ℕ) → part ≡ change.part → with_change change contents part ≡ placed_in change.place change.new (contents part)
+here_part change contents part same = ap (λ (b : Bool). if b then placed_in change.place change.new (contents part) else contents part) (eq-eqb part change.part same)
+
+other_part : (change : Change) (contents : ℕ → Content) (part : ℕ) → part ≢ change.part → with_change change contents part ≡ contents part
+other_part change contents part apart = ap (λ (b : Bool). if b then placed_in change.place change.new (contents part) else contents part) (ne_eqb part change.part apart)
+
+pub item_changed : (change : Change) (contents : ℕ → Content) (part : ℕ) (place : List ℕ) → part ≡ change.part → place ≡ change.place → item_at (with_change change contents part) place ≡ change.new
+item_changed change contents part place parts places =
+    ap (λ (content : Content). item_at content place) (here_part change contents part parts)
+    ∙ (ap (λ (q : List ℕ). item_at (placed_in change.place change.new (contents part)) q) places ∙ placed_here change.place change.new (contents part))
+
+pub item_unchanged : (change : Change) (contents : ℕ → Content) (part : ℕ) (place : List ℕ) → (part ≡ change.part → place ≡ change.place → ⊥) → item_at (with_change change contents part) place ≡ item_at (contents part) place
+item_unchanged change contents part place apart = dite (ℕ_discrete part change.part)
+    (λ same. ap (λ (content : Content). item_at content place) (here_part change contents part same) ∙ placed_elsewhere change.place change.new (contents part) place (apart same))
+    (λ other. ap (λ (content : Content). item_at content place) (other_part change contents part other))
+
+-- a place is the change's or not
+place_is : (part other_part : ℕ) (place other_place : List ℕ) → ((part ≡ other_part) × (place ≡ other_place)) ⊎ (part ≡ other_part → place ≡ other_place → ⊥)
+place_is part other_part place other_place = dite (ℕ_discrete part other_part)
+    (λ same. by_test same (bytes_eq place other_place) refl)
+    (λ apart. inr (λ same places. apart same))
+  where
+    by_test : part ≡ other_part → (test : Bool) → bytes_eq place other_place ≡ test → ((part ≡ other_part) × (place ≡ other_place)) ⊎ (part ≡ other_part → place ≡ other_place → ⊥)
+    by_test same true is = inl (same, (bytes_eq-Decides place other_place).0 is)
+    by_test same false is = inr (λ parts places. true≢false (sym ((bytes_eq-Decides place other_place).1 places) ∙ is))
+
+place_of_image : (part : ℕ) (place : List ℕ) (kept : BeforeImage) → (part ≡ kept.part → place ≡ kept.place → ⊥) → is_place part place kept ≡ false
+place_of_image part place kept apart = by_test (is_place part place kept) refl
+  where
+    by_test : (test : Bool) → is_place part place kept ≡ test → is_place part place kept ≡ false
+    by_test true is = absurd (apart (sym (nat_same kept.part part (first_holds _ _ is))) ((bytes_eq-Decides place kept.place).0 (second_holds (kept.part == part) _ is)))
+    by_test false is = is
+
+-- the item that is settled on, over a list of before-images
+abbrev pub settled_on : (UnitOfRecovery → Bool) → List BeforeImage → (ℕ → Content) → ℕ → List ℕ → Option Item
+settled_on counts befores contents part place = kept_or (find (is_kept_of counts part place) befores) (item_at (contents part) place)
+
+abbrev pub AgreesOn : (UnitOfRecovery → Bool) → List BeforeImage → (ℕ → Content) → (ℕ → Content) → ℕ → List ℕ → Type 0
+AgreesOn counts befores contents counted part place = record_in (item_at (counted part) place) ≡ record_in (settled_on counts befores contents part place)
+
+-- two conditions and one
+both_cond : {X : Type 0} (test : Bool) (one other : ℕ → X) (n : ℕ) → cond test one other n ≡ cond test (one n) (other n)
+both_cond true one other n = refl
+both_cond false one other n = refl
