@@ -1,2 +1,2 @@
-pub mod Moments
+pub mod CallerLemmas
 pub mod Names

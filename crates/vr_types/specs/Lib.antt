@@ -6,3 +6,5 @@ pub mod Image
 pub mod Moments
 pub mod Name
 pub mod Refusal
+pub mod Regions
+pub mod Seen

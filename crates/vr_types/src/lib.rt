@@ -14,6 +14,7 @@ pub mod memory;
 pub mod name;
 pub mod reply;
 pub mod request;
+mod settling;
 #[cfg(test)]
 mod tests;
 pub mod unit;
@@ -29,6 +30,7 @@ pub use memory::OutOfMemory;
 pub use name::{NAME_LIMIT, Name, NameFault, dataset_name};
 pub use reply::{LockName, Refusal, Reply};
 pub use request::{FileRef, Find, Request};
+pub use settling::{copy_block, settle};
 pub use unit::{AreaNo, Integrity, Kind, Mode, PartNo, StageKind, Unit};
 pub use values::{Bytes, Place};
 pub use words::Words;
