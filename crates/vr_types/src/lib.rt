@@ -21,6 +21,7 @@ pub mod position;
 pub mod reply;
 pub mod request;
 pub mod script;
+mod settling;
 #[cfg(test)]
 mod tests;
 pub mod unit;
@@ -44,6 +45,7 @@ pub use position::{Position, Stand};
 pub use reply::{Refusal, Reply};
 pub use request::{FileRef, Find, Request};
 pub use script::Script;
+pub use settling::{copy_block, settle};
 pub use sqlite_items::Items;
 pub use unit::{AreaNo, Integrity, Kind, Mode, PartNo, StageKind, Unit};
 pub use values::{Bytes, Place};
