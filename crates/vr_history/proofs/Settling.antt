@@ -166,3 +166,109 @@ AgreesOn counts befores contents counted part place = record_in (item_at (counte
 both_cond : {X : Type 0} (test : Bool) (one other : ℕ → X) (n : ℕ) → cond test one other n ≡ cond test (one n) (other n)
 both_cond true one other n = refl
 both_cond false one other n = refl
+
+-- A change by a unit that holds its place: the image that it keeps is of the item that stood there.
+module _ (counts : UnitOfRecovery → Bool) (befores : List BeforeImage) (locks : List Lock) (contents counted : ℕ → Content) (sound : Sound befores locks) (change : Change) (unit : UnitOfRecovery) where
+  abbrev pub image_of : BeforeImage
+  image_of = record { unit = unit; part = change.part; place = change.place; old = item_at (contents change.part) change.place }
+
+  abbrev pub kept_already : Bool
+  kept_already = list_any (is_own_place unit change.part change.place) befores
+
+  abbrev pub befores_after : List BeforeImage
+  befores_after = cond kept_already befores (befores ++ image_of ∷ [])
+
+  -- elsewhere nothing is new
+  found_elsewhere : (part : ℕ) (place : List ℕ) → (part ≡ change.part → place ≡ change.place → ⊥) → find (is_kept_of counts part place) befores_after ≡ find (is_kept_of counts part place) befores
+  found_elsewhere part place apart = by_test kept_already
+    where
+      by_test : (test : Bool) → find (is_kept_of counts part place) (cond test befores (befores ++ image_of ∷ [])) ≡ find (is_kept_of counts part place) befores
+      by_test true = refl
+      by_test false = find_append_other (is_kept_of counts part place) befores image_of (narrow counts part place image_of (place_of_image part place image_of apart))
+
+  settled_elsewhere : (part : ℕ) (place : List ℕ) → (part ≡ change.part → place ≡ change.place → ⊥) → settled_on counts befores_after (with_change change contents) part place ≡ settled_on counts befores contents part place
+  settled_elsewhere part place apart =
+      ap (λ (kept : Option BeforeImage). kept_or kept (item_at (with_change change contents part) place)) (found_elsewhere part place apart)
+      ∙ ap (kept_or (find (is_kept_of counts part place) befores)) (item_unchanged change contents part place apart)
+
+  -- at the place of a unit that counts no before-image is looked for
+  counted_none : counts unit ≡ true → FreeIn unit Exclusive (place_name change.part change.place) locks → find (is_kept_of counts change.part change.place) befores ≡ None
+  counted_none is free = in_list befores sound.held
+    where
+      passed : (kept : BeforeImage) → Holds kept.unit (place_name kept.part kept.place) locks → is_kept_of counts change.part change.place kept ≡ false
+      passed kept held = by_test (is_place change.part change.place kept) refl
+        where
+          by_test : (test : Bool) → is_place change.part change.place kept ≡ test → is_kept_of counts change.part change.place kept ≡ false
+          by_test false other = narrow counts change.part change.place kept other
+          by_test true here =
+              let same : unit ≡ kept.unit = unit_same unit kept.unit (first_holds (is_unit unit kept.unit) _ (own_there unit change.part change.place locks kept free held here)) in
+              ap (λ (b : Bool). not b && is_place change.part change.place kept) (subst (λ (u : UnitOfRecovery). counts u ≡ true) same is)
+      in_list : (some : List BeforeImage) → AllHeld some locks → find (is_kept_of counts change.part change.place) some ≡ None
+      in_list [] held = refl
+      in_list (kept ∷ rest) held = ap (λ (b : Bool). cond b (Some kept) (find (is_kept_of counts change.part change.place) rest)) (passed kept held.0) ∙ in_list rest held.1
+
+  counted_after : counts unit ≡ true → FreeIn unit Exclusive (place_name change.part change.place) locks → find (is_kept_of counts change.part change.place) befores_after ≡ None
+  counted_after is free = by_test kept_already
+    where
+      by_test : (test : Bool) → find (is_kept_of counts change.part change.place) (cond test befores (befores ++ image_of ∷ [])) ≡ None
+      by_test true = counted_none is free
+      by_test false = find_append_other (is_kept_of counts change.part change.place) befores image_of (ap (λ (b : Bool). not b && is_place change.part change.place image_of) is) ∙ counted_none is free
+
+  -- a unit that doesn't count keeps what was settled on
+  self_place : is_place change.part change.place image_of ≡ true
+  self_place = ap (λ (b : Bool). b && bytes_eq change.place change.place) (eq-eqb change.part change.part refl) ∙ (bytes_eq-Decides change.place change.place).1 refl
+
+  some_found : (some : List BeforeImage) → counts unit ≡ false → list_any (is_own_place unit change.part change.place) some ≡ true → (kept : BeforeImage) × (find (is_kept_of counts change.part change.place) some ≡ Some kept)
+  some_found [] not_counted any = absurd (false≢true any)
+  some_found (kept ∷ rest) not_counted any = by_tests (is_kept_of counts change.part change.place kept) (is_own_place unit change.part change.place kept) refl refl any (some_found rest not_counted)
+    where
+      own_passes : is_own_place unit change.part change.place kept ≡ true → is_kept_of counts change.part change.place kept ≡ true
+      own_passes own =
+          let same : unit ≡ kept.unit = unit_same unit kept.unit (first_holds _ _ own) in
+          ap (λ (b : Bool). not b && is_place change.part change.place kept) (subst (λ (u : UnitOfRecovery). counts u ≡ false) same not_counted) ∙ second_holds (is_unit unit kept.unit) _ own
+      by_tests : (test own : Bool) → is_kept_of counts change.part change.place kept ≡ test → is_own_place unit change.part change.place kept ≡ own
+          → (own || list_any (is_own_place unit change.part change.place) rest) ≡ true
+          → (list_any (is_own_place unit change.part change.place) rest ≡ true → (found : BeforeImage) × (find (is_kept_of counts change.part change.place) rest ≡ Some found))
+          → (found : BeforeImage) × (find (is_kept_of counts change.part change.place) (kept ∷ rest) ≡ Some found)
+      by_tests true own is own_is some further = (kept, ap (λ (b : Bool). cond b (Some kept) (find (is_kept_of counts change.part change.place) rest)) is)
+      by_tests false true is own_is some further = absurd (true≢false (sym (own_passes own_is) ∙ is))
+      by_tests false false is own_is some further =
+          let found = further some in (found.0, ap (λ (b : Bool). cond b (Some kept) (find (is_kept_of counts change.part change.place) rest)) is ∙ found.1)
+
+  settled_kept : counts unit ≡ false → FreeIn unit Exclusive (place_name change.part change.place) locks
+      → settled_on counts befores_after (with_change change contents) change.part change.place ≡ settled_on counts befores contents change.part change.place
+  settled_kept not_counted free = by_test kept_already refl
+    where
+      now : Option Item
+      now = item_at (with_change change contents change.part) change.place
+      by_test : (test : Bool) → kept_already ≡ test → kept_or (find (is_kept_of counts change.part change.place) (cond test befores (befores ++ image_of ∷ []))) now ≡ settled_on counts befores contents change.part change.place
+      by_test true is =
+          let found = some_found befores not_counted is in
+          ap (λ (kept : Option BeforeImage). kept_or kept now) found.1 ∙ sym (ap (λ (kept : Option BeforeImage). kept_or kept (item_at (contents change.part) change.place)) found.1)
+      by_test false is =
+          let none : list_any (is_place change.part change.place) befores ≡ false = none_there unit change.part change.place befores locks free sound.held is in
+          let unfound : find (is_kept_of counts change.part change.place) befores ≡ None = find_narrow (is_place change.part change.place) (is_kept_of counts change.part change.place) befores (narrow counts change.part change.place) none in
+          let passes : is_kept_of counts change.part change.place image_of ≡ true = ap (λ (b : Bool). not b && is_place change.part change.place image_of) not_counted ∙ self_place in
+          ap (λ (kept : Option BeforeImage). kept_or kept now) (find_append_new (is_kept_of counts change.part change.place) befores image_of unfound passes)
+          ∙ sym (ap (λ (kept : Option BeforeImage). kept_or kept (item_at (contents change.part) change.place)) unfound)
+
+  pub change_agrees : FreeIn unit Exclusive (place_name change.part change.place) locks → (part : ℕ) → ((place : List ℕ) → AgreesOn counts befores contents counted part place)
+      → (place : List ℕ) → AgreesOn counts befores_after (with_change change contents) (cond (counts unit) (with_change change counted) counted) part place
+  change_agrees free part agrees place = by_test (counts unit) refl (place_is part change.part place change.place)
+    where
+      by_test : (test : Bool) → counts unit ≡ test → ((part ≡ change.part) × (place ≡ change.place)) ⊎ (part ≡ change.part → place ≡ change.place → ⊥)
+          → AgreesOn counts befores_after (with_change change contents) (cond test (with_change change counted) counted) part place
+      by_test true is (inl here) =
+          let P : ℕ → Type 0 = λ p. record_in (item_at (with_change change counted p) place) ≡ record_in (settled_on counts befores_after (with_change change contents) p place) in
+          let Q : List ℕ → Type 0 = λ q. record_in (item_at (with_change change counted change.part) q) ≡ record_in (settled_on counts befores_after (with_change change contents) change.part q) in
+          subst P (sym here.0) (subst Q (sym here.1) (ap record_in (
+              item_changed change counted change.part change.place refl refl
+              ∙ (sym (item_changed change contents change.part change.place refl refl)
+              ∙ sym (ap (λ (kept : Option BeforeImage). kept_or kept (item_at (with_change change contents change.part) change.place)) (counted_after is free))))))
+      by_test true is (inr apart) =
+          ap record_in (item_unchanged change counted part place apart) ∙ (agrees place ∙ sym (ap record_in (settled_elsewhere part place apart)))
+      by_test false is (inl here) =
+          let P : ℕ → Type 0 = λ p. settled_on counts befores_after (with_change change contents) p place ≡ settled_on counts befores contents p place in
+          let Q : List ℕ → Type 0 = λ q. settled_on counts befores_after (with_change change contents) change.part q ≡ settled_on counts befores contents change.part q in
+          agrees place ∙ sym (ap record_in (subst P (sym here.0) (subst Q (sym here.1) (settled_kept is free))))
+      by_test false is (inr apart) = agrees place ∙ sym (ap record_in (settled_elsewhere part place apart))
