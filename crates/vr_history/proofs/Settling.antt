@@ -7,6 +7,7 @@ use Rattle.std.proofs.lemmas.Bool.{true≢false, false≢true}
 use Rattle.std.proofs.lemmas.Slice.Eq.{bytes_eq-Decides}
 use mathlib.Core.Logic.{dite}
 use native.Mathlib.Decide.{ℕ_discrete}
+use Rattle.vr_catalog.specs.Catalog.{definition_of}
 use Rattle.vr_catalog.specs.Definition.{Definition}
 use Rattle.vr_types.specs.Content.{Content, Item, item_at, record_of}
 use Rattle.vr_types.specs.Locks.{Lock}
@@ -20,6 +21,7 @@ use Rattle.vr_history.specs.Change.{Change}
 use Rattle.vr_history.specs.Committed.{is_kept_of, kept_or, settled_item}
 use Rattle.vr_history.specs.Effects.{is_other, placed_in, with_change, without_last}
 use Rattle.vr_history.specs.Laws.{record_in, record_now, settled_record}
+use Rattle.vr_history.specs.Opened.{catalog_of}
 use Rattle.vr_history.specs.State.{BeforeImage, State, is_unit}
 use Rattle.vr_history.specs.Step.{change_back, put_back, withdrawn_by}
 use Rattle.vr_history.proofs.Befores.{AreApart, IsLast, and_false, append_apart, filter_apart, filter_none, find_append_new, find_append_other, find_filter, find_narrow, is_place, last_found, last_gone, or_false, out_apart, out_other}
@@ -272,3 +274,82 @@ module _ (counts : UnitOfRecovery → Bool) (befores : List BeforeImage) (locks 
           let Q : List ℕ → Type 0 = λ q. settled_on counts befores_after (with_change change contents) change.part q ≡ settled_on counts befores contents change.part q in
           agrees place ∙ sym (ap record_in (subst P (sym here.0) (subst Q (sym here.1) (settled_kept is free))))
       by_test false is (inr apart) = agrees place ∙ sym (ap record_in (settled_elsewhere part place apart))
+
+-- A unit's last before-image is put back and taken out.
+withdrawn_none : (kind : Kind) (now : Option Item) → record_in (withdrawn_by kind now) ≡ None
+withdrawn_none Keyed now = refl
+withdrawn_none Relative now = refl
+withdrawn_none EntrySequenced None = refl
+withdrawn_none EntrySequenced (Some item) = refl
+
+withdrawn_in : (definition : Option Definition) (now : Option Item) → record_in (option_and_then (λ (this : Definition). withdrawn_by this.kind now) definition) ≡ None
+withdrawn_in None now = refl
+withdrawn_in (Some definition) now = withdrawn_none definition.kind now
+
+-- the record that is put back is the one that was kept
+pub record_back : (state : State) (kept : BeforeImage) (old : Option Item) → record_in (put_back state kept old) ≡ record_in old
+record_back state kept (Some item) = refl
+record_back state kept None = withdrawn_in (definition_of (catalog_of state) kept.part) (item_at (state.contents kept.part) kept.place)
+
+module _ (counts : UnitOfRecovery → Bool) (state : State) (counted : ℕ → Content) (sound : Sound state.befores state.locks) (unit : UnitOfRecovery) (last : BeforeImage) (is : IsLast unit last state.befores) where
+  abbrev pub befores_left : List BeforeImage
+  befores_left = without_last unit state.befores
+
+  undone_elsewhere : (part : ℕ) (place : List ℕ) → (part ≡ last.part → place ≡ last.place → ⊥)
+      → settled_on counts befores_left (with_change (change_back state last) state.contents) part place ≡ settled_on counts state.befores state.contents part place
+  undone_elsewhere part place apart =
+      ap (λ (kept : Option BeforeImage). kept_or kept (item_at (with_change (change_back state last) state.contents part) place))
+          (out_other unit last (is_kept_of counts part place) state.befores is (narrow counts part place last (place_of_image part place last apart)))
+      ∙ ap (kept_or (find (is_kept_of counts part place) state.befores)) (item_unchanged (change_back state last) state.contents part place apart)
+
+  -- at its place there is none any more, and the item is the one put back
+  undone_here : settled_on counts befores_left (with_change (change_back state last) state.contents) last.part last.place ≡ put_back state last last.old
+  undone_here =
+      ap (λ (kept : Option BeforeImage). kept_or kept (item_at (with_change (change_back state last) state.contents last.part) last.place))
+          (last_gone unit last (is_kept_of counts last.part last.place) state.befores sound.apart is (narrow counts last.part last.place))
+      ∙ item_changed (change_back state last) state.contents last.part last.place refl refl
+
+  last_place : is_place last.part last.place last ≡ true
+  last_place = ap (λ (b : Bool). b && bytes_eq last.place last.place) (eq-eqb last.part last.part refl) ∙ (bytes_eq-Decides last.place last.place).1 refl
+
+  -- and where its unit doesn't count, it was what was settled on
+  last_settled : counts last.unit ≡ false → settled_on counts state.befores state.contents last.part last.place ≡ last.old
+  last_settled not_counted =
+      ap (λ (kept : Option BeforeImage). kept_or kept (item_at (state.contents last.part) last.place))
+          (last_found unit last (is_kept_of counts last.part last.place) state.befores sound.apart is (narrow counts last.part last.place)
+              (ap (λ (b : Bool). not b && is_place last.part last.place last) not_counted ∙ last_place))
+
+  last_unit : (befores : List BeforeImage) → IsLast unit last befores → unit ≡ last.unit
+  last_unit [] this = absurd this
+  last_unit (kept ∷ befores) (inl here) = subst (λ (k : BeforeImage). unit ≡ k.unit) here.0 (unit_same unit kept.unit here.1)
+  last_unit (kept ∷ befores) (inr later) = last_unit befores later.1
+
+  pub undone_agrees : (part : ℕ) → ((place : List ℕ) → AgreesOn counts state.befores state.contents counted part place)
+      → (place : List ℕ) → AgreesOn counts befores_left (with_change (change_back state last) state.contents) (cond (counts unit) (with_change (change_back state last) counted) counted) part place
+  undone_agrees part agrees place = by_test (counts unit) refl (place_is part last.part place last.place)
+    where
+      by_test : (test : Bool) → counts unit ≡ test → ((part ≡ last.part) × (place ≡ last.place)) ⊎ (part ≡ last.part → place ≡ last.place → ⊥)
+          → AgreesOn counts befores_left (with_change (change_back state last) state.contents) (cond test (with_change (change_back state last) counted) counted) part place
+      by_test true counting (inl here) =
+          let P : ℕ → Type 0 = λ p. record_in (item_at (with_change (change_back state last) counted p) place) ≡ record_in (settled_on counts befores_left (with_change (change_back state last) state.contents) p place) in
+          let Q : List ℕ → Type 0 = λ q. record_in (item_at (with_change (change_back state last) counted last.part) q) ≡ record_in (settled_on counts befores_left (with_change (change_back state last) state.contents) last.part q) in
+          subst P (sym here.0) (subst Q (sym here.1) (ap record_in (item_changed (change_back state last) counted last.part last.place refl refl ∙ sym undone_here)))
+      by_test true counting (inr apart) =
+          ap record_in (item_unchanged (change_back state last) counted part place apart) ∙ (agrees place ∙ sym (ap record_in (undone_elsewhere part place apart)))
+      by_test false counting (inl here) =
+          let not_counted : counts last.unit ≡ false = subst (λ (u : UnitOfRecovery). counts u ≡ false) (last_unit state.befores is) counting in
+          let P : ℕ → Type 0 = λ p. record_in (settled_on counts state.befores state.contents p place) ≡ record_in (settled_on counts befores_left (with_change (change_back state last) state.contents) p place) in
+          let Q : List ℕ → Type 0 = λ q. record_in (settled_on counts state.befores state.contents last.part q) ≡ record_in (settled_on counts befores_left (with_change (change_back state last) state.contents) last.part q) in
+          agrees place ∙ subst P (sym here.0) (subst Q (sym here.1) (ap record_in (last_settled not_counted) ∙ (sym (record_back state last last.old) ∙ sym (ap record_in undone_here))))
+      by_test false counting (inr apart) = agrees place ∙ sym (ap record_in (undone_elsewhere part place apart))
+
+-- A unit ends: the before-images of one that counts are looked for by nobody, and one that backed out keeps none.
+pub counted_end : (counts : UnitOfRecovery → Bool) (befores : List BeforeImage) (ended : UnitOfRecovery) (part : ℕ) (place : List ℕ) → counts ended ≡ true
+    → find (is_kept_of counts part place) (filter (λ kept. is_other ended kept.unit) befores) ≡ find (is_kept_of counts part place) befores
+counted_end counts befores ended part place is = find_filter (λ kept. is_other ended kept.unit) (is_kept_of counts part place) befores passes
+  where
+    ended_unit : (kept : BeforeImage) (test : Bool) → is_unit ended kept.unit ≡ test → not test ≡ false → ended ≡ kept.unit
+    ended_unit kept true same none = unit_same ended kept.unit same
+    ended_unit kept false same none = absurd (true≢false none)
+    passes : (kept : BeforeImage) → is_other ended kept.unit ≡ false → is_kept_of counts part place kept ≡ false
+    passes kept gone = ap (λ (b : Bool). not b && is_place part place kept) (subst (λ (u : UnitOfRecovery). counts u ≡ true) (ended_unit kept (is_unit ended kept.unit) refl gone) is)
