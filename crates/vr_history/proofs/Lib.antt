@@ -1,5 +1,6 @@
 pub mod Befores
 pub mod CallerLemmas
+pub mod Committing
 pub mod Endings
 pub mod Holding
 pub mod Items
