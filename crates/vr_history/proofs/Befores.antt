@@ -1,15 +1,14 @@
 -- Before-images: which one is found at a place, and that at most one is kept there.
-use Rattle.std.proofs.Common.{◌≡◌, ◌≢◌, ◌⊎◌, ⊎_elim, inl, inr, ℕ, Bool, true, false, cond, not, ◌==◌, ◌&&◌, ◌||◌, List, [], ◌∷◌, ◌++◌, map, filter, find, bytes_eq, Some, None, refl, sym, ap, ◌∙◌, subst, eq-eqb}
+use Rattle.std.proofs.Common.{◌≡◌, ◌⊎◌, inl, inr, ℕ, Bool, true, false, cond, not, ◌==◌, ◌&&◌, ◌||◌, List, [], ◌∷◌, ◌++◌, filter, find, bytes_eq, Some, None, refl, sym, ap, ◌∙◌, subst, eq-eqb}
 use Rattle.std.specs.Prelude.{Option}
 use Rattle.std.specs.List.{list_any}
 use Rattle.std.specs.Option.{option_or}
 use Rattle.std.proofs.lemmas.Bool.{true≢false, false≢true}
 use Rattle.std.proofs.lemmas.Slice.Eq.{bytes_eq-Decides}
 use Rattle.vr_types.specs.declared.unit.Unit.{Unit as UnitOfRecovery}
-use Rattle.vr_history.specs.Committed.{is_kept_of}
 use Rattle.vr_history.specs.Effects.{is_other, keeps_other, last_of, without_last}
-use Rattle.vr_history.specs.State.{BeforeImage, State, is_kept, is_unit}
-use Rattle.vr_history.proofs.Same.{first_holds, nat_same, second_holds, unit_same, unit_self}
+use Rattle.vr_history.specs.State.{BeforeImage, is_unit}
+use Rattle.vr_history.proofs.Same.{first_holds, nat_same, second_holds}
 
 -- a before-image is of this place
 abbrev pub is_place : ℕ → List ℕ → BeforeImage → Bool
@@ -162,7 +161,7 @@ last_is unit last (kept ∷ befores) same = by_test (keeps_other unit befores) r
     by_test true some rest =
         let found = some_of unit befores some in
         let here : last_of (of_unit unit befores) ≡ last_of (of_unit unit (kept ∷ befores)) =
-            ap last_of found.2 ∙ (sym (last_with kept found.0 found.1 (is_unit unit kept.unit)) ∙ sym (ap (λ (l : List BeforeImage). last_of (cond (is_unit unit kept.unit) (kept ∷ l) l)) found.2)) in
+        ap last_of found.2 ∙ (sym (last_with kept found.0 found.1 (is_unit unit kept.unit)) ∙ sym (ap (λ (l : List BeforeImage). last_of (cond (is_unit unit kept.unit) (kept ∷ l) l)) found.2)) in
         inr (some, rest (here ∙ same))
     by_test false none rest =
         let here : last_of (cond (is_unit unit kept.unit) (kept ∷ []) []) ≡ Some last = sym (ap (λ (l : List BeforeImage). last_of (cond (is_unit unit kept.unit) (kept ∷ l) l)) (empty_of unit befores none)) ∙ same in

@@ -1,11 +1,11 @@
 -- The committed contents over a history: at each place the record of the state, or the one that a unit which doesn't
 -- count keeps.
-use Rattle.std.proofs.Common.{◌≡◌, ◌≢◌, ◌⊎◌, ⊎_elim, inl, inr, ℕ, Bool, true, false, cond, not, ◌&&◌, ◌||◌, List, [], ◌∷◌, ◌++◌, map, filter, find, flat_map, Some, None, refl, sym, ap, ◌∙◌, subst}
+use Rattle.std.proofs.Common.{◌≡◌, ⊎_elim, inl, inr, ℕ, Bool, true, false, cond, not, List, [], ◌∷◌, ◌++◌, map, filter, find, flat_map, Some, None, refl, sym, ap, ◌∙◌, subst}
 use Rattle.std.specs.Prelude.{Option, IsTrue, option_map, option_to_list, if◌then◌else◌}
 use Rattle.std.specs.List.{list_any}
 use Rattle.std.specs.Option.{option_map_or}
-use Rattle.std.proofs.lemmas.Bool.{true≢false, false≢true}
-use Rattle.vr_catalog.specs.Catalog.{entries_in, parts_in}
+use Rattle.std.proofs.lemmas.Bool.{false≢true}
+use Rattle.vr_catalog.specs.Catalog.{parts_in}
 use Rattle.vr_types.specs.Content.{Content, Item, Standing, item_at}
 use Rattle.vr_types.specs.Locks.{Lock}
 use Rattle.vr_types.specs.declared.geometry.Geometry.{Geometry}
@@ -14,7 +14,6 @@ use Rattle.vr_types.specs.declared.lock_name.LockName.TheVariants.{Record}
 use Rattle.vr_types.specs.declared.position.Stand.{Stand}
 use Rattle.vr_types.specs.declared.position.Stand.TheVariants.{None as Nowhere}
 use Rattle.vr_types.specs.declared.reply.Refusal.{Refusal}
-use Rattle.vr_types.specs.declared.reply.Reply.{Reply}
 use Rattle.vr_types.specs.declared.reply.Reply.TheVariants.{Done, Refused}
 use Rattle.vr_types.specs.declared.request.FileRef.{FileRef}
 use Rattle.vr_types.specs.declared.request.Find.{Find}
@@ -37,14 +36,14 @@ use Rattle.vr_history.specs.Names.{change_names, conflict_on, keys_moved, lock_n
 use Rattle.vr_history.specs.Opened.{base_of, catalog_of}
 use Rattle.vr_history.specs.Replies.{CanEnd, MayReply}
 use Rattle.vr_history.specs.State.{BeforeImage, State, is_unit}
-use Rattle.vr_history.specs.Step.{MayEnter, after_asked, after_what, case_of, change_back, done_effect, makes, stands_in, state_after}
+use Rattle.vr_history.specs.Step.{MayEnter, after_asked, case_of, change_back, done_effect, makes, stands_in, state_after}
 use Rattle.vr_history.specs.Found.{found, place_read}
 use Rattle.vr_history.specs.Effects.{changes, holding, last_kept, moves_file, takes_out}
 use Rattle.vr_history.proofs.Befores.{filter_none, last_is}
 use Rattle.vr_history.proofs.Holding.{all_hold, first_holds_it}
 use Rattle.vr_history.proofs.LockLemmas.{AreFree, FreeIn, all_free}
 use Rattle.vr_history.proofs.Replying.{done_free, done_unrefused}
-use Rattle.vr_history.proofs.Settling.{AgreesOn, HoldMore, Sound, change_agrees, change_sound, counted_end, ended_sound, more_held, settled_on, undone_agrees, undone_sound}
+use Rattle.vr_history.proofs.Settling.{AgreesOn, HoldMore, Sound, change_agrees, change_sound, counted_end, ended_sound, more_held, undone_agrees, undone_sound}
 
 -- what is kept of a part of the contents: at each place the settled record
 abbrev pub Agrees : (UnitOfRecovery → Bool) → State → (ℕ → Content) → ℕ → Type 0
@@ -116,8 +115,8 @@ read_keeps geometry state unit file find true integrity =
     let locked : State = record dropped { locks = with_locks unit Exclusive (lock_names case case.request) dropped.locks } in
     let held : State = option_map_or (λ at. moves_file unit.deck file.slot (holding at) locked) (place_read case) locked in
     keeps_then state dropped _ (drops_keep unit.deck (Some file) state)
-        (keeps_then dropped locked _ (record { contents = refl; befores = refl; more = λ other name holds. all_hold other unit name Exclusive (lock_names case case.request) dropped.locks holds })
-        (keeps_then locked held _ (holds_keep unit.deck file (place_read case) locked) (stands_keep unit.deck (Some file) _ held)))
+    (keeps_then dropped locked _ (record { contents = refl; befores = refl; more = λ other name holds. all_hold other unit name Exclusive (lock_names case case.request) dropped.locks holds })
+    (keeps_then locked held _ (holds_keep unit.deck file (place_read case) locked) (stands_keep unit.deck (Some file) _ held)))
 read_keeps geometry state unit file find false Nri =
     keeps_then state (drops_held unit.deck (Some file) state) _ (drops_keep unit.deck (Some file) state) (stands_keep unit.deck (Some file) _ (drops_held unit.deck (Some file) state))
 read_keeps geometry state unit file find false Cr =
@@ -127,8 +126,8 @@ read_keeps geometry state unit file find false Cre =
     let dropped : State = drops_held unit.deck (Some file) state in
     let locked : State = record dropped { locks = with_locks unit Shared (lock_names case case.request) dropped.locks } in
     keeps_then state dropped _ (drops_keep unit.deck (Some file) state)
-        (keeps_then dropped locked _ (record { contents = refl; befores = refl; more = λ other name holds. all_hold other unit name Shared (lock_names case case.request) dropped.locks holds })
-        (stands_keep unit.deck (Some file) _ locked))
+    (keeps_then dropped locked _ (record { contents = refl; befores = refl; more = λ other name holds. all_hold other unit name Shared (lock_names case case.request) dropped.locks holds })
+    (stands_keep unit.deck (Some file) _ locked))
 
 -- the place that a change names is the first that its request locks
 some_change : (part : ℕ) (new : Option Item) (place : Option (List ℕ)) (change : Change) → option_map (λ at. let made : Change = record { part = part; place = at; new = new } in made) place ≡ Some change
@@ -176,7 +175,7 @@ agrees_by : (counts : UnitOfRecovery → Bool) (part : ℕ) (state new : State) 
 agrees_by counts part state new counted counted' found contents same agrees place =
     ap (λ (c : Content). record_in (item_at c place)) same ∙ (agrees place
     ∙ sym (ap (λ (c : Content). record_in (kept_or (find (is_kept_of counts part place) new.befores) (item_at c place))) contents
-        ∙ ap (λ (kept : Option BeforeImage). record_in (kept_or kept (item_at (state.contents part) place))) (found place)))
+    ∙ ap (λ (kept : Option BeforeImage). record_in (kept_or kept (item_at (state.contents part) place))) (found place)))
 
 left_if : (test : Bool) (content : Content) → test ≡ true → (if test then content else []) ≡ content
 left_if true content is = refl
@@ -215,7 +214,7 @@ can_end case feedback place bytes (inr (inr (inr meets))) = absurd (⊎_elim (λ
 done_holds : (counts : UnitOfRecovery → Bool) (part : ℕ) (geometry : Geometry) (state : State) (counted : ℕ → Content) (unit : UnitOfRecovery) (stamp line : ℕ) (request : Request) (feedback : ℕ) (place bytes : Option (List ℕ))
     → MayReply (case_of geometry state unit request) (Done feedback place bytes) → (commits (Asked request (Done feedback place bytes)) ≡ true → counts unit ≡ true) → HasPart part state counted → Holds counts part state counted
     → let entry : Entry = record { stamp = stamp; unit = unit; line = line; what = Asked request (Done feedback place bytes) } in
-      Holds counts part (state_after geometry state entry) (cond (counts unit) (counted_entry geometry state entry counted) counted)
+    Holds counts part (state_after geometry state entry) (cond (counts unit) (counted_entry geometry state entry counted) counted)
 done_holds counts part geometry state counted unit stamp line (Get file find update integrity) feedback place bytes may commit has holds =
     kept_holds counts part state _ counted unit (read_keeps geometry state unit file find update integrity) holds
 done_holds counts part geometry state counted unit stamp line (Point file find) feedback place bytes may commit has holds =
@@ -233,19 +232,19 @@ done_holds counts part geometry state counted unit stamp line (EndReq file) feed
     kept_holds counts part state _ counted unit (keeps_then state (drops_held unit.deck (Some file) state) _ (drops_keep unit.deck (Some file) state) (stands_keep unit.deck (Some file) (Some Nowhere) (drops_held unit.deck (Some file) state))) holds
 done_holds counts part geometry state counted unit stamp line Commit feedback place bytes may commit has holds =
     ended_by counts part state counted _ unit (λ at. counted_end counts state.befores unit part at (commit refl)) has.0
-        (cond_part (counts unit) (left_at_end true counted) counted part (left_if _ (counted part) has.1)) holds
+    (cond_part (counts unit) (left_at_end true counted) counted part (left_if _ (counted part) has.1)) holds
 done_holds counts part geometry state counted unit stamp line Backout feedback place bytes may commit has holds =
     let case : Case = case_of geometry state unit Backout in
     let none : list_any (λ kept. is_unit unit kept.unit) state.befores ≡ false = none_kept _ (can_end case feedback place bytes may) in
     ended_by counts part state counted _ unit (λ at. ap (find (is_kept_of counts part at)) (filter_none unit state.befores none)) has.0
-        (cond_part (counts unit) counted counted part refl) holds
+    (cond_part (counts unit) counted counted part refl) holds
 
 -- each entry
 refused_holds : (counts : UnitOfRecovery → Bool) (part : ℕ) (geometry : Geometry) (state : State) (counted : ℕ → Content) (unit : UnitOfRecovery) (request : Request) (refusal : Refusal)
     → Holds counts part state counted → Holds counts part (after_asked (case_of geometry state unit request) (Refused refusal)) (cond (counts unit) counted counted)
 refused_holds counts part geometry state counted unit request refusal holds =
     kept_holds counts part state _ counted unit (keeps_then state (drops_held unit.deck (file_of request) state) _ (drops_keep unit.deck (file_of request) state)
-        (stands_keep unit.deck (file_of request) _ (drops_held unit.deck (file_of request) state))) holds
+    (stands_keep unit.deck (file_of request) _ (drops_held unit.deck (file_of request) state))) holds
 
 undone_holds : (counts : UnitOfRecovery → Bool) (part : ℕ) (state : State) (counted : ℕ → Content) (unit : UnitOfRecovery) (last : Option BeforeImage) → last_kept state unit ≡ last → Holds counts part state counted
     → Holds counts part (option_map_or (λ kept. takes_out unit (changes (change_back state kept) state)) last state) (cond (counts unit) (changed counted (option_to_list (option_map (change_back state) last))) counted)
@@ -258,7 +257,7 @@ undone_holds counts part state counted unit (Some last) is holds = record {
 entry_holds : (counts : UnitOfRecovery → Bool) (part : ℕ) (geometry : Geometry) (state : State) (counted : ℕ → Content) (unit : UnitOfRecovery) (stamp line : ℕ) (what : What)
     → MayEnter geometry state unit what → (commits what ≡ true → counts unit ≡ true) → HasPart part state counted → Holds counts part state counted
     → let entry : Entry = record { stamp = stamp; unit = unit; line = line; what = what } in
-      Holds counts part (state_after geometry state entry) (cond (counts unit) (counted_entry geometry state entry counted) counted)
+    Holds counts part (state_after geometry state entry) (cond (counts unit) (counted_entry geometry state entry counted) counted)
 entry_holds counts part geometry state counted unit stamp line (Asked request (Done feedback place bytes)) may commit has holds =
     done_holds counts part geometry state counted unit stamp line request feedback place bytes may.1 commit has holds
 entry_holds counts part geometry state counted unit stamp line (Asked request (Refused refusal)) may commit has holds = refused_holds counts part geometry state counted unit request refusal holds
@@ -277,4 +276,4 @@ pub run_holds : (counts : UnitOfRecovery → Bool) (part : ℕ) (geometry : Geom
 run_holds counts part geometry state counted [] steps commit has holds = holds
 run_holds counts part geometry state counted (entry ∷ entries) steps commit has holds =
     run_holds counts part geometry (state_after geometry state entry) (cond (counts entry.unit) (counted_entry geometry state entry counted) counted) entries steps.1 commit.1 has.1
-        (entry_holds counts part geometry state counted entry.unit entry.stamp entry.line entry.what steps.0 commit.0 has.0 holds)
+    (entry_holds counts part geometry state counted entry.unit entry.stamp entry.line entry.what steps.0 commit.0 has.0 holds)

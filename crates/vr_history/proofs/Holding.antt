@@ -1,18 +1,17 @@
 -- A unit that keeps a before-image holds its place exclusively.
-use Rattle.std.proofs.Common.{◌≡◌, ◌≢◌, ℕ, Bool, true, false, cond, not, ◌==◌, ◌&&◌, ◌||◌, List, [], ◌∷◌, ◌++◌, map, filter, bytes_eq, Some, None, refl, sym, ap, ◌∙◌, subst}
+use Rattle.std.proofs.Common.{◌≡◌, Bool, true, false, cond, not, ◌&&◌, ◌||◌, List, [], ◌∷◌, ◌++◌, map, filter, refl, sym, ap, ◌∙◌, subst}
 use Rattle.std.specs.List.{list_any}
 use Rattle.std.proofs.lemmas.Bool.{true≢false, false≢true}
 use Rattle.vr_types.specs.Locks.{Lock}
 use Rattle.vr_types.specs.declared.lock_name.LockName.{LockName}
-use Rattle.vr_types.specs.declared.lock_name.LockName.TheVariants.{Record}
 use Rattle.vr_types.specs.declared.unit.Mode.{Mode}
 use Rattle.vr_types.specs.declared.unit.Mode.TheVariants.{Shared, Exclusive}
 use Rattle.vr_types.specs.declared.unit.Unit.{Unit as UnitOfRecovery}
 use Rattle.vr_history.specs.Effects.{is_other}
 use Rattle.vr_history.specs.Names.{conflicts, is_exclusive, is_own, raised, raises, with_lock, with_locks}
-use Rattle.vr_history.specs.State.{BeforeImage, is_name, is_unit}
+use Rattle.vr_history.specs.State.{is_name, is_unit}
 use Rattle.vr_history.proofs.LockLemmas.{FreeIn}
-use Rattle.vr_history.proofs.Same.{first_holds, name_same, name_self, second_holds, unit_same, unit_self}
+use Rattle.vr_history.proofs.Same.{first_holds, name_self, second_holds, unit_same, unit_self}
 
 -- the lock is the unit's on the name, and exclusive
 abbrev pub is_held : UnitOfRecovery → LockName → Lock → Bool
@@ -79,6 +78,7 @@ raised_new unit name (lock ∷ locks) own = by_test (is_own unit name lock) refl
     raised_to : (mode : Mode) → is_exclusive (raised mode Exclusive) ≡ true
     raised_to Shared = refl
     raised_to Exclusive = refl
+
     by_test : (test : Bool) → is_own unit name lock ≡ test → (test || list_any (is_own unit name) locks) ≡ true → (list_any (is_own unit name) locks ≡ true → Holds unit name (map (raises unit name Exclusive) locks))
         → Holds unit name (cond test (record lock { mode = raised lock.mode Exclusive }) lock ∷ map (raises unit name Exclusive) locks)
     by_test true is any rest = or_left _ _ (ap (λ (b : Bool). b && is_exclusive (raised lock.mode Exclusive)) is ∙ raised_to lock.mode)
@@ -110,6 +110,7 @@ free_unheld unit other name (lock ∷ locks) free holds = by_tests (is_held othe
         let named : is_name name lock.name ≡ true = second_holds (is_unit other lock.unit) _ (first_holds (is_own other name lock) _ held) in
         let conflict : conflicts unit Exclusive name lock ≡ true = ap (λ (b : Bool). b && (not (is_unit unit lock.unit) && true)) named ∙ ap (λ (b : Bool). not b && true) is in
         absurd (true≢false (sym conflict ∙ free.0))
+
     by_tests : (test : Bool) → is_held other name lock ≡ test → (test || list_any (is_held other name) locks) ≡ true → (Holds other name locks → unit ≡ other) → unit ≡ other
     by_tests true held any rest = own_unit (is_unit unit lock.unit) refl held
     by_tests false held any rest = rest any

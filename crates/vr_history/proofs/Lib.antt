@@ -1,6 +1,7 @@
 pub mod Befores
 pub mod CallerLemmas
 pub mod Committing
+pub mod Counting
 pub mod Endings
 pub mod Holding
 pub mod Items

@@ -1,5 +1,5 @@
 -- Locks that are taken where no other unit's conflicts.
-use Rattle.std.proofs.Common.{◌≡◌, ◌≢◌, ◌⊎◌, ⊎_elim, inl, inr, ℕ, Bool, true, false, cond, not, ◌&&◌, ◌||◌, List, [], ◌∷◌, ◌++◌, map, filter, find, Some, None, refl, sym, ap, ◌∙◌, subst}
+use Rattle.std.proofs.Common.{◌≡◌, ◌≢◌, ◌⊎◌, ⊎_elim, inl, inr, Bool, true, false, cond, not, ◌&&◌, ◌||◌, List, [], ◌∷◌, ◌++◌, map, filter, find, Some, None, refl, sym, ap, ◌∙◌, subst}
 use Rattle.std.specs.Prelude.{Option}
 use Rattle.std.specs.List.{list_any}
 use Rattle.std.specs.Option.{option_or}
@@ -9,7 +9,6 @@ use Rattle.vr_types.specs.declared.lock_name.LockName.{LockName}
 use Rattle.vr_types.specs.declared.unit.Mode.{Mode}
 use Rattle.vr_types.specs.declared.unit.Mode.TheVariants.{Shared, Exclusive}
 use Rattle.vr_types.specs.declared.unit.Unit.{Unit as UnitOfRecovery}
-use Rattle.vr_history.specs.Effects.{is_other}
 use Rattle.vr_history.specs.Laws.{ConflictsWithNone, NoTwoConflict}
 use Rattle.vr_history.specs.Names.{conflict_on, conflicts, is_exclusive, is_own, raised, raises, with_lock, with_locks}
 use Rattle.vr_history.specs.State.{State, is_name, is_unit}
@@ -48,8 +47,8 @@ free_lock unit mode name lock none conflict =
     let named : is_name name lock.name ≡ true = subst (λ (n : LockName). is_name name n ≡ true) conflict.name (name_self name) in
     let apart : is_unit unit lock.unit ≡ false = apart_units unit lock.unit conflict.units in
     let all : conflicts unit mode name lock ≡ true =
-        ap (λ (b : Bool). b && (not (is_unit unit lock.unit) && (is_exclusive mode || is_exclusive lock.mode))) named
-        ∙ (ap (λ (b : Bool). not b && (is_exclusive mode || is_exclusive lock.mode)) apart ∙ either_loud mode lock.mode conflict.exclusive) in
+    ap (λ (b : Bool). b && (not (is_unit unit lock.unit) && (is_exclusive mode || is_exclusive lock.mode))) named
+    ∙ (ap (λ (b : Bool). not b && (is_exclusive mode || is_exclusive lock.mode)) apart ∙ either_loud mode lock.mode conflict.exclusive) in
     true≢false (sym all ∙ none)
 
 turned : (one other : Lock) → Conflict one other → Conflict other one

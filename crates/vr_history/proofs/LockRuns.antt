@@ -1,9 +1,8 @@
 -- Locks over a history.
-use Rattle.std.proofs.Common.{◌≡◌, ◌⊎◌, ℕ, Bool, true, false, cond, List, [], ◌∷◌, Some, None, refl, sym, ap, ◌∙◌, subst}
+use Rattle.std.proofs.Common.{◌≡◌, ℕ, true, false, List, [], ◌∷◌, Some, None, refl, sym, ◌∙◌, subst}
 use Rattle.std.specs.Prelude.{Option}
 use Rattle.vr_types.specs.Locks.{Lock}
 use Rattle.vr_types.specs.declared.geometry.Geometry.{Geometry}
-use Rattle.vr_types.specs.declared.lock_name.LockName.{LockName}
 use Rattle.vr_types.specs.declared.reply.Reply.{Reply}
 use Rattle.vr_types.specs.declared.reply.Reply.TheVariants.{Done, Refused}
 use Rattle.vr_types.specs.declared.position.Stand.{Stand}
@@ -12,7 +11,6 @@ use Rattle.vr_types.specs.declared.request.FileRef.{FileRef}
 use Rattle.vr_types.specs.declared.request.Find.{Find}
 use Rattle.vr_types.specs.declared.request.Request.{Request}
 use Rattle.vr_types.specs.declared.request.Request.TheVariants.{Get, Point, Add, Update, Erase, EndReq, Commit, Backout}
-use Rattle.vr_types.specs.declared.unit.Integrity.{Integrity}
 use Rattle.vr_types.specs.declared.unit.Integrity.TheVariants.{Nri, Cr, Cre}
 use Rattle.vr_types.specs.declared.unit.Mode.{Mode}
 use Rattle.vr_types.specs.declared.unit.Mode.TheVariants.{Shared, Exclusive}
@@ -22,7 +20,7 @@ use Rattle.vr_history.specs.declared.entry.What.{What}
 use Rattle.vr_history.specs.declared.entry.What.TheVariants.{Asked, Undone, Claimed, Split, Faulted}
 use Rattle.vr_history.specs.Case.{Case, file_of}
 use Rattle.vr_history.specs.Change.{Change, change_of}
-use Rattle.vr_history.specs.Effects.{changes, drops_held, ends_unit, gives_back, holding, last_kept, moves_file, takes_out, without_unit}
+use Rattle.vr_history.specs.Effects.{changes, drops_held, holding, last_kept, moves_file, takes_out, without_unit}
 use Rattle.vr_history.specs.Laws.{NoTwoConflict}
 use Rattle.vr_history.specs.Legal.{AreSteps, state_of}
 use Rattle.vr_history.specs.Names.{conflict_on, lock_names, mode_asked, with_locks}

@@ -1,5 +1,5 @@
 -- One file's position changes, and no other's.
-use Rattle.std.proofs.Common.{◌≡◌, ◌≢◌, ℕ, Bool, true, false, ◌==◌, ◌&&◌, eq-eqb, ne_eqb, sym, refl, ap, ◌∙◌, subst, Some, None}
+use Rattle.std.proofs.Common.{◌≡◌, ℕ, Bool, true, false, ◌==◌, ◌&&◌, eq-eqb, ne_eqb, refl, ap, ◌∙◌, subst, Some, None}
 use Rattle.std.specs.Prelude.{Option, if◌then◌else◌}
 use mathlib.Core.Logic.{dite}
 use native.Mathlib.Decide.{ℕ_discrete}
@@ -8,7 +8,6 @@ use Rattle.vr_types.specs.declared.position.Position.{Position}
 use Rattle.vr_types.specs.declared.position.Stand.{Stand}
 use Rattle.vr_types.specs.declared.reply.Refusal.{Refusal}
 use Rattle.vr_types.specs.declared.request.FileRef.{FileRef}
-use Rattle.vr_types.specs.declared.request.Request.{Request}
 use Rattle.vr_history.specs.Case.{Case, file_of}
 use Rattle.vr_history.specs.Effects.{drops_held, moves_file, standing}
 use Rattle.vr_history.specs.Laws.{OnlyRefused, SameButPositions, stand_or}

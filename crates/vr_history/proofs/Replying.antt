@@ -1,16 +1,15 @@
 -- What a reply of Done says of the refusals.
-use Rattle.std.proofs.Common.{◌≡◌, ◌⊎◌, ⊎_elim, inl, inr, ℕ, Bool, List, [], ◌∷◌, Some, None, refl, sym, ap, ◌∙◌}
+use Rattle.std.proofs.Common.{◌≡◌, ⊎_elim, inl, inr, ℕ, List, [], ◌∷◌, Some, None, refl}
 use Rattle.std.specs.Prelude.{Option, option_map}
 use Rattle.vr_types.specs.Locks.{Lock}
 use Rattle.vr_types.specs.declared.reply.Refusal.{Refusal}
 use Rattle.vr_types.specs.declared.reply.Reply.{Reply}
-use Rattle.vr_types.specs.declared.reply.Reply.TheVariants.{Done, Refused}
-use Rattle.vr_types.specs.declared.request.Request.{Request}
+use Rattle.vr_types.specs.declared.reply.Reply.TheVariants.{Done}
 use Rattle.vr_history.specs.Case.{Case}
 use Rattle.vr_history.specs.RefusedFile.{bad_length, bad_slot, no_file, not_allowed, stopped}
 use Rattle.vr_history.specs.RefusedRecord.{absent, conflict_in, duplicate, duplicate_key, gone, held, held_by, key_changed, length_changed, no_get, no_position}
 use Rattle.vr_history.specs.RefusedRoom.{log_full, no_space}
-use Rattle.vr_history.specs.Replies.{MayReply, all_refusals, answer_of, done_by, first_of, refused_or}
+use Rattle.vr_history.specs.Replies.{MayReply, all_refusals, done_by, first_of, refused_or}
 
 none_refused : (refusal : Option Refusal) (done reply : Reply) (feedback : ℕ) (place bytes : Option (List ℕ)) → Done feedback place bytes ≡ refused_or refusal done → refusal ≡ None
 none_refused None done reply feedback place bytes same = refl

@@ -1,7 +1,7 @@
 -- What one entry leaves of the committed contents: at each place the record of the state, or the one that a unit which
 -- doesn't count keeps.
-use Rattle.std.proofs.Common.{◌≡◌, ◌≢◌, ◌⊎◌, ⊎_elim, inl, inr, ℕ, Bool, true, false, cond, not, ◌==◌, ◌&&◌, ◌||◌, List, [], ◌∷◌, ◌++◌, filter, find, bytes_eq, Some, None, refl, sym, ap, ◌∙◌, subst, eq-eqb, ne_eqb}
-use Rattle.std.specs.Prelude.{Option, if◌then◌else◌, option_and_then, option_map}
+use Rattle.std.proofs.Common.{◌≡◌, ◌≢◌, ◌⊎◌, inl, inr, ℕ, Bool, true, false, cond, not, ◌==◌, ◌&&◌, ◌||◌, List, [], ◌∷◌, ◌++◌, filter, find, bytes_eq, Some, None, refl, sym, ap, ◌∙◌, subst, eq-eqb, ne_eqb}
+use Rattle.std.specs.Prelude.{Option, if◌then◌else◌, option_and_then}
 use Rattle.std.specs.List.{list_any}
 use Rattle.std.proofs.lemmas.Bool.{true≢false, false≢true}
 use Rattle.std.proofs.lemmas.Slice.Eq.{bytes_eq-Decides}
@@ -9,23 +9,23 @@ use mathlib.Core.Logic.{dite}
 use native.Mathlib.Decide.{ℕ_discrete}
 use Rattle.vr_catalog.specs.Catalog.{definition_of}
 use Rattle.vr_catalog.specs.Definition.{Definition}
-use Rattle.vr_types.specs.Content.{Content, Item, item_at, record_of}
+use Rattle.vr_types.specs.Content.{Content, Item, item_at}
 use Rattle.vr_types.specs.Locks.{Lock}
 use Rattle.vr_types.specs.declared.lock_name.LockName.{LockName}
 use Rattle.vr_types.specs.declared.lock_name.LockName.TheVariants.{Record}
 use Rattle.vr_types.specs.declared.unit.Kind.{Kind}
 use Rattle.vr_types.specs.declared.unit.Kind.TheVariants.{Keyed, Entry as EntrySequenced, Relative}
-use Rattle.vr_types.specs.declared.unit.Mode.TheVariants.{Shared, Exclusive}
+use Rattle.vr_types.specs.declared.unit.Mode.TheVariants.{Exclusive}
 use Rattle.vr_types.specs.declared.unit.Unit.{Unit as UnitOfRecovery}
 use Rattle.vr_history.specs.Change.{Change}
-use Rattle.vr_history.specs.Committed.{is_kept_of, kept_or, settled_item}
+use Rattle.vr_history.specs.Committed.{is_kept_of, kept_or}
 use Rattle.vr_history.specs.Effects.{is_other, placed_in, with_change, without_last}
-use Rattle.vr_history.specs.Laws.{record_in, record_now, settled_record}
+use Rattle.vr_history.specs.Laws.{record_in}
 use Rattle.vr_history.specs.Opened.{catalog_of}
 use Rattle.vr_history.specs.State.{BeforeImage, State, is_unit}
 use Rattle.vr_history.specs.Step.{change_back, put_back, withdrawn_by}
-use Rattle.vr_history.proofs.Befores.{AreApart, IsLast, and_false, append_apart, filter_apart, filter_none, find_append_new, find_append_other, find_filter, find_narrow, is_place, last_found, last_gone, or_false, out_apart, out_other}
-use Rattle.vr_history.proofs.Holding.{Holds, first_holds_it, filtered_holds, free_unheld}
+use Rattle.vr_history.proofs.Befores.{AreApart, IsLast, and_false, append_apart, filter_apart, find_append_new, find_append_other, find_filter, find_narrow, is_place, last_found, last_gone, or_false, out_apart, out_other}
+use Rattle.vr_history.proofs.Holding.{Holds, filtered_holds, free_unheld}
 use Rattle.vr_history.proofs.Items.{placed_elsewhere, placed_here}
 use Rattle.vr_history.proofs.LockLemmas.{FreeIn}
 use Rattle.vr_history.proofs.Same.{first_holds, nat_same, second_holds, unit_same, unit_self}
@@ -205,6 +205,7 @@ module _ (counts : UnitOfRecovery → Bool) (befores : List BeforeImage) (locks 
           by_test true here =
               let same : unit ≡ kept.unit = unit_same unit kept.unit (first_holds (is_unit unit kept.unit) _ (own_there unit change.part change.place locks kept free held here)) in
               ap (λ (b : Bool). not b && is_place change.part change.place kept) (subst (λ (u : UnitOfRecovery). counts u ≡ true) same is)
+
       in_list : (some : List BeforeImage) → AllHeld some locks → find (is_kept_of counts change.part change.place) some ≡ None
       in_list [] held = refl
       in_list (kept ∷ rest) held = ap (λ (b : Bool). cond b (Some kept) (find (is_kept_of counts change.part change.place) rest)) (passed kept held.0) ∙ in_list rest held.1
@@ -228,6 +229,7 @@ module _ (counts : UnitOfRecovery → Bool) (befores : List BeforeImage) (locks 
       own_passes own =
           let same : unit ≡ kept.unit = unit_same unit kept.unit (first_holds _ _ own) in
           ap (λ (b : Bool). not b && is_place change.part change.place kept) (subst (λ (u : UnitOfRecovery). counts u ≡ false) same not_counted) ∙ second_holds (is_unit unit kept.unit) _ own
+
       by_tests : (test own : Bool) → is_kept_of counts change.part change.place kept ≡ test → is_own_place unit change.part change.place kept ≡ own
           → (own || list_any (is_own_place unit change.part change.place) rest) ≡ true
           → (list_any (is_own_place unit change.part change.place) rest ≡ true → (found : BeforeImage) × (find (is_kept_of counts change.part change.place) rest ≡ Some found))
@@ -243,6 +245,7 @@ module _ (counts : UnitOfRecovery → Bool) (befores : List BeforeImage) (locks 
     where
       now : Option Item
       now = item_at (with_change change contents change.part) change.place
+
       by_test : (test : Bool) → kept_already ≡ test → kept_or (find (is_kept_of counts change.part change.place) (cond test befores (befores ++ image_of ∷ []))) now ≡ settled_on counts befores contents change.part change.place
       by_test true is =
           let found = some_found befores not_counted is in
@@ -264,9 +267,9 @@ module _ (counts : UnitOfRecovery → Bool) (befores : List BeforeImage) (locks 
           let P : ℕ → Type 0 = λ p. record_in (item_at (with_change change counted p) place) ≡ record_in (settled_on counts befores_after (with_change change contents) p place) in
           let Q : List ℕ → Type 0 = λ q. record_in (item_at (with_change change counted change.part) q) ≡ record_in (settled_on counts befores_after (with_change change contents) change.part q) in
           subst P (sym here.0) (subst Q (sym here.1) (ap record_in (
-              item_changed change counted change.part change.place refl refl
-              ∙ (sym (item_changed change contents change.part change.place refl refl)
-              ∙ sym (ap (λ (kept : Option BeforeImage). kept_or kept (item_at (with_change change contents change.part) change.place)) (counted_after is free))))))
+          item_changed change counted change.part change.place refl refl
+          ∙ (sym (item_changed change contents change.part change.place refl refl)
+          ∙ sym (ap (λ (kept : Option BeforeImage). kept_or kept (item_at (with_change change contents change.part) change.place)) (counted_after is free))))))
       by_test true is (inr apart) =
           ap record_in (item_unchanged change counted part place apart) ∙ (agrees place ∙ sym (ap record_in (settled_elsewhere part place apart)))
       by_test false is (inl here) =
@@ -299,14 +302,14 @@ module _ (counts : UnitOfRecovery → Bool) (state : State) (counted : ℕ → C
       → settled_on counts befores_left (with_change (change_back state last) state.contents) part place ≡ settled_on counts state.befores state.contents part place
   undone_elsewhere part place apart =
       ap (λ (kept : Option BeforeImage). kept_or kept (item_at (with_change (change_back state last) state.contents part) place))
-          (out_other unit last (is_kept_of counts part place) state.befores is (narrow counts part place last (place_of_image part place last apart)))
+      (out_other unit last (is_kept_of counts part place) state.befores is (narrow counts part place last (place_of_image part place last apart)))
       ∙ ap (kept_or (find (is_kept_of counts part place) state.befores)) (item_unchanged (change_back state last) state.contents part place apart)
 
   -- at its place there is none any more, and the item is the one put back
   undone_here : settled_on counts befores_left (with_change (change_back state last) state.contents) last.part last.place ≡ put_back state last last.old
   undone_here =
       ap (λ (kept : Option BeforeImage). kept_or kept (item_at (with_change (change_back state last) state.contents last.part) last.place))
-          (last_gone unit last (is_kept_of counts last.part last.place) state.befores sound.apart is (narrow counts last.part last.place))
+      (last_gone unit last (is_kept_of counts last.part last.place) state.befores sound.apart is (narrow counts last.part last.place))
       ∙ item_changed (change_back state last) state.contents last.part last.place refl refl
 
   last_place : is_place last.part last.place last ≡ true
@@ -316,8 +319,8 @@ module _ (counts : UnitOfRecovery → Bool) (state : State) (counted : ℕ → C
   last_settled : counts last.unit ≡ false → settled_on counts state.befores state.contents last.part last.place ≡ last.old
   last_settled not_counted =
       ap (λ (kept : Option BeforeImage). kept_or kept (item_at (state.contents last.part) last.place))
-          (last_found unit last (is_kept_of counts last.part last.place) state.befores sound.apart is (narrow counts last.part last.place)
-              (ap (λ (b : Bool). not b && is_place last.part last.place last) not_counted ∙ last_place))
+      (last_found unit last (is_kept_of counts last.part last.place) state.befores sound.apart is (narrow counts last.part last.place)
+      (ap (λ (b : Bool). not b && is_place last.part last.place last) not_counted ∙ last_place))
 
   last_unit : (befores : List BeforeImage) → IsLast unit last befores → unit ≡ last.unit
   last_unit [] this = absurd this
@@ -351,5 +354,6 @@ counted_end counts befores ended part place is = find_filter (λ kept. is_other 
     ended_unit : (kept : BeforeImage) (test : Bool) → is_unit ended kept.unit ≡ test → not test ≡ false → ended ≡ kept.unit
     ended_unit kept true same none = unit_same ended kept.unit same
     ended_unit kept false same none = absurd (true≢false none)
+
     passes : (kept : BeforeImage) → is_other ended kept.unit ≡ false → is_kept_of counts part place kept ≡ false
     passes kept gone = ap (λ (b : Bool). not b && is_place part place kept) (subst (λ (u : UnitOfRecovery). counts u ≡ true) (ended_unit kept (is_unit ended kept.unit) refl gone) is)

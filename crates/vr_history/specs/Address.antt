@@ -1,7 +1,7 @@
 -- Where an entry-sequenced data set puts the next record, and how many areas a record of an entry-sequenced or a
 -- relative data set needs (DFSMS Using Data Sets, relative byte addresses and slots). How much of a control interval
 -- is used is this project's own rule of room.
-use Rattle.std.specs.Prelude.{ℕ, ◌+◌, ◌-◌, ◌*◌, ◌/◌, ◌%◌, Bool, true, false, cond, List, [], ◌∷◌, ◌++◌, Option, Some, None, ◌==◌, ◌&&◌, nat_le, length, filter, map, sum}
+use Rattle.std.specs.Prelude.{ℕ, ◌+◌, ◌-◌, ◌*◌, ◌/◌, Bool, true, false, cond, List, [], ◌∷◌, Option, Some, None, ◌==◌, ◌&&◌, nat_le, length, filter, map, sum}
 use Rattle.std.specs.Int.{w32, from_be_bytes, div_ceil}
 use Rattle.vr_types.specs.Content.{Content, Placed, Item, Standing, Withdrawn}
 use Rattle.vr_types.specs.declared.unit.Kind.{Kind}
@@ -51,8 +51,8 @@ next_after size content new None = 0
 next_after size content new (Some last) =
     let interval = last_interval size (number_of last.0) (length_of last.1) in
     cond (not_spanned (length_of last.1) && (not_spanned new && nat_le (room_taken size interval content + new + 3) (size - 4)))
-        (interval * size + lengths_taken size interval content)
-        ((interval + 1) * size)
+    (interval * size + lengths_taken size interval content)
+    ((interval + 1) * size)
   where
     not_spanned : ℕ → Bool
     not_spanned n = cond (is_spanned size n) false true

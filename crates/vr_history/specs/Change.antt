@@ -1,7 +1,7 @@
 -- What a request changes: one place of the base cluster, and with it the pairs of each alternate index over it that is
 -- built (DFSMS Using Data Sets, upgrade of alternate indexes). The state, the reply and the committed contents share
 -- these words.
-use Rattle.std.specs.Prelude.{ℕ, Bool, true, false, not, cond, List, [], ◌∷◌, ◌++◌, Option, Some, None, ◌==◌, ◌&&◌, length, filter, map, filter_map, flat_map, bytes_eq, option_map, option_and_then, option_to_list, unwrap_or, is_some}
+use Rattle.std.specs.Prelude.{ℕ, Bool, true, false, not, cond, List, [], Option, Some, None, length, filter, map, bytes_eq, option_map, option_and_then, unwrap_or}
 use Rattle.std.specs.Int.{w32, to_be_bytes}
 use Rattle.std.specs.Option.{option_map_or}
 use Rattle.vr_altkey.specs.Pairs.{field_of}
@@ -13,7 +13,7 @@ use Rattle.vr_types.specs.declared.request.Request.TheVariants.{Get, Point, Add,
 use Rattle.vr_types.specs.declared.unit.Kind.{Kind}
 use Rattle.vr_types.specs.declared.unit.Kind.TheVariants.{Keyed, Entry, Relative}
 use Rattle.vr_history.specs.Address.{next_address}
-use Rattle.vr_history.specs.Case.{Case, acts_on_held, dropped, is_add, new_record}
+use Rattle.vr_history.specs.Case.{Case, dropped, is_add, new_record}
 use Rattle.vr_history.specs.Opened.{opened, definition_in, base_of, built_over}
 
 -- what stands at a place of a part from now on, if anything

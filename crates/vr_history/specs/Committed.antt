@@ -1,6 +1,6 @@
 -- The committed contents of a history: the opening contents with the changes of the units that committed, in order,
 -- and of any that are counted beside them (DFSMStvs Planning and Operating Guide, units of recovery).
-use Rattle.std.specs.Prelude.{ℕ, Bool, true, false, cond, not, if◌then◌else◌, List, [], ◌∷◌, Option, Some, None, ◌==◌, ◌&&◌, ◌||◌, bytes_eq, find, option_map}
+use Rattle.std.specs.Prelude.{ℕ, Bool, true, false, cond, not, if◌then◌else◌, List, [], ◌∷◌, Option, Some, None, ◌==◌, ◌&&◌, ◌||◌, bytes_eq, find}
 use Rattle.std.specs.List.{list_any}
 use Rattle.vr_catalog.specs.Catalog.{entries_in, parts_in}
 use Rattle.vr_types.specs.Content.{Content, Item, item_at}

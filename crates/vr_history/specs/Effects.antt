@@ -1,18 +1,15 @@
 -- What an entry leaves of the state: one word for each effect (DFSMS Using Data Sets for positions and records, the
 -- DFSMStvs Planning and Operating Guide for locks and units of recovery).
-use Rattle.std.specs.Prelude.{ℕ, ◌+◌, Bool, true, false, not, cond, if◌then◌else◌, List, [], ◌∷◌, ◌++◌, Option, Some, None, ◌==◌, ◌&&◌, ◌||◌, nat_eq, length, filter, map, option_map, option_and_then, option_to_list}
+use Rattle.std.specs.Prelude.{ℕ, ◌+◌, Bool, true, false, not, cond, if◌then◌else◌, List, [], ◌∷◌, ◌++◌, Option, Some, None, ◌==◌, ◌&&◌, nat_eq, filter, map}
 use Rattle.std.specs.List.{list_any}
-use Rattle.std.specs.Option.{option_map_or}
 use Rattle.vr_catalog.specs.Catalog.{parts_in}
 use Rattle.vr_catalog.specs.declared.entry.CatEntry.{CatEntry}
 use Rattle.vr_catalog.specs.declared.entry.EntryKind.{EntryKind}
 use Rattle.vr_catalog.specs.declared.entry.EntryKind.TheVariants.{Cluster, Alternate, Path}
 use Rattle.vr_types.specs.Content.{Content, Item, item_at, with_item, without_item}
-use Rattle.vr_types.specs.Locks.{Lock}
 use Rattle.vr_types.specs.Position.{unheld}
 use Rattle.vr_types.specs.declared.position.Position.{Position}
 use Rattle.vr_types.specs.declared.position.Stand.{Stand}
-use Rattle.vr_types.specs.declared.position.Stand.TheVariants.{At, After, End, None as Nowhere}
 use Rattle.vr_types.specs.declared.lock_name.LockName.{LockName}
 use Rattle.vr_types.specs.declared.request.FileRef.{FileRef}
 use Rattle.vr_types.specs.declared.unit.Mode.{Mode}
@@ -21,7 +18,7 @@ use Rattle.vr_history.specs.Change.{Change}
 use Rattle.vr_history.specs.LogSpace.{Logging}
 use Rattle.vr_history.specs.Names.{with_locks}
 use Rattle.vr_history.specs.Opened.{catalog_of}
-use Rattle.vr_history.specs.State.{BeforeImage, Logged, Owned, State, is_kept, is_live, is_unit}
+use Rattle.vr_history.specs.State.{BeforeImage, Logged, State, is_kept, is_unit}
 
 -- one file's position changes
 abbrev pub moves_file : ℕ → ℕ → (Position → Position) → State → State

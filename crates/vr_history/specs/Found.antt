@@ -4,9 +4,7 @@
 use Rattle.std.specs.Prelude.{ℕ, Bool, true, false, not, cond, List, [], ◌∷◌, ◌++◌, Option, Some, None, ◌==◌, ◌&&◌, take, filter, filter_map, bytes_eq, option_map, option_and_then}
 use Rattle.std.specs.Ordering.{is_lt, is_le}
 use Rattle.vr_altkey.specs.Pairs.{field_of}
-use Rattle.vr_catalog.specs.Catalog.{Alternate}
-use Rattle.vr_catalog.specs.Definition.{Definition}
-use Rattle.vr_types.specs.Content.{Content, Placed, Item, Standing, Withdrawn, record_of, place_cmp}
+use Rattle.vr_types.specs.Content.{Content, Item, record_of, place_cmp}
 use Rattle.vr_types.specs.declared.position.Stand.{Stand}
 use Rattle.vr_types.specs.declared.position.Stand.TheVariants.{Start, At, After, End, None as Nowhere}
 use Rattle.vr_types.specs.declared.request.Find.{Find}
@@ -14,7 +12,7 @@ use Rattle.vr_types.specs.declared.request.Find.TheVariants.{Next, Equal, AtLeas
 use Rattle.vr_types.specs.declared.unit.Unit.{Unit as UnitOfRecovery}
 use Rattle.vr_history.specs.Case.{Case, file_of, find_of, sees_kept}
 use Rattle.vr_history.specs.Opened.{Opened, Unknown, Cluster, ByPath, opened, base_of}
-use Rattle.vr_history.specs.State.{State, BeforeImage, is_unit}
+use Rattle.vr_history.specs.State.{BeforeImage, is_unit}
 
 -- a record that a read may find: where it comes in the order of the read, its place in the base, and its bytes
 pub record Candidate : Type 0 where

@@ -1,7 +1,7 @@
 -- The locks that a request asks for (DFSMStvs Planning and Operating Guide, record-level locking): on its record, and
 -- for a change on each key of a unique alternate index that it gives up or takes. Which reads keep a lock is
 -- that guide's too; that a refused lock is answered at once is this project's own rule.
-use Rattle.std.specs.Prelude.{ℕ, Bool, true, false, not, cond, List, [], ◌∷◌, ◌++◌, Option, Some, None, ◌==◌, ◌&&◌, ◌||◌, find, filter, map, flat_map, option_map, option_to_list, option_and_then}
+use Rattle.std.specs.Prelude.{ℕ, Bool, true, false, not, cond, List, [], ◌∷◌, ◌++◌, Option, Some, None, ◌&&◌, ◌||◌, find, filter, map, flat_map, option_to_list}
 use Rattle.std.specs.Option.{option_map_or, option_or}
 use Rattle.std.specs.List.{list_any}
 use Rattle.vr_types.specs.Locks.{Lock}

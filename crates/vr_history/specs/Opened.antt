@@ -1,6 +1,6 @@
 -- What a file is on, by the catalog of its volume: a cluster, or a cluster by way of a path over one of its alternate
 -- indexes (DFSMS Using Data Sets, alternate indexes and paths).
-use Rattle.std.specs.Prelude.{ℕ, Bool, true, false, cond, List, [], Option, Some, None, ◌==◌, filter, find, option_and_then, option_map}
+use Rattle.std.specs.Prelude.{ℕ, cond, List, Option, Some, None, ◌==◌, filter, find}
 use Rattle.std.specs.Option.{option_map_or}
 use Rattle.vr_catalog.specs.Catalog.{Alternate, entries_in, definition_of, alternates_over}
 use Rattle.vr_catalog.specs.Definition.{Definition}

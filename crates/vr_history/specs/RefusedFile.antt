@@ -1,25 +1,22 @@
 -- Refusals of a request by the file that it is on, and by the places and records that it names. Each word answers the
 -- refusal exactly where its cause is there. The causes are those of the return codes of DFSMS Using Data Sets; what is
 -- this project's own says so.
-use Rattle.std.specs.Prelude.{ℕ, ◌+◌, ◌-◌, ◌^◌, Bool, true, false, not, cond, min, nat_eq, nat_le, List, [], ◌∷◌, Option, Some, None, ◌==◌, ◌&&◌, ◌||◌, length, is_none, bytes_eq, option_map, option_and_then}
+use Rattle.std.specs.Prelude.{ℕ, ◌-◌, ◌^◌, Bool, true, false, not, min, nat_eq, List, Option, Some, None, ◌==◌, ◌&&◌, ◌||◌, length, is_none, option_map, option_and_then}
 use Rattle.std.specs.List.{list_any}
 use Rattle.std.specs.Option.{option_map_or}
-use Rattle.vr_catalog.specs.Catalog.{Alternate}
-use Rattle.vr_catalog.specs.Definition.{Definition, is_valid_record}
+use Rattle.vr_catalog.specs.Definition.{is_valid_record}
 use Rattle.vr_types.specs.declared.reply.Refusal.{Refusal}
 use Rattle.vr_types.specs.declared.reply.Refusal.TheVariants.{NoFile, Stopped, NotAllowed, BadSlot, BadLength}
-use Rattle.vr_types.specs.declared.request.FileRef.{FileRef}
 use Rattle.vr_types.specs.declared.request.Find.{Find}
 use Rattle.vr_types.specs.declared.request.Find.TheVariants.{Next, Equal, AtLeast}
 use Rattle.vr_types.specs.declared.request.Request.{Request}
 use Rattle.vr_types.specs.declared.request.Request.TheVariants.{Get, Point, Add, Update, Erase, EndReq, Commit, Backout}
 use Rattle.vr_types.specs.declared.unit.Kind.{Kind}
 use Rattle.vr_types.specs.declared.unit.Kind.TheVariants.{Keyed, Entry, Relative}
-use Rattle.vr_types.specs.declared.unit.Unit.{Unit as UnitOfRecovery}
 use Rattle.vr_history.specs.Address.{number_of}
 use Rattle.vr_history.specs.Case.{Case, file_of}
 use Rattle.vr_history.specs.Opened.{Opened, Unknown, Cluster, ByPath, opened}
-use Rattle.vr_history.specs.State.{Logged, State}
+use Rattle.vr_history.specs.State.{Logged}
 
 -- a refusal where a test holds
 abbrev pub refused_if : Bool → Refusal → Option Refusal

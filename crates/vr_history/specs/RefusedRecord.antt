@@ -1,7 +1,7 @@
 -- Refusals of a request by where its file stands, by what it holds for update, by the locks of others, and by the
 -- records that are there. Each word answers the refusal exactly where its cause is there. The causes are those of the
 -- return codes of DFSMS Using Data Sets; that a lock is refused at once is this project's own rule.
-use Rattle.std.specs.Prelude.{ℕ, Bool, true, false, not, cond, nat_eq, List, [], ◌∷◌, Option, Some, None, ◌==◌, ◌&&◌, ◌||◌, length, bytes_eq, find, filter, is_none, is_some, option_map, option_and_then}
+use Rattle.std.specs.Prelude.{ℕ, Bool, true, false, not, nat_eq, List, Option, Some, None, ◌&&◌, ◌||◌, length, bytes_eq, find, is_none, is_some, option_map, option_and_then}
 use Rattle.std.specs.List.{list_any}
 use Rattle.std.specs.Option.{option_map_or}
 use Rattle.vr_catalog.specs.Definition.{Definition, key_of}
@@ -17,13 +17,12 @@ use Rattle.vr_types.specs.declared.request.Request.{Request}
 use Rattle.vr_types.specs.declared.request.Request.TheVariants.{Get, Point, Add, Update, Erase, EndReq, Commit, Backout}
 use Rattle.vr_types.specs.declared.unit.Kind.{Kind}
 use Rattle.vr_types.specs.declared.unit.Kind.TheVariants.{Keyed, Entry, Relative}
-use Rattle.vr_history.specs.Case.{Case, acts_on_held, dropped, is_add, new_record}
+use Rattle.vr_history.specs.Case.{Case, acts_on_held, dropped, is_add}
 use Rattle.vr_history.specs.Change.{PairMove, field_in, move_of, moves_key, old_record, pair_moves, place_changed, record_held}
-use Rattle.vr_history.specs.Found.{Standing_at, found, place_read, records_in, stand_of}
+use Rattle.vr_history.specs.Found.{Standing_at, place_read, records_in, stand_of}
 use Rattle.vr_history.specs.Names.{conflict_on, lock_names, mode_asked}
 use Rattle.vr_history.specs.Opened.{Opened, Unknown, Cluster, ByPath, opened, base_of}
 use Rattle.vr_history.specs.RefusedFile.{refused_if}
-use Rattle.vr_history.specs.State.{State}
 
 abbrev pub is_nowhere : Stand → Bool
 is_nowhere Start = false

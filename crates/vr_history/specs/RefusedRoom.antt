@@ -1,7 +1,6 @@
 -- Refusals of a change for want of room: in the areas of the volume, and in its log. Each word answers the refusal
 -- exactly where its cause is there. How much room a record needs is this project's own.
-use Rattle.std.specs.Prelude.{ℕ, ◌+◌, ◌-◌, Bool, true, false, not, cond, nat_lt, List, Option, Some, None, ◌&&◌, length, is_none, is_some, option_map, option_and_then}
-use Rattle.std.specs.Option.{option_map_or}
+use Rattle.std.specs.Prelude.{ℕ, ◌+◌, ◌-◌, nat_lt, List, Option, ◌&&◌, length, is_some, option_map, option_and_then}
 use Rattle.vr_catalog.specs.Definition.{Definition}
 use Rattle.vr_types.specs.Geometry.{area_count}
 use Rattle.vr_types.specs.declared.reply.Refusal.{Refusal}
@@ -13,7 +12,7 @@ use Rattle.vr_types.specs.LogSpace.{log_size}
 use Rattle.vr_history.specs.LogSpace.{log_need}
 use Rattle.vr_history.specs.Opened.{base_of, definition_in, opened}
 use Rattle.vr_history.specs.RefusedFile.{refused_if}
-use Rattle.vr_history.specs.State.{State, areas_of}
+use Rattle.vr_history.specs.State.{areas_of}
 
 -- the areas that no part has
 abbrev pub free_areas : Case → ℕ

@@ -1,12 +1,11 @@
 -- Which reply a request may have: its first refusal in the order in which they are tried, or what a request that is done
 -- answers (DFSMS Using Data Sets). In place of it may come a fault of the device, or that memory ran out. The order is
 -- this project's own.
-use Rattle.std.specs.Prelude.{◌≡◌, ◌⊎◌, ◌<◌, ℕ, Bool, true, false, not, cond, List, [], ◌∷◌, ◌++◌, Option, Some, None, ◌&&◌, IsTrue, bytes_eq, take, filter_map, is_none, option_map, option_and_then}
+use Rattle.std.specs.Prelude.{◌≡◌, ◌⊎◌, ◌<◌, ℕ, Bool, true, false, not, List, [], ◌∷◌, ◌++◌, Option, Some, None, ◌&&◌, IsTrue, bytes_eq, take, filter_map, is_none}
 use Rattle.std.specs.List.{list_any}
 use Rattle.std.specs.Option.{option_map_or}
 use Rattle.std.specs.Ordering.{is_lt}
 use Rattle.vr_catalog.specs.Catalog.{Alternate}
-use Rattle.vr_catalog.specs.Definition.{Definition}
 use Rattle.vr_types.specs.Content.{place_cmp}
 use Rattle.vr_types.specs.declared.reply.Refusal.{Refusal}
 use Rattle.vr_types.specs.declared.reply.Refusal.TheVariants.{Memory, NoSpace, ReadFault, WriteFault}
@@ -23,7 +22,7 @@ use Rattle.vr_history.specs.Opened.{Opened, Unknown, Cluster, ByPath, base_of, d
 use Rattle.vr_history.specs.RefusedFile.{bad_length, bad_slot, no_file, not_allowed, stopped}
 use Rattle.vr_history.specs.RefusedRecord.{absent, duplicate, duplicate_key, gone, held, is_taken, key_changed, length_changed, no_get, no_position, record_read}
 use Rattle.vr_history.specs.RefusedRoom.{free_areas, log_full, no_space}
-use Rattle.vr_history.specs.State.{State, is_unit}
+use Rattle.vr_history.specs.State.{is_unit}
 
 -- the first of some refusals that has its cause
 abbrev pub first_of : List (Option Refusal) → Option Refusal

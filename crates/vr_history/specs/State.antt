@@ -1,7 +1,7 @@
 -- The state of a volume, as the record file that a request sees: the contents of its parts, the locks, before-images
 -- and log records of units of recovery, where files stand, and which areas are owned. Locks, before-images and units
 -- are those of the DFSMStvs Planning and Operating Guide; how they are kept is this project's own.
-use Rattle.std.specs.Prelude.{ℕ, Bool, List, [], Option, None, ◌==◌, ◌&&◌, ◌-◌, false, length, filter, bytes_eq}
+use Rattle.std.specs.Prelude.{ℕ, Bool, List, [], Option, None, ◌==◌, ◌&&◌, false, length, filter, bytes_eq}
 use Rattle.std.specs.List.{list_any}
 use Rattle.vr_types.specs.Content.{Content, Item}
 use Rattle.vr_types.specs.Locks.{Lock}

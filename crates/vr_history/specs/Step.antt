@@ -1,11 +1,10 @@
 -- The step of the record file: which entry may come in a state, and the state after it.
-use Rattle.std.specs.Prelude.{◌≡◌, ◌<◌, ℕ, Bool, true, false, not, cond, nat_eq, List, [], ◌∷◌, ◌++◌, Option, Some, None, ◌==◌, ◌&&◌, IsTrue, bytes_eq, find, length, option_map, option_and_then, option_to_list}
+use Rattle.std.specs.Prelude.{◌≡◌, ◌<◌, ℕ, Bool, true, false, List, [], Option, Some, None, ◌==◌, find, length, option_map, option_and_then, option_to_list}
 use Rattle.std.specs.List.{list_any}
 use Rattle.std.specs.Option.{option_map_or}
 use Rattle.vr_catalog.specs.Catalog.{definition_of}
-use Rattle.vr_types.specs.Content.{Item, Standing, Withdrawn, item_at}
+use Rattle.vr_types.specs.Content.{Item, Withdrawn, item_at}
 use Rattle.vr_types.specs.Geometry.{area_count}
-use Rattle.vr_types.specs.declared.fault.DeviceFault.{DeviceFault}
 use Rattle.vr_types.specs.declared.fault.DeviceFault.TheVariants.{Write}
 use Rattle.vr_types.specs.declared.geometry.Geometry.{Geometry}
 use Rattle.vr_types.specs.declared.position.Stand.{Stand}
@@ -36,7 +35,7 @@ use Rattle.vr_history.specs.LogSpace.{log_need, new_loggings}
 use Rattle.vr_history.specs.Names.{lock_names}
 use Rattle.vr_history.specs.Opened.{catalog_of}
 use Rattle.vr_history.specs.Replies.{MayReply}
-use Rattle.vr_history.specs.State.{BeforeImage, Owned, State}
+use Rattle.vr_history.specs.State.{BeforeImage, State}
 use Rattle.vr_types.specs.declared.unit.Mode.TheVariants.{Shared, Exclusive}
 
 abbrev pub case_of : Geometry → State → UnitOfRecovery → Request → Case

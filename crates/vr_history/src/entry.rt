@@ -1,3 +1,4 @@
+//! An entry of a history: what an event did.
 ghost use Rattle.std.specs.Prelude.{◌≡◌, IfOk};
 
 use std::alloc::Global;
@@ -14,7 +15,7 @@ pub struct Entry {
 }
 
 impl Entry {
-    /// An equal value. Want of memory is its one error.
+    /// An equal value. Fails only if memory runs out.
     pub fn copy(&self, alloc: Global) -> Result<Entry, OutOfMemory>
         ensures { IfOk result (λ copy. copy ≡ self.now) }
     {
@@ -27,7 +28,7 @@ impl Entry {
     }
 }
 
-/// What an entry tells: a request with its reply, a before-image put back, an area claimed, an interval split, or
+/// What an entry reports: a request with its reply, a before-image put back, an area claimed, an interval split, or
 /// a device fault that stopped the volume.
 #[derive(Debug, Drop)]
 pub enum What {
@@ -39,7 +40,7 @@ pub enum What {
 }
 
 impl What {
-    /// An equal value. Want of memory is its one error.
+    /// An equal value. Fails only if memory runs out.
     pub fn copy(&self, alloc: Global) -> Result<What, OutOfMemory>
         ensures { IfOk result (λ copy. copy ≡ self.now) }
     {

@@ -1,3 +1,4 @@
+//! The list of the entries that were made on a volume.
 ghost use Rattle.std.specs.Prelude.{◌≡◌, ◌<◌, ◌≤◌, ◌+◌, ◌-◌, [], ◌∷◌, ◌++◌, OnOk, OnErr};
 ghost use Rattle.vr_history.specs.Merged.{IsStamped, last_stamp};
 
@@ -51,7 +52,7 @@ impl History {
         }
     }
 
-    /// Makes room for so many more entries. The entries stay, whatever the answer.
+    /// Makes room for that many more entries. The entries stay, whatever the answer.
     pub fn reserve(&mut self, more: usize) -> Result<(), OutOfMemory>
         ensures entries { self.new.entries ≡ self.old.entries }
         ensures room { OnOk result (more ≤ self.new.room) }

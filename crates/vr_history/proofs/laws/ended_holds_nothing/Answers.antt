@@ -1,6 +1,4 @@
 use Rattle.vr_history.proofs.Endings.{ended_free}
-use Rattle.vr_history.proofs.Befores.{append_apart}
-use Rattle.vr_history.proofs.Committing.{Agrees}
 use Rattle.vr_history.proofs.laws.ended_holds_nothing.Goals as goal
 
 pub returns : goal.returns
