@@ -257,8 +257,8 @@ fn the_first_broken_rule_of_a_roster_is_named(rt: HostRuntime) -> Result<(), Fai
 fn faults_are_numbered_in_their_order(rt: HostRuntime) {
     assert_eq!(rt; SeqFault::Kind.number(), 1);
     assert_eq!(rt; SeqFault::Zeros.number(), 5);
-    assert!(rt; is_block_size(6656));
-    assert!(rt; !is_block_size(8704));
+    assert!(rt; vr_types::is_block_size(6656));
+    assert!(rt; !vr_types::is_block_size(8704));
     assert_eq!(rt; interval_limit(15, 4096, 8), 15);
     assert_eq!(rt; interval_limit(255, 512, 117), 3);
 }
