@@ -21,8 +21,6 @@ pub mod position;
 pub mod reply;
 pub mod request;
 pub mod script;
-#[cfg(test)]
-mod tests;
 pub mod unit;
 pub mod values;
 pub mod words;
