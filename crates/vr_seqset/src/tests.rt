@@ -6,7 +6,7 @@ use std::test::*;
 
 mod plain;
 
-// The pieces one after another, and zeros up to the size.
+/// The pieces one after another, and zeros up to the size.
 fn block(alloc: Global, size: usize, pieces: &[&[u8]]) -> Result<Vec<u8>, AllocError> {
     let mut out = Vec::new(alloc);
     for piece in pieces {
@@ -16,7 +16,7 @@ fn block(alloc: Global, size: usize, pieces: &[&[u8]]) -> Result<Vec<u8>, AllocE
     Ok(out)
 }
 
-// The block with other bytes at some places.
+/// The block with other bytes at some places.
 fn edited(alloc: Global, block: &[u8], edits: &[(usize, u8)]) -> Result<Vec<u8>, AllocError> {
     let mut out = Vec::from_slice(alloc, block)?;
     for (at, byte) in edits {
@@ -37,8 +37,8 @@ fn numbers(alloc: Global, entry: &SeqEntry<'_>) -> Result<Vec<u16>, AllocError>
     Ok(out)
 }
 
-// Reads the block, and writes what was read over other bytes. The proof of it shows that a caller can meet what the writer asks.
-// Nothing comes of a block that is no record's.
+/// Reads the block, and writes what was read over other bytes. The proof of it shows that a caller
+/// can meet what the writer asks. Nothing comes of a block that is no record's.
 fn copied(alloc: Global, block: &[u8], cis: u16) -> Result<Vec<u8>, AllocError> {
     let view = match SeqView::read(block, cis) {
         Ok(view) => view,
@@ -62,18 +62,19 @@ fn copied(alloc: Global, block: &[u8], cis: u16) -> Result<Vec<u8>, AllocError> 
     Ok(out)
 }
 
-// The head of the area that formatting gives the first cluster: keys of eight bytes, one entry, interval 0, up to the last place.
+/// The head of the area that formatting gives the first cluster: keys of eight bytes, one entry,
+/// interval 0, up to the last place.
 const FRESH: &[u8; 52] =
     b"S\x01\x00\x01\x00\x00\x00\x08\x00\x00\x00\x01\x00\x00\x00\x00\x00\x00\x00\x00\x00\x00\x00\x00\x00\x00\x00\x00\x00\x00\x00\x00\
     \x00\x00\x00\x00\x00\x00\x00\x00\x00\x01\x00\x00\xff\xff\xff\xff\xff\xff\xff\xff";
 
-// The first of a chain: the next area is 5, the top index record is block 9, the first index area is 3. One of its two entries
-// has two intervals.
+/// The first of a chain: the next area is 5, the top index record is block 9, the first index area
+/// is 3. One of its two entries has two intervals.
 const FIRST: &[u8; 48] =
     b"S\x01\x00\x02\x00\x00\x00\x02\x00\x00\x00\x07\x00\x00\x00\x06\x00\x00\x00\x09\x00\x00\x00\x04\x00\x00\x00\x00\x00\x00\x00\x00\
     \x00\x00\x00\x01\x00\x03\x10\x00\x00\x02\x00\x00\x00\x04\x20\x00";
 
-// The last of a chain, above the place X'2000'.
+/// The last of a chain, above the place X'2000'.
 const LAST: &[u8; 46] =
     b"S\x00\x00\x02\x00\x00\x00\x02\x00\x00\x00\x07\x00\x00\x00\x00\x00\x00\x00\x00\x00\x00\x00\x00\x00\x00\x00\x00\x00\x00\x00\x00\
     \x20\x00\x00\x01\x00\x01\x20\x01\x00\x01\x00\x00\xff\xff";
