@@ -28,6 +28,3 @@ pub use laws::{earlier_entries, one_block_each, one_record_each, one_roster_each
 pub use roster::{RosterView, write_roster};
 pub use view::SeqView;
 pub use writer::SeqWriter;
-
-#[cfg(test)]
-mod tests;

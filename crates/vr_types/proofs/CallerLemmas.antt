@@ -1,4 +1,5 @@
--- What the crates above cite of sizes of blocks, of fields, and of the order of places and names.
+-- What the crates above cite of runs of calls of blocks, of sizes of blocks, of fields, and of the order of places and
+-- names.
 use Rattle.std.proofs.Common.{◌≡◌, ◌⊎◌, ℕ, ◌+◌, ◌%◌, ◌^◌, ◌<◌, ◌≤◌, List, [], ◌∷◌, ◌++◌, length, get_or, take, drop, refl, sym, ap, ◌∙◌, arith, inl, inr, replicate, Option, Some, None, add-one, zero, suc, subst, ◌-◌}
 use Rattle.std.proofs.lemmas.Bool.{cases_lt}
 use Rattle.std.proofs.lemmas.List.{take-append-drop, drop-drop, length-drop, length-take, length-append, get_or-drop, get_or-take, get_or_past, drop_more, length-replicate, drop_at}
@@ -17,6 +18,14 @@ use Rattle.vr_types.specs.declared.lock_name.LockName.{LockName}
 use Rattle.vr_types.specs.declared.lock_name.LockName.TheVariants.{Record, Unique}
 use Rattle.vr_types.specs.LockName.{lock_name_cmp}
 use Rattle.vr_types.specs.declared.unit.PartNo.{PartNo}
+
+-- ---- runs of calls of blocks
+pub use Rattle.vr_types.proofs.Runs.{during-weaken, during-none, during-then, each_since-then, each_since-start, each_since-weaken}
+pub use Rattle.vr_types.proofs.Runs.{guards-start, guards-keeps, guards-puts, guards-then, guards-weaken}
+pub use Rattle.vr_types.proofs.Runs.{only-keeps, only-elsewhere, only-here, only-forced, only-weaken, only-image, also-here, also-elsewhere, cur-put, cur-elsewhere, all-one, just-one}
+pub use Rattle.vr_types.proofs.Runs.{keeps-none, keeps-then, keeps-puts, keeps-then-puts, puts-then-keeps}
+pub use Rattle.vr_types.proofs.Runs.{on-mine, both-hold, mine-stays, touches-then, puts-touches, keeps-touches}
+pub use Rattle.vr_types.proofs.Runs.{cause-then, write_cause-then, cause-ok}
 
 -- ---- sizes of blocks
 
