@@ -8,3 +8,4 @@ pub mod PastEvent
 pub mod Readable
 pub mod Sizes
 pub mod Untold
+pub mod WriteAhead

@@ -14,6 +14,7 @@ mod new_direct;
 mod new_memory;
 mod past;
 mod script;
+mod write_ahead;
 mod write_through;
 
 pub use device::BlockDevice;
@@ -23,6 +24,7 @@ pub use laws::choices_are_images;
 pub use memory::MemoryDevice;
 pub use new_direct::direct;
 pub use new_memory::memory_device;
+pub use write_ahead::{replace, replace_all};
 pub use write_through::Direct;
 
 #[cfg(test)]
