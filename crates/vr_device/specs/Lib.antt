@@ -1,3 +1,4 @@
+pub mod BlockFile
 pub mod Calls
 pub mod Choices
 pub mod Disk
