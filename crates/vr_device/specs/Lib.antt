@@ -1,6 +1,6 @@
 pub mod BlockFile
-pub mod Calls
 pub mod Choices
+pub mod DeviceCalls
 pub mod Disk
 pub mod Kept
 pub mod Memory

@@ -7,6 +7,7 @@
 mod block_file;
 mod choice;
 mod device;
+mod device_calls;
 mod device_file;
 mod file_device;
 mod host_file;
@@ -16,7 +17,6 @@ mod memory;
 mod new_direct;
 mod new_memory;
 mod past;
-mod script;
 mod write_ahead;
 mod write_through;
 
@@ -28,7 +28,6 @@ pub use host_file::HostFile;
 pub use image_no::ImageNo;
 pub use laws::choices_are_images;
 pub use memory::MemoryDevice;
-
 pub use new_direct::direct;
 pub use new_memory::memory_device;
 pub use write_ahead::{replace, replace_all};
