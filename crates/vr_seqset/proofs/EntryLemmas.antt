@@ -3,9 +3,10 @@ use Rattle.std.proofs.Common.{◌≡◌, ℕ, zero, suc, ◌+◌, ◌-◌, ◌*�
 use Rattle.std.specs.List.{flat_map, slice_get}
 use Rattle.std.proofs.lemmas.List.{take-append-drop, drop-drop, length-drop, length-take, length-append, take_at, drop_at, take-take, drop-take}
 use Rattle.std.proofs.lemmas.List.Elements.{All-tail, All-head, All-cons, All-nil}
-use Rattle.vr_seqset.specs.Block.{two, two_at}
+use Rattle.vr_types.specs.Fields.{two, two_at}
 use Rattle.vr_seqset.specs.Entry.{Entry, entry_bytes, IsWhole, numbers_in, entry_in, entries_in}
-use Rattle.vr_seqset.proofs.Bytes.{IsBytes, IsBytes-drop, cut_two, length-two, two_at-two, drop-two}
+use Rattle.vr_types.specs.Fields.{IsBytes}
+use Rattle.vr_types.proofs.CallerLemmas.{IsBytes-drop, cut_two, length-two, two_at-two, drop-two}
 
 pub length-numbers_in : (n : ℕ) (bytes : List ℕ) → length (numbers_in n bytes) ≡ n
 unfolding numbers_in

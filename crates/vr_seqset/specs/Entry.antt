@@ -1,7 +1,7 @@
 -- An entry of a sequence-set record: the intervals that hold its records, and the place up to which it holds them.
 use Rattle.std.specs.Prelude.{◌≡◌, ℕ, zero, suc, ◌+◌, ◌*◌, ◌<◌, List, [], ◌∷◌, ◌++◌, length, take, drop}
 use Rattle.std.specs.List.{flat_map}
-use Rattle.vr_seqset.specs.Block.{two, two_at}
+use Rattle.vr_types.specs.Fields.{two, two_at}
 
 pub record Entry : Type 0 where
   pub intervals : List ℕ

@@ -1,6 +1,7 @@
 -- Which fault a block has that is nobody's: the first rule that it breaks, in the order in which they are tried.
 use Rattle.std.specs.Prelude.{◌≡◌, ℕ, ◌<◌, ◌≤◌, List, length, take, drop, slice_index}
-use Rattle.vr_seqset.specs.Block.{IsBlockSize, AreZeros}
+use Rattle.vr_types.specs.BlockSize.{IsBlockSize}
+use Rattle.vr_types.specs.Fields.{AreZeros}
 use Rattle.vr_seqset.specs.SequenceSet.{spelling, HasLengths, HasIntervals, Ascends, KeepsChain}
 use Rattle.vr_seqset.specs.Reading.{record_in, roster_in}
 use Rattle.vr_seqset.specs.declared.fault.SeqFault.{SeqFault}

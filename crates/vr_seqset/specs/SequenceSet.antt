@@ -6,7 +6,9 @@ use Rattle.std.specs.List.{flat_map}
 use Rattle.std.specs.List.Sorted.{IsStrictlySortedBy}
 use Rattle.std.specs.Ordering.{nat_cmp}
 use Rattle.std.specs.Cmp.Lexicographic.{slice_cmp}
-use Rattle.vr_seqset.specs.Block.{IsBlockSize, intervals_used, two, four, area_field, IsArea, AreZeros, padded}
+use Rattle.vr_types.specs.BlockSize.{IsBlockSize}
+use Rattle.vr_seqset.specs.Numbers.{intervals_used}
+use Rattle.vr_types.specs.Fields.{two, four, area_field, IsArea, AreZeros, padded}
 use Rattle.vr_seqset.specs.Entry.{Entry, entry_bytes, IsWhole}
 use Rattle.vr_seqset.specs.Numbers.{AreOnceBelow}
 
@@ -30,8 +32,8 @@ unfoldable pub spelling : SequenceSet → List ℕ
 spelling s = head_bytes s ++ s.low ++ flat_map entry_bytes s.entries
 
 -- the block of that size which spells the record
-abbrev pub image : ℕ → SequenceSet → List ℕ
-image size s = padded size (spelling s)
+abbrev pub block_of_record : ℕ → SequenceSet → List ℕ
+block_of_record size s = padded size (spelling s)
 
 -- the intervals of all entries, in their order
 abbrev pub used_by : SequenceSet → List ℕ
@@ -81,4 +83,4 @@ pub record KeepsRules (intervals size : ℕ) (s : SequenceSet) : Type 0 where
 pub record IsSequenceSet (intervals : ℕ) (block : List ℕ) (s : SequenceSet) : Type 0 where
   pub rules : KeepsRules intervals (length block) s
   pub some : 0 < length s.entries
-  pub image : block ≡ image (length block) s
+  pub spelled : block ≡ block_of_record (length block) s

@@ -5,7 +5,7 @@ ghost use Rattle.std.specs.List.Sorted.{IsStrictlySortedBy};
 ghost use Rattle.std.specs.declared.cmp.Ordering.TheVariants.{Less};
 ghost use Rattle.std.specs.Ordering.{nat_cmp};
 ghost use Rattle.std.specs.Cmp.Lexicographic.{slice_cmp};
-ghost use Rattle.vr_seqset.specs.Block.{AreZeros, two_at as two_bytes_at};
+ghost use Rattle.vr_types.specs.Fields.{AreZeros, two_at as two_bytes_at};
 ghost use Rattle.vr_seqset.specs.Entry.{IsWhole, entry_in, entries_in, entry_bytes};
 ghost use Rattle.vr_seqset.specs.Numbers.{AreOnceBelow, Marks};
 ghost use Rattle.vr_seqset.specs.SequenceSet.{spelling, KeepsChain};
@@ -13,9 +13,9 @@ ghost use Rattle.vr_seqset.specs.Reading.{record_in};
 ghost use Rattle.vr_seqset.specs.Faults.{CanBeCut, HasZeros};
 ghost use Rattle.vr_seqset.specs.declared.checks.TheConstants.{MOST_INTERVALS};
 
-use crate::block::{are_zeros, is_block_size, two_at};
 use crate::entries::SeqEntries;
 use crate::entry::SeqEntry;
+use vr_types::{are_zeros, is_block_size, two_at};
 
 /// No area uses more: a block of 32,768 bytes with places of one byte has room for 6,547 entries.
 pub(crate) const MOST_INTERVALS: usize = 6547;

@@ -1,10 +1,10 @@
 //! One entry of a sequence-set record.
 ghost use Rattle.std.specs.Prelude.{◌≡◌, ◌<◌, ◌≤◌, ◌+◌, ◌*◌, ℕ, All, length, slice_index, slice_get, drop, Some};
-ghost use Rattle.vr_seqset.specs.Block.{two_at as two_bytes_at};
+ghost use Rattle.vr_types.specs.Fields.{two_at as two_bytes_at};
 ghost use Rattle.vr_seqset.specs.Entry.{entry_in, entries_in, IsWhole};
 
-use crate::block::two_at;
 use std::marker::Model;
+use vr_types::two_at;
 
 /// An entry, lent out of its block: the intervals that hold its records, and its high place.
 #[derive(Debug, Drop)]

@@ -1,13 +1,13 @@
 //! Laws of the two blocks: one block for each value, one value for each block.
 ghost use Rattle.std.specs.Prelude.{◌≡◌, ℕ, ◌<◌, ◌++◌, List, length};
 ghost use Rattle.vr_seqset.specs.Entry.{Entry};
-ghost use Rattle.vr_seqset.specs.SequenceSet.{SequenceSet, IsSequenceSet, KeepsRules, image};
-ghost use Rattle.vr_seqset.specs.Roster.{Roster, IsRoster, KeepsRosterRules, roster_image};
+ghost use Rattle.vr_seqset.specs.SequenceSet.{SequenceSet, IsSequenceSet, KeepsRules, block_of_record};
+ghost use Rattle.vr_seqset.specs.Roster.{Roster, IsRoster, KeepsRosterRules, block_of_roster};
 
 /// A record that keeps the rules in blocks of a size, and has an entry, has one block of that size.
 pub fn one_block_each()
     ensures there { (cis size : ℕ) (s : SequenceSet) → KeepsRules cis size s → 0 < length s.entries
-        → (length (image size s) ≡ size) × IsSequenceSet cis (image size s) s }
+        → (length (block_of_record size s) ≡ size) × IsSequenceSet cis (block_of_record size s) s }
     ensures one { (cis : ℕ) (a b : List ℕ) (s : SequenceSet) → length a ≡ length b → IsSequenceSet cis a s → IsSequenceSet cis b s → a ≡ b }
 {}
 
@@ -19,7 +19,7 @@ pub fn one_record_each()
 /// The same for rosters: one block of a size for each, and one roster at most for each block.
 pub fn one_roster_each()
     ensures there { (cis size : ℕ) (r : Roster) → KeepsRosterRules cis size r
-        → (length (roster_image size r) ≡ size) × IsRoster cis (roster_image size r) r }
+        → (length (block_of_roster size r) ≡ size) × IsRoster cis (block_of_roster size r) r }
     ensures one { (cis : ℕ) (a b : List ℕ) (r : Roster) → length a ≡ length b → IsRoster cis a r → IsRoster cis b r → a ≡ b }
     ensures same { (cis others : ℕ) (block : List ℕ) (r q : Roster) → IsRoster cis block r → IsRoster others block q → r ≡ q }
 {}

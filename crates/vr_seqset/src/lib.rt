@@ -6,27 +6,24 @@
 // breaks. `SeqWriter` and `write_roster` leave the one block, whatever the buffer held. What is read is lent out of the block.
 #![tactic(auto)]
 
-mod block;
 mod checks;
 mod entries;
 mod entry;
 mod fault;
 mod head;
+mod intervals;
 mod laws;
 mod roster;
 mod spelling;
 mod view;
 mod writer;
 
-pub use block::{interval_limit, is_block_size};
 pub use entries::SeqEntries;
 pub use entry::SeqEntry;
 pub use fault::SeqFault;
 pub use head::SeqHead;
+pub use intervals::interval_limit;
 pub use laws::{earlier_entries, one_block_each, one_record_each, one_roster_each};
 pub use roster::{RosterView, write_roster};
 pub use view::SeqView;
 pub use writer::SeqWriter;
-
-#[cfg(test)]
-mod tests;

@@ -1,12 +1,12 @@
 //! The roster of an area.
 ghost use Rattle.std.specs.Prelude.{◌≡◌, ◌≤◌, ◌↔◌, length, drop, IfOk, IfErr, IsOkAnd, IsTrue};
-ghost use Rattle.vr_seqset.specs.Roster.{Roster, IsRoster, KeepsRosterRules, roster_image};
+ghost use Rattle.vr_seqset.specs.Roster.{Roster, IsRoster, KeepsRosterRules, block_of_roster};
 ghost use Rattle.vr_seqset.specs.Faults.{KeepsRoster, RosterFits, RosterHasZeros, IsFirstBroken};
 
-use crate::block::{are_zeros, area_field, area_of, four_at, is_block_size, two_at};
 use crate::checks::begins_with;
 use crate::fault::SeqFault;
 use std::marker::Model;
+use vr_types::{are_zeros, area_field, area_of, four_at, is_block_size, two_at};
 
 /// The roster of an area of an entry-sequenced or relative data set (DFSMS Using Data Sets). A clause sees what it says.
 #[derive(Debug, Drop)]
@@ -75,7 +75,7 @@ impl<'a> RosterView<'a> {
 }
 
 // Whether the block has an allowed size, and no more intervals are used than there are.
-#[tactic(auto, unfolding(crate::specs::Reading::roster_in), using(crate::proofs::BlockLemmas::at_least))]
+#[tactic(auto, unfolding(crate::specs::Reading::roster_in), using(vr_types::proofs::CallerLemmas::block_size_least))]
 fn fits(block: &[u8], cis: u16) -> bool
     ensures { IsTrue result ↔ RosterFits cis block.now }
 {

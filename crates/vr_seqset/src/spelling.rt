@@ -1,22 +1,22 @@
 // The bytes of a sequence-set record, as they are written.
 ghost use Rattle.std.specs.Prelude.{◌≡◌, ◌+◌, ◌*◌, ◌<◌, ◌≤◌, ◌^◌, ◌++◌, length, drop, if◌then◌else◌};
 ghost use Rattle.std.specs.List.{flat_map};
-ghost use Rattle.vr_seqset.specs.Block.{two, IsArea};
+ghost use Rattle.vr_types.specs.Fields.{two, IsArea};
 ghost use Rattle.vr_seqset.specs.Entry.{entry_bytes};
-ghost use Rattle.vr_seqset.specs.SequenceSet.{image, spelling, HasFields};
+ghost use Rattle.vr_seqset.specs.SequenceSet.{block_of_record, spelling, HasFields};
 ghost use Rattle.vr_seqset.specs.Reading.{record_in};
 ghost use Rattle.vr_seqset.specs.Writing.{with_entry};
 ghost use Rattle.vr_seqset.specs.Writer.{begun_by};
 
-use crate::block::{area_field, two_at};
 use crate::head::SeqHead;
+use vr_types::{area_field, two_at};
 
 /// Writes the head, the low place, and zeros behind them. Answers where the low place ends.
 pub(crate) fn put_head(head: &SeqHead<'_>, out: &mut [u8]) -> usize
     requires room { length (spelling (begun_by head.now)) ≤ length out.old }
     requires most { length out.old ≤ 32768 }
     requires fields { HasFields (begun_by head.now) }
-    ensures image { out.new ≡ image (length out.old) (begun_by head.now) }
+    ensures spelled { out.new ≡ block_of_record (length out.old) (begun_by head.now) }
     ensures end { result ≡ length (spelling (begun_by head.now)) }
 {
     let place = head.low.len();
@@ -47,11 +47,11 @@ fn flag_of(first: bool) -> u8
 
 /// Writes an entry behind the others, which end at `end`, and counts it. Answers where it ends.
 pub(crate) fn put_entry(block: &mut [u8], end: usize, intervals: &[u16], high: &[u8]) -> usize
-    requires image { block.old ≡ image (length block.old) (record_in block.old) }
+    requires spelled { block.old ≡ block_of_record (length block.old) (record_in block.old) }
     requires end { end ≡ length (spelling (record_in block.old)) }
     requires room { length (spelling (with_entry (record_in block.old) intervals.now high.now)) ≤ length block.old }
     requires most { length block.old ≤ 32768 }
-    ensures image { block.new ≡ image (length block.old) (with_entry (record_in block.old) intervals.now high.now) }
+    ensures spelled { block.new ≡ block_of_record (length block.old) (with_entry (record_in block.old) intervals.now high.now) }
     ensures end { result ≡ length (spelling (with_entry (record_in block.old) intervals.now high.now)) }
 {
     let count = (two_at(block, 2) + 1).to_be_bytes();

@@ -5,12 +5,13 @@ ghost use Rattle.vr_seqset.specs.Reading.{entry_of};
 ghost use Rattle.vr_seqset.specs.Search.{reaches};
 ghost use Rattle.vr_seqset.specs.Faults.{Keeps, IsFirstBroken};
 
-use crate::block::{area_of, four_at, interval_limit, two_at};
 use crate::checks::{are_used_once, ascend, begins_with, has_zeros, keeps_chain, rest_of};
 use crate::entries::SeqEntries;
 use crate::entry::{SeqEntry, entry_at};
 use crate::fault::SeqFault;
+use crate::intervals::interval_limit;
 use std::marker::Model;
+use vr_types::{area_of, four_at, two_at};
 
 /// The sequence-set record of a keyed area (the lowest level of the index of a key-sequenced data set, DFSMS Using Data Sets).
 /// A clause sees what the record says. All that is read is lent out of the block, and nothing is copied.

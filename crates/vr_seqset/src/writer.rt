@@ -58,7 +58,7 @@ impl<'a> SeqWriter<'a> {
         self.end = put_entry(self.block, self.end, intervals, high);
     }
 
-    /// Ends the record. The block is its one image, as it was after the last `add`.
+    /// Ends the record. The block is its one block_of_record, as it was after the last `add`.
     pub fn end(self)
         requires { 0 < length (written self).entries }
         ensures { IsSequenceSet (intervals_of self.entry) self.exit.0.now (written self.entry) }

@@ -17,8 +17,8 @@ split_at_mut-low-requires c = omega (arith, length-spelling_head (begun_by c.arg
 pub returns-clause-end : goal.returns-clause-end
 returns-clause-end c = sym (length-spelling_head (begun_by c.args.head.now) refl)
 
-pub returns-clause-image : goal.returns-clause-image
-returns-clause-image c =
+pub returns-clause-spelled : goal.returns-clause-spelled
+returns-clause-spelled c =
     let s : SequenceSet = begun_by c.args.head.now in
     let n = c.to_be_bytes-n.ensures ∙ ap (to_be_bytes w32) c.area_field.ensures in
     let x = c.to_be_bytes-x.ensures ∙ ap (to_be_bytes w32) c.area_field-2.ensures in
