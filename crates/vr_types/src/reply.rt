@@ -8,7 +8,7 @@ use crate::values::{Bytes, Place};
 use std::alloc::Global;
 
 /// What a lock is on: a record of a part, or a key of a unique alternate index.
-#[derive(Debug, Drop)]
+#[derive(Debug, Drop, PartialEq, Eq, PartialOrd, Ord, Hash)]
 pub enum LockName {
     Record { part: PartNo, place: Place },
     Unique { part: PartNo, key: Place },
@@ -34,7 +34,7 @@ impl LockName {
 
 /// Why a request was refused. Lengths are in bytes, needs and free space in areas of a volume, and the
 /// log's numbers in bytes.
-#[derive(Debug, Drop)]
+#[derive(Debug, Drop, PartialEq, Eq)]
 pub enum Refusal {
     /// No record is left for a sequential GET.
     EndOfData,
@@ -162,7 +162,7 @@ impl Refusal {
 
 /// The answer to a request. `feedback` is 0, or 8 where another record has the same alternate key. `place` is the
 /// base record's.
-#[derive(Debug, Drop)]
+#[derive(Debug, Drop, PartialEq, Eq)]
 pub enum Reply {
     Done {
         feedback: u16,
