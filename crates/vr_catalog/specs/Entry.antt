@@ -1,8 +1,7 @@
 -- Which entries a catalog may have, each by itself, as DEFINE of Access Method Services Commands allows its parameters.
-use Rattle.std.specs.Prelude.{ℕ, ◌+◌, ◌^◌, Bool, true, false, not, ◌==◌, ◌&&◌, if◌then◌else◌, nat_lt, nat_le, List, length, Option, Some, None, is_some, is_none}
+use Rattle.std.specs.Prelude.{ℕ, ◌+◌, ◌^◌, Bool, true, false, not, ◌==◌, ◌&&◌, if◌then◌else◌, nat_lt, nat_le, List, length, Option, Some, None, is_some, is_none, bytes_eq}
 use Rattle.std.specs.List.{list_all, list_any, range_with_len}
-use Rattle.std.specs.Char.{is_ascii_lowercase}
-use Rattle.vr_types.specs.Name.{is_right_at}
+use Rattle.vr_types.specs.Name.{is_right_at, in_capitals}
 use Rattle.vr_types.specs.declared.unit.Kind.{Kind}
 use Rattle.vr_types.specs.declared.unit.Kind.TheVariants.{Keyed, Entry, Relative}
 use Rattle.vr_types.specs.declared.unit.AreaNo.{AreaNo}
@@ -16,17 +15,22 @@ use Rattle.vr_catalog.specs.declared.entry.SpaceUnit.{SpaceUnit}
 use Rattle.vr_catalog.specs.declared.entry.SpaceUnit.TheVariants.{Unstated, Cylinders, Tracks, Records}
 
 -- the name of a data set, in capitals
-abbrev pub is_name : List ℕ → Bool
-is_name text = nat_lt 0 (length text) && nat_le (length text) 44 && list_all (is_right_at text) (range_with_len 0 (length text + 1)) && list_all (λ byte. not (is_ascii_lowercase byte)) text
+unfoldable pub is_name : List ℕ → Bool
+is_name text = nat_lt 0 (length text) && nat_le (length text) 44 && list_all (is_right_at text) (range_with_len 0 (length text + 1)) && bytes_eq (in_capitals text) text
 
 abbrev pub is_name_or_none : Option (List ℕ) → Bool
 is_name_or_none None = true
 is_name_or_none (Some text) = is_name text
 
+abbrev pub are_components : Option (List ℕ) → Option (List ℕ) → Bool
+are_components data_name index_name = is_name_or_none data_name && is_name_or_none index_name
+
+abbrev pub are_classes : Option (List ℕ) → Option (List ℕ) → Option (List ℕ) → Bool
+are_classes storage data_class management = is_name_or_none storage && is_name_or_none data_class && is_name_or_none management
+
 -- the names of the entry, of its components and of its classes
 abbrev pub are_names : CatEntry → Bool
-are_names entry = is_name entry.name && is_name_or_none entry.data_name && is_name_or_none entry.index_name
-    && is_name_or_none entry.storage_class && is_name_or_none entry.data_class && is_name_or_none entry.management_class
+are_names entry = is_name entry.name && are_components entry.data_name entry.index_name && are_classes entry.storage_class entry.data_class entry.management_class
 
 -- a class is a name of one qualifier
 abbrev pub is_class_or_none : Option (List ℕ) → Bool
@@ -86,18 +90,27 @@ abbrev pub is_area_or_none : Option AreaNo → Bool
 is_area_or_none None = true
 is_area_or_none (Some area) = fits_four (area.0 + 1)
 
+abbrev pub has_classes : CatEntry → Bool
+has_classes entry = is_class_or_none entry.storage_class && is_class_or_none entry.data_class && is_class_or_none entry.management_class
+
+abbrev pub has_shares : CatEntry → Bool
+has_shares entry = is_free_space entry.free_space && are_share_options entry.share_options && is_space entry.space entry.primary entry.secondary
+
 -- what clusters and alternate indexes have in common
 abbrev pub has_data : CatEntry → Bool
-has_data entry = fits_four entry.average && fits_four entry.maximum && fits_four entry.interval_size
-    && is_free_space entry.free_space && are_share_options entry.share_options && is_space entry.space entry.primary entry.secondary
-    && is_class_or_none entry.storage_class && is_class_or_none entry.data_class && is_class_or_none entry.management_class
+has_data entry = fits_four entry.average && fits_four entry.maximum && fits_four entry.interval_size && has_shares entry && has_classes entry
+
+abbrev pub has_no_names : CatEntry → Bool
+has_no_names entry = is_none entry.data_name && is_none entry.index_name && is_none entry.storage_class && is_none entry.data_class && is_none entry.management_class
+
+abbrev pub has_no_shares : CatEntry → Bool
+has_no_shares entry = entry.free_space.interval == 0 && entry.free_space.area == 0 && entry.share_options.regions == 0 && entry.share_options.systems == 0
 
 -- a path has nothing beside the part that it stands over
 abbrev pub has_no_data : CatEntry → Bool
 has_no_data entry = are_no_keys entry.key_length entry.key_offset && entry.average == 0 && entry.maximum == 0 && entry.interval_size == 0
-    && entry.free_space.interval == 0 && entry.free_space.area == 0 && entry.share_options.regions == 0 && entry.share_options.systems == 0
     && is_unstated entry.space && is_space entry.space entry.primary entry.secondary
-    && is_none entry.data_name && is_none entry.index_name && is_none entry.storage_class && is_none entry.data_class && is_none entry.management_class
+    && has_no_shares entry && has_no_names entry
 
 abbrev pub is_cluster : CatEntry → Bool
 is_cluster entry = is_none entry.related && not entry.unique && not entry.built && are_keys_of entry.kind entry.key_length entry.key_offset && has_data entry

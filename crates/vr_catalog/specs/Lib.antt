@@ -1,4 +1,5 @@
 pub mod Catalog
 pub mod Definition
 pub mod Entry
+pub mod Reading
 pub mod Record

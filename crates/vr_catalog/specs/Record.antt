@@ -14,7 +14,7 @@ use Rattle.vr_catalog.specs.declared.entry.SpaceUnit.TheVariants.{Unstated, Cyli
 use Rattle.vr_catalog.specs.Entry.{is_entry}
 
 -- a text in a field of this size, with blanks after it
-abbrev pub padded : ℕ → List ℕ → List ℕ
+unfoldable pub padded : ℕ → List ℕ → List ℕ
 padded size text = take size text ++ replicate (size - length text) 32
 
 -- a name that there may be, or blanks
@@ -55,31 +55,33 @@ space_byte Cylinders = 1
 space_byte Tracks = 2
 space_byte Records = 3
 
--- the fields of bytes 0 to 71: what the entry is, and of which records
-abbrev pub identity_fields : CatEntry → List (List ℕ)
-identity_fields entry =
-    padded 44 entry.name
-  ∷ (entry_kind_byte entry.entry_kind ∷ kind_byte entry.kind ∷ flag_byte entry ∷ 0 ∷ [])
-  ∷ four entry.part.0 ∷ four (part_field entry.related)
-  ∷ two entry.key_length ∷ two entry.key_offset ∷ four entry.average ∷ four entry.maximum
-  ∷ four (area_field entry.first_area) ∷ []
+-- the fields of bytes 0 to 47: what the entry is
+abbrev pub kind_fields : CatEntry → List (List ℕ)
+kind_fields entry = padded 44 entry.name ∷ (entry_kind_byte entry.entry_kind ∷ kind_byte entry.kind ∷ flag_byte entry ∷ 0 ∷ []) ∷ []
+
+-- of bytes 48 to 71: its parts, its records and its first area
+abbrev pub part_fields : CatEntry → List (List ℕ)
+part_fields entry =
+    four entry.part.0 ∷ four (part_field entry.related)
+    ∷ two entry.key_length ∷ two entry.key_offset ∷ four entry.average ∷ four entry.maximum
+    ∷ four (area_field entry.first_area) ∷ []
 
 -- of bytes 72 to 91: how it shares and fills its space
 abbrev pub space_fields : CatEntry → List (List ℕ)
 space_fields entry =
     (entry.free_space.interval ∷ entry.free_space.area ∷ entry.share_options.regions ∷ entry.share_options.systems ∷ [])
-  ∷ (space_byte entry.space ∷ 0 ∷ 0 ∷ 0 ∷ []) ∷ four entry.primary ∷ four entry.secondary
-  ∷ four entry.interval_size ∷ []
+    ∷ (space_byte entry.space ∷ 0 ∷ 0 ∷ 0 ∷ []) ∷ four entry.primary ∷ four entry.secondary
+    ∷ four entry.interval_size ∷ []
 
 -- of bytes 92 to 203: its further names
 abbrev pub name_fields : CatEntry → List (List ℕ)
 name_fields entry =
     padded 44 (text_of entry.data_name) ∷ padded 44 (text_of entry.index_name)
-  ∷ padded 8 (text_of entry.storage_class) ∷ padded 8 (text_of entry.data_class) ∷ padded 8 (text_of entry.management_class) ∷ []
+    ∷ padded 8 (text_of entry.storage_class) ∷ padded 8 (text_of entry.data_class) ∷ padded 8 (text_of entry.management_class) ∷ []
 
 -- the bytes that spell an entry
 unfoldable pub spelling : CatEntry → List ℕ
-spelling entry = concat (identity_fields entry) ++ concat (space_fields entry) ++ concat (name_fields entry)
+spelling entry = concat (kind_fields entry) ++ concat (part_fields entry) ++ concat (space_fields entry) ++ concat (name_fields entry)
 
 -- The bytes are the record of the entry.
 pub record IsCatalogRecord (bytes : List ℕ) (entry : CatEntry) : Type 0 where
@@ -87,7 +89,7 @@ pub record IsCatalogRecord (bytes : List ℕ) (entry : CatEntry) : Type 0 where
   pub spelled : bytes ≡ spelling entry
 
 -- the text of a field: what stands before its first blank
-abbrev pub text_at : ℕ → ℕ → List ℕ → List ℕ
+unfoldable pub text_at : ℕ → ℕ → List ℕ → List ℕ
 text_at at size bytes = before_first (λ byte. byte == 32) (take size (drop at bytes))
 
 abbrev pub some_text : List ℕ → Option (List ℕ)

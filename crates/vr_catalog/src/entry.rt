@@ -108,10 +108,7 @@ impl CatEntry {
 }
 
 /// A copy of the name, where there is one.
-pub(crate) fn copy_of_name(
-    alloc: Global,
-    name: &Option<Name>,
-) -> Result<Option<Name>, OutOfMemory>
+pub(crate) fn copy_of_name(alloc: Global, name: &Option<Name>) -> Result<Option<Name>, OutOfMemory>
     ensures { IfOk result (λ copy. copy ≡ name.now) }
 {
     match name {
