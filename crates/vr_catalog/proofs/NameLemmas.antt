@@ -1,10 +1,9 @@
 -- The test of a name says what the rule of names says.
 use Rattle.std.proofs.Common.{◌≡◌, ◌<◌, ◌≤◌, ◌+◌, ◌&&◌, ltb, leb, ℕ, Bool, true, false, List, [], ◌∷◌, length, get_or, ⊎_elim, sym, ◌∙◌, refl, ap, subst, arith}
-use Rattle.std.specs.List.{list_all, range_with_len, All, AllPass}
+use Rattle.std.specs.List.{list_all, range_with_len}
 use Rattle.std.specs.Str.{IsUtf8, IsAscii, bytes_eq}
 use Rattle.std.proofs.lemmas.Bool.{cases_lt, cases_Bool, both_ways, and_parts, ltb-true, leb-true, lt-ltb, le-leb}
 use Rattle.std.proofs.lemmas.Bool.Decides.{nat_tests}
-use Rattle.std.proofs.lemmas.Grind.{common_steps}
 use Rattle.std.specs.Prelude.{slice_index}
 use Rattle.std.proofs.lemmas.List.{get_or_past}
 use Rattle.std.proofs.lemmas.List.FromFn.{length-range_with_len, get_or-range_with_len}

@@ -1,14 +1,13 @@
 -- How long a catalog record and its fields are.
-use Rattle.std.proofs.Common.{◌≡◌, ◌≢◌, ◌+◌, ◌-◌, ◌++◌, ◌&&◌, ⊎_elim, ◌∙◌, ℕ, Bool, true, false, List, [], ◌∷◌, length, take, refl, sym, ap, arith, length-append}
+use Rattle.std.proofs.Common.{◌≡◌, ◌≢◌, ◌&&◌, ⊎_elim, ◌∙◌, ℕ, Bool, true, false, List, length, refl, sym, ap, arith, length-append}
 use Rattle.std.specs.Prelude.{Some, None, if◌then◌else◌, bytes_eq}
-use Rattle.std.specs.List.{concat}
 use Rattle.std.proofs.lemmas.Grind.{common_steps}
 use Rattle.std.proofs.lemmas.Slice.Eq.{bytes_eq-Decides}
 use Rattle.std.proofs.lemmas.Bool.{cases_Bool}
 use Rattle.vr_types.specs.Fields.{two, four}
 use Rattle.vr_catalog.specs.declared.entry.CatEntry.{CatEntry}
 use Rattle.vr_catalog.specs.Entry.{is_entry}
-use Rattle.vr_catalog.specs.Record.{spelling, entry_of, entry_in, padded, kind_fields, part_fields, space_fields, name_fields}
+use Rattle.vr_catalog.specs.Record.{spelling, entry_of, entry_in, padded}
 
 pub length-two : (n : ℕ) → length (two n) ≡ 2
 unfolding two

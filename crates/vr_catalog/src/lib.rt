@@ -3,11 +3,26 @@
 
 mod allowed;
 mod catalog;
+mod changes;
+mod definition;
 mod entry;
+mod fault;
+mod limits;
+mod names;
+mod order;
 mod read;
 mod write;
 
 pub use catalog::Catalog;
+pub use changes::{Change, Changes};
+pub use definition::Definition;
 pub use entry::{CatEntry, EntryKind, FreeSpace, ShareOptions, SpaceUnit};
+pub use fault::CatFault;
+pub use limits::{
+    are_bad_sizes, are_few_intervals, ends_past, intervals_used, is_bad_cluster, plain_limit,
+    spanned_limit,
+};
+pub use names::NameList;
+pub use order::{Alter, DataOptions, Define, NewEntry};
 pub use read::{EntryNo, read_entry};
 pub use write::{RECORD_LENGTH, write_entry};

@@ -1,4 +1,4 @@
-use Rattle.std.proofs.Common.{◌≡◌, true, false, length, sym, ◌∙◌}
+use Rattle.std.proofs.Common.{sym, ◌∙◌}
 use Rattle.vr_catalog.proofs.NameLemmas.{is_name-as_spelled}
 use Rattle.vr_catalog.proofs.read.name_of.Goals as goal
 
