@@ -1,5 +1,5 @@
 -- What ALTER of Access Method Services Commands makes of a catalog: NEWNAME, FREESPACE and SHAREOPTIONS.
-use Rattle.std.specs.Prelude.{ℕ, Bool, false, ◌&&◌, ◌||◌, if◌then◌else◌, List, [], ◌∷◌, Option, Some, None, is_some, is_none}
+use Rattle.std.specs.Prelude.{ℕ, Bool, false, ◌&&◌, ◌||◌, if◌then◌else◌, List, [], ◌∷◌, Option, Some, None, is_some}
 use Rattle.std.specs.Option.{option_map_or, unwrap_or}
 use Rattle.vr_catalog.specs.declared.entry.CatEntry.{CatEntry}
 use Rattle.vr_catalog.specs.declared.order.Alter.{Alter}
@@ -10,6 +10,10 @@ use Rattle.vr_catalog.specs.declared.fault.CatFault.TheVariants.{NotFound, Wrong
 use Rattle.vr_catalog.specs.Catalog.{entry_named}
 use Rattle.vr_catalog.specs.Define.{fault_if, is_path_kind, name_taken}
 use Rattle.vr_catalog.specs.Fault.{first_of}
+
+abbrev pub not_found : Option CatEntry → Option CatFault
+not_found None = Some NotFound
+not_found (Some entry) = None
 
 -- FREESPACE or SHAREOPTIONS is given
 abbrev pub alters_data : Alter → Bool
@@ -26,13 +30,15 @@ new_name_taken entries (Some name) = name_taken entries name
 -- the faults of an ALTER in the order in which they are tried
 abbrev pub alter_fault : List CatEntry → Alter → Option CatFault
 alter_fault entries order = first_of (
-    fault_if (is_none (entry_named entries order.name)) NotFound
-  ∷ path_altered (entry_named entries order.name) order
-  ∷ new_name_taken entries order.new_name ∷ [])
+    not_found (entry_named entries order.name)
+    ∷ path_altered (entry_named entries order.name) order
+    ∷ new_name_taken entries order.new_name ∷ [])
 
 abbrev pub altered : CatEntry → Alter → CatEntry
 altered entry order = record entry {
-  name = unwrap_or order.new_name entry.name; free_space = unwrap_or order.free_space entry.free_space; share_options = unwrap_or order.share_options entry.share_options;
+  name = unwrap_or order.new_name entry.name;
+  free_space = unwrap_or order.free_space entry.free_space;
+  share_options = unwrap_or order.share_options entry.share_options;
 }
 
 -- a renamed entry is erased and added; one that only gets other values is updated

@@ -1,6 +1,6 @@
 -- What DEFINE of Access Method Services Commands makes of a catalog: each fault that it may meet, and the entry that it adds.
 use Rattle.std.specs.Prelude.{ℕ, ◌+◌, ◌-◌, ◌^◌, max, Bool, true, false, ◌==◌, ◌||◌, nat_le, List, [], ◌∷◌, length, Option, Some, None, is_some}
-use Rattle.std.specs.List.{filter_map, fold}
+use Rattle.std.specs.List.{count_by, fold}
 use Rattle.std.specs.Option.{option_and_then, option_map, option_map_or}
 use Rattle.vr_types.specs.declared.geometry.Geometry.{Geometry}
 use Rattle.vr_types.specs.declared.unit.Kind.{Kind}
@@ -110,7 +110,7 @@ few_intervals geometry (Path related) base = None
 
 -- how many alternate indexes stand over a base
 abbrev pub alternate_count : List CatEntry → ℕ → ℕ
-alternate_count entries base = length (filter_map (alternate_in base) entries)
+alternate_count entries base = count_by (λ entry. is_some (alternate_in base entry)) entries
 
 -- a ninth alternate index
 abbrev pub too_many_alternates : List CatEntry → NewEntry → Option CatEntry → Option CatFault
@@ -130,23 +130,42 @@ catalog_full entries = fault_if (nat_le 4096 (length entries) || greatest_part e
 abbrev pub define_fault : List CatEntry → Define → Geometry → Option CatFault
 define_fault entries order geometry = first_of (
     unknown_base (related_name order.what) (base_of entries order)
-  ∷ path_base (base_of entries order)
-  ∷ name_taken entries order.name
-  ∷ wrong_base order.what (base_of entries order)
-  ∷ key_past_record order.what (base_of entries order)
-  ∷ bad_record_size geometry order.what
-  ∷ few_intervals geometry order.what (base_of entries order)
-  ∷ too_many_alternates entries order.what (base_of entries order)
-  ∷ catalog_full entries ∷ [])
+    ∷ path_base (base_of entries order)
+    ∷ name_taken entries order.name
+    ∷ wrong_base order.what (base_of entries order)
+    ∷ key_past_record order.what (base_of entries order)
+    ∷ bad_record_size geometry order.what
+    ∷ few_intervals geometry order.what (base_of entries order)
+    ∷ too_many_alternates entries order.what (base_of entries order)
+    ∷ catalog_full entries ∷ [])
 
 -- a cluster of a name, a part and options, which has no area yet
 abbrev pub new_cluster : List ℕ → ℕ → Kind → Bool → DataOptions → CatEntry
 new_cluster name part kind spanned options = record {
-  name = name; entry_kind = kinds.Cluster; kind = Some kind; spanned = spanned; unique = false; built = false; part = record { 0 = part }; related = None;
-  key_length = key_of_kind kind options.key_length; key_offset = key_of_kind kind options.key_offset; average = options.average; maximum = options.maximum; first_area = None;
-  free_space = options.free_space; share_options = options.share_options; space = options.space; primary = options.primary; secondary = options.secondary;
-  interval_size = options.interval_size; data_name = options.data_name; index_name = options.index_name;
-  storage_class = options.storage_class; data_class = options.data_class; management_class = options.management_class;
+  name = name;
+  entry_kind = kinds.Cluster;
+  kind = Some kind;
+  spanned = spanned;
+  unique = false;
+  built = false;
+  part = record { 0 = part };
+  related = None;
+  key_length = key_of_kind kind options.key_length;
+  key_offset = key_of_kind kind options.key_offset;
+  average = options.average;
+  maximum = options.maximum;
+  first_area = None;
+  free_space = options.free_space;
+  share_options = options.share_options;
+  space = options.space;
+  primary = options.primary;
+  secondary = options.secondary;
+  interval_size = options.interval_size;
+  data_name = options.data_name;
+  index_name = options.index_name;
+  storage_class = options.storage_class;
+  data_class = options.data_class;
+  management_class = options.management_class;
 }
 
 -- an alternate index is a keyed data set of its own
@@ -156,10 +175,30 @@ new_alternate name part related unique options = record (new_cluster name part K
 -- a path has nothing but its name, its part and the part that it stands over
 abbrev pub new_path : List ℕ → ℕ → Option PartNo → CatEntry
 new_path name part related = record {
-  name = name; entry_kind = kinds.Path; kind = None; spanned = false; unique = false; built = false; part = record { 0 = part }; related = related;
-  key_length = 0; key_offset = 0; average = 0; maximum = 0; first_area = None;
-  free_space = record { interval = 0; area = 0 }; share_options = record { regions = 0; systems = 0 }; space = Unstated; primary = 0; secondary = 0;
-  interval_size = 0; data_name = None; index_name = None; storage_class = None; data_class = None; management_class = None;
+  name = name;
+  entry_kind = kinds.Path;
+  kind = None;
+  spanned = false;
+  unique = false;
+  built = false;
+  part = record { 0 = part };
+  related = related;
+  key_length = 0;
+  key_offset = 0;
+  average = 0;
+  maximum = 0;
+  first_area = None;
+  free_space = record { interval = 0; area = 0 };
+  share_options = record { regions = 0; systems = 0 };
+  space = Unstated;
+  primary = 0;
+  secondary = 0;
+  interval_size = 0;
+  data_name = None;
+  index_name = None;
+  storage_class = None;
+  data_class = None;
+  management_class = None;
 }
 
 abbrev pub entry_by : NewEntry → List ℕ → ℕ → Option PartNo → CatEntry

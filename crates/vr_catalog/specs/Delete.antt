@@ -1,7 +1,7 @@
 -- What DELETE of Access Method Services Commands makes of a catalog: with a cluster go its alternate indexes, their paths and
 -- its own; with an alternate index its paths.
-use Rattle.std.specs.Prelude.{ℕ, Bool, false, ◌||◌, not, List, map, Option, is_some, bytes_eq}
-use Rattle.std.specs.List.{filter, list_any, list_all}
+use Rattle.std.specs.Prelude.{ℕ, Bool, false, ◌||◌, not, if◌then◌else◌, List, [], ◌∷◌, Option, is_some, bytes_eq}
+use Rattle.std.specs.List.{flat_map, list_any, list_all}
 use Rattle.std.specs.Option.{option_and_then, option_map_or}
 use Rattle.vr_types.specs.declared.unit.PartNo.{PartNo}
 use Rattle.vr_catalog.specs.declared.entry.CatEntry.{CatEntry}
@@ -24,14 +24,14 @@ stands_over entries part entry = is_over entry.related part || is_over (second_r
 abbrev pub goes_with : List CatEntry → CatEntry → List ℕ → Bool
 goes_with entries entry name = bytes_eq entry.name name || option_map_or (λ target. stands_over entries target.part.0 entry) (entry_named entries name) false
 
--- the entries that go, in the order of the catalog
-abbrev pub deleted : List CatEntry → List (List ℕ) → List CatEntry
-deleted entries names = filter (λ entry. list_any (λ name. goes_with entries entry name) names) entries
-
 -- some name is of no entry
 abbrev pub delete_fault : List CatEntry → List (List ℕ) → Option CatFault
 delete_fault entries names = fault_if (not (list_all (λ name. is_some (entry_named entries name)) names)) NotFound
 
--- the changes of a DELETE that isn't refused
+-- the erase of an entry that goes with one of the names
+abbrev pub erase_of : List CatEntry → List (List ℕ) → CatEntry → List Change
+erase_of entries names entry = if list_any (λ name. goes_with entries entry name) names then Erase entry.name ∷ [] else []
+
+-- the changes of a DELETE that isn't refused: one for each entry that goes, in the order of the catalog
 abbrev pub delete_changes : List CatEntry → List (List ℕ) → List Change
-delete_changes entries names = map (λ (entry : CatEntry). Erase entry.name) (deleted entries names)
+delete_changes entries names = flat_map (λ entry. erase_of entries names entry) entries

@@ -1,7 +1,9 @@
 //! What a cluster states of its records.
 ghost use Rattle.std.specs.Prelude.{◌≡◌, ◌+◌, ◌≤◌, length};
 ghost use Rattle.vr_catalog.specs.Definition.{
-    is_valid_record as is_valid, is_valid_length, key_of as key
+  is_valid_record as is_valid,
+  is_valid_length,
+  key_of as key,
 };
 
 use vr_types::Kind;

@@ -2,9 +2,12 @@
 #![tactic(auto)]
 
 mod allowed;
+mod altering;
 mod catalog;
 mod changes;
+mod defining;
 mod definition;
+mod deleting;
 mod entry;
 mod fault;
 mod limits;
@@ -13,9 +16,12 @@ mod order;
 mod read;
 mod write;
 
+pub use altering::alter;
 pub use catalog::Catalog;
 pub use changes::{Change, Changes};
+pub use defining::define;
 pub use definition::Definition;
+pub use deleting::delete;
 pub use entry::{CatEntry, EntryKind, FreeSpace, ShareOptions, SpaceUnit};
 pub use fault::CatFault;
 pub use limits::{

@@ -1,8 +1,14 @@
 //! Which sizes of keys and records a volume takes.
 ghost use Rattle.std.specs.Prelude.{◌≡◌};
 ghost use Rattle.vr_catalog.specs.Limits.{
-    intervals_used as used, are_few_intervals as few, are_bad_sizes as bad_sizes,
-    is_bad_cluster as bad_cluster, is_past_limit as past_limit, ends_past as past_end, plain_limit as plain_limit_of, spanned_limit as spanned_limit_of
+  intervals_used as used,
+  are_few_intervals as few,
+  are_bad_sizes as bad_sizes,
+  is_bad_cluster as bad_cluster,
+  is_past_limit as past_limit,
+  ends_past as past_end,
+  plain_limit as plain_limit_of,
+  spanned_limit as spanned_limit_of,
 };
 
 use crate::definition::Definition;
@@ -12,7 +18,10 @@ use vr_types::{Geometry, Kind};
 pub fn intervals_used(geometry: &Geometry, place_length: u32) -> u32
     ensures { result ≡ used geometry.now place_length }
 {
-    let room = geometry.size.saturating_sub(32).saturating_sub(place_length);
+    let room = geometry
+        .size
+        .saturating_sub(32)
+        .saturating_sub(place_length);
     let fits = room as u64 / (4 + place_length as u64);
     geometry.area.min(fits as u32)
 }
