@@ -1,5 +1,6 @@
 pub mod Counts
-pub mod Keeps
-pub mod Takes
-pub mod Closing
+pub mod CallerLemmas
+pub mod Steps
+pub mod Claims
+pub mod HomeCounts
 pub mod NewPool

@@ -1,4 +1,4 @@
--- What a frame ends as, where its bytes are lent for writing.
+-- What a frame ends as, where its bytes are borrowed for writing. It is this project's own.
 use Rattle.std.specs.Prelude.{ℕ, List}
 use Rattle.std.specs.Borrow.{Lends, MutBor, Fml, Array, u8}
 use Rattle.std.specs.Vec.{with_items}

@@ -13,6 +13,10 @@ use Rattle.vr_frames.specs.Frames.{id_of, frame_size, frame_count}
 abbrev pub Place : Type 0
 Place = Seat (Option (Vec ℕ)) View
 
+-- it is the same seat of the same table
+abbrev pub IsSamePlace : Place → Place → Type 0
+IsSamePlace old new = (new.table_id ≡ old.table_id) × (new.id ≡ old.id)
+
 -- the seat is of the pool, with a part, and brings no frame
 pub record IsIdle (pool : Pool) (place : Place) : Type 0 where
   pub of_pool : place.table_id ≡ id_of pool
@@ -21,16 +25,26 @@ pub record IsIdle (pool : Pool) (place : Place) : Type 0 where
   pub no_frame : place.me.0.moving ≡ []
   pub has_part : 0 < place.me.0.parts
 
+-- how many claims of the seat found the frame out
+abbrev pub failed_at : Place → ℕ → ℕ
+failed_at place number = times number place.me.0.failed
+
 -- each frame from `first` up to `end` was claimed once, in vain, and no other was
 abbrev pub Missed : Place → Place → ℕ → ℕ → Type 0
 Missed old new first end =
-    (k : ℕ) → times k new.me.0.failed ≡ times k old.me.0.failed + tries first end k
+    (number : ℕ) → failed_at new number ≡ failed_at old number + tries first end number
 
--- and that is all
+-- some frames were claimed in vain, each once at most
+pub record MissedSome (old new : Place) : Type 0 where
+  pub claims : (number : ℕ) → failed_at old number ≤ failed_at new number
+  pub claims_once : (number : ℕ) → failed_at new number ≤ failed_at old number + 1
+
+-- the frames from `first` up to `end` were claimed in vain, and that is all
 pub record Tried (old new : Place) (first end : ℕ) : Type 0 where
-  pub same_seat : (new.table_id ≡ old.table_id) × (new.id ≡ old.id)
-  pub same_view : let v = old.me.0 in
-      new.me ≡ (view_with v.size v.parts v.frames v.moving new.me.0.failed, old.me.1)
+  pub same_seat : IsSamePlace old new
+  pub same_view : let view = old.me.0 in
+      new.me
+      ≡ (view_with view.size view.parts view.frames view.moving new.me.0.failed, old.me.1)
   pub missed : Missed old new first end
 
 -- the seat has the frame's slot, with a buffer of this size, and brings the frame
@@ -42,17 +56,11 @@ pub record Brings (place : Place) (frame size : ℕ) : Type 0 where
 
 -- the frame, which the seat did not hold, was claimed
 pub record Won (old new : Place) (frame : ℕ) : Type 0 where
-  pub same_seat : (new.table_id ≡ old.table_id) × (new.id ≡ old.id)
-  pub same_view : let v = old.me.0 in
-      new.me.0 ≡ view_with v.size v.parts v.frames (frame ∷ []) new.me.0.failed
+  pub same_seat : IsSamePlace old new
+  pub same_view : let view = old.me.0 in
+      new.me.0 ≡ view_with view.size view.parts view.frames (frame ∷ []) new.me.0.failed
   pub new_frame : times frame old.me.0.frames ≡ 0
   pub brings : Brings new frame old.me.0.size
-
--- each frame from `start` on, round the end, up to this one was claimed once, in vain, and no other
-pub record MissedRound (old new : Place) (start end frame : ℕ) : Type 0 where
-  pub straight : start ≤ frame → Missed old new start frame
-  pub round : frame < start → (k : ℕ) → times k new.me.0.failed
-      ≡ times k old.me.0.failed + tries start end k + tries 0 frame k
 
 -- what the second half of a take asks for
 pub record Carries (pool : Pool) (place : Place) (frame : ℕ) : Type 0 where
@@ -64,9 +72,9 @@ pub record Carries (pool : Pool) (place : Place) (frame : ℕ) : Type 0 where
 
 -- the frame is now in the view, and the slot is back
 pub record Brought (old new : Place) (frame : ℕ) : Type 0 where
-  pub same_seat : (new.table_id ≡ old.table_id) × (new.id ≡ old.id)
-  pub same_view : let v = old.me.0 in
-      new.me ≡ (view_with v.size v.parts (v.frames ++ frame ∷ []) [] v.failed, [])
+  pub same_seat : IsSamePlace old new
+  pub same_view : let view = old.me.0 in
+      new.me ≡ (view_with view.size view.parts (view.frames ++ frame ∷ []) [] view.failed, [])
 
 -- each slot has a buffer of this size
 abbrev pub IsFullRow : ℕ → List (Option (Vec ℕ)) → Type 0

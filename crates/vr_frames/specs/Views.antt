@@ -28,14 +28,14 @@ nobody = view_with 0 0 [] [] []
 
 -- what stays with a seat that gives up one of its parts
 abbrev pub one_less : View → View
-one_less v = view_with v.size (v.parts - 1) v.frames v.moving v.failed
+one_less view = view_with view.size (view.parts - 1) view.frames view.moving view.failed
 
 -- the view of the seat that gets that part: it has no frame and has tried for none
 abbrev pub newcomer : View → View
-newcomer v = view_with v.size 1 [] [] []
+newcomer view = view_with view.size 1 [] [] []
 
 -- all that two seats have
 abbrev pub joined : View → View → View
-joined v w =
-    view_with v.size (v.parts + w.parts)
-    (v.frames ++ w.frames) (v.moving ++ w.moving) (v.failed ++ w.failed)
+joined view other =
+    view_with view.size (view.parts + other.parts)
+    (view.frames ++ other.frames) (view.moving ++ other.moving) (view.failed ++ other.failed)

@@ -1,5 +1,5 @@
-// The pool is shared between threads, and its seats and frames go from one to another. That they
-// may is proved here, and not only where a crate above first starts a thread.
+//! The pool is shared between threads, and its seats and frames go from one to another. That they
+//! may is proved here, and not only where a crate above first starts a thread.
 use crate::frame::Frame;
 use crate::seat::FrameSeat;
 use crate::shared::Pool;

@@ -1,4 +1,4 @@
-// A seat at the pool.
+//! A seat at the pool.
 ghost use Rattle.std.specs.Prelude.{◌≡◌, ◌<◌, ◌≤◌, length};
 
 use crate::view::{Buffer, View};
@@ -12,7 +12,7 @@ use atomic_table::Seat;
 #[derive(Drop)]
 pub struct FrameSeat {
     pub(crate) place: Seat<Option<Buffer>, View>,
-    // Where the next search begins: after the frame that was taken last.
+    /// Where the next search begins: after the frame that was taken last.
     pub(crate) next: usize,
     ghost rests: { (length place.me.1 ≡ 0) × (length place.me.0.moving ≡ 0) },
     ghost has_part: { 0 < place.me.0.parts },

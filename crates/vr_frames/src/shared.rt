@@ -1,7 +1,7 @@
-// The pool as threads share it.
+//! The pool as threads share it.
 ghost use Rattle.std.specs.Prelude.{◌≡◌, ◌+◌};
 
-use crate::ends::{count_home, empty};
+use crate::closing::{count_home, empty};
 use crate::frame::Frame;
 use crate::seat::FrameSeat;
 use crate::view::{Buffer, Claim, HomeOrHeld, OnePart, Release, SlotIn, SlotOut, Together, View};
@@ -17,26 +17,28 @@ type Place = Seat<Option<Buffer>, View>;
 pub struct Pool {
     pub(crate) table: Table<Option<Buffer>, View, u32, HomeOrHeld, Global>,
     pub(crate) frames: u32,
-    ghost counts: { (table.shared.table_id.slots ≡ frames) × (table.shared.table_id.words ≡ frames + 1) },
+    ghost counts: { (table.shared.table_id.slots ≡ frames)
+        × (table.shared.table_id.words ≡ frames + 1) },
 }
 
 impl Pool {
     ghost use Rattle.std.specs.Prelude.{◌<◌, ◌≤◌, IfSome, IfNone, MatchBool, vec_len, length};
-    ghost use Rattle.vr_frames.specs.Frames.{frame_count, frame_size, frames_of, parts_of, Holds};
-    ghost use Rattle.vr_frames.specs.Frames.{IsSeatOf, IsFrameOf, IsSameSeat, Gets, FindsAllOut};
-    ghost use Rattle.vr_frames.specs.Frames.{Returns, GivesPart, IsNewSeat, HasBoth};
-    ghost use Rattle.vr_frames.specs.Search.{IsIdle, Carries, Missed, Tried, Won, MissedRound, Brought};
+    ghost use Rattle.vr_frames.specs.Frames.{frame_count, frame_size, number_of, frames_of};
+    ghost use Rattle.vr_frames.specs.Frames.{parts_of, Holds, IsSeatOf, IsFrameOf, IsSameSeat};
+    ghost use Rattle.vr_frames.specs.Frames.{Gets, FindsAllOut, Returns, GivesPart, IsNewSeat};
+    ghost use Rattle.vr_frames.specs.Frames.{HasBoth};
+    ghost use Rattle.vr_frames.specs.Search.{IsIdle, Carries, Missed, MissedSome, Tried, Won};
+    ghost use Rattle.vr_frames.specs.Search.{Brought};
 
-    /// Takes a frame that is home. The search begins behind the frame that this seat took last,
-    /// and goes round. `None` comes only where each frame of the pool, at a step of this call on
-    /// its own word, was out. The seat is of this pool.
+    /// Takes a frame that is home. `None` comes only where each frame of the pool, at a step of
+    /// this call on its own word, was out. The seat is of this pool.
     pub fn take(&self, seat: &mut FrameSeat) -> Option<Frame>
         requires { IsSeatOf self.now seat.old }
         ensures same { IsSameSeat seat.old seat.new }
         ensures of_pool { IsSeatOf self.now seat.new }
         ensures parts { parts_of seat.new ≡ parts_of seat.old }
         ensures frame { IfSome result (IsFrameOf self.now) }
-        ensures some { IfSome result (λ frame. Gets self.now seat.old frame seat.new) }
+        ensures some { IfSome result (λ frame. Gets seat.old frame seat.new) }
         ensures none { IfNone result (FindsAllOut self.now seat.old seat.new) }
     {
         let number = self.claim_first(&mut seat.place, seat.next)?;
@@ -53,7 +55,8 @@ impl Pool {
     /// into it. From then on any thread may take it.
     pub fn give(&self, seat: &mut FrameSeat, frame: Frame)
         requires seat { IsSeatOf self.now seat.old }
-        requires frame { IsFrameOf self.now frame × Holds seat.old frame.number }
+        requires frame { IsFrameOf self.now frame }
+        requires held { Holds seat.old (number_of frame) }
         ensures same { IsSameSeat seat.old seat.new }
         ensures of_pool { IsSeatOf self.now seat.new }
         ensures parts { parts_of seat.new ≡ parts_of seat.old }
@@ -78,7 +81,7 @@ impl Pool {
         ensures of_pool { IsSeatOf self.now seat.new }
         ensures left { GivesPart seat.old seat.new }
         ensures new_of_pool { IsSeatOf self.now result }
-        ensures new_seat { IsNewSeat seat.old result }
+        ensures new_seat { IsNewSeat result }
     {
         let next = seat.next;
         let place = self.table.shared.split_seat::<OnePart>(&mut seat.place);
@@ -99,8 +102,10 @@ impl Pool {
             .join_seat::<Together>(&mut seat.place, place);
     }
 
-    /// Ends the pool, and answers how many frames were home. The frames that the seat holds were
-    /// not, and beside the seat with all 1,024 parts nobody holds any.
+    /// Ends the pool, and answers how many frames were home: at most those that the seat doesn't
+    /// hold, and exactly those where the seat has all 1,024 parts, so that no other seat is left.
+    /// Of a seat with fewer parts the pool can't know more: frames that other seats hold count as
+    /// out.
     pub fn close(self, seat: FrameSeat) -> u32
         requires { IsSeatOf self seat }
         ensures most { result + length (frames_of seat) ≤ frame_count self }
@@ -115,14 +120,14 @@ impl Pool {
         home
     }
 
-    // Claims the first frame from `start` on, and round to it, whose word says home.
+    /// Claims a frame whose word says home: the first from `start` on, or else the first before it.
     fn claim_first(&self, place: &mut Place, start: usize) -> Option<usize>
         requires idle { IsIdle self.now place.old }
         requires start { start ≤ frame_count self.now }
         ensures none { IfNone result (Tried place.old place.new 0 (frame_count self.now)) }
         ensures some { IfSome result (λ number.
             Won place.old place.new number
-            × MissedRound place.old place.new start (frame_count self.now) number
+            × MissedSome place.old place.new
             × (number < frame_count self.now)) }
     {
         match self.claim_within(place, start, self.frames as usize) {
@@ -131,7 +136,7 @@ impl Pool {
         }
     }
 
-    // Claims the first frame from `from` up to `to` whose word says home.
+    /// Claims the first frame from `from` up to `to` whose word says home.
     fn claim_within(&self, place: &mut Place, from: usize, to: usize) -> Option<usize>
         requires idle { IsIdle self.now place.old }
         requires range { (from ≤ to) × (to ≤ frame_count self.now) }
@@ -150,7 +155,7 @@ impl Pool {
         None
     }
 
-    // One claim. It fails where the frame is out.
+    /// One claim. It fails where the frame is out.
     fn claim(&self, place: &mut Place, number: usize) -> bool
         requires idle { IsIdle self.now place.old }
         requires number { number < frame_count self.now }
@@ -165,7 +170,7 @@ impl Pool {
         found == 0
     }
 
-    // The buffer of a claimed frame. Its slot goes back empty.
+    /// The buffer of a claimed frame. Its slot goes back empty.
     fn bring_out(&self, place: &mut Place, number: usize) -> Buffer
         requires { Carries self.now place.old number }
         ensures whole { vec_len result ≡ frame_size self.now }

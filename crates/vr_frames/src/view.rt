@@ -1,5 +1,5 @@
-// What the holder of a seat knows, and the rule and the steps of the table that the seats are of.
-// All of it is for the proofs.
+//! What the holder of a seat knows, and the rule and the steps of the table that the seats are of.
+//! All of it is for the proofs.
 use atomic_table::{Join, Play, Split, TableRule};
 use std::collections::LinkedList;
 
@@ -39,7 +39,7 @@ impl Play<Option<Buffer>, View> for Claim {
     ghost use Rattle.std.specs.Prelude.{◌≡◌, vec_len};
     ghost use Rattle.vr_frames.specs.Plays.{claimed};
 
-    ghost then = { claimed (λ v buffer. vec_len buffer ≡ v.size) };
+    ghost then = { claimed (λ view buffer. vec_len buffer ≡ view.size) };
 }
 
 /// The end of a take: the slot goes back empty.

@@ -7,7 +7,7 @@ use Rattle.std.specs.declared.cmp.Ordering.{Ordering}
 use Rattle.std.specs.declared.cmp.Ordering.TheVariants.{Less, Equal, Greater}
 use Rattle.std.specs.Cmp.{tied_itself}
 use Rattle.std.proofs.lemmas.Cmp.{nat_list_cmp_total}
-use Rattle.vr_types.specs.Content.{Standing, place_cmp, places_of, IsContent, record_at, with_item, found_by, put_by}
+use Rattle.vr_types.specs.Content.{Standing, place_cmp, places_of, Ascends, record_at, with_item, found_by, put_by}
 use Rattle.vr_job.specs.Definition.{first_definition, key_of}
 use Rattle.vr_job.specs.RecordFile.{placed, content_of, IsGap}
 use Rattle.std.proofs.lemmas.List.{take-append-drop, map-append}
@@ -65,15 +65,15 @@ All-above : (b : List ℕ) (back : List (List ℕ)) → Above (key_in b) back �
 All-above b [] above = tt
 All-above b (r ∷ back) above = (above.0, All-above b back above.1)
 
-pub IsContent-insert : (front back : List (List ℕ)) (b : List ℕ) → IsContent (content_of (front ++ back)) → Below (key_in b) front → Above (key_in b) back → IsContent (content_of (front ++ b ∷ back))
+pub Ascends-insert : (front back : List (List ℕ)) (b : List ℕ) → Ascends (content_of (front ++ back)) → Below (key_in b) front → Above (key_in b) back → Ascends (content_of (front ++ b ∷ back))
 unfolding IsStrictlySortedBy
-IsContent-insert [] back b sorted below above = (All-above b back above, sorted)
-IsContent-insert (r ∷ front) back b sorted below above = (All-insert (key_in r) front back b sorted.0 below.0, IsContent-insert front back b sorted.1 below.1 above)
+Ascends-insert [] back b sorted below above = (All-above b back above, sorted)
+Ascends-insert (r ∷ front) back b sorted below above = (All-insert (key_in r) front back b sorted.0 below.0, Ascends-insert front back b sorted.1 below.1 above)
 
-pub IsContent-behind : (front back : List (List ℕ)) → IsContent (content_of (front ++ back)) → IsContent (content_of back)
+pub Ascends-behind : (front back : List (List ℕ)) → Ascends (content_of (front ++ back)) → Ascends (content_of back)
 unfolding IsStrictlySortedBy
-IsContent-behind [] back sorted = sorted
-IsContent-behind (r ∷ front) back sorted = IsContent-behind front back sorted.1
+Ascends-behind [] back sorted = sorted
+Ascends-behind (r ∷ front) back sorted = Ascends-behind front back sorted.1
 
 is_lt-true : (o : Ordering) → is_lt o ≡ true → o ≡ Less
 is_lt-true Less e = refl
@@ -86,7 +86,7 @@ All-at p (r ∷ records) zero d all h = all.0
 All-at p (r ∷ records) (suc j) d all h = All-at p records j d all.1 (omega (arith, h))
 
 -- the keys that are below q come first
-pub partitioned : (records : List (List ℕ)) (q : List ℕ) → IsContent (content_of records) → IsPartitionedBy (λ y. is_lt (place_cmp (key_in y) q)) records
+pub partitioned : (records : List (List ℕ)) (q : List ℕ) → Ascends (content_of records) → IsPartitionedBy (λ y. is_lt (place_cmp (key_in y) q)) records
 unfolding IsStrictlySortedBy
 partitioned [] q sorted i j d le lt below = absurd (omega arith)
 partitioned (r ∷ records) q sorted zero zero d le lt below = below
@@ -128,7 +128,7 @@ above_of q k not_below differs = go (place_cmp k q) refl not_below where
   go Equal e below = absurd (differs (exact_bytes k q e))
   go Greater e below = nat_list_cmp_total.antisymm q k ∙ ap ordering_reverse e
 
-Above-drop : (records : List (List ℕ)) (q : List ℕ) (at : ℕ) → IsContent (content_of records) → AllWithin (λ y. is_lt (place_cmp (key_in y) q) ≡ false) records at (length records)
+Above-drop : (records : List (List ℕ)) (q : List ℕ) (at : ℕ) → Ascends (content_of records) → AllWithin (λ y. is_lt (place_cmp (key_in y) q) ≡ false) records at (length records)
     → ((d : List ℕ) → at < length records → key_in (get_or records at d) ≢ q) → Above q (drop at records)
 unfolding IsStrictlySortedBy
 Above-drop [] q zero sorted behind differs = tt
@@ -145,15 +145,15 @@ inserted_at q bytes front back same below above =
     map-append placed front (bytes ∷ back) ∙ ap (λ k. content_of front ++ (k, Standing bytes) ∷ content_of back) same
     ∙ ap (λ c. content_of front ++ c) (sym (with_item-above q bytes back above)) ∙ sym (with_item-behind q bytes front back below)
 
-ordered_at : (records : List (List ℕ)) (q bytes : List ℕ) (front back : List (List ℕ)) → front ++ back ≡ records → IsContent (content_of records) → key_in bytes ≡ q → Below q front → Above q back
-    → IsContent (content_of (front ++ bytes ∷ back))
+ordered_at : (records : List (List ℕ)) (q bytes : List ℕ) (front back : List (List ℕ)) → front ++ back ≡ records → Ascends (content_of records) → key_in bytes ≡ q → Below q front → Above q back
+    → Ascends (content_of (front ++ bytes ∷ back))
 ordered_at records q bytes front back whole sorted same below above =
-    let S : List (List ℕ) → Type 0 = λ l. IsContent (content_of l) in
+    let S : List (List ℕ) → Type 0 = λ l. Ascends (content_of l) in
     let B : List ℕ → Type 0 = λ k. Below k front in
     let A : List ℕ → Type 0 = λ k. Above k back in
-    IsContent-insert front back bytes (subst S (sym whole) sorted) (subst B (sym same) below) (subst A (sym same) above)
+    Ascends-insert front back bytes (subst S (sym whole) sorted) (subst B (sym same) below) (subst A (sym same) above)
 
-pub gap_at : (records : List (List ℕ)) (q : List ℕ) (at : ℕ) → IsContent (content_of records) → Parts records q at → at ≤ length records
+pub gap_at : (records : List (List ℕ)) (q : List ℕ) (at : ℕ) → Ascends (content_of records) → Parts records q at → at ≤ length records
     → ((d : List ℕ) → at < length records → key_in (get_or records at d) ≢ q) → IsGap records q at
 gap_at records q at sorted parts h differs =
     let front = take at records in
@@ -171,6 +171,6 @@ gap_at records q at sorted parts h differs =
     }
 
 -- no record is in order
-pub IsContent-nil : (records : List (List ℕ)) → records ≡ [] → IsContent (content_of records)
+pub Ascends-nil : (records : List (List ℕ)) → records ≡ [] → Ascends (content_of records)
 unfolding IsStrictlySortedBy
-IsContent-nil records e = let P : List (List ℕ) → Type 0 = λ l. IsContent (content_of l) in subst P (sym e) tt
+Ascends-nil records e = let P : List (List ℕ) → Type 0 = λ l. Ascends (content_of l) in subst P (sym e) tt

@@ -2,7 +2,7 @@
 use Rattle.std.proofs.Common.{◌≡◌, ℕ, Bool, true, false, ◌==◌, if◌then◌else◌, ◌<◌, List, [], ◌∷◌, ◌++◌, ◌-◌, take, drop, suc, length, Some, slice_get, refl, ap, ◌∙◌, arith, append-nil}
 use Rattle.std.proofs.lemmas.Grind.{flat_map-append}
 use Rattle.std.proofs.lemmas.List.{take-append-drop}
-use Rattle.vr_deck.specs.declared.bound.Bound.{Bound}
+use Rattle.vr_types.specs.declared.bound.Bound.{Bound}
 use Rattle.vr_job.specs.declared.entry.Entry.{Entry}
 use Rattle.vr_job.specs.State.{State}
 use Rattle.vr_job.specs.Step.{Step, state_after}

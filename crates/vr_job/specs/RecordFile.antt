@@ -1,5 +1,5 @@
 use Rattle.std.specs.Prelude.{◌≡◌, ℕ, ◌≤◌, List, map, insert, length, None}
-use Rattle.vr_types.specs.Content.{Placed, Content, Standing, IsContent, record_at, with_item}
+use Rattle.vr_types.specs.Content.{Placed, Content, Standing, Ascends, record_at, with_item}
 use Rattle.vr_job.specs.Definition.{first_definition, key_of}
 
 -- VRM.FIRST as a list of its records.
@@ -16,4 +16,4 @@ pub record IsGap (records : List (List ℕ)) (key : List ℕ) (at : ℕ) : Type 
   pub within : at ≤ length records
   pub absent : record_at (content_of records) key ≡ None
   pub inserted : (bytes : List ℕ) → key_of first_definition bytes ≡ key → content_of (insert records at bytes) ≡ with_item (content_of records) key (Standing bytes)
-  pub ordered : (bytes : List ℕ) → key_of first_definition bytes ≡ key → IsContent (content_of (insert records at bytes))
+  pub ordered : (bytes : List ℕ) → key_of first_definition bytes ≡ key → Ascends (content_of (insert records at bytes))

@@ -1,7 +1,7 @@
 ghost use Rattle.std.specs.Prelude.{◌≡◌, ◌<◌, ◌≤◌, ℕ, List, [], length, Some, None, OnOk, OnErr, IfOk, IfErr, slice_index_or};
 ghost use Rattle.std.specs.Option.{option_copied};
 ghost use Rattle.std.specs.Ordering.{is_lt};
-ghost use Rattle.vr_types.specs.Content.{Content, Standing, IsContent, place_cmp, record_at, with_item};
+ghost use Rattle.vr_types.specs.Content.{Content, Standing, Ascends, place_cmp, record_at, with_item};
 ghost use Rattle.vr_job.specs.Definition.{first_definition, key_of};
 ghost use Rattle.vr_job.specs.RecordFile.{content_of, IsGap};
 
@@ -19,14 +19,14 @@ pub struct RecordFile {
 }
 
 impl Model for RecordFile {
-    ghost use Rattle.vr_types.specs.Content.{Content, IsContent};
+    ghost use Rattle.vr_types.specs.Content.{Content, Ascends};
     ghost use Rattle.vr_job.specs.RecordFile.{content_of};
 
     ghost Value = { Content };
 
     ghost view = { λ file. content_of file.records.items };
 
-    ghost invariant = { λ file. IsContent (content_of file.records.items) };
+    ghost invariant = { λ file. Ascends (content_of file.records.items) };
 }
 
 impl RecordFile {
@@ -78,7 +78,7 @@ pub fn key(of: &Bytes) -> &[u8]
 
 /// Where the record of a key is, or where it would go.
 fn search(records: &[Bytes], key_sought: &[u8]) -> Result<usize, usize>
-    requires { IsContent (content_of records.now) }
+    requires { Ascends (content_of records.now) }
     ensures found { IfOk result (λ at. (at < length records.now) × ((d : List ℕ) → record_at (content_of records.now) key_sought.now ≡ Some (slice_index_or records.now at d))) }
     ensures gap { IfErr result (λ at. IsGap records.now key_sought.now at) }
 {

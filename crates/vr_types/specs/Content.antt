@@ -1,11 +1,12 @@
-use Rattle.std.specs.Prelude.{ℕ, List, [], ◌∷◌, map, Option, Some, None}
+use Rattle.std.specs.Prelude.{◌≡◌, ℕ, ◌<◌, List, [], ◌∷◌, map, All, Option, Some, None}
+use Rattle.std.specs.List.{filter_map}
 use Rattle.std.specs.List.Sorted.{IsStrictlySortedBy}
 use Rattle.std.specs.Ordering.{nat_cmp}
 use Rattle.std.specs.declared.cmp.Ordering.{Ordering}
 use Rattle.std.specs.declared.cmp.Ordering.TheVariants.{Less, Equal, Greater}
 use Rattle.std.specs.Cmp.Lexicographic.{slice_cmp}
 
--- The content of a data set, as Using Data Sets tells it of the three kinds: records in the order of their places.
+-- The content of a data set, as Using Data Sets has it of the three kinds: records in the order of their places.
 
 -- what stands at a place: a record, or in an entry-sequenced data set the length of an added record that was backed out
 pub data Item : Type 0 where
@@ -20,20 +21,41 @@ Placed = List ℕ × Item
 abbrev pub place_cmp : List ℕ → List ℕ → Ordering
 place_cmp = slice_cmp nat_cmp
 
--- the places of a content ascend, so none comes twice
 abbrev pub Content : Type 0
 Content = List Placed
 
 abbrev pub places_of : Content → List (List ℕ)
 places_of content = map (λ (entry : Placed). entry.0) content
 
-abbrev pub IsContent : Content → Type 0
-IsContent content = IsStrictlySortedBy place_cmp (places_of content)
+-- the places of a content ascend, so none comes twice
+abbrev pub Ascends : Content → Type 0
+Ascends content = IsStrictlySortedBy place_cmp (places_of content)
+
+-- a record that was withdrawn had a byte at least
+abbrev pub HasLength : Placed → Type 0
+HasLength (place, Standing bytes) = Unit {0}
+HasLength (place, Withdrawn length) = 0 < length
+
+pub record IsContent (content : Content) : Type 0 where
+  pub ascends : Ascends content
+  pub lengths : All HasLength content
 
 -- the record that an item is, if it is one
 abbrev pub record_of : Item → Option (List ℕ)
 record_of (Standing bytes) = Some bytes
 record_of (Withdrawn length) = None
+
+-- the records with their places, without what was withdrawn
+abbrev pub record_at_place : Placed → Option (List ℕ × List ℕ)
+record_at_place (place, Standing bytes) = Some (place, bytes)
+record_at_place (place, Withdrawn length) = None
+
+abbrev pub records_of : Content → List (List ℕ × List ℕ)
+records_of content = filter_map record_at_place content
+
+-- two contents have the same records at the same places
+abbrev pub Agree : Content → Content → Type 0
+Agree one other = records_of one ≡ records_of other
 
 abbrev pub found_by : Ordering → Option (List ℕ) → Option (List ℕ) → Option (List ℕ)
 found_by Less here further = further

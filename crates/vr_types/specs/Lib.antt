@@ -1,8 +1,17 @@
+pub mod BlockSize
 pub mod Blocks
+pub mod Calls
 pub mod Content
 pub mod Count
 pub mod Faults
+pub mod Fields
+pub mod Geometry
 pub mod Image
+pub mod LockName
+pub mod Locks
+pub mod LogSpace
 pub mod Moments
 pub mod Name
+pub mod PlaceBuffer
+pub mod Position
 pub mod Refusal

@@ -6,14 +6,21 @@
 #![tactic(auto)]
 
 pub mod blocks;
+pub mod bound;
 pub mod count;
 pub mod fault;
+pub mod fields;
 pub mod geometry;
+pub mod lock_name;
 pub mod makers;
 pub mod memory;
 pub mod name;
+mod order;
+pub mod place_buffer;
+pub mod position;
 pub mod reply;
 pub mod request;
+pub mod script;
 #[cfg(test)]
 mod tests;
 pub mod unit;
@@ -21,14 +28,23 @@ pub mod values;
 pub mod words;
 
 pub use blocks::Blocks;
+pub use bound::Bound;
 pub use count::FaultCount;
 pub use fault::{DeviceFault, Failed};
-pub use geometry::Geometry;
-pub use makers::{bytes, empty_place, number_place, place};
+pub use fields::{
+    are_zeros, area_field, area_of, eight_at, four_at, put_eight, put_four, put_two, two_at,
+};
+pub use geometry::{Geometry, is_block_size};
+pub use lock_name::{LockName, LockNames};
+pub use makers::{bytes, number_place, place};
 pub use memory::OutOfMemory;
 pub use name::{NAME_LIMIT, Name, NameFault, dataset_name};
-pub use reply::{LockName, Refusal, Reply};
+pub use place_buffer::{PlaceBuffer, empty_place};
+pub use position::{Position, Stand};
+pub use reply::{Refusal, Reply};
 pub use request::{FileRef, Find, Request};
+pub use script::Script;
+pub use sqlite_items::Items;
 pub use unit::{AreaNo, Integrity, Kind, Mode, PartNo, StageKind, Unit};
 pub use values::{Bytes, Place};
 pub use words::Words;

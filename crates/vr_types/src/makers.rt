@@ -1,4 +1,4 @@
-ghost use Rattle.std.specs.Prelude.{◌≡◌, ℕ, List, [], IfOk};
+ghost use Rattle.std.specs.Prelude.{◌≡◌, IfOk};
 ghost use Rattle.std.specs.Int.{to_be_bytes, w32};
 
 use crate::memory::OutOfMemory;
@@ -24,11 +24,4 @@ pub fn number_place(alloc: Global, n: u32) -> Result<Place, OutOfMemory>
     ensures { IfOk result (λ place. place ≡ to_be_bytes w32 n) }
 {
     place(alloc, &n.to_be_bytes())
-}
-
-/// The empty place, with room for that many bytes.
-pub fn empty_place(alloc: Global, room: u32) -> Result<Place, OutOfMemory>
-    ensures { IfOk result (λ place. place ≡ []) }
-{
-    Ok(Place::from_vec(Vec::with_capacity(alloc, room as usize)?))
 }

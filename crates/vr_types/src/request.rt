@@ -19,7 +19,7 @@ pub struct FileRef {
 }
 
 /// Which record a request asks for: the next one, the one at a place, or the first at or past a place.
-#[derive(Debug, Drop)]
+#[derive(Debug, Drop, PartialEq, Eq)]
 pub enum Find {
     Next,
     Equal(Place),
@@ -41,7 +41,7 @@ impl Find {
 
 /// One request of a deck, as Using Data Sets names them: GET, POINT, PUT add, PUT update, ERASE, ENDREQ, and
 /// the two that end a unit of recovery. The place of an `Add` is there in a relative data set alone.
-#[derive(Debug, Drop)]
+#[derive(Debug, Drop, PartialEq, Eq)]
 pub enum Request {
     Get {
         file: FileRef,

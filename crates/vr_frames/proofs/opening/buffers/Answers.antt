@@ -11,5 +11,5 @@ Row = List (Option (Vec ℕ))
 
 pub loop-preserved : goal.loop-preserved
 loop-preserved c =
-    let i = c.loop.invariant in let b = c.in_ok-vec.field-0 in let items = c.in_ok-push.ensures.items in
-    (subst (IsFullRow c.args.size) (sym {A = Row} items) (row_more (IsBuffer c.args.size) c.loop.slots.items b i.0 c.in_ok-vec.ensures.len), ap (λ (l : Row). length l) items ∙ omega (arith, length-append c.loop.slots.items (Some b ∷ []), i.1))
+    let so_far = c.loop.invariant in let buffer = c.in_ok-vec.field-0 in let items = c.in_ok-push.ensures.items in
+    (subst (IsFullRow c.args.size) (sym {A = Row} items) (row_more (IsBuffer c.args.size) c.loop.slots.items buffer so_far.0 c.in_ok-vec.ensures.len), ap (λ (row : Row). length row) items ∙ omega (arith, length-append c.loop.slots.items (Some buffer ∷ []), so_far.1))

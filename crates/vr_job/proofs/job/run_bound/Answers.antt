@@ -1,5 +1,5 @@
 use Rattle.std.proofs.Common.{List, [], All, subst, sym}
-use Rattle.vr_deck.specs.declared.bound.Bound.{Bound}
+use Rattle.vr_types.specs.declared.bound.Bound.{Bound}
 use Rattle.vr_deck.specs.Bound.{bound_requests}
 use Rattle.vr_job.specs.History.{ArePrefixes}
 use Rattle.vr_job.specs.declared.entry.Entry.{Entry}

@@ -1,7 +1,7 @@
 use Rattle.std.proofs.Common.{arith}
 use Rattle.std.proofs.lemmas.List.{nil_from_length}
 use Rattle.vr_frames.specs.Rule.{IsBuffer}
-use Rattle.vr_frames.proofs.Keeps.{joins}
+use Rattle.vr_frames.proofs.Steps.{joins}
 use Rattle.vr_frames.proofs.shared.Pool.join.Goals as goal
 
 pub join_seat-requires : goal.join_seat-requires

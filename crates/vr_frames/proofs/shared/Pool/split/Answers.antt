@@ -1,6 +1,6 @@
 use Rattle.std.proofs.Common.{arith}
 use Rattle.vr_frames.specs.Rule.{IsBuffer}
-use Rattle.vr_frames.proofs.Keeps.{splits}
+use Rattle.vr_frames.proofs.Steps.{splits}
 use Rattle.vr_frames.proofs.shared.Pool.split.Goals as goal
 
 pub split_seat-place-requires : goal.split_seat-place-requires

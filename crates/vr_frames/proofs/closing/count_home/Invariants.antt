@@ -1,6 +1,6 @@
 use Rattle.std.proofs.Common.{◌≡◌, ◌≤◌, ◌==◌, count_by, take}
 use Rattle.std.specs.Mem.Slots.{slots_items}
-use Rattle.vr_frames.proofs.ends.count_home.Given as goal
+use Rattle.vr_frames.proofs.closing.count_home.Given as goal
 
 -- the words so far are counted
 abbrev pub invariant-loop-number : goal.invariant-loop-number

@@ -1,4 +1,4 @@
-// What is left of a pool's table, once no thread shares it.
+//! What is left of a pool's table, once no thread shares it.
 ghost use Rattle.std.specs.Prelude.{◌≡◌, ◌≤◌, ◌==◌, count_by, take};
 ghost use Rattle.std.specs.Mem.Slots.{slots_len, slots_items, IsFull};
 

@@ -1,7 +1,7 @@
 use Rattle.std.proofs.Common.{◌≡◌, ℕ, ◌-◌, ◌<◌, ◌≤◌, false, get_or}
 use Rattle.std.specs.Prelude.{IsTrue}
 use Rattle.std.specs.Mem.Slots.{slots_filled, slots_len}
-use Rattle.vr_frames.proofs.ends.empty.Given as goal
+use Rattle.vr_frames.proofs.closing.empty.Given as goal
 
 -- the slots from `next` on are full, and those below are taken
 abbrev pub invariant-loop-next : goal.invariant-loop-next
