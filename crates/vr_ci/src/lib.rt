@@ -27,6 +27,3 @@ pub use records::Records;
 pub use segment::write_segment;
 pub use view::CiView;
 pub use writer::CiWriter;
-
-#[cfg(test)]
-mod tests;

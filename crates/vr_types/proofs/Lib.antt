@@ -1,3 +1,3 @@
 pub mod CallerLemmas
-pub mod Moments
 pub mod Names
+pub mod Runs

@@ -15,3 +15,5 @@ pub mod Name
 pub mod PlaceBuffer
 pub mod Position
 pub mod Refusal
+pub mod Regions
+pub mod Seen

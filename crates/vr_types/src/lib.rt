@@ -21,8 +21,7 @@ pub mod position;
 pub mod reply;
 pub mod request;
 pub mod script;
-#[cfg(test)]
-mod tests;
+mod settling;
 pub mod unit;
 pub mod values;
 pub mod words;
@@ -44,6 +43,7 @@ pub use position::{Position, Stand};
 pub use reply::{Refusal, Reply};
 pub use request::{FileRef, Find, Request};
 pub use script::Script;
+pub use settling::{copy_block, settle};
 pub use sqlite_items::Items;
 pub use unit::{AreaNo, Integrity, Kind, Mode, PartNo, StageKind, Unit};
 pub use values::{Bytes, Place};
