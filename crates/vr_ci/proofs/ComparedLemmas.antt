@@ -21,10 +21,10 @@ pub spans-append : (rs ss : List Rdf) → spans (rs ++ ss) ≡ spans rs + spans 
 spans-append [] ss = omega arith
 spans-append (r ∷ rs) ss = omega (arith, spans-append rs ss)
 
-spans-push : (rs : List Rdf) (r : Rdf) → spans (rs ++ r ∷ []) ≡ spans rs + span r
+pub spans-push : (rs : List Rdf) (r : Rdf) → spans (rs ++ r ∷ []) ≡ spans rs + span r
 spans-push rs r = omega (arith, spans-append rs (r ∷ []))
 
-abbrev mask : Rdf → List ℕ → List ℕ
+abbrev pub mask : Rdf → List ℕ → List ℕ
 mask r bytes = if is_live r then take (span r) bytes else zeros (span r)
 
 pub masked-append : (rs ss : List Rdf) (bytes : List ℕ) → masked (rs ++ ss) bytes ≡ masked rs bytes ++ masked ss (drop (spans rs) bytes)
@@ -34,7 +34,7 @@ masked-append (r ∷ rs) ss bytes =
     ∙ sym (append_assoc (mask r bytes) (masked rs (drop (span r) bytes)) (masked ss (drop (spans rs) (drop (span r) bytes))))
     ∙ ap (λ (x : List ℕ). mask r bytes ++ masked rs (drop (span r) bytes) ++ masked ss x) (drop-drop (spans rs) (span r) bytes)
 
-masked-push : (rs : List Rdf) (r : Rdf) (bytes : List ℕ) → masked (rs ++ r ∷ []) bytes ≡ masked rs bytes ++ mask r (drop (spans rs) bytes)
+pub masked-push : (rs : List Rdf) (r : Rdf) (bytes : List ℕ) → masked (rs ++ r ∷ []) bytes ≡ masked rs bytes ++ mask r (drop (spans rs) bytes)
 masked-push rs r bytes = masked-append rs (r ∷ []) bytes ∙ ap (λ (x : List ℕ). masked rs bytes ++ x) (append-nil (mask r (drop (spans rs) bytes)))
 
 take_zeros : (k m : ℕ) → k ≤ m → take k (zeros m) ≡ zeros k

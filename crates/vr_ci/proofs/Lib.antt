@@ -19,4 +19,5 @@ pub mod WalkLemmas
 pub mod EndLemmas
 pub mod LendLemmas
 pub mod PlaceLemmas
+pub mod RecordsLemmas
 pub mod WriterLemmas

@@ -6,4 +6,5 @@ pub mod Fault
 pub mod Layout
 pub mod Reading
 pub mod Tally
+pub mod Walk
 pub mod Writer

@@ -18,6 +18,7 @@ mod records;
 mod segment;
 mod tally;
 mod view;
+mod walk;
 mod writer;
 
 pub use fault::{CiFault, NoRoom};
