@@ -7,7 +7,7 @@ use Rattle.vr_types.specs.declared.unit.Integrity.TheVariants.{Nri}
 use Rattle.vr_deck.specs.declared.text.DeckText.{DeckText}
 use Rattle.vr_deck.specs.declared.text.Order.{Order}
 use Rattle.vr_deck.specs.declared.text.Order.TheVariants.{Put, Get}
-use Rattle.vr_deck.specs.declared.bound.Bound.{Bound}
+use Rattle.vr_types.specs.declared.bound.Bound.{Bound}
 
 -- The requests that a deck's text stands for.
 

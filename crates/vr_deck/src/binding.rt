@@ -1,10 +1,12 @@
 ghost use Rattle.std.specs.Prelude.{◌≡◌, List, IfOk};
 ghost use Rattle.vr_deck.specs.Bound.{first_file, key_asked, bound_order, bound_requests};
 
-use crate::bound::{Bound, DeckRequests};
+use crate::bound::DeckRequests;
 use crate::text::{DeckText, Order};
 use std::alloc::Global;
-use vr_types::{Bytes, FileRef, Find, Integrity, Kind, OutOfMemory, PartNo, Place, Request, place};
+use vr_types::{
+    Bound, Bytes, FileRef, Find, Integrity, Kind, OutOfMemory, PartNo, Place, Request, place,
+};
 
 /// How many zero bytes an empty literal stands for where a key is asked for: too many for every key.
 const EMPTY_KEY: usize = 256;

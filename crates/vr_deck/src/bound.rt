@@ -2,15 +2,7 @@ ghost use Rattle.std.specs.Prelude.{◌≡◌, List, [], ◌∷◌, ◌++◌, On
 
 use std::alloc::Global;
 use std::marker::Model;
-use vr_types::{OutOfMemory, Request};
-
-/// A request of a deck with its volume and its line. The COMMIT that is added at a deck's end has line 0.
-#[derive(Debug, Drop)]
-pub struct Bound {
-    pub volume: u32,
-    pub line: u32,
-    pub request: Request,
-}
+use vr_types::{Bound, OutOfMemory};
 
 /// The requests of a deck, in order.
 #[derive(Debug, Drop)]
@@ -20,7 +12,7 @@ pub struct DeckRequests {
 
 impl Model for DeckRequests {
     ghost use Rattle.std.specs.Prelude.{List};
-    ghost use Rattle.vr_deck.specs.declared.bound.Bound.{Bound};
+    ghost use Rattle.vr_types.specs.declared.bound.Bound.{Bound};
 
     ghost Value = { List Bound };
 

@@ -16,7 +16,7 @@ mod tests;
 pub mod text;
 
 pub use binding::bind;
-pub use bound::{Bound, DeckRequests};
+pub use bound::DeckRequests;
 pub use laws::{no_value_at_a_fault, one_fault, one_value};
 pub use parse::parse_job;
 pub use text::{DeckText, JobFault, JobText, Order, Orders};

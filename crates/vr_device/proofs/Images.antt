@@ -3,7 +3,8 @@ use Rattle.std.proofs.Common.{◌≡◌, ◌<◌, ℕ, zero, suc, List, [], ◌�
 use Rattle.std.proofs.lemmas.Option.{slice_get_within, get_or_from_slice_get}
 use Rattle.std.proofs.lemmas.List.{get_or_default}
 use Rattle.vr_types.specs.Image.{Image, IsImage, block_at}
-use Rattle.vr_device.specs.Disk.{Disk, choices_of, MayHold, IsWhole, IsChosen, IsSomeChoice}
+use Rattle.vr_device.specs.Disk.{Disk, choices_of, MayHold, IsChosen, IsSomeChoice}
+use Rattle.vr_device.specs.Sizes.{IsWhole}
 
 found-at : {X : Type 0} (xs : List X) (k : ℕ) (x : X) → k < length xs → get_or xs k x ≡ x → slice_get xs k ≡ Some x
 found-at [] k x below is = absurd (omega (arith, below))

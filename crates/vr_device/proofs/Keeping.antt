@@ -3,15 +3,15 @@ use Rattle.std.proofs.Common.{◌≡◌, ℕ, ◌+◌, ◌<◌, ◌≤◌, List,
 use Rattle.std.specs.List.{AllByRecursion}
 use Rattle.std.proofs.lemmas.List.{take-append-le, drop-append-le, map-append, length-map, drop_all, get_or-map}
 use Rattle.vr_types.specs.Image.{Block, block_at}
-use Rattle.vr_device.specs.Disk.{Disk, IsWhole}
-use Rattle.vr_device.specs.History.{Event, wrote, failed, forced, after, after_all, fresh, disk_of, EventFits, writes_in}
-use Rattle.vr_device.specs.Entry.{blocks_of, events_of, event_of}
+use Rattle.vr_device.specs.Disk.{Disk}
+use Rattle.vr_device.specs.Past.{Past, with_event, Event, wrote, failed, forced, after, after_all, fresh, disk_of, EventFits, writes_in}
+use Rattle.vr_device.specs.PastEvent.{blocks_of, events_of, event_of}
 use Rattle.vr_device.specs.Kept.{IsKept, past_of}
 use Rattle.std.specs.declared.alloc.Global.{Global}
-use Rattle.vr_device.specs.declared.history.Entry.{Entry}
-use Rattle.vr_device.specs.declared.history.History.TheInside.{Inside}
+use Rattle.vr_device.specs.declared.past.PastEvent.{PastEvent}
+use Rattle.vr_device.specs.declared.past.Past.TheInside.{Inside}
 use Rattle.vr_device.proofs.Events.{disk-event}
-use Rattle.vr_device.proofs.Sizes.{sized-of}
+use Rattle.vr_device.specs.Sizes.{Sized, IsSized, sized-of, after-sized}
 
 all-push : {X : Type 0} (P : X → Type 0) (xs : List X) (x : X) → AllByRecursion P xs → P x → AllByRecursion P (xs ++ x ∷ [])
 all-push P [] x all this = (this, tt)
@@ -23,7 +23,7 @@ writes_in-append (wrote n bytes ∷ xs) ys = ap (λ l. (n, bytes) ∷ l) (writes
 writes_in-append (failed n bytes ∷ xs) ys = ap (λ l. (n, bytes) ∷ l) (writes_in-append xs ys)
 writes_in-append (forced ∷ xs) ys = writes_in-append xs ys
 
-module _ (h : Inside) (kept : IsKept h) (seen' : Vec (Vec ℕ Global) Global) (entries' : Vec Entry Global) (entry : Entry) (pushed : entries'.items ≡ h.entries.items ++ entry ∷ []) (fits : EventFits (length h.start.items) h.size (event_of entry)) (seen_is : blocks_of seen'.items ≡ (after (event_of entry) (disk_of (past_of h))).seen) where
+module _ (h : Inside) (kept : IsKept h) (seen' : Vec (Vec ℕ Global) Global) (entries' : Vec PastEvent Global) (entry : PastEvent) (pushed : entries'.items ≡ h.entries.items ++ entry ∷ []) (fits : EventFits (length h.start.items) h.size (event_of entry)) (seen_is : blocks_of seen'.items ≡ (after (event_of entry) (disk_of (past_of h))).seen) where
   events_is : events_of entries'.items ≡ events_of h.entries.items ++ event_of entry ∷ []
   events_is = ap events_of pushed ∙ map-append event_of h.entries.items (entry ∷ [])
 
@@ -69,15 +69,13 @@ module _ (h : Inside) (kept : IsKept h) (seen' : Vec (Vec ℕ Global) Global) (e
         writes = ap (λ d. d.writes) now ∙ ap writes_in (sym (drop_all at (events_of entries'.items) (omega (arith, all))));
       }
 
+sized : (h : Inside) → IsKept h → IsSized (past_of h)
+sized h kept = sized-of (past_of h) kept.sizes (subst (λ n. AllByRecursion (EventFits n h.size) (events_of h.entries.items)) (sym (length-map h.start.items (λ block. block.items))) kept.fits)
+
 -- the blocks that are read are as many, and each has the size of a block
 pub seen-count : (h : Inside) → IsKept h → length h.seen.items ≡ length h.start.items
 seen-count h kept =
-    let sized = sized-of (past_of h) kept.sizes (subst (λ n. AllByRecursion (EventFits n h.size) (events_of h.entries.items)) (sym (length-map h.start.items (λ block. block.items))) kept.fits) in
-    sym (length-map h.seen.items (λ block. block.items)) ∙ ap length kept.seen ∙ sized.length_is ∙ length-map h.start.items (λ block. block.items)
-
-pub whole-kept : (h : Inside) → IsKept h → IsWhole (length (blocks_of h.start.items)) h.size (disk_of (past_of h))
-whole-kept h kept =
-    (sized-of (past_of h) kept.sizes (subst (λ n. AllByRecursion (EventFits n h.size) (events_of h.entries.items)) (sym (length-map h.start.items (λ block. block.items))) kept.fits)).whole
+    sym (length-map h.seen.items (λ block. block.items)) ∙ ap length kept.seen ∙ (sized h kept).length_is ∙ length-map h.start.items (λ block. block.items)
 
 -- what stands at a place of the blocks that are read
 pub seen-block : (h : Inside) → IsKept h → (n : ℕ) (block : Vec ℕ Global) → n < length h.start.items → get_or h.seen.items n block ≡ block → block.items ≡ block_at (disk_of (past_of h)).seen n
@@ -86,6 +84,9 @@ seen-block h kept n block below is =
 
 pub seen-size : (h : Inside) → IsKept h → (n : ℕ) (block : Vec ℕ Global) → n < length h.start.items → get_or h.seen.items n block ≡ block → length block.items ≡ h.size
 seen-size h kept n block below is =
-    ap length (seen-block h kept n block below is)
-    ∙ (sized-of (past_of h) kept.sizes (subst (λ n. AllByRecursion (EventFits n h.size) (events_of h.entries.items)) (sym (length-map h.start.items (λ block. block.items))) kept.fits)).seen n
-    (omega (arith, below, length-map h.start.items (λ block. block.items)))
+    ap length (seen-block h kept n block below is) ∙ (sized h kept).seen n (omega (arith, below, length-map h.start.items (λ block. block.items)))
+
+-- one more event that fits
+pub sized-event : (old new : Past) (event : Event) → new ≡ with_event old event → EventFits (length old.start) old.size event → IsSized old → IsSized new
+sized-event old new event is fits sized =
+    subst IsSized (sym is) (subst (λ disk. Sized (length old.start) old.size disk) (sym (disk-event old event)) (after-sized (length old.start) old.size event (disk_of old) fits sized))

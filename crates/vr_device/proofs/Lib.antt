@@ -3,7 +3,4 @@ pub mod Choosing
 pub mod Events
 pub mod Images
 pub mod Keeping
-pub mod Naming
 pub mod Selecting
-pub mod Sizes
-pub mod WriteThrough

@@ -5,19 +5,19 @@ use Rattle.std.proofs.lemmas.Bool.{cases_lt}
 use Rattle.std.proofs.lemmas.List.{take-map, length-map}
 use Rattle.vr_types.specs.Image.{Image, block_at}
 use Rattle.vr_device.specs.Disk.{contents_of, choices_of, IsChosen}
-use Rattle.vr_device.specs.History.{Past, disk_of, writes_in, after_all, fresh, contents_from, ArePicked, IsWithin}
-use Rattle.vr_device.specs.Entry.{event_of, events_of, blocks_of}
+use Rattle.vr_device.specs.Past.{Past, disk_of, writes_in, after_all, fresh, contents_from, ArePicked, IsWithin}
+use Rattle.vr_device.specs.PastEvent.{event_of, events_of, blocks_of}
 use Rattle.vr_device.specs.Kept.{IsKept, past_of}
 use Rattle.std.specs.declared.alloc.Global.{Global}
-use Rattle.vr_device.specs.declared.history.Entry.{Entry}
-use Rattle.vr_device.specs.declared.history.History.TheInside.{Inside}
+use Rattle.vr_device.specs.declared.past.PastEvent.{PastEvent}
+use Rattle.vr_device.specs.declared.past.Past.TheInside.{Inside}
 use Rattle.vr_device.proofs.Choosing.{since-is, within-take}
 
 -- the events since the last sync that succeeded, as a slice of all
-abbrev pub since : Inside → List Entry → List Entry
+abbrev pub since : Inside → List PastEvent → List PastEvent
 since h entries = take (length entries - h.stable_at) (drop h.stable_at entries)
 
-module _ (h : Inside) (kept : IsKept h) (p : Past) (view_is : past_of h ≡ p) (entries : List Entry) (all : entries ≡ h.entries.items) where
+module _ (h : Inside) (kept : IsKept h) (p : Past) (view_is : past_of h ≡ p) (entries : List PastEvent) (all : entries ≡ h.entries.items) where
   pub writes-since : (disk_of p).writes ≡ writes_in (events_of (since h entries))
   writes-since = ap (λ q. (disk_of q).writes) (sym view_is) ∙ kept.writes ∙ ap writes_in (sym (ap (λ es. events_of (since h es)) all ∙ since-is h.entries.items h.stable_at))
 
@@ -30,13 +30,13 @@ each-next P n below this m less = ⊎_elim (λ before. below m before) (λ now. 
 
 module _ (h : Inside) (kept : IsKept h) where
   -- the writes up to the last sync are of blocks that there are
-  pub stable-within : (count : ℕ) (entries : List Entry) → count ≡ length h.start.items → entries ≡ h.entries.items → AllByRecursion (IsWithin count) (events_of (take h.stable_at entries))
+  pub stable-within : (count : ℕ) (entries : List PastEvent) → count ≡ length h.start.items → entries ≡ h.entries.items → AllByRecursion (IsWithin count) (events_of (take h.stable_at entries))
   stable-within count entries same all =
       subst (λ n. AllByRecursion (IsWithin n) (events_of (take h.stable_at entries))) (sym same)
       (subst (λ es. AllByRecursion (IsWithin (length h.start.items)) es) (sym (ap (λ es. events_of (take h.stable_at es)) all ∙ sym (take-map event_of h.stable_at h.entries.items)))
       (within-take (length h.start.items) h.size (events_of h.entries.items) h.stable_at kept.fits))
 
-  pub stable-is : (p : Past) → past_of h ≡ p → (blocks : Image) (entries : List Entry) → blocks ≡ blocks_of h.start.items → entries ≡ h.entries.items
+  pub stable-is : (p : Past) → past_of h ≡ p → (blocks : Image) (entries : List PastEvent) → blocks ≡ blocks_of h.start.items → entries ≡ h.entries.items
       → (after_all (events_of (take h.stable_at entries)) (fresh blocks)).seen ≡ (disk_of p).stable
   stable-is p view_is blocks entries same all =
       ap (λ b. (after_all (events_of (take h.stable_at entries)) (fresh b)).seen) same
@@ -44,7 +44,7 @@ module _ (h : Inside) (kept : IsKept h) where
       ∙ sym kept.stable ∙ ap (λ q. (disk_of q).stable) view_is
 
   -- what is picked is what the choice names
-  pub picked-chosen : (p : Past) → past_of h ≡ p → (entries : List Entry) → entries ≡ h.entries.items → (stable blocks : Image) (choice : List ℕ) → stable ≡ (disk_of p).stable → length stable ≡ length p.start
+  pub picked-chosen : (p : Past) → past_of h ≡ p → (entries : List PastEvent) → entries ≡ h.entries.items → (stable blocks : Image) (choice : List ℕ) → stable ≡ (disk_of p).stable → length stable ≡ length p.start
       → ArePicked stable (events_of (since h entries)) choice blocks → IsChosen (length p.start) (disk_of p) choice blocks
   picked-chosen p view_is entries all stable blocks choice same long picked = record {
     length_is = picked.length_is ∙ long;

@@ -1,6 +1,7 @@
 -- Which calls of a device in memory fail, and what it counts.
 use Rattle.std.specs.Prelude.{◌⊎◌, ℕ, ◌+◌, ◌≤◌, List, Option, Some, None, min, unwrap_or, Contains, IsSomeAnd}
 use Rattle.vr_types.specs.Count.{next_call}
+use Rattle.vr_types.specs.Faults.{Faults}
 
 -- the number of the next read, write or sync; the numbers of the calls that fail, and the number from which on every
 -- call fails; how many writes and syncs failed for want of memory, and the two fault counts
@@ -11,6 +12,10 @@ pub record Calls : Type 0 where
   pub refused : ℕ
   pub read_faults : ℕ
   pub write_faults : ℕ
+
+-- what is counted of the device's faults
+abbrev pub faults_of : Calls → Faults
+faults_of calls = record { reads = calls.read_faults; writes = calls.write_faults }
 
 -- no call was made, and those of these numbers fail
 abbrev pub uncalled : List ℕ → Calls

@@ -1,10 +1,11 @@
--- What a write and a sync make of the contents that a crash may leave.
+-- Lemmas on what a write and a sync make of the contents that a crash may leave. They stand here, since the laws of a
+-- device in memory rest on them and can cite no proofs.
 use Rattle.std.proofs.Common.{◌≡◌, ◌⊎◌, inl, inr, ⊎_elim, ℕ, zero, suc, ◌==◌, List, [], ◌∷◌, ◌++◌, get_or, map, set, Contains, refl, sym, ap, subst, ◌∙◌, arith, eq-eqb, ne_eqb, get_or-set_same, get_or-set_other, length-set, if◌then◌else◌}
 use Rattle.std.specs.List.{filter}
 use Rattle.std.proofs.lemmas.Bool.{cases_eq}
 use Rattle.std.proofs.lemmas.List.{map-append}
 use Rattle.std.proofs.lemmas.List.Elements.{filter-append, Contains-append_left, Contains-append_cases, Contains-push}
-use Rattle.vr_types.specs.Image.{Block, Image, IsImage, block_at}
+use Rattle.vr_types.specs.Image.{Block, IsImage, block_at}
 use Rattle.vr_device.specs.Disk.{Disk, contents_of, choices_of, MayHold, written, tried, synced}
 
 contents_of-append : (xs ys : List (ℕ × Block)) (n : ℕ) → contents_of (xs ++ ys) n ≡ contents_of xs n ++ contents_of ys n
@@ -74,13 +75,3 @@ IsReadable-tried count disk m bytes readable = record {
 
 pub IsReadable-synced : (count : ℕ) (disk : Disk) → IsReadable count disk → IsReadable count (synced disk)
 IsReadable-synced count disk readable = record { length_is = readable.length_is; each = λ n below. MayHold-stable (synced disk) n }
-
--- an image before a write is one after it, and after a sync each is one from before it
-pub image-written : (count : ℕ) (disk : Disk) (m : ℕ) (bytes : Block) (image : Image) → IsImage count (MayHold disk) image → IsImage count (MayHold (written disk m bytes)) image
-image-written count disk m bytes image is = record { length_is = is.length_is; each = λ n below. MayHold-kept disk m bytes n (block_at image n) (is.each n below) }
-
-pub image-synced : (count : ℕ) (disk : Disk) (image : Image) → IsReadable count disk → IsImage count (MayHold (synced disk)) image → IsImage count (MayHold disk) image
-image-synced count disk image readable is = record {
-  length_is = is.length_is;
-  each = λ n below. subst (λ b. MayHold disk n b) (sym (MayHold-synced disk n (block_at image n) (is.each n below))) (readable.each n below);
-}

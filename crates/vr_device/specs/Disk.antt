@@ -1,5 +1,5 @@
--- What a device holds, and what a crash may leave of it. That blocks are whole and independent of one another is this
--- project's own model of a disk.
+-- What a device in memory holds, and what a crash may leave of it. That blocks are whole and independent of one another
+-- is this project's own model of a disk.
 use Rattle.std.specs.Prelude.{◌≡◌, ◌⊎◌, ◌==◌, ◌<◌, ◌≤◌, ℕ, Some, slice_get, slice_index, List, [], ◌∷◌, ◌++◌, length, map, filter, slice_set, Contains}
 use Rattle.vr_types.specs.Image.{Block, Image, block_at}
 
@@ -14,20 +14,21 @@ pub record Disk : Type 0 where
 abbrev pub contents_of : List (ℕ × Block) → ℕ → List Block
 contents_of writes n = map (λ w. w.1) (filter (λ w. w.0 == n) writes)
 
--- what a crash may leave in block n: its stable content, or one that was written to it since the last sync that succeeded
+-- what a crash may leave in block n: its stable content, or one that was written to it since the last sync that
+-- succeeded
 abbrev pub choices_of : Disk → ℕ → List Block
 choices_of disk n = block_at disk.stable n ∷ contents_of disk.writes n
 
 abbrev pub MayHold : Disk → ℕ → Block → Type 0
 MayHold disk n block = Contains (choices_of disk n) block
 
--- every content that a crash may leave has the size of a block
-abbrev pub IsWhole : ℕ → ℕ → Disk → Type 0
-IsWhole count size disk = (n : ℕ) (block : Block) → n < count → MayHold disk n block → length block ≡ size
-
 -- after a write that succeeded
 abbrev pub written : Disk → ℕ → Block → Disk
-written disk n bytes = record { seen = slice_set disk.seen n bytes; stable = disk.stable; writes = disk.writes ++ (n, bytes) ∷ [] }
+written disk n bytes = record {
+  seen = slice_set disk.seen n bytes;
+  stable = disk.stable;
+  writes = disk.writes ++ (n, bytes) ∷ [];
+}
 
 -- after a write that failed, and left what is read as it was
 abbrev pub tried : Disk → ℕ → Block → Disk
@@ -36,10 +37,6 @@ tried disk n bytes = record { seen = disk.seen; stable = disk.stable; writes = d
 -- after a sync that succeeded
 abbrev pub synced : Disk → Disk
 synced disk = record { seen = disk.seen; stable = disk.seen; writes = [] }
-
--- A failed write didn't happen, or it happened and only a crash shows it, or a read shows it too.
-abbrev pub MayHaveWritten : Disk → ℕ → Block → Disk → Type 0
-MayHaveWritten old n bytes new = (new ≡ old) ⊎ (new ≡ tried old n bytes) ⊎ (new ≡ written old n bytes)
 
 -- the choice has a number for each block, and each names one of its contents: the stable one is 0
 pub record IsFit (count : ℕ) (disk : Disk) (choice : List ℕ) : Type 0 where

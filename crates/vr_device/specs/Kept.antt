@@ -1,9 +1,9 @@
 -- What a history keeps: its blocks as they are read, and where its last sync stands, are those that its events tell.
 use Rattle.std.specs.Prelude.{◌≡◌, ◌<◌, ◌≤◌, ◌^◌, length, take, drop, All}
 use Rattle.std.specs.List.{AllByRecursion}
-use Rattle.vr_device.specs.History.{Past, EventFits, writes_in, after_all, fresh, disk_of}
-use Rattle.vr_device.specs.Entry.{blocks_of, events_of}
-use Rattle.vr_device.specs.declared.history.History.TheInside.{Inside}
+use Rattle.vr_device.specs.Past.{Past, EventFits, writes_in, after_all, fresh, disk_of}
+use Rattle.vr_device.specs.PastEvent.{blocks_of, events_of}
+use Rattle.vr_device.specs.declared.past.Past.TheInside.{Inside}
 
 abbrev pub past_of : Inside → Past
 past_of h = record { size = h.size; start = blocks_of h.start.items; events = events_of h.entries.items }

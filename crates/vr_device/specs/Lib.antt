@@ -1,10 +1,10 @@
 pub mod Calls
 pub mod Choices
 pub mod Disk
-pub mod Entry
-pub mod History
 pub mod Kept
 pub mod Memory
-pub mod Named
-pub mod Told
+pub mod Past
+pub mod PastEvent
+pub mod Readable
+pub mod Sizes
 pub mod Untold

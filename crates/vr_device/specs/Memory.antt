@@ -1,12 +1,12 @@
 -- What a clause says of a device in memory: its past, and its calls.
 use Rattle.std.specs.Prelude.{◌≡◌, ℕ}
 use Rattle.vr_types.specs.Image.{Block}
-use Rattle.vr_device.specs.History.{Past, with_event, failed}
+use Rattle.vr_device.specs.Past.{Past, with_event, failed}
 use Rattle.vr_device.specs.Calls.{Calls, IsToFail, counted, write_failed, write_refused}
 use Rattle.vr_device.specs.declared.memory.MemoryDevice.{MemoryDevice}
 
 abbrev pub past_in : MemoryDevice → Past
-past_in device = device.history
+past_in device = device.past
 
 abbrev pub calls_in : MemoryDevice → Calls
 calls_in device = device.script

@@ -1,14 +1,18 @@
--- What stands for the content of a device that tells none.
+-- What stands for the content of a device that reports none.
 use Rattle.std.specs.Prelude.{ℕ, [], false, IsTrue}
 use Rattle.std.proofs.Common.{true≢false, sym}
-use Rattle.vr_types.specs.Image.{Image}
-use Rattle.vr_device.specs.Disk.{Disk}
+use Rattle.vr_types.specs.Seen.{Seen}
 
-abbrev pub no_disk : Disk
-no_disk = record { seen = []; stable = []; writes = [] }
-
-abbrev pub no_image : ℕ → Image → Type 0
-no_image t image = ⊥
+-- blocks of this number and size, of which nothing is said
+abbrev pub unseen : ℕ → ℕ → Seen
+unseen count size = record {
+  count = count;
+  size = size;
+  cur = [];
+  may = λ n block. ⊥;
+  moment = 0;
+  images = λ t image. ⊥;
+}
 
 pub not_told : IsTrue false → ⊥
 not_told told = true≢false (sym told)

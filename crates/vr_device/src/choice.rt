@@ -2,27 +2,27 @@
 ghost use Rattle.std.specs.Prelude.{◌≡◌, ◌<◌, ◌^◌, ◌↔◌, IsTrue, ◌∷◌, ℕ, [], length, replicate, slice_index, slice_get, option_copied, IfOk, OnOk};
 ghost use Rattle.std.specs.List.{AllByRecursion};
 ghost use Rattle.vr_device.specs.Disk.{contents_of};
-ghost use Rattle.vr_device.specs.History.{after_all, fresh, writes_in, content_of, contents_from, ArePicked, IsWithin};
-ghost use Rattle.vr_device.specs.Entry.{blocks_of, event_of, events_of};
+ghost use Rattle.vr_device.specs.Past.{after_all, fresh, writes_in, content_of, contents_from, ArePicked, IsWithin};
+ghost use Rattle.vr_device.specs.PastEvent.{blocks_of, event_of, events_of};
 
-use crate::history::Entry;
+use crate::past::PastEvent;
 use std::alloc::{AllocError, Global};
 
-impl Entry {
+impl PastEvent {
     /// What this event wrote to the block, if it is a write of it.
     fn content(&self, n: u32) -> Option<&[u8]>
         ensures { option_copied result ≡ content_of (event_of self.now) n }
     {
         match self {
-            Entry::Wrote { block, bytes } if *block == n => Some(bytes.as_slice()),
-            Entry::Failed { block, bytes } if *block == n => Some(bytes.as_slice()),
+            PastEvent::Wrote { block, bytes } if *block == n => Some(bytes.as_slice()),
+            PastEvent::Failed { block, bytes } if *block == n => Some(bytes.as_slice()),
             _ => None,
         }
     }
 }
 
 /// The content that was written to the block, counted from 0 among those that these events wrote to it.
-pub(crate) fn written_at(entries: &[Entry], n: u32, count: u32) -> Option<&[u8]>
+pub(crate) fn written_at(entries: &[PastEvent], n: u32, count: u32) -> Option<&[u8]>
     ensures { option_copied result ≡ slice_get (contents_of (writes_in (events_of entries.now)) n) count }
 {
     let mut left = count;
@@ -40,7 +40,7 @@ pub(crate) fn written_at(entries: &[Entry], n: u32, count: u32) -> Option<&[u8]>
 /// The content that a choice names: at 0 the stable one, and then those written since, the oldest first.
 pub(crate) fn content_at<'a>(
     stable: &'a [u8],
-    since: &'a [Entry],
+    since: &'a [PastEvent],
     n: u32,
     choice: u32,
 ) -> Option<&'a [u8]>
@@ -54,7 +54,7 @@ pub(crate) fn content_at<'a>(
 }
 
 /// Whether the choice names a content of the block: it has a number for it, and so many contents were written.
-pub(crate) fn is_named(since: &[Entry], n: u32, choice: &[u32]) -> bool
+pub(crate) fn is_named(since: &[PastEvent], n: u32, choice: &[u32]) -> bool
     ensures { IsTrue result ↔ ((n < length choice.now) × (slice_index choice.now n < length (contents_from [] (events_of since.now) n))) }
 {
     match choice.get(n as usize) {
@@ -89,13 +89,13 @@ pub(crate) fn copy_of_blocks(alloc: Global, blocks: &[Vec<u8>]) -> Result<Vec<Ve
 pub(crate) fn replay(
     alloc: Global,
     blocks: &mut [Vec<u8>],
-    entries: &[Entry],
+    entries: &[PastEvent],
 ) -> Result<(), AllocError>
     requires { AllByRecursion (IsWithin (length blocks.old)) (events_of entries.now) }
     ensures { OnOk result (blocks_of blocks.new ≡ (after_all (events_of entries.now) (fresh (blocks_of blocks.old))).seen) }
 {
     for entry in entries {
-        if let Entry::Wrote { block, bytes } = entry {
+        if let PastEvent::Wrote { block, bytes } = entry {
             blocks[*block as usize] = bytes.to_vec(alloc)?;
         }
     }
@@ -106,7 +106,7 @@ pub(crate) fn replay(
 pub(crate) fn pick(
     alloc: Global,
     stable: &[Vec<u8>],
-    since: &[Entry],
+    since: &[PastEvent],
     choice: &[u32],
 ) -> Result<Vec<Vec<u8>>, AllocError>
     requires count { length choice.now ≡ length stable.now }

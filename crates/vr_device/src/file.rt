@@ -1,4 +1,4 @@
-// A device over one file of the host, which tells no content.
+//! A device over one file of the host, which tells no content.
 ghost use Rattle.std.specs.Prelude.{◌≡◌};
 
 use crate::device::BlockDevice;
@@ -21,8 +21,8 @@ pub struct FileDevice {
 impl FileDevice {
     /// Makes the file new, of so many zero blocks. What stood there is gone.
     pub fn create<R: Files<File = File>>(rt: &R, path: &str, size: u32, blocks: u32) -> FileDevice
-        ensures count { ⟦<FileDevice as BlockDevice>⟧.count result ≡ blocks }
-        ensures size { ⟦<FileDevice as BlockDevice>⟧.size result ≡ size }
+        ensures count { (⟦<FileDevice as BlockDevice>⟧.seen result).count ≡ blocks }
+        ensures size { (⟦<FileDevice as BlockDevice>⟧.seen result).size ≡ size }
     {
         let mut how = OpenOptions::new();
         how.read(true).write(true).create(true).truncate(true);
@@ -33,8 +33,8 @@ impl FileDevice {
 
     /// Opens the file of so many blocks, which stays as it is.
     pub fn open<R: Files<File = File>>(rt: &R, path: &str, size: u32, blocks: u32) -> FileDevice
-        ensures count { ⟦<FileDevice as BlockDevice>⟧.count result ≡ blocks }
-        ensures size { ⟦<FileDevice as BlockDevice>⟧.size result ≡ size }
+        ensures count { (⟦<FileDevice as BlockDevice>⟧.seen result).count ≡ blocks }
+        ensures size { (⟦<FileDevice as BlockDevice>⟧.seen result).size ≡ size }
     {
         let mut how = OpenOptions::new();
         how.read(true).write(true);
@@ -69,27 +69,21 @@ fn holds(file: &File, bytes: u64) -> bool {
 
 impl BlockDevice for FileDevice {
     ghost use Rattle.std.specs.Prelude.{false};
-    ghost use Rattle.vr_device.specs.Untold.{no_disk, no_image, not_told};
+    ghost use Rattle.vr_device.specs.Untold.{unseen, not_told};
 
     ghost tells = { false };
 
-    ghost count = { λ d. d.blocks };
+    ghost seen = { λ d. unseen d.blocks d.size };
 
-    ghost size = { λ d. d.size };
+    ghost faults = { λ d. record { reads = d.reads_failed; writes = d.writes_failed } };
 
-    ghost disk = { λ _. no_disk };
+    ghost cur_may = { λ d told. absurd (not_told told) };
 
-    ghost moment = { λ _. 0 };
+    ghost images_may = { λ d image told. absurd (not_told told) };
 
-    ghost images = { λ _. no_image };
+    ghost some_image = { λ d t told. absurd (not_told told) };
 
-    ghost read_faults = { λ d. d.reads_failed };
-
-    ghost write_faults = { λ d. d.writes_failed };
-
-    ghost images_now = { λ d image told. absurd (not_told told) };
-
-    ghost seen_may = { λ d told. absurd (not_told told) };
+    ghost sized = { λ d n block told. absurd (not_told told) };
 
     fn blocks(&self) -> u32 {
         self.blocks

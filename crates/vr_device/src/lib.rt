@@ -1,25 +1,29 @@
-// Block devices: what a read, a write and a sync do, and what a crash at any moment may leave, as the contract of one
-// trait. It stands on the words of vr_types. It promises that a device in memory meets that contract with all its
-// content told, and that the layers above may stand on any device by writing through; a device over a host file meets
-// it with no content told.
+//! Block devices: what a read, a write and a sync do, and what a crash at any moment may leave, as the contract of one
+//! trait. It stands on the words of vr_types. It promises that a device in memory meets that contract and reports all
+//! its content, and that the layers above may stand on any device by writing through; a device over a host file meets
+//! it and reports no content.
 #![tactic(auto)]
 
-mod buffered;
-mod calls;
 mod choice;
 mod device;
 mod file;
-mod history;
+mod image_no;
+mod laws;
 mod memory;
-mod named;
-mod through;
+mod new_direct;
+mod new_memory;
+mod past;
+mod script;
+mod write_through;
 
-pub use buffered::direct;
 pub use device::BlockDevice;
 pub use file::FileDevice;
-pub use memory::{ImageNo, MemoryDevice, memory_device};
-pub use named::write_named;
-pub use through::Direct;
+pub use image_no::ImageNo;
+pub use laws::choices_are_images;
+pub use memory::MemoryDevice;
+pub use new_direct::direct;
+pub use new_memory::memory_device;
+pub use write_through::Direct;
 
 #[cfg(test)]
 mod tests;

@@ -1,78 +1,52 @@
-// A device in memory, all of whose content is told.
-ghost use Rattle.std.specs.Prelude.{◌≡◌, ◌<◌, ◌⊎◌, ◌↔◌, ◌∷◌, [], ℕ, length, replicate, true, Err, IsErr, OnOk, OnErr, IfOk};
-ghost use Rattle.vr_types.specs.Image.{Image, IsImage, block_at};
-ghost use Rattle.vr_device.specs.Disk.{MayHold, IsMisfit, IsChosen, IsSomeChoice};
-ghost use Rattle.vr_device.specs.History.{disk_of, ImageAt, wrote, failed, forced, with_event, unwritten};
-ghost use Rattle.vr_device.specs.declared.memory.ImageNo.TheVariants.{Memory};
-ghost use Rattle.vr_device.specs.Memory.{past_in, calls_in};
-ghost use Rattle.vr_types.specs.Count.{shown_of};
-ghost use Rattle.vr_device.specs.Calls.{IsToFail, uncalled, counted, read_failed, write_failed, write_refused, stopped};
+//! A device in memory, which reports all its content.
+ghost use Rattle.vr_device.specs.Sizes.{IsSized};
 
-use crate::calls::Script;
-use crate::choice::zero_blocks;
 use crate::device::BlockDevice;
-use crate::history::History;
+use crate::image_no::ImageNo;
+use crate::past::Past;
+use crate::script::Script;
 use std::alloc::Global;
 use vr_types::{Failed, OutOfMemory};
 
-/// Why there is no image.
-#[derive(Clone, Copy, Debug, PartialEq, Eq)]
-pub enum ImageNo {
-    /// The first block for which the choice has no number, or one past the block's contents. The number of blocks,
-    /// where the choice is too long.
-    Choice { block: u32 },
-    /// There was no memory for the device.
-    Memory,
-}
-
-impl From<OutOfMemory> for ImageNo {
-    ghost from_gives = { λ _ no. no ≡ Memory };
-
-    fn from(_: OutOfMemory) -> Self {
-        ImageNo::Memory
-    }
-}
-
-/// A device in memory. It keeps each write and each sync, from which it tells what a crash at every moment may leave,
+/// A device in memory. It keeps each write and each sync, from which it reports what a crash at every moment may leave,
 /// so its memory grows with what is written. A call fails where its number, counted from 0, is among those that it was
-/// made with, and from the number of `stop` on. A write or a sync fails beside that only for want of memory to keep it.
-/// The calls from 2^64 - 1 on share that number.
+/// made with, and from the number of `stop` on. Apart from that a write or a sync fails only when it is out of memory to
+/// keep the event. The calls from 2^64 - 1 on share that number.
 #[derive(Drop)]
 pub struct MemoryDevice {
-    history: History,
+    past: Past,
     script: Script,
+    ghost sized: { IsSized past },
 }
 
 impl BlockDevice for MemoryDevice {
+    ghost use Rattle.std.specs.Prelude.{◌≡◌, ◌<◌, ◌⊎◌, ◌↔◌, length, true, IsErr, OnOk, OnErr};
+    ghost use Rattle.vr_types.specs.Image.{block_at};
+    ghost use Rattle.vr_device.specs.Past.{disk_of, seen_of, wrote, forced, with_event};
+    ghost use Rattle.vr_device.specs.Calls.{IsToFail, counted, read_failed, faults_of};
     ghost use Rattle.vr_device.specs.Memory.{past_in, calls_in, IsFailedWrite, IsFailedSync, IsRefused};
-    ghost use Rattle.vr_device.specs.Told.{images-now, readable-of};
+    ghost use Rattle.vr_device.specs.Readable.{images-now, readable-of, read-image};
 
     ghost tells = { true };
 
-    ghost count = { λ d. length (past_in d).start };
+    ghost seen = { λ d. seen_of (past_in d) };
 
-    ghost size = { λ d. (past_in d).size };
+    ghost faults = { λ d. faults_of (calls_in d) };
 
-    ghost disk = { λ d. disk_of (past_in d) };
+    ghost cur_may = { λ d told. readable-of (past_in d) };
 
-    ghost moment = { λ d. length (past_in d).events };
+    ghost images_may = { λ d image told left. images-now (past_in d) image left };
 
-    ghost images = { λ d. ImageAt (past_in d) };
+    ghost some_image = { λ d t told past. (_, read-image (past_in d) t) };
 
-    ghost read_faults = { λ d. (calls_in d).read_faults };
-
-    ghost write_faults = { λ d. (calls_in d).write_faults };
-
-    ghost images_now = { λ d image told left. images-now (past_in d) image left };
-
-    ghost seen_may = { λ d told. readable-of (past_in d) };
+    ghost sized = { λ d n block told below may. d.sized.whole n block below may };
 
     fn blocks(&self) -> u32 {
-        self.history.count()
+        self.past.count()
     }
 
     fn size(&self) -> u32 {
-        self.history.size()
+        self.past.size()
     }
 
     fn read(&mut self, n: u32, into: &mut [u8]) -> Result<(), Failed>
@@ -88,7 +62,7 @@ impl BlockDevice for MemoryDevice {
             self.script.fail_read();
             return Err(Failed);
         }
-        self.history.read(n, into);
+        self.past.read(n, into);
         Ok(())
     }
 
@@ -103,7 +77,7 @@ impl BlockDevice for MemoryDevice {
         if self.script.begin() {
             return Err(self.fail_write(n, from));
         }
-        match self.history.write(n, from) {
+        match self.past.write(n, from) {
             Ok(()) => Ok(()),
             Err(OutOfMemory) => {
                 self.script.refuse();
@@ -116,13 +90,14 @@ impl BlockDevice for MemoryDevice {
         ensures fails { IsToFail (calls_in self.old) → IsErr result }
         ensures ok { OnOk result (past_in self.new ≡ with_event (past_in self.old) forced) }
         ensures counted { OnOk result (calls_in self.new ≡ counted (calls_in self.old)) }
+        ensures scripted { IsToFail (calls_in self.old) → IsFailedSync self.old self.new }
         ensures err { OnErr result (IsFailedSync self.old self.new ⊎ IsRefused self.old self.new) }
     {
         if self.script.begin() {
             self.script.fail_write();
             return Err(Failed);
         }
-        match self.history.sync() {
+        match self.past.sync() {
             Ok(()) => Ok(()),
             Err(OutOfMemory) => {
                 self.script.refuse();
@@ -132,26 +107,22 @@ impl BlockDevice for MemoryDevice {
     }
 }
 
-/// A device of so many zero blocks of so many bytes, whose calls of these numbers fail.
-pub fn memory_device(
-    alloc: Global,
-    size: u32,
-    blocks: u32,
-    fails: &[u64],
-) -> Result<MemoryDevice, OutOfMemory>
-    ensures past { IfOk result (λ d. past_in d ≡ unwritten size (replicate blocks (replicate size 0))) }
-    ensures calls { IfOk result (λ d. calls_in d ≡ uncalled fails.now) }
-{
-    let start = zero_blocks(alloc, blocks, size)?;
-    let failing = fails.to_vec(alloc)?;
-    Ok(MemoryDevice {
-        history: History::new(alloc, size, start)?,
-        script: Script::new(failing),
-    })
-}
-
 impl MemoryDevice {
+    ghost use Rattle.std.specs.Prelude.{◌≡◌, ◌<◌, ◌⊎◌, ◌↔◌, [], ℕ, length, Err, IfOk};
+    ghost use Rattle.vr_types.specs.Count.{shown_of};
+    ghost use Rattle.vr_device.specs.Disk.{IsMisfit, IsChosen};
+    ghost use Rattle.vr_device.specs.Past.{disk_of, failed, with_event, unwritten};
+    ghost use Rattle.vr_device.specs.Calls.{uncalled, write_failed, write_refused, stopped};
     ghost use Rattle.vr_device.specs.Memory.{past_in, calls_in};
+
+    /// A device of this past, to which these calls are made.
+    pub(crate) fn over(past: Past, script: Script) -> MemoryDevice
+        requires { IsSized past }
+        ensures past { past_in result ≡ past }
+        ensures calls { calls_in result ≡ script }
+    {
+        MemoryDevice { past, script }
+    }
 
     /// Makes every call from that number on fail.
     pub fn stop(&mut self, call: u64)
@@ -180,23 +151,18 @@ impl MemoryDevice {
     /// by failed writes too, the oldest first. No call of that device fails.
     pub fn image(&self, alloc: Global, choice: &[u32]) -> Result<MemoryDevice, ImageNo>
         ensures misfit { (block : ℕ) → (result ≡ Err (ImageNo.Choice block)) ↔ IsMisfit (length (past_in self.now).start) (disk_of (past_in self.now)) choice.now block }
-        ensures chosen { IfOk result (λ d. IsChosen (length (past_in self.now).start) (disk_of (past_in self.now)) choice.now (past_in d).start) }
+        ensures chosen { IfOk result (λ d.
+            IsChosen (length (past_in self.now).start) (disk_of (past_in self.now)) choice.now (past_in d).start) }
         ensures past { IfOk result (λ d. past_in d ≡ unwritten (past_in self.now).size (past_in d).start) }
         ensures calls { IfOk result (λ d. calls_in d ≡ uncalled []) }
-
-        // Each choice gives an image, and each image is given by some choice.
-        ensures image { IfOk result (λ d. IsImage (length (past_in self.now).start) (MayHold (disk_of (past_in self.now))) (past_in d).start) }
-        ensures every { (image : Image) → IsImage (length (past_in self.now).start) (MayHold (disk_of (past_in self.now))) image → IsSomeChoice (length (past_in self.now).start) (disk_of (past_in self.now)) image }
     {
-        if let Some(block) = self.history.misfit(choice) {
+        if let Some(block) = self.past.misfit(choice) {
             return Err(ImageNo::Choice { block });
         }
-        let size = self.history.size();
-        let start = self.history.chosen(alloc, choice)?;
-        Ok(MemoryDevice {
-            history: History::new(alloc, size, start)?,
-            script: Script::new(Vec::new(alloc)),
-        })
+        let size = self.past.size();
+        let start = self.past.chosen(alloc, choice)?;
+        let past = Past::new(alloc, size, start)?;
+        Ok(MemoryDevice::over(past, Script::new(Vec::new(alloc))))
     }
 
     // A write that fails: its bytes join what a crash may leave, if there is memory for them.
@@ -206,7 +172,7 @@ impl MemoryDevice {
         ensures { ((past_in self.new ≡ with_event (past_in self.old) (failed n from.now)) × (calls_in self.new ≡ write_failed (calls_in self.old)))
             ⊎ ((past_in self.new ≡ past_in self.old) × (calls_in self.new ≡ write_refused (calls_in self.old))) }
     {
-        match self.history.fail(n, from) {
+        match self.past.fail(n, from) {
             Ok(()) => self.script.fail_write(),
             Err(OutOfMemory) => self.script.refuse(),
         }

@@ -1,11 +1,11 @@
-// What no clause says: the worked examples, the host's file, and that calls succeed where there is memory.
+//! What no clause says: the worked examples, the host's file, and that calls succeed where there is memory.
 ghost use Rattle.std.specs.Prelude.{◌≡◌, ◌<◌, length};
 
 use super::*;
 use std::alloc::Global;
 use std::fs;
 use std::test::Fail;
-use vr_types::{Blocks, DeviceFault, Failed};
+use vr_types::{Blocks, DeviceFault, Failed, settle};
 
 mod plain;
 
@@ -131,11 +131,10 @@ fn can_be_sent<T: Send>() {}
 
 // Puts a block, forces it, and tells whether `get` lends it.
 fn is_kept<B: Blocks>(blocks: &mut B, n: u32, bytes: &[u8]) -> Result<bool, DeviceFault>
-    requires block { n < B.count blocks.old }
-    requires whole { length bytes.now ≡ B.size blocks.old }
+    requires block { n < (B.seen blocks.old).count }
+    requires whole { length bytes.now ≡ (B.seen blocks.old).size }
 {
-    blocks.put(n, bytes)?;
-    blocks.force(&[n])?;
+    settle(blocks, n, bytes)?;
     Ok(blocks.get(n)? == bytes)
 }
 
@@ -152,21 +151,6 @@ fn blocks_over_a_device_are_written_through(rt: HostRuntime) -> Result<(), Fail>
     assert_eq!(rt; device.calls(), 3);
     assert_eq!(rt; device.sync(), Err(Failed));
     assert_eq!(rt; image_blocks(alloc, &device, &[0, 0]), Ok([OLD, [5, 6]]));
-    Ok(())
-}
-
-#[test]
-fn a_third_block_names_two_that_stand(rt: HostRuntime) -> Result<(), Fail> {
-    let alloc = rt.alloc();
-    let mut device = memory_device(alloc, 2, 3, &[])?;
-    write_named(&mut device, 0, &[1, 1], 1, &[2, 2], 2, &[7, 7])?;
-    let mut into = OLD;
-    device.read(2, &mut into)?;
-    assert_eq!(rt; into, [7, 7]);
-    assert_eq!(rt;
-        device.image(alloc, &[0, 0, 1]).err(),
-        Some(ImageNo::Choice { block: 2 })
-    );
     Ok(())
 }
 

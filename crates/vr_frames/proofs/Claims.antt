@@ -1,6 +1,6 @@
 -- What the claims of a take add up to.
 use Rattle.std.proofs.Common.{◌≡◌, ℕ, ◌+◌, ◌<◌, ◌≤◌, List, [], ◌∷◌, Bool, sym, ap, ◌∙◌, subst, arith, eq-eqb, ne_eqb, vec_len, nat_eq, MatchBool}
-use Rattle.std.specs.Prelude.{Option, Some, None, IfSome, IfNone}
+use Rattle.std.specs.Prelude.{Option, Some, None, IfNone}
 use Rattle.std.specs.Global.{Vec}
 use mathlib.Core.Logic.{dite}
 use mathlib.Core.Option.{none}

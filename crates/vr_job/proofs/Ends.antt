@@ -10,7 +10,7 @@ use Rattle.vr_types.specs.declared.reply.Refusal.TheVariants.{Memory, NotFound, 
 use Rattle.vr_types.specs.declared.reply.Reply.{Reply}
 use Rattle.vr_types.specs.declared.reply.Reply.TheVariants.{Refused}
 use Rattle.vr_types.specs.Content.{record_at}
-use Rattle.vr_deck.specs.declared.bound.Bound.{Bound}
+use Rattle.vr_types.specs.declared.bound.Bound.{Bound}
 use Rattle.vr_deck.specs.declared.text.Order.{Order}
 use Rattle.vr_deck.specs.declared.text.Order.TheVariants.{Put as PutOrder, Get as GetOrder}
 use Rattle.vr_deck.specs.declared.text.DeckText.{DeckText}

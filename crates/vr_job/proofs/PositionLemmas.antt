@@ -14,7 +14,7 @@ use Rattle.std.specs.Fn.{Called, ComputesKey}
 use denote.Param.Members.{Mut}
 use denote.Ref.{Bor}
 use borrow.Rule.Slice.PartMut.{put_mid, mid_of}
-use Rattle.vr_job.specs.declared.positions.Position.{Position}
+use Rattle.vr_types.specs.declared.position.Position.{Position}
 use Rattle.vr_job.specs.declared.positions.FilePosition.{FilePosition}
 use Rattle.vr_job.specs.Positions.{no_file, is_file, position_at, SetsOnly, dropped_by, without_held, without_deck, deck_at, slot_at, IsBelow, AreInOrder, IsAt, IsGapFor}
 

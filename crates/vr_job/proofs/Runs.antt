@@ -7,12 +7,13 @@ use Rattle.vr_types.specs.declared.request.Request.TheVariants.{Get, Point, Add,
 use Rattle.vr_types.specs.declared.reply.Reply.{Reply}
 use Rattle.vr_types.specs.declared.reply.Reply.TheVariants.{Done, Refused}
 use Rattle.vr_types.specs.Content.{Content}
-use Rattle.vr_deck.specs.declared.bound.Bound.{Bound}
+use Rattle.vr_types.specs.declared.bound.Bound.{Bound}
 use Rattle.vr_job.specs.declared.entry.Entry.{Entry}
 use Rattle.vr_job.specs.State.{State, opening_state}
 use Rattle.vr_job.specs.declared.entry.What.TheVariants.{Asked}
 use Rattle.vr_job.specs.declared.positions.FilePosition.{FilePosition}
-use Rattle.vr_job.specs.Positions.{unheld, position_of, without_held, without_deck}
+use Rattle.vr_types.specs.Position.{unheld}
+use Rattle.vr_job.specs.Positions.{position_of, without_held, without_deck}
 use Rattle.vr_job.specs.Step.{after_what, state_after, slot_of, drops_held}
 use Rattle.vr_job.specs.History.{state_of, last_stamp}
 use Rattle.vr_job.specs.Run.{IsHere, IsPositioned, files_begun, files_ended, next_number, entry_of, Enters, Running}

@@ -1,19 +1,11 @@
 use Rattle.std.specs.Prelude.{◌≡◌, ℕ, Bool, ◌<◌, ◌≤◌, ◌⊎◌, ◌==◌, ◌&&◌, ◌-◌, if◌then◌else◌, List, [], ◌∷◌, length, map, Option, Some, None, unwrap_or, slice_index_or, vec_len, vec_capacity}
 use Rattle.std.specs.Global.{Vec}
-use Rattle.vr_job.specs.declared.positions.Stand.TheVariants.{Start}
-use Rattle.vr_job.specs.declared.positions.Position.{Position}
+use Rattle.vr_types.specs.Position.{first_position, unheld}
+use Rattle.vr_types.specs.declared.position.Position.{Position}
 use Rattle.vr_job.specs.declared.positions.FilePosition.{FilePosition}
 
 -- Where each file of each deck stands for sequential reading, and which record it holds for update, as Using Data Sets
 -- tells it of positioning and of GET for update.
-
--- where a file stands that was never set: at its start, and it holds nothing
-abbrev pub first_position : Position
-first_position = record { stand = Start; held = None }
-
--- the position without what is held
-abbrev pub unheld : Position → Position
-unheld position = record position { held = None }
 
 -- the file is the deck's, of this slot
 abbrev pub is_file : ℕ → ℕ → FilePosition → Bool

@@ -4,7 +4,7 @@ use Rattle.vr_types.specs.declared.request.Request.TheVariants.{Commit}
 use Rattle.vr_types.specs.declared.reply.Reply.{Reply}
 use Rattle.vr_types.specs.declared.reply.Reply.TheVariants.{Done}
 use Rattle.vr_types.specs.Content.{Content}
-use Rattle.vr_deck.specs.declared.bound.Bound.{Bound}
+use Rattle.vr_types.specs.declared.bound.Bound.{Bound}
 use Rattle.vr_job.specs.declared.entry.Entry.{Entry}
 use Rattle.vr_job.specs.declared.entry.What.TheVariants.{Asked}
 use Rattle.vr_job.specs.declared.positions.FilePosition.{FilePosition}

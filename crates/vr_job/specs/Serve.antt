@@ -10,7 +10,7 @@ use Rattle.vr_types.specs.declared.reply.Reply.TheVariants.{Refused}
 use Rattle.vr_types.specs.Content.{Content}
 use Rattle.vr_deck.specs.Bound.{first_file}
 use Rattle.vr_job.specs.declared.entry.What.TheVariants.{Asked}
-use Rattle.vr_job.specs.Positions.{first_position}
+use Rattle.vr_types.specs.Position.{first_position}
 use Rattle.vr_job.specs.State.{State}
 use Rattle.vr_job.specs.Step.{MayReply, answer_of, after_what}
 

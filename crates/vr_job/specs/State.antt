@@ -1,7 +1,7 @@
 use Rattle.std.specs.Prelude.{ℕ, []}
 use Rattle.vr_types.specs.Content.{Content}
-use Rattle.vr_job.specs.declared.positions.Position.{Position}
-use Rattle.vr_job.specs.Positions.{first_position}
+use Rattle.vr_types.specs.declared.position.Position.{Position}
+use Rattle.vr_types.specs.Position.{first_position}
 
 -- The state of a volume, as the record file that a request sees it.
 

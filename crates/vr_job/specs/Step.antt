@@ -14,7 +14,7 @@ use Rattle.vr_job.specs.declared.entry.Entry.{Entry}
 use Rattle.vr_job.specs.declared.entry.What.{What}
 use Rattle.vr_job.specs.declared.entry.What.TheVariants.{Asked}
 use Rattle.vr_job.specs.Definition.{first_definition, key_of}
-use Rattle.vr_job.specs.Positions.{unheld}
+use Rattle.vr_types.specs.Position.{unheld}
 use Rattle.vr_job.specs.State.{State}
 use Rattle.vr_job.specs.Refusals.{first_refusal}
 

@@ -24,6 +24,6 @@ pub use command::Plan;
 pub use entry::{Entry, What};
 pub use history::History;
 pub use job::{JobEnd, run_job};
-pub use positions::{Position, Positions, Stand};
+pub use positions::Positions;
 pub use trace::Trace;
 pub use words::plan;

@@ -1,35 +1,9 @@
 ghost use Rattle.std.specs.Prelude.{◌≡◌, ◌<◌, ◌≤◌, ◌+◌, ◌⊎◌, [], None, IsSome, OnOk, MatchResult, option_copied, map, true};
-ghost use Rattle.vr_job.specs.Positions.{position_at, SetsOnly, AreInOrder, IsAt, IsGapFor, unheld, dropped_by, without_held, without_deck};
+ghost use Rattle.vr_job.specs.Positions.{position_at, SetsOnly, AreInOrder, IsAt, IsGapFor, dropped_by, without_held, without_deck};
 
 use std::alloc::Global;
 use std::marker::Model;
-use vr_types::{OutOfMemory, Place};
-
-/// Where a file stands for sequential reading: at its start, at or after a place, at its end, or nowhere.
-#[derive(Debug, Drop)]
-pub enum Stand {
-    Start,
-    At(Place),
-    After(Place),
-    End,
-    None,
-}
-
-/// Where a file stands, and the place in the base cluster of the record that it holds for update.
-#[derive(Debug, Drop)]
-pub struct Position {
-    pub stand: Stand,
-    pub held: Option<Place>,
-}
-
-impl Position {
-    // Drops what is held.
-    fn unhold(&mut self)
-        ensures { self.new ≡ unheld self.old }
-    {
-        self.held = None;
-    }
-}
+use vr_types::{OutOfMemory, Position};
 
 // The position of a file of a deck. The slot numbers the deck's files from 0.
 #[derive(Debug, Drop)]

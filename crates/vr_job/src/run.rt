@@ -10,8 +10,8 @@ use crate::history::History;
 use crate::positions::Positions;
 use crate::record_file::RecordFile;
 use std::alloc::Global;
-use vr_deck::{Bound, DeckRequests};
-use vr_types::{OutOfMemory, Reply, Request, Unit};
+use vr_deck::DeckRequests;
+use vr_types::{Bound, OutOfMemory, Reply, Request, Unit};
 
 /// The number of the one deck.
 const DECK: u32 = 1;

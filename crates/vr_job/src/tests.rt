@@ -1,9 +1,9 @@
-use crate::{Entry, Position, Positions, Stand, What, plan, run_job};
+use crate::{Entry, Positions, What, plan, run_job};
 use std::alloc::{AllocError, Global};
 use std::process::Abort;
 use std::test::Fail;
 use vr_outside::{MemorySink, MemorySource};
-use vr_types::{OutOfMemory, PartNo, Place, Unit, Words, place};
+use vr_types::{OutOfMemory, PartNo, Place, Position, Stand, Unit, Words, place};
 
 mod plain;
 

@@ -1,2 +1,3 @@
-pub mod Moments
+pub mod CallerLemmas
 pub mod Names
+pub mod Runs

@@ -7,6 +7,7 @@ pub mod Faults
 pub mod Fields
 pub mod Geometry
 pub mod Image
+pub mod LockName
 pub mod Locks
 pub mod LogSpace
 pub mod Moments
@@ -14,3 +15,5 @@ pub mod Name
 pub mod PlaceBuffer
 pub mod Position
 pub mod Refusal
+pub mod Regions
+pub mod Seen

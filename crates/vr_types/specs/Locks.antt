@@ -1,6 +1,6 @@
 -- Locks on records and on unique keys, as the lock manager of DFSMStvs has them (DFSMStvs Planning and Operating Guide).
 use Rattle.std.specs.Prelude.{◌≡◌, ◌≢◌, ◌⊎◌}
-use Rattle.vr_types.specs.declared.reply.LockName.{LockName}
+use Rattle.vr_types.specs.declared.lock_name.LockName.{LockName}
 use Rattle.vr_types.specs.declared.unit.Mode.{Mode}
 use Rattle.vr_types.specs.declared.unit.Mode.TheVariants.{Exclusive}
 use Rattle.vr_types.specs.declared.unit.Unit as units

@@ -1,4 +1,6 @@
-/// A source, a sink or a device failed. How often is told by its fault count alone.
+//! What a source, a sink or a device answers when it fails.
+
+/// A source, a sink or a device failed. Its fault count says how often.
 #[derive(Clone, Copy, Debug, PartialEq, Eq, Hash)]
 pub struct Failed;
 

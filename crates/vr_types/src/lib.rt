@@ -11,6 +11,7 @@ pub mod count;
 pub mod fault;
 pub mod fields;
 pub mod geometry;
+pub mod lock_name;
 pub mod makers;
 pub mod memory;
 pub mod name;
@@ -20,6 +21,7 @@ pub mod position;
 pub mod reply;
 pub mod request;
 pub mod script;
+mod settling;
 #[cfg(test)]
 mod tests;
 pub mod unit;
@@ -34,14 +36,17 @@ pub use fields::{
     are_zeros, area_field, area_of, eight_at, four_at, put_eight, put_four, put_two, two_at,
 };
 pub use geometry::{Geometry, is_block_size};
+pub use lock_name::{LockName, LockNames};
 pub use makers::{bytes, number_place, place};
 pub use memory::OutOfMemory;
 pub use name::{NAME_LIMIT, Name, NameFault, dataset_name};
 pub use place_buffer::{PlaceBuffer, empty_place};
 pub use position::{Position, Stand};
-pub use reply::{LockName, Refusal, Reply};
+pub use reply::{Refusal, Reply};
 pub use request::{FileRef, Find, Request};
 pub use script::Script;
+pub use settling::{copy_block, settle};
+pub use sqlite_items::Items;
 pub use unit::{AreaNo, Integrity, Kind, Mode, PartNo, StageKind, Unit};
 pub use values::{Bytes, Place};
 pub use words::Words;

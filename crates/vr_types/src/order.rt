@@ -4,7 +4,10 @@ ghost use Rattle.std.proofs.Common.{rules};
 ghost use Rattle.std.specs.Hash as fed;
 ghost use Rattle.std.specs.Cmp.{partial_equiv_from_equiv};
 ghost use Rattle.std.specs.Cmp.Lexicographic.{
-    nat_list_eq_equiv, nat_list_cmp_total, texts_ties, texts_po
+  nat_list_eq_equiv,
+  nat_list_cmp_total,
+  texts_ties,
+  texts_po,
 };
 ghost use Rattle.std.specs.Cmp.Rules.{hashing};
 ghost use Rattle.vr_types.specs.Content.{place_cmp};

@@ -1,36 +1,12 @@
 ghost use Rattle.std.specs.Prelude.{◌≡◌, IfOk};
 ghost use Rattle.vr_types.specs.Refusal.{feedback_code};
 
+use crate::lock_name::LockName;
 use crate::memory::OutOfMemory;
 use crate::request::copy_of_place;
 use crate::unit::{Mode, PartNo, Unit};
 use crate::values::{Bytes, Place};
 use std::alloc::Global;
-
-/// What a lock is on: a record of a part, or a key of a unique alternate index.
-#[derive(Debug, Drop, PartialEq, Eq, PartialOrd, Ord, Hash)]
-pub enum LockName {
-    Record { part: PartNo, place: Place },
-    Unique { part: PartNo, key: Place },
-}
-
-impl LockName {
-    /// An equal value. Want of memory is its one error.
-    pub fn copy(&self, alloc: Global) -> Result<LockName, OutOfMemory>
-        ensures { IfOk result (λ copy. copy ≡ self.now) }
-    {
-        match self {
-            LockName::Record { part, place } => Ok(LockName::Record {
-                part: *part,
-                place: place.copy(alloc)?,
-            }),
-            LockName::Unique { part, key } => Ok(LockName::Unique {
-                part: *part,
-                key: key.copy(alloc)?,
-            }),
-        }
-    }
-}
 
 /// Why a request was refused. Lengths are in bytes, needs and free space in areas of a volume, and the
 /// log's numbers in bytes.

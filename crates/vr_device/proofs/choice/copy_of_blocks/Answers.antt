@@ -1,5 +1,5 @@
 use Rattle.std.proofs.Common.{◌≡◌, ap, ◌∙◌, rules}
-use Rattle.vr_device.specs.Entry.{blocks_of}
+use Rattle.vr_device.specs.PastEvent.{blocks_of}
 use Rattle.vr_device.proofs.Choosing.{taken-copied}
 use Rattle.vr_device.proofs.choice.copy_of_blocks.Goals as goal
 

@@ -1,7 +1,7 @@
 use Rattle.std.proofs.Common.{◌≡◌, ◌<◌, ℕ, length, slice_get, slice_index, Some}
 use Rattle.vr_types.specs.Image.{block_at}
-use Rattle.vr_device.specs.History.{contents_from}
-use Rattle.vr_device.specs.Entry.{blocks_of, events_of}
+use Rattle.vr_device.specs.Past.{contents_from}
+use Rattle.vr_device.specs.PastEvent.{blocks_of, events_of}
 use Rattle.vr_device.proofs.choice.pick.Given as goal
 
 abbrev pub invariant-loop-n : goal.invariant-loop-n

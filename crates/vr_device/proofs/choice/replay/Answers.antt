@@ -1,6 +1,6 @@
 use Rattle.std.proofs.Common.{◌≡◌, length, take, ap, sym, subst, ◌∙◌, rules, arith}
-use Rattle.vr_device.specs.History.{after_all, fresh, IsWithin}
-use Rattle.vr_device.specs.Entry.{blocks_of, event_of, events_of}
+use Rattle.vr_device.specs.Past.{after_all, fresh, IsWithin}
+use Rattle.vr_device.specs.PastEvent.{blocks_of, event_of, events_of}
 use Rattle.vr_device.proofs.Choosing.{seen-next, seen-wrote, seen-other, within-at}
 use Rattle.vr_device.proofs.choice.replay.Goals.{in-Wrote+in_ok-blocks, in_default}
 use Rattle.vr_device.proofs.choice.replay.Goals as goal

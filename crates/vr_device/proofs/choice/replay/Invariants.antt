@@ -1,6 +1,6 @@
 use Rattle.std.proofs.Common.{◌≡◌, take}
-use Rattle.vr_device.specs.History.{after_all, fresh}
-use Rattle.vr_device.specs.Entry.{blocks_of, events_of}
+use Rattle.vr_device.specs.Past.{after_all, fresh}
+use Rattle.vr_device.specs.PastEvent.{blocks_of, events_of}
 use Rattle.vr_device.proofs.choice.replay.Given as goal
 
 abbrev pub invariant-loop-entry : goal.invariant-loop-entry

@@ -1,7 +1,7 @@
 use Rattle.std.proofs.Common.{◌≡◌, slice_get, drop}
 use Rattle.vr_device.specs.Disk.{contents_of}
-use Rattle.vr_device.specs.History.{writes_in}
-use Rattle.vr_device.specs.Entry.{events_of}
+use Rattle.vr_device.specs.Past.{writes_in}
+use Rattle.vr_device.specs.PastEvent.{events_of}
 use Rattle.vr_device.proofs.choice.written_at.Given as goal
 
 -- what is sought among all is what is left to seek in the rest

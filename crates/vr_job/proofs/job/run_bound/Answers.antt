@@ -1,5 +1,5 @@
 use Rattle.std.proofs.Common.{List, ◌++◌, All, subst, sym, ap}
-use Rattle.vr_deck.specs.declared.bound.Bound.{Bound}
+use Rattle.vr_types.specs.declared.bound.Bound.{Bound}
 use Rattle.vr_deck.specs.Bound.{bound_requests}
 use Rattle.vr_job.specs.History.{part_of_deck}
 use Rattle.vr_job.specs.Run.{IsHere}

@@ -1,37 +1,31 @@
 -- What the device's own clauses say of a call is what a block device promises.
-use Rattle.std.proofs.Common.{◌≡◌, ◌⊎◌, inl, inr, ⊎_elim, ℕ, ◌<◌, length, ap, ◌∙◌, arith}
-use Rattle.vr_types.specs.Image.{Block, Image, IsImage}
-use Rattle.vr_types.specs.Moments.{During}
-use Rattle.vr_device.specs.Disk.{MayHold, MayHaveWritten, written, synced}
-use Rattle.vr_device.specs.Choices.{image-written, image-synced}
-use Rattle.vr_device.specs.Told.{readable-of}
-use Rattle.vr_device.specs.History.{Past, disk_of, with_event, wrote, failed, forced, ImageAt}
-use Rattle.vr_device.specs.Calls.{Calls, counted, read_failed}
+use Rattle.std.proofs.Common.{◌≡◌, ◌⊎◌, ⊎_elim, ◌<◌, true, ap, sym, subst, ◌∙◌, arith}
+use Rattle.vr_types.specs.Blocks.{Keeps, Puts, AllForced}
+use Rattle.vr_device.specs.Disk.{MayHold, written}
+use Rattle.vr_device.specs.Choices.{MayHold-synced}
+use Rattle.vr_device.specs.Past.{disk_of, with_event, wrote, forced, seen_of}
+use Rattle.vr_device.specs.Calls.{counted, read_failed, faults_of}
 use Rattle.vr_device.specs.Memory.{past_in, calls_in, IsFailedWrite, IsFailedSync, IsRefused}
-use Rattle.vr_device.specs.declared.memory.MemoryDevice.{MemoryDevice}
 use Rattle.vr_device.proofs.Answering.{either, on_ok, on_err}
-use Rattle.vr_device.proofs.Events.{during-same, during-event, disk-event}
+use Rattle.vr_device.proofs.Events.{disk-event, keeps-same, keeps-forced, puts-wrote, puts-failed, puts-none}
 use Rattle.vr_device.proofs.memory.MemoryDeviceBlockDevice.TheImpl.Goals as goal
-
-before : (n : ℕ) (bytes : Block) (d : MemoryDevice) (image : Image) → IsImage (length (past_in d).start) (MayHold (disk_of (past_in d))) image → IsImage (length (past_in d).start) (MayHold (written (disk_of (past_in d)) n bytes)) image
-before n bytes d image is = image-written (length (past_in d).start) (disk_of (past_in d)) n bytes image is
 
 pub read-tells : goal.read-tells
 read-tells x c =
     let old = c.args.self.now in
     let new = c.new.self.now in
+    let Counted = calls_in new ≡ counted (calls_in old) in
+    let FailedRead = calls_in new ≡ read_failed (counted (calls_in old)) in
+    let before = faults_of (calls_in old) in
+    let now = faults_of (calls_in new) in
     record {
-      count = ap (λ (p : Past). length p.start) c.ensures.past;
-      size = ap (λ (p : Past). p.size) c.ensures.past;
       bytes = λ told. c.ensures.bytes;
-      disk = λ told. ap disk_of c.ensures.past;
-      moments = λ told. during-same past_in old new (IsImage (length (past_in old).start) (MayHold (disk_of (past_in old)))) c.ensures.past (λ image is. is);
+      after = subst (λ past. Keeps true (seen_of (past_in old)) (seen_of past)) (sym c.ensures.past) (keeps-same (past_in old));
       fault = (
-        on_ok c.result (calls_in new ≡ counted (calls_in old)) ((calls_in new).read_faults ≡ (calls_in old).read_faults) c.ensures.ok (λ e. ap (λ (k : Calls). k.read_faults) e),
-        on_err c.result (calls_in new ≡ read_failed (counted (calls_in old))) ((calls_in old).read_faults < (calls_in new).read_faults) c.ensures.err (λ e. omega (arith, ap (λ (k : Calls). k.read_faults) e)),
+        on_ok c.result Counted (now ≡ before) c.ensures.ok (λ same. ap faults_of same),
+        on_err c.result FailedRead ((before.reads < now.reads) × (now.writes ≡ before.writes)) c.ensures.err
+            (λ fell. (omega (arith, ap (λ calls. (faults_of calls).reads) fell), ap (λ calls. (faults_of calls).writes) fell)),
       );
-      write_faults = either c.result (calls_in new ≡ counted (calls_in old)) (calls_in new ≡ read_failed (counted (calls_in old))) ((calls_in new).write_faults ≡ (calls_in old).write_faults) c.ensures.ok c.ensures.err
-          (λ e. ap (λ (k : Calls). k.write_faults) e) (λ e. ap (λ (k : Calls). k.write_faults) e);
     }
 
 pub write-tells : goal.write-tells
@@ -43,28 +37,24 @@ write-tells x c =
     let Done = past_in new ≡ with_event (past_in old) (wrote n bytes) in
     let Not = IsFailedWrite old new n bytes ⊎ IsRefused old new in
     let Counted = calls_in new ≡ counted (calls_in old) in
-    let disk = disk_of (past_in old) in
+    let before = faults_of (calls_in old) in
+    let now = faults_of (calls_in new) in
+    let After = Puts true n bytes (seen_of (past_in old)) (seen_of (past_in new)) in
     record {
-      count = either c.result Done Not (length (past_in new).start ≡ length (past_in old).start) c.ensures.ok c.ensures.err
-          (λ e. ap (λ (p : Past). length p.start) e) (λ no. ⊎_elim (λ f. ap (λ (p : Past). length p.start) f.past) (λ f. ap (λ (p : Past). length p.start) f.past) no);
-      size = either c.result Done Not ((past_in new).size ≡ (past_in old).size) c.ensures.ok c.ensures.err
-          (λ e. ap (λ (p : Past). p.size) e) (λ no. ⊎_elim (λ f. ap (λ (p : Past). p.size) f.past) (λ f. ap (λ (p : Past). p.size) f.past) no);
-      written = λ told. on_ok c.result Done (disk_of (past_in new) ≡ written disk n bytes) c.ensures.ok (λ e. ap disk_of e ∙ disk-event (past_in old) (wrote n bytes));
-      failed = λ told. on_err c.result Not (MayHaveWritten disk n bytes (disk_of (past_in new))) c.ensures.err
-          (λ no. ⊎_elim (λ f. inr (inl (ap disk_of f.past ∙ disk-event (past_in old) (failed n bytes)))) (λ f. inl (ap disk_of f.past)) no);
-      moments = λ told. let P = IsImage (length (past_in old).start) (MayHold (written disk n bytes)) in
-          either c.result Done Not (During (λ (d : MemoryDevice). length (past_in d).events) (λ (d : MemoryDevice). ImageAt (past_in d)) old new P) c.ensures.ok c.ensures.err
-          (λ e. during-event past_in old new (wrote n bytes) P e (before n bytes old) (λ image is. is))
-          (λ no. ⊎_elim
-          (λ f. during-event past_in old new (failed n bytes) P f.past (before n bytes old) (λ image is. is))
-          (λ f. during-same past_in old new P f.past (before n bytes old)) no);
+      written = λ told. on_ok c.result Done ((disk_of (past_in new)).seen ≡ (written (disk_of (past_in old)) n bytes).seen) c.ensures.ok
+          (λ done. ap (λ past. (disk_of past).seen) done ∙ ap (λ disk. disk.seen) (disk-event (past_in old) (wrote n bytes)));
+      after = either c.result Done Not After c.ensures.ok c.ensures.err
+          (λ done. subst (λ past. Puts true n bytes (seen_of (past_in old)) (seen_of past)) (sym done) (puts-wrote (past_in old) n bytes))
+          (⊎_elim
+          (λ tried. subst (λ past. Puts true n bytes (seen_of (past_in old)) (seen_of past)) (sym tried.past) (puts-failed (past_in old) n bytes))
+          (λ refused. subst (λ past. Puts true n bytes (seen_of (past_in old)) (seen_of past)) (sym refused.past) (puts-none (past_in old) n bytes)));
       fault = (
-        on_ok c.result Counted ((calls_in new).write_faults ≡ (calls_in old).write_faults) c.ensures.counted (λ e. ap (λ (k : Calls). k.write_faults) e),
-        on_err c.result Not ((calls_in old).write_faults < (calls_in new).write_faults) c.ensures.err
-            (λ no. ⊎_elim (λ f. omega (arith, ap (λ (k : Calls). k.write_faults) f.calls)) (λ f. omega (arith, ap (λ (k : Calls). k.write_faults) f.calls)) no),
+        on_ok c.result Counted (now ≡ before) c.ensures.counted (λ same. ap faults_of same),
+        on_err c.result Not ((before.writes < now.writes) × (now.reads ≡ before.reads)) c.ensures.err
+            (⊎_elim
+            (λ tried. (omega (arith, ap (λ calls. (faults_of calls).writes) tried.calls), ap (λ calls. (faults_of calls).reads) tried.calls))
+            (λ refused. (omega (arith, ap (λ calls. (faults_of calls).writes) refused.calls), ap (λ calls. (faults_of calls).reads) refused.calls))),
       );
-      read_faults = either c.result Counted Not ((calls_in new).read_faults ≡ (calls_in old).read_faults) c.ensures.counted c.ensures.err
-          (λ e. ap (λ (k : Calls). k.read_faults) e) (λ no. ⊎_elim (λ f. ap (λ (k : Calls). k.read_faults) f.calls) (λ f. ap (λ (k : Calls). k.read_faults) f.calls) no);
     }
 
 pub sync-tells : goal.sync-tells
@@ -74,24 +64,21 @@ sync-tells x c =
     let Done = past_in new ≡ with_event (past_in old) forced in
     let Not = IsFailedSync old new ⊎ IsRefused old new in
     let Counted = calls_in new ≡ counted (calls_in old) in
-    let disk = disk_of (past_in old) in
-    let P = IsImage (length (past_in old).start) (MayHold disk) in
-    let same : Not → past_in new ≡ past_in old = λ no. ⊎_elim (λ f. f.past) (λ f. f.past) no in
+    let before = faults_of (calls_in old) in
+    let now = faults_of (calls_in new) in
+    let After = Keeps true (seen_of (past_in old)) (seen_of (past_in new)) in
+    let same : Not → past_in new ≡ past_in old = ⊎_elim (λ failing. failing.past) (λ refused. refused.past) in
     record {
-      count = either c.result Done Not (length (past_in new).start ≡ length (past_in old).start) c.ensures.ok c.ensures.err
-          (λ e. ap (λ (p : Past). length p.start) e) (λ no. ap (λ (p : Past). length p.start) (same no));
-      size = either c.result Done Not ((past_in new).size ≡ (past_in old).size) c.ensures.ok c.ensures.err
-          (λ e. ap (λ (p : Past). p.size) e) (λ no. ap (λ (p : Past). p.size) (same no));
-      synced = λ told. on_ok c.result Done (disk_of (past_in new) ≡ synced disk) c.ensures.ok (λ e. ap disk_of e ∙ disk-event (past_in old) forced);
-      failed = λ told. on_err c.result Not (disk_of (past_in new) ≡ disk) c.ensures.err (λ no. ap disk_of (same no));
-      moments = λ told. either c.result Done Not (During (λ (d : MemoryDevice). length (past_in d).events) (λ (d : MemoryDevice). ImageAt (past_in d)) old new P) c.ensures.ok c.ensures.err
-          (λ e. during-event past_in old new forced P e (λ image is. is) (λ image is. image-synced (length (past_in old).start) disk image (readable-of (past_in old)) is))
-          (λ no. during-same past_in old new P (same no) (λ image is. is));
+      synced = λ told. on_ok c.result Done (AllForced (seen_of (past_in old)).count (disk_of (past_in old)).seen (MayHold (disk_of (past_in new)))) c.ensures.ok
+          (λ done n block below may. MayHold-synced (disk_of (past_in old)) n block (subst (λ disk. MayHold disk n block) (ap disk_of done ∙ disk-event (past_in old) forced) may));
+      after = either c.result Done Not After c.ensures.ok c.ensures.err
+          (λ done. subst (λ past. Keeps true (seen_of (past_in old)) (seen_of past)) (sym done) (keeps-forced (past_in old)))
+          (λ not. subst (λ past. Keeps true (seen_of (past_in old)) (seen_of past)) (sym (same not)) (keeps-same (past_in old)));
       fault = (
-        on_ok c.result Counted ((calls_in new).write_faults ≡ (calls_in old).write_faults) c.ensures.counted (λ e. ap (λ (k : Calls). k.write_faults) e),
-        on_err c.result Not ((calls_in old).write_faults < (calls_in new).write_faults) c.ensures.err
-            (λ no. ⊎_elim (λ f. omega (arith, ap (λ (k : Calls). k.write_faults) f.calls)) (λ f. omega (arith, ap (λ (k : Calls). k.write_faults) f.calls)) no),
+        on_ok c.result Counted (now ≡ before) c.ensures.counted (λ same. ap faults_of same),
+        on_err c.result Not ((before.writes < now.writes) × (now.reads ≡ before.reads)) c.ensures.err
+            (⊎_elim
+            (λ failing. (omega (arith, ap (λ calls. (faults_of calls).writes) failing.calls), ap (λ calls. (faults_of calls).reads) failing.calls))
+            (λ refused. (omega (arith, ap (λ calls. (faults_of calls).writes) refused.calls), ap (λ calls. (faults_of calls).reads) refused.calls))),
       );
-      read_faults = either c.result Counted Not ((calls_in new).read_faults ≡ (calls_in old).read_faults) c.ensures.counted c.ensures.err
-          (λ e. ap (λ (k : Calls). k.read_faults) e) (λ no. ⊎_elim (λ f. ap (λ (k : Calls). k.read_faults) f.calls) (λ f. ap (λ (k : Calls). k.read_faults) f.calls) no);
     }

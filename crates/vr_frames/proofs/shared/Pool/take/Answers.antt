@@ -1,4 +1,4 @@
-use Rattle.std.proofs.Common.{◌≡◌, ℕ, ◌≤◌, ◌+◌, ◌∷◌, [], ◌++◌, List, arith, ap, ◌∙◌}
+use Rattle.std.proofs.Common.{◌≡◌, ℕ, ◌∷◌, [], ◌++◌, arith, ap, ◌∙◌}
 use Rattle.std.specs.Global.{Vec}
 use Rattle.vr_frames.specs.declared.view.View.{View}
 use Rattle.vr_frames.specs.Views.{times}

@@ -1,0 +1,213 @@
+//! Questions to `vr_types` about values. Each shows a copy of the value that it builds.
+
+use crate::answers::{Answer, Stop, say, say_bytes, say_number};
+use crate::block::{bytes_of, parted, small_of, word_of};
+use std::alloc::Global;
+use std::fmt::Write;
+use vr_types::{
+    FaultCount, FileRef, Find, Integrity, Kind, LockName, Mode, PartNo, Refusal, Reply, Request,
+    Unit, Words, bytes, empty_place, number_place, place,
+};
+
+/// The file of all requests.
+const FILE: FileRef = FileRef {
+    volume: 0,
+    slot: 3,
+    base: PartNo(7),
+    path: Some(PartNo(8)),
+    kind: Kind::Entry,
+    known: true,
+};
+
+/// A place of bytes: `HEX`.
+pub fn place_of(alloc: Global, digits: &str, out: &mut String) -> Answer {
+    let from = bytes_of(alloc, digits)?;
+    let copy = place(alloc, from.as_slice())?.copy(alloc)?;
+    say_bytes(alloc, out, "", copy.as_slice())
+}
+
+/// The place of a number: `NUMBER`.
+pub fn numbered(alloc: Global, word: &str, out: &mut String) -> Answer {
+    let place = number_place(alloc, word_of(word)?)?;
+    say_bytes(alloc, out, "", place.as_slice())
+}
+
+/// A place of no byte, with room: `NUMBER`.
+pub fn roomy(alloc: Global, word: &str, out: &mut String) -> Answer {
+    let place = empty_place(alloc, word_of(word)?)?;
+    say_bytes(alloc, out, "empty", place.as_slice())
+}
+
+/// Bytes that are copied, grow twice, by a list and by each byte of another, and lose the last:
+/// `HEX HEX HEX`.
+pub fn grown(alloc: Global, rest: &str, out: &mut String) -> Answer {
+    let (first, rest) = parted(rest);
+    let (second, third) = parted(rest);
+    let from = bytes_of(alloc, first)?;
+    let mut grown = bytes(alloc, from.as_slice())?.copy(alloc)?;
+    grown.extend(bytes_of(alloc, second)?.as_slice())?;
+    for byte in bytes_of(alloc, third)?.as_slice() {
+        grown.push(*byte)?;
+    }
+    say_number(out, "", grown.len() as u64)?;
+    grown.truncate(grown.len().saturating_sub(1));
+    say_bytes(alloc, out, " ", grown.as_slice())
+}
+
+/// How many words, and the words: `WORD..`.
+pub fn words(alloc: Global, rest: &str, out: &mut String) -> Answer {
+    let mut words = Words::new(alloc);
+    for word in rest.split_whitespace() {
+        words.push(word)?;
+    }
+    say_number(out, "", words.len() as u64)?;
+    for at in 0..words.len() {
+        out.push_str(" ")?;
+        say(out, words.word(at))?;
+    }
+    Ok(())
+}
+
+/// A count of faults that was raised that often: `NUMBER`.
+pub fn faults(word: &str, out: &mut String) -> Answer {
+    let mut faults = FaultCount::new();
+    for _ in 0..word_of(word)? {
+        faults.raise();
+    }
+    say_number(out, "", faults.shown())
+}
+
+/// A request of a kind, with a place or record: `KIND HEX`.
+pub fn request(alloc: Global, rest: &str, out: &mut String) -> Answer {
+    let (kind, digits) = parted(rest);
+    let from = bytes_of(alloc, digits)?;
+    let copy = request_of(alloc, kind, from.as_slice())?.copy(alloc)?;
+    write!(out, "{copy:?}")?;
+    Ok(())
+}
+
+fn request_of(alloc: Global, kind: &str, from: &[u8]) -> Result<Request, Stop> {
+    match kind {
+        "next" => Ok(get(Find::Next)),
+        "equal" => Ok(get(Find::Equal(place(alloc, from)?))),
+        "at-least" => Ok(get(Find::AtLeast(place(alloc, from)?))),
+        "point" => Ok(Request::Point {
+            file: FILE,
+            find: Find::AtLeast(place(alloc, from)?),
+        }),
+        "add" => Ok(Request::Add {
+            file: FILE,
+            place: None,
+            bytes: bytes(alloc, from)?,
+        }),
+        "add-slot" => Ok(Request::Add {
+            file: FILE,
+            place: Some(number_place(alloc, 5)?),
+            bytes: bytes(alloc, from)?,
+        }),
+        "update" => Ok(Request::Update {
+            file: FILE,
+            bytes: bytes(alloc, from)?,
+        }),
+        "erase" => Ok(Request::Erase { file: FILE }),
+        "endreq" => Ok(Request::EndReq { file: FILE }),
+        "commit" => Ok(Request::Commit),
+        "backout" => Ok(Request::Backout),
+        _ => Err(Stop::Line),
+    }
+}
+
+/// A GET for update, with consistent read.
+fn get(find: Find) -> Request {
+    Request::Get {
+        file: FILE,
+        find,
+        update: true,
+        integrity: Integrity::Cr,
+    }
+}
+
+/// The feedback number and a copy of a refusal: `NUMBER`, with `key` for a lock on a key.
+pub fn refusal(alloc: Global, rest: &str, out: &mut String) -> Answer {
+    let copy = refusal_of(alloc, rest)?.copy(alloc)?;
+    let code = copy.code();
+    write!(out, "{code} {copy:?}")?;
+    Ok(())
+}
+
+/// A refusal that is to have that number.
+fn refusal_of(alloc: Global, rest: &str) -> Result<Refusal, Stop> {
+    let (code, name) = parted(rest);
+    let code = small_of(code)?;
+    if code != 901 {
+        return plain_refusal(code).ok_or(Stop::Line);
+    }
+    let place = place(alloc, b"K1")?;
+    let part = PartNo(7);
+    let name = match name {
+        "key" => LockName::Unique { part, key: place },
+        _ => LockName::Record { part, place },
+    };
+    Ok(Refusal::Held {
+        holder: Unit { deck: 1, number: 2 },
+        name,
+        mode: Mode::Exclusive,
+    })
+}
+
+/// The refusal that is to have that number, of those with no place.
+fn plain_refusal(code: u16) -> Option<Refusal> {
+    Some(match code {
+        4 => Refusal::EndOfData,
+        8 => Refusal::Duplicate { part: PartNo(7) },
+        16 => Refusal::NotFound,
+        28 => Refusal::NoSpace { need: 3, free: 1 },
+        32 => Refusal::NoAddress,
+        88 => Refusal::NoPosition,
+        92 => Refusal::NoGet,
+        96 => Refusal::KeyChanged,
+        100 => Refusal::LengthChanged,
+        108 => Refusal::BadLength { length: 9 },
+        192 => Refusal::BadSlot,
+        902 => Refusal::LogFull {
+            used: 500,
+            need: 40,
+            size: 512,
+        },
+        903 => Refusal::Stopped { stamp: 6 },
+        904 => Refusal::ReadFault,
+        905 => Refusal::WriteFault,
+        906 => Refusal::Memory,
+        907 => Refusal::NotAllowed,
+        908 => Refusal::NoFile,
+        _ => return None,
+    })
+}
+
+/// A copy of a reply: `refused KIND`, or `done` with a place and a record or with none.
+pub fn reply(alloc: Global, rest: &str, out: &mut String) -> Answer {
+    let (kind, rest) = parted(rest);
+    let copy = reply_of(alloc, kind, rest)?.copy(alloc)?;
+    write!(out, "{copy:?}")?;
+    Ok(())
+}
+
+fn reply_of(alloc: Global, kind: &str, rest: &str) -> Result<Reply, Stop> {
+    match kind {
+        "refused" => Ok(Reply::Refused(refusal_of(alloc, rest)?)),
+        "done" => {
+            let from = bytes_of(alloc, rest)?;
+            Ok(Reply::Done {
+                feedback: 8,
+                place: Some(place(alloc, b"K1")?),
+                bytes: Some(bytes(alloc, from.as_slice())?),
+            })
+        }
+        "done-alone" => Ok(Reply::Done {
+            feedback: 0,
+            place: None,
+            bytes: None,
+        }),
+        _ => Err(Stop::Line),
+    }
+}
