@@ -2,18 +2,17 @@
 use Rattle.std.proofs.Common.{◌≡◌, ℕ, zero, suc, ◌+◌, ◌-◌, ◌*◌, ◌/◌, ◌%◌, ◌<◌, ◌≤◌, Bool, true, false, nat_eq, get_or, List, [], ◌∷◌, ◌++◌, length, take, drop, refl, sym, ap, ◌∙◌, subst, arith, append_assoc, length-append, length-take, length-drop}
 use Rattle.std.specs.Prelude.{replicate, bit_and}
 use Rattle.std.specs.List.{flat_map, AllByRecursion}
-use Rattle.std.proofs.lemmas.List.{take_at, drop_at, take-append-drop, take-take, drop-take, drop-drop, length-replicate, get_or-take, get_or_at}
-use Rattle.vr_ci.specs.declared.form.Piece.{Piece}
-use Rattle.vr_ci.specs.declared.form.Piece.TheVariants.{First as FirstPiece, Inner, Last}
-use Rattle.vr_ci.specs.declared.rdf.Rdf.{Rdf}
-use Rattle.vr_ci.specs.declared.rdf.Rdf.TheVariants.{Single, Run, Segment}
-use Rattle.vr_ci.specs.Rdf.{Mark, marks, span, spans, record_length, two_bytes, withdrawn_bit, segment_bits, rdf_bytes, control, IsRdf}
-use Rattle.vr_ci.specs.Fault.{is_live}
+use Rattle.std.proofs.lemmas.List.{take_at, drop_at, take-append-drop, take-take, drop-drop, length-replicate, get_or-take, get_or_at}
+use Rattle.vr_ci_match.specs.declared.form.Piece.{Piece}
+use Rattle.vr_ci_match.specs.declared.form.Piece.TheVariants.{First as FirstPiece, Inner, Last}
+use Rattle.vr_ci_match.specs.declared.rdf.Rdf.{Rdf}
+use Rattle.vr_ci_match.specs.declared.rdf.Rdf.TheVariants.{Single, Run, Segment}
+use Rattle.vr_ci_match.specs.Rdf.{Mark, marks, span, spans, record_length, two_bytes, withdrawn_bit, segment_bits, rdf_bytes, control, IsRdf}
+use Rattle.vr_ci_match.specs.Fault.{is_live}
 use Rattle.vr_ci.specs.declared.records.Batch.{Batch}
 use Rattle.vr_ci.specs.Interval.{Item}
 use Rattle.vr_ci.specs.Reading.{items_at, rdfs_between, AreLent, AreIn, IsNextBatch, marks_left, items_left}
-use Rattle.vr_ci.proofs.RdfLemmas.{some_bytes}
-use Rattle.vr_ci.proofs.LayoutLemmas.{byte}
+use Rattle.vr_ci_match.proofs.CallerLemmas.{some_bytes, byte}
 use Rattle.vr_ci.proofs.ReadLemmas.{rdfs_between-is}
 
 -- the rightmost RDF or pair of those that are lent

@@ -1,36 +1,23 @@
 -- A control interval of records, whose RDFs are walked from the right.
-use Rattle.std.proofs.Common.{
-    ◌≡◌, ℕ, ◌+◌, ◌-◌, ◌*◌, ◌<◌, ◌≤◌, true, false, List, [], ◌∷◌, ◌++◌, length, take, drop, Option, Some,
-    None, refl, sym, ap, ◌∙◌, subst, arith, length-append, length-take, length-drop
-}
+use Rattle.std.proofs.Common.{◌≡◌, ℕ, ◌+◌, ◌-◌, ◌*◌, ◌<◌, ◌≤◌, true, false, List, [], ◌∷◌, ◌++◌, length, take, drop, Option, Some, None, refl, sym, ap, ◌∙◌, subst, arith, length-append, length-take, length-drop}
 use Rattle.std.specs.Prelude.{map, replicate}
 use Rattle.std.specs.List.{flat_map, AllByRecursion}
-use Rattle.std.proofs.lemmas.List.{take_at, take-take, drop-drop, drop_all, length-replicate}
+use Rattle.std.proofs.lemmas.List.{take_at, drop-drop, drop_all, length-replicate}
 use Rattle.std.proofs.lemmas.List.Concat.{flat_map-append}
-use Rattle.vr_ci.specs.declared.form.Form.{Form}
-use Rattle.vr_ci.specs.declared.form.Form.TheVariants.{Plain, Slots}
-use Rattle.vr_ci.specs.declared.form.Shape.TheVariants.{Records}
-use Rattle.vr_ci.specs.declared.rdf.Rdf.{Rdf}
-use Rattle.vr_ci.specs.declared.rdf.Rdf.TheVariants.{Single, Run, Segment}
-use Rattle.vr_ci.specs.declared.reading.Found.{Found}
+use Rattle.vr_ci_match.specs.declared.form.Form.{Form}
+use Rattle.vr_ci_match.specs.declared.form.Form.TheVariants.{Plain, Slots}
+use Rattle.vr_ci_match.specs.declared.form.Shape.TheVariants.{Records}
+use Rattle.vr_ci_match.specs.declared.rdf.Rdf.{Rdf}
+use Rattle.vr_ci_match.specs.declared.rdf.Rdf.TheVariants.{Single, Run, Segment}
+use Rattle.vr_ci_match.specs.declared.matching.Found.{Found}
 use Rattle.vr_ci.specs.declared.walk.Walk.{Walk}
-use Rattle.vr_ci.specs.Size.{IsBlockSize}
-use Rattle.vr_ci.specs.Rdf.{marks, span, spans, two_bytes, rdf_bytes, control, IsRdf, IsOfRecords, MayFollow, last_from, shape_of}
-use Rattle.vr_ci.specs.Interval.{slots_in, padded, cidf, control_at, laid}
-use Rattle.vr_ci.specs.Fault.{
-    cidf_at, displacement, free_length, free_end, is_busy, is_live, StandFrom, IsWhole, masked, slotted, slots_of, meant,
-    rdfs_room, IsRoomKept, HasRightLengths
-}
-use Rattle.vr_ci.specs.Tally.{IsFound}
+use Rattle.vr_types.specs.BlockSize.{IsBlockSize}
+use Rattle.vr_ci_match.specs.Rdf.{marks, span, spans, two_bytes, rdf_bytes, control, IsRdf, IsOfRecords, MayFollow, last_from, shape_of}
+use Rattle.vr_ci_match.specs.Laid.{slots_in, padded, cidf, control_at, laid}
+use Rattle.vr_ci_match.specs.Fault.{cidf_at, displacement, free_length, free_end, is_busy, StandFrom, IsWhole, masked, slotted, slots_of, meant, IsRoomKept, HasRightLengths}
+use Rattle.vr_ci.specs.Found.{IsFound}
 use Rattle.vr_ci.specs.Walk.{MayStand, live_length, IsOfSlots, HasRoom, IsWalked}
-use Rattle.vr_ci.proofs.RdfLemmas.{some_bytes, control-push}
-use Rattle.vr_ci.proofs.ItemLemmas.{take-add}
-use Rattle.vr_ci.proofs.LayoutLemmas.{zeros, byte, length-padded, padded_fits}
-use Rattle.vr_ci.proofs.ChainLemmas.{size_bounds, chain-push, last_from-push}
-use Rattle.vr_ci.proofs.MaskLemmas.{room_of_rdfs}
-use Rattle.vr_ci.proofs.CompareLemmas.{half_at, part_is, in_cidf, cidf_is}
-use Rattle.vr_ci.proofs.ComparedLemmas.{mask, masked-push, spans-push}
-use Rattle.vr_ci.proofs.TallyLemmas.{place_is}
+use Rattle.vr_ci_match.proofs.CallerLemmas.{some_bytes, control-push, take-add, zeros, byte, length-padded, padded_fits, size_bounds, chain-push, last_from-push, room_of_rdfs, half_at, part_is, in_cidf, cidf_is, mask, masked-push, spans-push, place_is}
 use Rattle.vr_ci.proofs.ShownLemmas.{found_is}
 
 -- ---- what may stand to the left
@@ -234,7 +221,7 @@ pub walk_run : (block : List ℕ) (old new : Walk) (n count : ℕ) → IsWalked 
     → take 6 (drop (old.end - 6) block) ≡ rdf_bytes (Run n count) → MayStand Plain old.run n → n * count ≤ 4294967296
     → new ≡ record { end = old.end - 6; span = old.span + n * count; count = old.count + count; run = n } → IsWalked Plain block new
 walk_run block old new n count walked some high two more place rdf stands short is =
-    let marked = length-replicate count (let mark : Rattle.vr_ci.specs.Rdf.Mark = record { live = true; len = n } in mark) in
+    let marked = length-replicate count (let mark : Rattle.vr_ci_match.specs.Rdf.Mark = record { live = true; len = n } in mark) in
     subst (λ (walk : Walk). IsWalked Plain block walk) (sym is)
     (walk_grows Plain block old _ (Run n count) walked (record {
       valid = (record { low = some; high = high }, record { low = omega (arith, two); high = more }, two);

@@ -2,14 +2,14 @@
 use Rattle.std.specs.Prelude.{ℕ, zero, suc, ◌+◌, ◌-◌, ◌*◌, Bool, if◌then◌else◌, nat_lt, ◌≡◌, ◌≤◌, ◌==◌, ◌||◌, ◌<◌, List, [], ◌∷◌, ◌++◌, length, take, drop, reverse, replicate, slice_index}
 use Rattle.std.specs.List.{flat_map, AllByRecursion}
 use Rattle.std.specs.Borrow.{Bor}
-use Rattle.vr_ci.specs.declared.form.Piece.{Piece}
-use Rattle.vr_ci.specs.declared.form.Piece.TheVariants.{First, Inner, Last}
-use Rattle.vr_ci.specs.declared.rdf.Rdf.{Rdf}
-use Rattle.vr_ci.specs.declared.rdf.Rdf.TheVariants.{Single, Run, Segment}
-use Rattle.vr_ci.specs.declared.form.Shape.{Shape}
-use Rattle.vr_ci.specs.declared.form.Shape.TheVariants as shapes
+use Rattle.vr_ci_match.specs.declared.form.Piece.{Piece}
+use Rattle.vr_ci_match.specs.declared.form.Piece.TheVariants.{First, Inner, Last}
+use Rattle.vr_ci_match.specs.declared.rdf.Rdf.{Rdf}
+use Rattle.vr_ci_match.specs.declared.rdf.Rdf.TheVariants.{Single, Run, Segment}
+use Rattle.vr_ci_match.specs.declared.form.Shape.{Shape}
+use Rattle.vr_ci_match.specs.declared.form.Shape.TheVariants as shapes
 use Rattle.vr_ci.specs.declared.records.Batch.{Batch}
-use Rattle.vr_ci.specs.Rdf.{Mark, marks, spans, rdf_bytes, control, IsRdf}
+use Rattle.vr_ci_match.specs.Rdf.{Mark, marks, spans, rdf_bytes, control, IsRdf}
 use Rattle.vr_ci.specs.Interval.{Item, Interval}
 
 -- the items with these marks, one behind the other from the front of the bytes

@@ -1,14 +1,14 @@
 -- How far the RDFs of a block of records were walked, from the right.
 use Rattle.std.specs.Prelude.{◌≡◌, ◌≢◌, ℕ, ◌+◌, ◌*◌, ◌-◌, ◌≤◌, true, false, List, length, take, Option, Some, None}
 use Rattle.std.specs.List.{flat_map, AllByRecursion}
-use Rattle.vr_ci.specs.declared.form.Form.{Form}
-use Rattle.vr_ci.specs.declared.form.Form.TheVariants.{Plain, Slots}
-use Rattle.vr_ci.specs.declared.rdf.Rdf.{Rdf}
-use Rattle.vr_ci.specs.declared.rdf.Rdf.TheVariants.{Single, Run, Segment}
+use Rattle.vr_ci_match.specs.declared.form.Form.{Form}
+use Rattle.vr_ci_match.specs.declared.form.Form.TheVariants.{Plain, Slots}
+use Rattle.vr_ci_match.specs.declared.rdf.Rdf.{Rdf}
+use Rattle.vr_ci_match.specs.declared.rdf.Rdf.TheVariants.{Single, Run, Segment}
 use Rattle.vr_ci.specs.declared.walk.Walk.{Walk}
-use Rattle.vr_ci.specs.Rdf.{marks, spans, last_from, IsOfRecords}
-use Rattle.vr_ci.specs.Interval.{slots_in}
-use Rattle.vr_ci.specs.Fault.{StandFrom, masked}
+use Rattle.vr_ci_match.specs.Rdf.{marks, spans, last_from, IsOfRecords}
+use Rattle.vr_ci_match.specs.Laid.{slots_in}
+use Rattle.vr_ci_match.specs.Fault.{StandFrom, masked}
 
 -- A live record stands to the left of live ones of this length, or of none where it is 0.
 abbrev pub MayStand : Form → ℕ → ℕ → Type 0

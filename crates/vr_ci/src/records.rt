@@ -2,7 +2,7 @@
 
 ghost use Rattle.std.specs.Prelude.{◌≡◌, Bool, List, [], MatchOption, ℕ};
 ghost use Rattle.std.specs.Iterator.{YieldsFirstBy, item_count};
-ghost use Rattle.vr_ci.specs.declared.form.Shape.{Shape};
+ghost use Rattle.vr_ci_match.specs.declared.form.Shape.{Shape};
 ghost use Rattle.vr_ci.specs.Reading.{AreLent, IsShown, IsNextBatch, value_in, marks_left};
 
 use std::marker::Model;

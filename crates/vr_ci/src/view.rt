@@ -2,12 +2,11 @@
 
 ghost use Rattle.std.specs.Prelude.{◌≡◌, ◌≤◌, ◌<◌, length, map, slice_get, IfOk, IfErr, ℕ};
 
-use crate::fault::CiFault;
-use crate::form::{Form, Shape, is_block_size};
-use crate::reading::{Found, found_in};
 use crate::records::Records;
 use crate::walk::records_found;
 use std::marker::Model;
+use vr_ci_match::{CiFault, Form, Found, Shape, match_block};
+use vr_types::is_block_size;
 
 /// A block that is a control interval. Contracts see its value: shape, items and busy flag. A segment is
 /// one item, and an end of file has none.
@@ -34,7 +33,7 @@ impl<'a> Model for CiView<'a> {
 
 impl<'a> CiView<'a> {
     ghost use Rattle.vr_ci.specs.Interval.{Interval, IsInterval, bytes_of, live_of};
-    ghost use Rattle.vr_ci.specs.Fault.{IsFirstFault};
+    ghost use Rattle.vr_ci_match.specs.Fault.{IsFirstFault};
     ghost use Rattle.vr_ci.specs.Reading.{CountFits, IsView, value_in};
 
     /// Reads a block in one pass. It answers Ok exactly for the control intervals of the form, and otherwise
@@ -52,7 +51,7 @@ impl<'a> CiView<'a> {
         {
             return Ok(CiView::of(bytes, found));
         }
-        let found = found_in(form, bytes)?;
+        let found = match_block(form, bytes)?;
         Ok(CiView::of(bytes, found))
     }
 

@@ -3,16 +3,14 @@
 ghost use Rattle.std.specs.Prelude.{
     ◌≡◌, ◌+◌, ◌-◌, ◌*◌, ◌^◌, ◌<◌, ◌≤◌, ◌↔◌, ℕ, List, ◌∷◌, length, drop, take, replicate, true, false, IsTrue, IfSome
 };
-ghost use Rattle.vr_ci.specs.declared.rdf.Rdf.TheVariants.{Single, Run};
-ghost use Rattle.vr_ci.specs.Size.{IsBlockSize};
-ghost use Rattle.vr_ci.specs.Rdf.{two_bytes, rdf_bytes};
-ghost use Rattle.vr_ci.specs.Fault.{cidf_at, free_end};
-ghost use Rattle.vr_ci.specs.Tally.{IsFound};
+ghost use Rattle.vr_ci_match.specs.declared.rdf.Rdf.TheVariants.{Single, Run};
+ghost use Rattle.vr_types.specs.BlockSize.{IsBlockSize};
+ghost use Rattle.vr_ci_match.specs.Rdf.{two_bytes, rdf_bytes};
+ghost use Rattle.vr_ci_match.specs.Fault.{cidf_at, free_end};
+ghost use Rattle.vr_ci.specs.Found.{IsFound};
 ghost use Rattle.vr_ci.specs.Walk.{MayStand, HasRoom, IsWalked};
 
-use crate::cidf::Cidf;
-use crate::form::{Form, Shape, slots};
-use crate::reading::Found;
+use vr_ci_match::{Cidf, Form, Found, Shape, slots};
 
 /// How far the RDFs of a block were walked, from the right.
 #[derive(Clone, Copy, Debug, PartialEq, Eq)]
@@ -28,7 +26,7 @@ pub struct Walk {
 }
 
 /// What the block holds, if it is a control interval of records. Where it is none, or one of another
-/// shape, there is no answer: then `found_in` looks at it more closely.
+/// shape, there is no answer: then `match_block` looks at it more closely.
 pub fn records_found(form: Form, bytes: &[u8]) -> Option<Found>
     requires { IsBlockSize (length bytes.now) }
     ensures { IfSome result (IsFound form bytes.now) }

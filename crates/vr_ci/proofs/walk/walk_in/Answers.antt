@@ -1,5 +1,5 @@
 use Rattle.std.proofs.Common.{◌≤◌, subst, ℕ}
-use Rattle.vr_ci.specs.Fault.{cidf_at}
+use Rattle.vr_ci_match.specs.Fault.{cidf_at}
 use Rattle.vr_ci.proofs.RecordsLemmas.{walk_starts}
 use Rattle.vr_ci.proofs.walk.walk_in.Goals as goal
 

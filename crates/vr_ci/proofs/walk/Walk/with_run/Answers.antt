@@ -1,10 +1,10 @@
 use Rattle.std.proofs.Common.{rules, ◌≡◌, ℕ, ◌+◌, ◌-◌, ◌*◌, ◌≤◌, ◌∷◌, ◌∙◌, List, length, drop, take, sym, ap, subst, arith, mul-le-mul}
-use Rattle.vr_ci.specs.declared.form.Form.{Form}
-use Rattle.vr_ci.specs.declared.form.Form.TheVariants.{Plain}
+use Rattle.vr_ci_match.specs.declared.form.Form.{Form}
+use Rattle.vr_ci_match.specs.declared.form.Form.TheVariants.{Plain}
 use Rattle.vr_ci.specs.declared.walk.Walk.{Walk}
-use Rattle.vr_ci.specs.Rdf.{two_bytes}
+use Rattle.vr_ci_match.specs.Rdf.{two_bytes}
 use Rattle.vr_ci.specs.Walk.{IsWalked, MayStand}
-use Rattle.vr_ci.proofs.LayoutLemmas.{byte}
+use Rattle.vr_ci_match.proofs.CallerLemmas.{byte}
 use Rattle.vr_ci.proofs.RecordsLemmas.{half_before, pair_before, walk_run}
 use Rattle.vr_ci.proofs.walk.Walk.with_run.Goals as goal
 
