@@ -112,7 +112,7 @@ pub fn write(block: &mut [u8], rest: &str, out: &mut String) -> Answer {
     } else {
         Some(u32::from(small_of(next)?))
     };
-    if !vr_seqset::is_block_size(block.len()) || used > intervals {
+    if !vr_types::is_block_size(block.len()) || used > intervals {
         return Err(Stop::Line);
     }
     write_roster(used, part, next, intervals, block);

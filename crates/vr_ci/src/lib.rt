@@ -21,6 +21,3 @@ pub use segment::write_segment;
 pub use view::CiView;
 pub use vr_ci_match::{CiFault, Form, Piece, Shape, slots};
 pub use writer::CiWriter;
-
-#[cfg(test)]
-mod tests;

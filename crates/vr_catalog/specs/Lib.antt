@@ -1,0 +1,4 @@
+pub mod Catalog
+pub mod Definition
+pub mod Entry
+pub mod Record
