@@ -230,9 +230,6 @@ pub record IsLeft (count place : ℕ) (bytes : List ℕ) (left : ℕ) (rest : Li
   pub others : All (IsWhole place) (entries_in count place bytes) → All (IsWhole place) (entries_in left place rest)
   pub behind : drop (length (flat_map entry_bytes (entries_in count place bytes))) bytes ≡ drop (length (flat_map entry_bytes (entries_in left place rest))) rest
 
-pub IsLeft-first : (count place : ℕ) (bytes : List ℕ) → IsLeft count place bytes count bytes
-IsLeft-first count place bytes = record { all = λ h. h; others = λ h. h; behind = refl }
-
 pub IsLeft-next : (count place : ℕ) (bytes : List ℕ) (left fewer : ℕ) (rest after : List ℕ) → IsLeft count place bytes left rest → left ≡ suc fewer → after ≡ drop (2 + 2 * two_at 0 rest + place) rest → IsWhole place (entry_in place rest) → IsLeft count place bytes fewer after
 IsLeft-next count place bytes left fewer rest after h e after-is whole =
     let at_left : IsLeft count place bytes (suc fewer) rest = rw e at h in

@@ -1,6 +1,6 @@
 -- Marking interval numbers one by one.
-use Rattle.std.proofs.Math.Nat.{div-le_self, div-le_of_le-mul}
-use Rattle.std.proofs.Common.{◌≡◌, ℕ, ◌+◌, ◌<◌, ◌≤◌, Bool, true, false, ◌||◌, eqb, List, [], ◌∷◌, ◌++◌, length, get_or, set, take, drop, All, refl, sym, ap, subst, ◌∙◌, arith, append_assoc, inl, inr, replicate, ◌-◌, ◌/◌}
+use Rattle.std.proofs.Math.Nat.{div-le_self}
+use Rattle.std.proofs.Common.{◌≡◌, ℕ, ◌+◌, ◌<◌, ◌≤◌, Bool, true, false, ◌||◌, eqb, List, [], ◌∷◌, ◌++◌, length, get_or, set, take, drop, All, refl, sym, ap, subst, ◌∙◌, arith, append_assoc, inl, inr, replicate, ◌-◌}
 use Rattle.std.specs.List.{IsDistinct, list_any, flat_map}
 use Rattle.std.proofs.lemmas.Bool.{cases_eq, cases_lt, eqb-true, eq-eqb, ne_eqb, or_cases, or_right, true≢false}
 use Rattle.std.proofs.lemmas.Cmp.{nat_eq_equiv}
@@ -16,12 +16,6 @@ use Rattle.vr_seqset.proofs.ListLemmas.{All-left, All-right}
 -- no more intervals are used than a block has bytes
 pub used_below : (cis size place : ℕ) → intervals_used cis size place ≤ size
 used_below cis size place = omega (arith, div-le_self (size - 32 - place) (4 + place))
-
--- no area uses more than 6,547
-pub used_most : (cis size place : ℕ) → size ≤ 32768 → 0 < place → intervals_used cis size place ≤ 6547
-used_most cis size place most some =
-    let bound : (size - 32 - place) / (4 + place) ≤ 6547 = div-le_of_le-mul (4 + place) (omega arith) in
-    omega (arith, bound)
 
 IsDistinct-left : (xs ys : List ℕ) → IsDistinct eqb (xs ++ ys) → IsDistinct eqb xs
 IsDistinct-left xs ys once = IsDistinct-from_apart eqb xs (λ i j d lt below.

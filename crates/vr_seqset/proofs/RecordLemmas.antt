@@ -274,15 +274,6 @@ record_is cis block s is = ap record_in is.spelled ∙ record_of_block cis (leng
 pub length-block_of_record : (cis size : ℕ) (s : SequenceSet) → KeepsRules cis size s → length (block_of_record size s) ≡ size
 length-block_of_record cis size s rules = length-padded size (spelling s) rules.lengths.room
 
-pub image_is : (cis size : ℕ) (s : SequenceSet) → KeepsRules cis size s → 0 < length s.entries → IsSequenceSet cis (block_of_record size s) s
-image_is cis size s rules some =
-    let len = length-block_of_record cis size s rules in
-    record {
-      rules = subst (λ (n : ℕ). KeepsRules cis n s) (sym len) rules;
-      some = some;
-      spelled = ap (λ (n : ℕ). block_of_record n s) (sym len);
-    }
-
 -- ---- what the readers need
 
 pub size_of : (block : List ℕ) → CanBeCut block → 512 ≤ length block

@@ -2,8 +2,9 @@
 ghost use Rattle.std.specs.Prelude.{◌≡◌};
 ghost use Rattle.vr_seqset.specs.Numbers.{intervals_used};
 
-/// How many intervals of a keyed area are used, in blocks of `size` bytes and with places of `place` bytes, where the area has
-/// `cis`: no more than find room in the record, each in an entry of its own. Interval numbers are below it.
+/// How many intervals of a keyed area are used, in blocks of `size` bytes and with places of
+/// `place` bytes, where the area has `cis`: no more than find room in the record, each in an entry
+/// of its own. Interval numbers are below it.
 pub fn interval_limit(cis: u16, size: usize, place: usize) -> usize
     ensures { result ≡ intervals_used cis size place }
 {

@@ -8,8 +8,8 @@ use Rattle.vr_seqset.proofs.spelling.put_head.Goals as goal
 pub overflow_cast-place : goal.overflow_cast-place
 overflow_cast-place c = omega (arith, length-spelling_head (begun_by c.args.head.now) refl)
 
-pub split_at_mut-front-requires : goal.split_at_mut-front-requires
-split_at_mut-front-requires c = omega (arith, length-spelling_head (begun_by c.args.head.now) refl)
+pub split_at_mut-fields-requires : goal.split_at_mut-fields-requires
+split_at_mut-fields-requires c = omega (arith, length-spelling_head (begun_by c.args.head.now) refl)
 
 pub split_at_mut-low-requires : goal.split_at_mut-low-requires
 split_at_mut-low-requires c = omega (arith, length-spelling_head (begun_by c.args.head.now) refl)
