@@ -13,6 +13,3 @@ pub use decimal::number;
 pub use literal::{LiteralFault, read_literal};
 pub use spelling::write_literal;
 pub use theorems::{one_outcome, one_value, written_is_read};
-
-#[cfg(test)]
-mod tests;

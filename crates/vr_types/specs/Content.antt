@@ -1,4 +1,4 @@
-use Rattle.std.specs.Prelude.{◌≡◌, ℕ, ◌<◌, List, [], ◌∷◌, map, All, Option, Some, None}
+use Rattle.std.specs.Prelude.{◌≡◌, ℕ, ◌<◌, not, List, [], ◌∷◌, map, filter, bytes_eq, All, Option, Some, None}
 use Rattle.std.specs.List.{filter_map}
 use Rattle.std.specs.List.Sorted.{IsStrictlySortedBy}
 use Rattle.std.specs.Ordering.{nat_cmp}
@@ -57,7 +57,7 @@ records_of content = filter_map record_at_place content
 abbrev pub Agree : Content → Content → Type 0
 Agree one other = records_of one ≡ records_of other
 
-abbrev pub found_by : Ordering → Option (List ℕ) → Option (List ℕ) → Option (List ℕ)
+abbrev pub found_by : {X : Type 0} → Ordering → Option X → Option X → Option X
 found_by Less here further = further
 found_by Equal here further = here
 found_by Greater here further = further
@@ -76,3 +76,12 @@ put_by Greater new entry content further = entry ∷ further
 abbrev pub with_item : Content → List ℕ → Item → Content
 with_item [] place item = (place, item) ∷ []
 with_item (entry ∷ content) place item = put_by (place_cmp place entry.0) (place, item) entry content (with_item content place item)
+
+-- what stands at a place
+abbrev pub item_at : Content → List ℕ → Option Item
+item_at [] place = None
+item_at (entry ∷ content) place = found_by (place_cmp place entry.0) (Some entry.1) (item_at content place)
+
+-- the content without what stands at a place
+abbrev pub without_item : Content → List ℕ → Content
+without_item content place = filter (λ (entry : Placed). not (bytes_eq place entry.0)) content

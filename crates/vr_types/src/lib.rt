@@ -22,8 +22,6 @@ pub mod reply;
 pub mod request;
 pub mod script;
 mod settling;
-#[cfg(test)]
-mod tests;
 pub mod unit;
 pub mod values;
 pub mod words;
