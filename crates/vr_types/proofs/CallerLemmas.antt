@@ -24,7 +24,7 @@ pub use Rattle.vr_types.proofs.Runs.{during-weaken, during-none, during-then, ea
 pub use Rattle.vr_types.proofs.Runs.{guards-start, guards-keeps, guards-puts, guards-then, guards-weaken}
 pub use Rattle.vr_types.proofs.Runs.{only-keeps, only-elsewhere, only-here, only-forced, only-weaken, only-image, also-here, also-elsewhere, cur-put, cur-elsewhere, all-one, just-one}
 pub use Rattle.vr_types.proofs.Runs.{keeps-none, keeps-then, keeps-puts, keeps-then-puts, puts-then-keeps}
-pub use Rattle.vr_types.proofs.Runs.{on-mine, both-hold, mine-stays, touches-then, puts-touches, keeps-touches}
+pub use Rattle.vr_types.proofs.Runs.{on-mine, both-hold, mine-stays, touches-then, touches-weaken, touches-guards, puts-touches, keeps-touches}
 pub use Rattle.vr_types.proofs.Runs.{cause-then, write_cause-then, cause-ok}
 
 -- ---- sizes of blocks
