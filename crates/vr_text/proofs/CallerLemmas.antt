@@ -1,9 +1,11 @@
+-- What the crates above cite of literals: one value, one form, one cause.
 use Rattle.std.proofs.Common.{◌≡◌, subst, Result, Ok, Err, IfErr, IsErrAnd, ℕ, ◌+◌, ◌<◌, true, false, inl, inr, cond, Bool, List, ◌++◌, Contains, get_or, flat_map, codes, refl, sym, ap, ◌∙◌, arith}
 use Rattle.std.specs.List.{AllByRecursion, list_all}
 use Rattle.std.proofs.lemmas.List.{append_cancel_left, append_cancel_right}
 use Rattle.vr_text.specs.declared.literal.LiteralFault.{LiteralFault}
 use Rattle.vr_text.specs.declared.literal.LiteralFault.TheVariants.{Unclosed, Digit, Memory}
-use Rattle.vr_text.specs.Literal.{doubled, character_form, hexadecimal_form, digit_pair, literal_of, is_printable, IsLiteral, CauseOf, CauseInDigits}
+use Rattle.vr_text.specs.Literal.{doubled, character_form, hexadecimal_form, digit_pair, literal_of, is_printable, IsLiteral, CauseOf}
+use Rattle.vr_text.specs.LiteralParts.{CauseInDigits}
 use Rattle.vr_text.proofs.Quotes.{doubled_same}
 use Rattle.vr_text.proofs.Digits.{SpellsBytes-digit_pair, SpellsBytes_same, no_quote, no_bad_digit, first_bad_same}
 
@@ -47,7 +49,7 @@ not_bad_digit text bytes at (inr h) cause =
     let digits : h.0 ≡ cause.0 = hexadecimal_form_same h.0 cause.0 (sym h.1 ∙ cause.2.form) in
     no_bad_digit cause.0 bytes cause.1 (rw digits at h.2) cause.3
 
--- so a literal has no cause but want of memory
+-- so a literal has no cause but out of memory
 pub literal_has_no_cause : (text bytes : List ℕ) (fault : LiteralFault) → IsLiteral text bytes → CauseOf text fault → fault ≡ Memory
 literal_has_no_cause text bytes Unclosed h cause = absurd (not_unclosed text bytes h cause)
 literal_has_no_cause text bytes (Digit at) h cause = absurd (not_bad_digit text bytes at h cause)
@@ -82,7 +84,7 @@ pub IfErr-cause_of_digits : {T : Type 0} (text digits : List ℕ) (r : Result T 
 IfErr-cause_of_digits text digits (Ok x) form cause = tt
 IfErr-cause_of_digits text digits (Err fault) form cause = cause_of_digits text digits fault form cause
 
--- a fault that is want of memory has its cause
+-- a fault that is out of memory has its cause
 pub IfErr-memory : {T : Type 0} (r : Result T LiteralFault) (Cause : LiteralFault → Type 0) → IsErrAnd r (λ fault. fault ≡ Memory) → Cause Memory → IfErr r Cause
 IfErr-memory (Ok x) Cause is cause = tt
 IfErr-memory (Err fault) Cause is cause = subst Cause (sym is) cause
