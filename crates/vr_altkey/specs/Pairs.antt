@@ -35,6 +35,9 @@ pairs_of key_length key_offset base = map (λ (entry : Pair × Unit {0}). entry.
 abbrev pub pair_place : Pair → List ℕ
 pair_place pair = pair.0 ++ pair.1
 
+abbrev pub pair_place_of : ℕ → ℕ → List ℕ → List ℕ → Option (List ℕ)
+pair_place_of key_length key_offset place bytes = option_map pair_place (pair_of key_length key_offset place bytes)
+
 -- the content of a built alternate index: each pair's record is its own place
 abbrev pub pairs_content : ℕ → ℕ → Content → Content
 pairs_content key_length key_offset base = map (λ (pair : Pair). (pair_place pair, Standing (pair_place pair))) (pairs_of key_length key_offset base)
