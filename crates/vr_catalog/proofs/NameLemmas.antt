@@ -1,13 +1,14 @@
 -- The test of a name says what the rule of names says.
-use Rattle.std.proofs.Common.{◌≡◌, ◌<◌, ◌≤◌, ◌+◌, ◌&&◌, ltb, leb, ℕ, Bool, true, false, List, [], ◌∷◌, length, get_or, ⊎_elim, sym, ◌∙◌, refl, ap, subst, arith}
-use Rattle.std.specs.List.{list_all, range_with_len}
+use Rattle.std.proofs.Common.{◌≡◌, ◌<◌, ◌≤◌, ◌+◌, ◌&&◌, ltb, leb, ℕ, Bool, true, false, not, take, List, [], ◌∷◌, length, get_or, ⊎_elim, sym, ◌∙◌, refl, ap, subst, arith}
+use Rattle.std.specs.List.{list_all, list_any, range_with_len}
 use Rattle.std.specs.Str.{IsUtf8, IsAscii, bytes_eq}
 use Rattle.std.proofs.lemmas.Bool.{cases_lt, cases_Bool, both_ways, and_parts, ltb-true, leb-true, lt-ltb, le-leb}
 use Rattle.std.proofs.lemmas.Bool.Decides.{nat_tests}
-use Rattle.std.specs.Prelude.{slice_index}
-use Rattle.std.proofs.lemmas.List.{get_or_past}
+use Rattle.std.specs.Prelude.{slice_index, ◌==◌}
+use Rattle.std.proofs.lemmas.List.{get_or_past, length-take, get_or-take}
+use Rattle.std.proofs.lemmas.List.Folds.{list_any_at}
 use Rattle.std.proofs.lemmas.List.FromFn.{length-range_with_len, get_or-range_with_len}
-use Rattle.std.proofs.lemmas.List.Sums.{AllPass-from_list_all, list_all-from_AllPass}
+use Rattle.std.proofs.lemmas.List.Sums.{suffix_len_is, AllPass-from_list_all, list_all-from_AllPass}
 use Rattle.std.proofs.lemmas.Slice.Eq.{bytes_eq-Decides}
 use Rattle.std.proofs.lemmas.Str.{IsUtf8-from_ascii}
 use Rattle.vr_types.specs.Name.{IsDatasetName, is_right_at, in_capitals, fits_column, column_at}
@@ -104,5 +105,43 @@ is_name-as_spelled spelled text name shown same is capitals shows =
     (λ (fails : is_name text ≡ false). fails ∙ sym other)
     (cases_Bool (is_name text)))
     (cases_Bool (bytes_eq shown text))
+
+-- a name has at most 44 bytes, at least one, and no blank
+pub name_short : (text : List ℕ) → is_name text ≡ true → length text ≤ 44
+name_short text is = (name_parts text is).short
+
+pub name_some : (text : List ℕ) → is_name text ≡ true → 0 < length text
+name_some text is = (name_parts text is).some
+
+fits_plain : (column byte : ℕ) → fits_column column byte ≡ true → (byte == 32) ≡ false
+fits_plain column byte fits = grind (arith, nat_tests)
+
+pub name_plain : (text : List ℕ) → is_name text ≡ true → (i : ℕ) → i < length text → (slice_index text i == 32) ≡ false
+name_plain text is i within = fits_plain (column_at text i) (slice_index text i) (fits_at text i within ((name_parts text is).right i (omega (arith, within))))
+
+-- a name of one qualifier has at most 8 bytes
+no_dot : (text : List ℕ) → list_any (λ byte. byte == 46) text ≡ false → (i : ℕ) → i < length text → (slice_index text i == 46) ≡ false
+no_dot text none i within = ⊎_elim
+    (λ (dot : (slice_index text i == 46) ≡ true). absurd (both_ways (list_any (λ byte. byte == 46) text) none (list_any_at (λ byte. byte == 46) text i 0 within dot)))
+    (λ (other : (slice_index text i == 46) ≡ false). other)
+    (cases_Bool (slice_index text i == 46))
+
+column_without_dot : (text : List ℕ) → 8 < length text → list_any (λ byte. byte == 46) text ≡ false → column_at text 8 ≡ 8
+column_without_dot text long none =
+    let eight : length (take 8 text) ≡ 8 = omega (arith, length-take 8 text, long) in
+    let passes : (k : ℕ) → 0 ≤ k → k < length (take 8 text) → not (get_or (take 8 text) k 0 == 46) ≡ true
+    = λ k from below. let short : k < 8 = omega (arith, below, eight) in
+    rw (get_or-take 8 text k 0 short, no_dot text none k (omega (arith, short, long))) refl in
+    omega (arith, suffix_len_is (λ byte. not (byte == 46)) (take 8 text) 0 0 (omega arith) passes (λ more. absurd (omega (arith, more))), eight)
+
+past_qualifier : (byte : ℕ) → (byte == 46) ≡ false → fits_column 8 byte ≡ true → ⊥
+past_qualifier byte other fits = grind (arith, nat_tests)
+
+pub class_short : (text : List ℕ) → is_name text ≡ true → list_any (λ byte. byte == 46) text ≡ false → length text ≤ 8
+class_short text is none = ⊎_elim
+    (λ (long : 8 < length text). absurd (past_qualifier (slice_index text 8) (no_dot text none 8 long)
+    (subst (λ column. fits_column column (slice_index text 8) ≡ true) (column_without_dot text long none) (fits_at text 8 long ((name_parts text is).right 8 (omega (arith, long)))))))
+    (λ (short : length text ≤ 8). short)
+    (cases_lt 8 (length text))
 
 pub ruleset names = (name_is_dataset, name_is_capitals, is_name-of_dataset, name_is_utf8)

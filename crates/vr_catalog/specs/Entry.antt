@@ -133,5 +133,5 @@ abbrev pub is_allowed : CatEntry → Bool
 is_allowed entry = is_part entry.part && is_area_or_none entry.first_area && is_of_kind entry.entry_kind entry
 
 -- whether a catalog may have the entry: exactly these have a record
-abbrev pub is_entry : CatEntry → Bool
+unfoldable pub is_entry : CatEntry → Bool
 is_entry entry = are_names entry && is_allowed entry

@@ -10,6 +10,7 @@ mod definition;
 mod deleting;
 mod entry;
 mod fault;
+mod laws;
 mod limits;
 mod names;
 mod order;
@@ -24,6 +25,7 @@ pub use definition::Definition;
 pub use deleting::delete;
 pub use entry::{CatEntry, EntryKind, FreeSpace, ShareOptions, SpaceUnit};
 pub use fault::CatFault;
+pub use laws::{one_entry, spelled_exactly};
 pub use limits::{
     are_bad_sizes, are_few_intervals, ends_past, intervals_used, is_bad_cluster, plain_limit,
     spanned_limit,

@@ -46,7 +46,7 @@ impl From<OutOfMemory> for EntryNo {
 }
 
 /// The entry that the bytes spell as a catalog record: `Misspelled` exactly where they spell none.
-#[tactic(auto, using(crate::proofs::RecordLemmas::lengths), unfolding(crate::specs::Record::entry_of))]
+#[tactic(auto, using(crate::proofs::RecordLemmas::spellings))]
 pub fn read_entry(alloc: Global, bytes: &[u8]) -> Result<CatEntry, EntryNo>
     ensures ok { IfOk result (λ entry. entry_of bytes.now ≡ Some entry) }
     ensures misspelled { IsErrOf result Misspelled → entry_of bytes.now ≡ None }
