@@ -1,0 +1,6 @@
+mod FiledLemmas
+mod FilingLemmas
+mod InsideLemmas
+mod ListedLemmas
+mod NameLemmas
+mod RefusalLemmas
