@@ -27,6 +27,15 @@ module _ {K : Type 0} {same : K → K → Bool} {key : Lock → K} {at : ℕ →
   pub filed-later : (later : ℕ) → bound ≤ later → IsFiled same key at later old
   filed-later later above = record { found = is.found; below = λ q n past. is.below q n (omega arith); rising = is.rising }
 
+  -- the same numbers stand under the keys of other locks
+  pub filed-over : (new : K → List ℕ) (other : ℕ → Option Lock) (later : ℕ) → bound ≤ later → ((q : K) → new q ≡ old q)
+      → ((q : K) (n : ℕ) (lock : Lock) → other n ≡ Some lock → list_any (nat_eq n) (old q) ≡ same q (key lock)) → IsFiled same key other later new
+  filed-over new other later above same_lists found = record {
+    found = λ q n lock there. ap (list_any (nat_eq n)) (same_lists q) ∙ found q n lock there;
+    below = λ q n past. ap (list_any (nat_eq n)) (same_lists q) ∙ is.below q n (omega arith);
+    rising = λ q. rw (same_lists q) (is.rising q)
+  }
+
   module _ (new : K → List ℕ) where
     -- where nothing was filed, a number is left out
     pub filed-same : ((q : K) → new q ≡ old q) → IsFiled same key at (bound + 1) new

@@ -1,6 +1,8 @@
 mod FiledLemmas
 mod FilingLemmas
+mod GrantLemmas
 mod InsideLemmas
 mod ListedLemmas
 mod NameLemmas
+mod PlanLemmas
 mod RefusalLemmas

@@ -9,8 +9,8 @@ use Rattle.vr_locks.specs.declared.inside.Inside.{Inside}
 use Rattle.vr_locks.specs.declared.taking.Step.{Step}
 use Rattle.vr_locks.specs.declared.taking.Step.TheVariants.{Raise, Take}
 use Rattle.vr_locks.specs.Conflict.{conflicts, same_unit}
-use Rattle.vr_locks.specs.Inside.{lock_at, of_name, of_unit}
-use Rattle.vr_locks.specs.Locked.{is_own}
+use Rattle.vr_locks.specs.Inside.{IsKept, KeepsFiled, lock_at, locks_in, of_name, of_unit}
+use Rattle.vr_locks.specs.Locked.{is_own, with_lock}
 
 -- What a request does to the maps, name by name.
 
@@ -36,3 +36,13 @@ pub record ArePlansFor (inside : Inside) (unit : units.Unit) (names : List LockN
 -- no lock stands in the way of a name
 abbrev pub NoneAgainst : Inside → units.Unit → Mode → LockName → Type 0
 NoneAgainst inside unit mode name = (n : ℕ) (lock : Lock) → lock_at inside n ≡ Some lock → conflicts unit mode name lock ≡ false
+
+-- A name of a request was granted: `new` was made of `old`.
+pub record Grants (unit : units.Unit) (mode : Mode) (name : LockName) (old new : Inside) : Type 0 where
+  pub locks : locks_in new ≡ with_lock unit mode (locks_in old) name
+  pub kept : IsKept new new.next
+  pub filed : KeepsFiled old new
+  -- the unit keeps what it has
+  pub owned : (other : LockName) (n : ℕ) → IsOwnAt old unit other n → IsOwnAt new unit other n
+  -- and nothing new stands in its way
+  pub free : (other : LockName) → NoneAgainst old unit mode other → NoneAgainst new unit mode other

@@ -1,13 +1,14 @@
 //! A request that is granted: first all of its memory, then its locks.
 ghost use Rattle.std.specs.Prelude.{
-    ◌≡◌, ◌<◌, ◌≤◌, ◌+◌, ℕ, cond, nat_eq, length, Some, IfOk, OnOk, slice_index_or
+    ◌≡◌, ◌<◌, ◌≤◌, ◌+◌, ℕ, false, cond, nat_eq, length, Some, IfOk, OnOk
 };
 ghost use Rattle.std.specs.HashMap.{spare};
+ghost use Rattle.std.specs.List.{list_any};
 ghost use Rattle.std.specs.Option.{option_map};
-ghost use Rattle.vr_types.specs.Locks.{Lock};
-ghost use Rattle.vr_locks.specs.Locked.{raise, with_lock, with_locks};
+ghost use Rattle.vr_locks.specs.Locked.{is_own, raise};
 ghost use Rattle.vr_locks.specs.Inside.{IsKept, KeepsFiled, lock_at, locks_in};
-ghost use Rattle.vr_locks.specs.Plan.{IsFiledFor, IsStepFor, ArePlansFor, NoneAgainst};
+ghost use Rattle.vr_locks.specs.Listed.{AreBelow};
+ghost use Rattle.vr_locks.specs.Plan.{IsFiledFor, IsOwnAt, IsStepFor, ArePlansFor, Grants, NoneAgainst};
 
 use crate::filed::{drop_number, file};
 use crate::inside::Inside;
@@ -26,7 +27,7 @@ pub(crate) enum Step {
 
 impl Inside {
     /// Makes the lock with a number exclusive, where the mode is.
-    pub(crate) fn raise(&mut self, number: u64, mode: Mode)
+    fn raise_at(&mut self, number: u64, mode: Mode)
         ensures locks { (n : ℕ) → lock_at self.new n ≡ cond (nat_eq number n) (option_map (raise mode) (lock_at self.old n)) (lock_at self.old n) }
         ensures filed { KeepsFiled self.old self.new }
         ensures room { spare self.new.locks ≡ spare self.old.locks }
@@ -37,7 +38,7 @@ impl Inside {
     }
 
     /// Puts a lock under a number, for which there is room.
-    pub(crate) fn put(&mut self, number: u64, lock: Kept)
+    fn put_at(&mut self, number: u64, lock: Kept)
         requires { 0 < spare self.old.locks }
         ensures locks { (n : ℕ) → lock_at self.new n ≡ cond (nat_eq number n) (Some lock) (lock_at self.old n) }
         ensures filed { KeepsFiled self.old self.new }
@@ -45,6 +46,34 @@ impl Inside {
     {
         let put = self.locks.insert(number, lock);
         prove!(put.is_ok());
+    }
+
+    /// Raises the unit's own lock on a name in its place, where the mode is exclusive.
+    fn raise(&mut self, unit: Unit, mode: Mode, name: &LockName, own: u64)
+        requires kept { IsKept self.old self.old.next }
+        requires own { IsOwnAt self.old unit name.now own }
+        requires free { NoneAgainst self.old unit mode name.now }
+        ensures grants { Grants unit mode name.now self.old self.new }
+        ensures last { (n : ℕ) → AreBelow (lock_at self.old) n → AreBelow (lock_at self.new) n }
+        ensures room { spare self.new.locks ≡ spare self.old.locks }
+    {
+        self.raise_at(own, mode);
+    }
+
+    /// Puts a new lock under a number that is filed for it, as the last. There is room for it.
+    fn put(&mut self, unit: Unit, mode: Mode, name: LockName, number: u64)
+        requires kept { IsKept self.old self.old.next }
+        requires within { number < self.old.next }
+        requires last { AreBelow (lock_at self.old) number }
+        requires filed { IsFiledFor self.old unit name number }
+        requires owned { list_any (is_own unit name) (locks_in self.old) ≡ false }
+        requires free { NoneAgainst self.old unit mode name }
+        requires room { 0 < spare self.old.locks }
+        ensures grants { Grants unit mode name self.old self.new }
+        ensures last { AreBelow (lock_at self.new) (number + 1) }
+        ensures room { spare self.old.locks ≤ spare self.new.locks + 1 }
+    {
+        self.put_at(number, Kept::new(name, unit, mode));
     }
 
     /// Files a number that was never used under a unit and a name. Where memory runs out, the number stays unused.
@@ -79,5 +108,43 @@ impl Inside {
         let name = name.copy(self.alloc)?;
         self.file_under(unit, key, number)?;
         Ok(Step::Take { number, name })
+    }
+
+    /// Takes the memory for each name of a request, whose numbers begin with `first`. No lock changes.
+    pub(crate) fn plans(&mut self, unit: Unit, names: &[LockName], first: u64) -> Result<Vec<Step>, OutOfMemory>
+        requires kept { IsKept self.old first }
+        requires room { first + length names.now ≤ self.old.next }
+        ensures locks { self.new.locks ≡ self.old.locks }
+        ensures next { self.new.next ≡ self.old.next }
+        ensures kept { IsKept self.new self.new.next }
+        ensures steps { IfOk result (λ steps. ArePlansFor self.new unit names.now first steps.items) }
+    {
+        let mut steps = Vec::new(self.alloc);
+        for (i, name) in names.iter().enumerate() {
+            let step = self.plan(unit, name, first + i as u64)?;
+            steps.push(step)?;
+        }
+        Ok(steps)
+    }
+
+    /// Does what is to be done for one name, which takes no memory: the unit's own lock on it is raised, or a new one comes last.
+    fn carry(&mut self, unit: Unit, mode: Mode, name: &LockName, number: u64, step: Step)
+        requires kept { IsKept self.old self.old.next }
+        requires within { number < self.old.next }
+        requires last { AreBelow (lock_at self.old) number }
+        requires step { IsStepFor self.old unit name.now number step }
+        requires free { NoneAgainst self.old unit mode name.now }
+        requires room { 0 < spare self.old.locks }
+        ensures grants { Grants unit mode name.now self.old self.new }
+        ensures last { AreBelow (lock_at self.new) (number + 1) }
+        ensures room { spare self.old.locks ≤ spare self.new.locks + 1 }
+    {
+        match step {
+            Step::Raise { number: own } => self.raise(unit, mode, name, own),
+            Step::Take { number, name } => match self.own(unit, &name) {
+                Some(own) => self.raise(unit, mode, &name, own),
+                None => self.put(unit, mode, name, number),
+            },
+        }
     }
 }
