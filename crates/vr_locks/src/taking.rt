@@ -1,11 +1,11 @@
 //! A request that is granted: first all of its memory, then its locks.
 ghost use Rattle.std.specs.Prelude.{
-    ◌≡◌, ◌<◌, ◌≤◌, ◌+◌, ℕ, false, cond, nat_eq, length, Some, IfOk, OnOk
+    ◌≡◌, ◌<◌, ◌≤◌, ◌+◌, ℕ, false, cond, nat_eq, length, Some, IfOk, OnOk, slice_index_or
 };
 ghost use Rattle.std.specs.HashMap.{spare};
 ghost use Rattle.std.specs.List.{list_any};
 ghost use Rattle.std.specs.Option.{option_map};
-ghost use Rattle.vr_locks.specs.Locked.{is_own, raise};
+ghost use Rattle.vr_locks.specs.Locked.{is_own, raise, with_locks};
 ghost use Rattle.vr_locks.specs.Inside.{IsKept, KeepsFiled, lock_at, locks_in};
 ghost use Rattle.vr_locks.specs.Listed.{AreBelow};
 ghost use Rattle.vr_locks.specs.Plan.{IsFiledFor, IsOwnAt, IsStepFor, ArePlansFor, Grants, NoneAgainst};
@@ -145,6 +145,24 @@ impl Inside {
                 Some(own) => self.raise(unit, mode, &name, own),
                 None => self.put(unit, mode, name, number),
             },
+        }
+    }
+
+    /// Does what is to be done for each name of a request, which takes no memory.
+    pub(crate) fn carry_out(&mut self, unit: Unit, mode: Mode, names: &[LockName], first: u64, steps: Vec<Step>)
+        requires kept { IsKept self.old self.old.next }
+        requires within { first + length names.now ≤ self.old.next }
+        requires last { AreBelow (lock_at self.old) first }
+        requires steps { ArePlansFor self.old unit names.now first steps.items }
+        requires free { (m : ℕ) (name : LockName) → m < length names.now → NoneAgainst self.old unit mode (slice_index_or names.now m name) }
+        requires room { length names.now ≤ spare self.old.locks }
+        ensures locks { locks_in self.new ≡ with_locks unit mode (locks_in self.old) names.now }
+        ensures kept { IsKept self.new self.new.next }
+    {
+        let mut place = 0usize;
+        for step in steps {
+            self.carry(unit, mode, &names[place], first + place as u64, step);
+            place += 1;
         }
     }
 }
