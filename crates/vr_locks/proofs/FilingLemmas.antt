@@ -1,10 +1,12 @@
 -- A number that is filed under one key more.
-use Rattle.std.proofs.Common.{◌≡◌, ℕ, ◌+◌, ◌<◌, ◌≤◌, Bool, true, false, cond, nat_eq, List, [], ◌∷◌, ◌++◌, ◌||◌, length, get_or, Option, Some, None, AllPairs, refl, sym, ap, ◌∙◌, arith, inl, inr}
-use Rattle.std.specs.List.{list_any}
-use Rattle.std.proofs.lemmas.Bool.{cases_Bool, eq-eqb, ne_eqb, or_right}
+use Rattle.std.proofs.Common.{◌≡◌, ℕ, ◌+◌, ◌<◌, ◌≤◌, Bool, true, false, cond, nat_eq, List, [], ◌∷◌, ◌++◌, ◌||◌, length, get_or, Option, Some, None, AllPairs, refl, sym, ap, ◌∙◌, ◌⊎◌, ⊎_elim, arith, inl, inr, not}
+use Rattle.std.specs.List.{filter, list_any}
+use Rattle.std.proofs.lemmas.Bool.{cases_eq, eq-eqb, eqb-true, ne_eqb, or_right}
 use Rattle.std.proofs.lemmas.List.{get_or_default}
 use Rattle.std.proofs.lemmas.List.Folds.{list_any-append}
+use Rattle.std.proofs.lemmas.List.Kept.{AllPairs-filter}
 use Rattle.std.proofs.lemmas.List.Quantifiers.{all_pairs_push}
+use Rattle.std.proofs.lemmas.Map.Views.{any-filter_same}
 use Rattle.std.proofs.lemmas.Option.{none-some}
 use Rattle.vr_types.specs.Locks.{Lock}
 use Rattle.vr_locks.specs.Listed.{AreBelow, IsFiled}
@@ -22,6 +24,18 @@ any-push_same : (n : ℕ) (numbers : List ℕ) → list_any (nat_eq n) (numbers 
 any-push_same n numbers =
     list_any-append (nat_eq n) numbers (n ∷ []) ∙ or_right (list_any (nat_eq n) numbers) (nat_eq n n || false) (rw (eq-eqb n n refl) refl)
 
+any-without_apart : (n k : ℕ) (numbers : List ℕ) → (n ≡ k → ⊥)
+    → list_any (nat_eq n) (filter (λ (j : ℕ). not (nat_eq j k)) numbers) ≡ list_any (nat_eq n) numbers
+any-without_apart n k numbers apart =
+    any-filter_same (nat_eq n) (λ (j : ℕ). not (nat_eq j k)) true
+    (λ j same. let one : n ≡ j = eqb-true n j same in rw (ne_eqb j k (λ here. apart (one ∙ here))) refl) numbers
+
+any-without_same : (n k : ℕ) (numbers : List ℕ) → n ≡ k
+    → list_any (nat_eq n) (filter (λ (j : ℕ). not (nat_eq j k)) numbers) ≡ false
+any-without_same n k numbers here =
+    any-filter_same (nat_eq n) (λ (j : ℕ). not (nat_eq j k)) false
+    (λ j same. let one : n ≡ j = eqb-true n j same in rw (eq-eqb j k (sym one ∙ here)) refl) numbers
+
 module _ {K : Type 0} {same : K → K → Bool} {key : Lock → K} {at : ℕ → Option Lock} {bound : ℕ} {old : K → List ℕ} (is : IsFiled same key at bound old) where
   -- what is filed below a bound is so below a later one
   pub filed-later : (later : ℕ) → bound ≤ later → IsFiled same key at later old
@@ -34,6 +48,33 @@ module _ {K : Type 0} {same : K → K → Bool} {key : Lock → K} {at : ℕ →
     found = λ q n lock there. ap (list_any (nat_eq n)) (same_lists q) ∙ found q n lock there;
     below = λ q n past. ap (list_any (nat_eq n)) (same_lists q) ∙ is.below q n (omega arith);
     rising = λ q. rw (same_lists q) (is.rising q)
+  }
+
+  -- one lock less, whose number may go from under a key
+  pub filed-less : (new : K → List ℕ) (other : ℕ → Option Lock) (k : ℕ) → ((n : ℕ) → other n ≡ cond (nat_eq k n) None (at n))
+      → ((q : K) → (new q ≡ old q) ⊎ (new q ≡ filter (λ (n : ℕ). not (nat_eq n k)) (old q))) → IsFiled same key other bound new
+  filed-less new other k less goes = record {
+    found = λ q n lock there.
+        let apart : k ≡ n → ⊥ = λ here. none-some lock (sym (less n ∙ rw (eq-eqb k n here) refl) ∙ there) in
+        let before : at n ≡ Some lock = sym (less n ∙ rw (ne_eqb k n apart) refl) ∙ there in
+        ⊎_elim
+        (λ kept. ap (list_any (nat_eq n)) kept)
+        (λ cut. ap (list_any (nat_eq n)) cut ∙ any-without_apart n k (old q) (λ here. apart (sym here)))
+        (goes q)
+        ∙ is.found q n lock before;
+    below = λ q n past.
+        ⊎_elim
+        (λ kept. ap (list_any (nat_eq n)) kept ∙ is.below q n past)
+        (λ cut. ap (list_any (nat_eq n)) cut
+            ∙ ⊎_elim
+            (λ here. any-without_same n k (old q) here)
+            (λ apart. any-without_apart n k (old q) apart ∙ is.below q n past)
+            (cases_eq n k))
+        (goes q);
+    rising = λ q. ⊎_elim
+        (λ kept. rw kept (is.rising q))
+        (λ cut. rw cut (AllPairs-filter (λ (m n : ℕ). m < n) (λ (n : ℕ). not (nat_eq n k)) (old q) (is.rising q)))
+        (goes q)
   }
 
   module _ (new : K → List ℕ) where

@@ -1,3 +1,5 @@
+mod AskLemmas
+mod EndLemmas
 mod FiledLemmas
 mod FilingLemmas
 mod GrantLemmas

@@ -22,6 +22,16 @@ listed-same at other (suc n) same =
     let here : other n ≡ at n = same n (omega arith) in
     cc
 
+-- numbers that no lock has add nothing
+pub listed-later : (at : ℕ → Option Lock) (bound n : ℕ) → bound ≤ n → ((j : ℕ) → bound ≤ j → at j ≡ None) → listed at n ≡ listed at bound
+unfolding listed
+listed-later at bound zero above none = let same : bound ≡ zero = omega arith in rw same refl
+listed-later at bound (suc n) above none =
+    ⊎_elim
+    (λ (more : n < bound). let same : bound ≡ suc n = omega arith in rw same refl)
+    (λ less. let gone : at n ≡ None = none n less in rw (gone, append-nil) (listed-later at bound n less none))
+    (cases_lt n bound)
+
 other_below : (at other : ℕ → Option Lock) (k j : ℕ) (lock : Lock) → ((j : ℕ) → other j ≡ cond (nat_eq k j) (Some lock) (at j)) → k ≢ j → other j ≡ at j
 other_below at other k j lock is apart = is j ∙ rw (ne_eqb k j apart) refl
 

@@ -1,5 +1,5 @@
 -- What stands in the way of a request.
-use Rattle.std.proofs.Common.{◌≡◌, ℕ, ◌+◌, ◌<◌, Bool, true, false, cond, List, [], ◌∷◌, length, get_or, drop, Option, None, Some, refl, sym, ap, ◌∙◌, ◌&&◌, arith, inl, inr}
+use Rattle.std.proofs.Common.{◌≡◌, ℕ, zero, suc, ◌+◌, ◌<◌, Bool, true, false, cond, List, [], ◌∷◌, length, get_or, drop, Option, None, Some, refl, sym, ap, ◌∙◌, ◌&&◌, arith, inl, inr}
 use Rattle.std.specs.List.{find}
 use Rattle.std.specs.Option.{option_map, option_or}
 use Rattle.std.proofs.lemmas.Bool.{and_parts, cases_Bool}
@@ -12,6 +12,10 @@ use Rattle.vr_types.specs.LockName.{lock_name_eq}
 use Rattle.vr_types.specs.Locks.{Lock}
 use Rattle.vr_locks.specs.Conflict.{conflicts, first_conflict, holding, refusal, stands_against}
 use Rattle.vr_locks.proofs.NameLemmas.{IsEquality, name_equality}
+
+neither : (one other : Option Lock) → option_or one other ≡ None → (one ≡ None) × (other ≡ None)
+neither None other none = (refl, none)
+neither (Some lock) other none = absurd (none-some lock (sym none))
 
 -- what is found passes
 pub find-passes : (test : Lock → Bool) (locks : List Lock) (lock : Lock) → find test locks ≡ Some lock → test lock ≡ true
@@ -51,3 +55,11 @@ shown-conflict locks unit mode name o pair is some =
     let passes = find-passes (conflicts unit mode name) locks found.0 found.1 in
     let named : name ≡ found.0.name = name_equality.exact name found.0.name (and_parts (lock_name_eq name found.0.name) (stands_against unit mode found.0) passes).0 in
     found.1 ∙ ap (λ (lock : Lock). Some lock) (same_lock found.0 name pair named found.2 found.3)
+
+-- where a request isn't refused, none of its names is
+pub granted-each : (locks : List Lock) (unit : units.Unit) (mode : Mode) (names : List LockName) (m : ℕ) (name : LockName)
+    → refusal locks unit mode names ≡ None → m < length names → first_conflict locks unit mode (get_or names m name) ≡ None
+granted-each locks unit mode [] m name granted within = elim within [ ]
+granted-each locks unit mode (first ∷ names) zero name granted within = (neither (first_conflict locks unit mode first) (refusal locks unit mode names) granted).0
+granted-each locks unit mode (first ∷ names) (suc m) name granted within =
+    granted-each locks unit mode names m name (neither (first_conflict locks unit mode first) (refusal locks unit mode names) granted).1 (omega arith)

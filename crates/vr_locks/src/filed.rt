@@ -60,3 +60,18 @@ pub(crate) fn drop_number<K: Eq + Hash + Drop>(map: &mut HashMap<K, Vec<u64>>, k
         map.remove(key);
     }
 }
+
+/// Takes away a key, and gives the numbers that stood under it.
+pub(crate) fn take_numbers<K: Eq + Hash + Drop>(
+    alloc: Global,
+    map: &mut HashMap<K, Vec<u64>>,
+    key: &K,
+) -> Vec<u64>
+    ensures numbers { result.items ≡ numbers_in (get K.eq map.old key.now) }
+    ensures others { (q : K) → numbers_in (get K.eq map.new q) ≡ cond (K.eq key.now q) [] (numbers_in (get K.eq map.old q)) }
+{
+    match map.remove(key) {
+        Some(numbers) => numbers,
+        None => Vec::new(alloc),
+    }
+}
