@@ -1,4 +1,5 @@
 mod AskLemmas
+pub mod CallerLemmas
 mod EndLemmas
 mod FiledLemmas
 mod FilingLemmas

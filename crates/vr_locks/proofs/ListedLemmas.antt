@@ -96,7 +96,7 @@ All-listed P at (suc n) each =
     (All-listed P at n (λ j lock less. each j lock (omega arith)))
     (one-all P (at n) (λ lock. each n lock (omega arith)))
 
-find-none : (test : Lock → Bool) (locks : List Lock) → All (λ lock. test lock ≡ false) locks → find test locks ≡ None
+pub find-none : (test : Lock → Bool) (locks : List Lock) → All (λ lock. test lock ≡ false) locks → find test locks ≡ None
 find-none test [] none = refl
 find-none test (lock ∷ locks) none =
     let first = All-head (λ (lock : Lock). test lock ≡ false) lock locks none in

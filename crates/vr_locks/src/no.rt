@@ -2,11 +2,10 @@
 ghost use Rattle.std.specs.Prelude.{◌≡◌};
 ghost use Rattle.vr_locks.specs.declared.no.LockNo.TheVariants.{Memory};
 
-use std::alloc::AllocError;
 use vr_types::{LockName, Mode, OutOfMemory, Unit};
 
 /// Why a unit doesn't get the names that it asks for.
-#[derive(Debug, Drop)]
+#[derive(Debug, Drop, PartialEq, Eq)]
 pub enum LockNo {
     /// A lock of another unit stands in the way: its holder, its name and its mode.
     Held {
@@ -22,14 +21,6 @@ impl From<OutOfMemory> for LockNo {
     ghost from_gives = { λ _ given. given ≡ Memory };
 
     fn from(_error: OutOfMemory) -> LockNo {
-        LockNo::Memory
-    }
-}
-
-impl From<AllocError> for LockNo {
-    ghost from_gives = { λ _ given. given ≡ Memory };
-
-    fn from(_error: AllocError) -> LockNo {
         LockNo::Memory
     }
 }

@@ -16,7 +16,7 @@ use vr_types::{LockName, LockNames, Mode, Unit};
 /// (DFSMStvs Planning and Operating Guide, record locks).
 #[derive(Drop)]
 pub struct LockTable {
-    inside: Inside,
+    pub(crate) inside: Inside,
 }
 
 impl Model for LockTable {
