@@ -1,15 +1,13 @@
 -- What a request leaves of the list of locks.
-use Rattle.std.proofs.Common.{◌≡◌, ℕ, ◌+◌, ◌<◌, ◌≤◌, Bool, false, cond, nat_eq, List, Option, None, Some, refl, sym, ap, ◌∙◌, ◌⊎◌, ⊎_elim, arith, inl, inr}
-use Rattle.std.specs.HashMap.{get}
+use Rattle.std.proofs.Common.{◌≡◌, ℕ, ◌≤◌, Bool, cond, nat_eq, List, Option, None, refl, sym, ap, ◌∙◌, ◌⊎◌, ⊎_elim, inl, inr}
 use Rattle.std.proofs.lemmas.Bool.{cases_cond, cases_eq, eq-eqb, ne_eqb}
 use Rattle.vr_types.specs.Locks.{Lock}
-use Rattle.vr_locks.specs.declared.inside.Inside.{Inside}
-use Rattle.vr_locks.specs.Inside.{IsKept, lock_at, locks_in}
-use Rattle.vr_locks.specs.Listed.{listed}
+use Rattle.vr_locks.specs.declared.maps.LockMaps.{LockMaps}
+use Rattle.vr_locks.specs.Maps.{IsConsistent, lock_at, locks_in}
 use Rattle.vr_locks.proofs.ListedLemmas.{listed-later, listed-same}
 
 -- the list is the same where each lock is, even if numbers are set aside
-pub locks-same : (old new : Inside) → IsKept old old.next → old.next ≤ new.next → ((n : ℕ) → lock_at new n ≡ lock_at old n) → locks_in new ≡ locks_in old
+pub locks-same : (old new : LockMaps) → IsConsistent old old.next → old.next ≤ new.next → ((n : ℕ) → lock_at new n ≡ lock_at old n) → locks_in new ≡ locks_in old
 locks-same old new kept later same =
     listed-same (lock_at old) (lock_at new) new.next (λ n less. same n) ∙ listed-later (lock_at old) old.next new.next later kept.below
 

@@ -1,15 +1,15 @@
 -- What becomes of the table where a unit of recovery ends.
-use Rattle.std.proofs.Common.{◌≡◌, ℕ, ◌<◌, ◌≤◌, Bool, true, false, cond, not, ◌||◌, nat_eq, List, [], length, Option, None, Some, AllPairs, refl, sym, ap, ◌∙◌, arith, ⊎_elim, inl, inr}
-use Rattle.std.specs.List.{filter, list_any}
+use Rattle.std.proofs.Common.{◌≡◌, ℕ, ◌<◌, Bool, true, false, cond, not, ◌||◌, nat_eq, List, [], Option, None, Some, AllPairs, refl, sym, ap, ◌∙◌, arith, ⊎_elim, inl, inr}
+use Rattle.std.specs.List.{list_any}
 use Rattle.std.proofs.lemmas.Bool.{cases_Bool, cases_eq, eq-eqb, ne_eqb, not-true}
 use Rattle.std.proofs.lemmas.Map.Entries.{option_filter}
 use Rattle.std.proofs.lemmas.Option.{cond_some, none-some}
 use Rattle.vr_types.specs.declared.unit.Unit as units
 use Rattle.vr_types.specs.LockName.{lock_name_eq}
 use Rattle.vr_types.specs.Locks.{Lock}
-use Rattle.vr_locks.specs.declared.inside.Inside.{Inside}
+use Rattle.vr_locks.specs.declared.maps.LockMaps.{LockMaps}
 use Rattle.vr_locks.specs.Conflict.{same_unit}
-use Rattle.vr_locks.specs.Inside.{IsKept, lock_at, locks_in, of_name, of_unit}
+use Rattle.vr_locks.specs.Maps.{IsConsistent, lock_at, locks_in, of_name, of_unit}
 use Rattle.vr_locks.specs.Listed.{IsFiled, listed}
 use Rattle.vr_locks.specs.Locked.{without_unit}
 use Rattle.vr_locks.proofs.ListedLemmas.{listed-filter}
@@ -33,7 +33,7 @@ pub dropped-more : (n number : ℕ) (before : Bool) (o : Option Lock)
     → cond (nat_eq number n) None (cond before None o) ≡ cond (before || nat_eq n number) None o
 dropped-more n number before o = none-or before (nat_eq number n) o ∙ ap (λ (b : Bool). cond (before || b) None o) (nat-flip number n)
 
-module _ (old new : Inside) (unit : units.Unit) (numbers : List ℕ) (kept : IsKept old old.next) (are : numbers ≡ of_unit old unit)
+module _ (old new : LockMaps) (unit : units.Unit) (numbers : List ℕ) (kept : IsConsistent old old.next) (are : numbers ≡ of_unit old unit)
     (locks : (n : ℕ) → lock_at new n ≡ cond (list_any (nat_eq n) numbers) None (lock_at old n))
     (names : IsFiled lock_name_eq (λ (lock : Lock). lock.name) (lock_at new) new.next (of_name new))
     (others : (q : units.Unit) → of_unit new q ≡ cond (same_unit unit q) [] (of_unit old q))
@@ -67,25 +67,25 @@ module _ (old new : Inside) (unit : units.Unit) (numbers : List ℕ) (kept : IsK
         let before = was n lock there in
         ap (list_any (nat_eq n)) (others q)
         ∙ elim (cases_Bool (same_unit unit q)) [
-            | inl ended ↦ rw ended (sym (ap (λ (u : units.Unit). same_unit u lock.unit) (sym (unit_equality.exact unit q ended)) ∙ before.1))
-            | inr another ↦ rw another (kept.units.found q n lock before.0)
-          ];
+          | inl ended ↦ rw ended (sym (ap (λ (u : units.Unit). same_unit u lock.unit) (sym (unit_equality.exact unit q ended)) ∙ before.1))
+          | inr another ↦ rw another (kept.units.found q n lock before.0)
+        ];
     below = λ q n past.
         ap (list_any (nat_eq n)) (others q)
         ∙ elim (same_unit unit q) as (λ b. list_any (nat_eq n) (cond b [] (of_unit old q)) ≡ false)
-          [ true ↦ refl | false ↦ kept.units.below q n (omega arith) ];
+        [ true ↦ refl | false ↦ kept.units.below q n (omega arith) ];
     rising = λ q. rw (others q)
         (elim (same_unit unit q) as (λ b. AllPairs (λ (m n : ℕ). m < n) (cond b [] (of_unit old q)))
-        [ true ↦ λ i j d less within. elim within [ ] | false ↦ kept.units.rising q ])
+        [ true ↦ λ i j d less within. elim within [ ] | false ↦ kept.units.rising q ]);
   }
 
-  pub ended-kept : IsKept new new.next
+  pub ended-kept : IsConsistent new new.next
   ended-kept = record {
     names = names;
     units = units-left;
     below = λ n above. left n ∙ ap (option_filter stays) (kept.below n (omega arith));
     sound = λ m n a b less there_a there_b. kept.sound m n a b less (was m a there_a).0 (was n b there_b).0;
-    room = omega arith
+    room = omega arith;
   }
 
   pub ended-locks : locks_in new ≡ without_unit unit (locks_in old)

@@ -1,12 +1,10 @@
 -- What the numbers that are filed under a key say of the list of locks.
-use Rattle.std.proofs.Common.{◌≡◌, ℕ, ◌+◌, ◌<◌, ◌≤◌, Bool, true, false, nat_eq, List, length, get_or, Option, None, Some, refl, sym, ap, ◌∙◌, arith, ◌⊎◌, ⊎_elim, inl, inr}
-use Rattle.std.specs.List.{find, list_any, Any}
+use Rattle.std.proofs.Common.{◌≡◌, ℕ, ◌<◌, ◌≤◌, Bool, true, false, nat_eq, List, length, get_or, Option, Some, refl, sym, ap, ◌∙◌, arith, ◌⊎◌, ⊎_elim, inl, inr}
 use Rattle.std.proofs.lemmas.Bool.{cases_lt, eqb-true, eq-eqb, true≢false, false_from_ne_true}
 use Rattle.std.proofs.lemmas.List.Folds.{Any-from_list_any, list_any_at}
 use Rattle.std.proofs.lemmas.Grind.{get_or_default_zero}
 use Rattle.vr_types.specs.Locks.{Lock}
-use Rattle.vr_locks.specs.Listed.{listed, IsFiled, AreBelow}
-use Rattle.vr_locks.proofs.ListedLemmas.{find-listed_none, find-listed_some, any-listed_none}
+use Rattle.vr_locks.specs.Listed.{IsFiled}
 
 equal_or_below : (i m : ℕ) → i ≤ m → (i ≡ m) ⊎ (i < m)
 equal_or_below i m above = ⊎_elim (λ less. inr less) (λ not_less. inl (omega arith)) (cases_lt i m)
@@ -36,9 +34,9 @@ module _ {K : Type 0} {same : K → K → Bool} {key : Lock → K} {at : ℕ →
   before_place i m n within here is_n less =
       ⊎_elim (λ below. below)
       (λ above. ⊎_elim
-          (λ (one : i ≡ m). absurd (let read : get_or (filed q) i 0 ≡ get_or (filed q) m 0 = ap (λ k. get_or (filed q) k 0) one in omega arith))
-          (λ (later : i < m). absurd (let rise : get_or (filed q) i 0 < get_or (filed q) m 0 = is.rising q i m 0 later here in omega arith))
-          (equal_or_below i m above))
+      (λ (one : i ≡ m). absurd (let read : get_or (filed q) i 0 ≡ get_or (filed q) m 0 = ap (λ k. get_or (filed q) k 0) one in omega arith))
+      (λ (later : i < m). absurd (let rise : get_or (filed q) i 0 < get_or (filed q) m 0 = is.rising q i m 0 later here in omega arith))
+      (equal_or_below i m above))
       (cases_lt m i)
 
   module _ (test : Lock → Bool) (of_key : (lock : Lock) → test lock ≡ true → same q (key lock) ≡ true) where
@@ -48,8 +46,8 @@ module _ {K : Type 0} {same : K → K → Bool} {key : Lock → K} {at : ℕ →
     none-filed none n lock there =
         false_from_ne_true (test lock)
         (λ passes.
-            let place = place-filed n lock there (of_key lock passes) in
-            true≢false (sym passes ∙ none place.0 lock place.1 (ap at place.2 ∙ there)))
+        let place = place-filed n lock there (of_key lock passes) in
+        true≢false (sym passes ∙ none place.0 lock place.1 (ap at place.2 ∙ there)))
 
     -- where none of those before a place passes, no lock with a lower number does
     pub none-before : (i : ℕ) → i < length (filed q)
@@ -58,6 +56,6 @@ module _ {K : Type 0} {same : K → K → Bool} {key : Lock → K} {at : ℕ →
     none-before i within none n lock less there =
         false_from_ne_true (test lock)
         (λ passes.
-            let place = place-filed n lock there (of_key lock passes) in
-            let earlier : place.0 < i = before_place i place.0 n within place.1 place.2 less in
-            true≢false (sym passes ∙ none place.0 lock earlier (ap at place.2 ∙ there)))
+        let place = place-filed n lock there (of_key lock passes) in
+        let earlier : place.0 < i = before_place i place.0 n within place.1 place.2 less in
+        true≢false (sym passes ∙ none place.0 lock earlier (ap at place.2 ∙ there)))

@@ -1,5 +1,5 @@
 -- A number that is filed under one key more.
-use Rattle.std.proofs.Common.{◌≡◌, ℕ, ◌+◌, ◌<◌, ◌≤◌, Bool, true, false, cond, nat_eq, List, [], ◌∷◌, ◌++◌, ◌||◌, length, get_or, Option, Some, None, AllPairs, refl, sym, ap, ◌∙◌, ◌⊎◌, ⊎_elim, arith, inl, inr, not}
+use Rattle.std.proofs.Common.{◌≡◌, ℕ, ◌+◌, ◌<◌, ◌≤◌, Bool, true, false, cond, nat_eq, List, [], ◌∷◌, ◌++◌, ◌||◌, Option, Some, None, AllPairs, refl, sym, ap, ◌∙◌, ◌⊎◌, ⊎_elim, arith, not}
 use Rattle.std.specs.List.{filter, list_any}
 use Rattle.std.proofs.lemmas.Bool.{cases_eq, eq-eqb, eqb-true, ne_eqb, or_right}
 use Rattle.std.proofs.lemmas.List.{get_or_default}
@@ -47,7 +47,7 @@ module _ {K : Type 0} {same : K → K → Bool} {key : Lock → K} {at : ℕ →
   filed-over new other later above same_lists found = record {
     found = λ q n lock there. ap (list_any (nat_eq n)) (same_lists q) ∙ found q n lock there;
     below = λ q n past. ap (list_any (nat_eq n)) (same_lists q) ∙ is.below q n (omega arith);
-    rising = λ q. rw (same_lists q) (is.rising q)
+    rising = λ q. rw (same_lists q) (is.rising q);
   }
 
   -- one lock less, whose number may go from under a key
@@ -66,15 +66,15 @@ module _ {K : Type 0} {same : K → K → Bool} {key : Lock → K} {at : ℕ →
         ⊎_elim
         (λ kept. ap (list_any (nat_eq n)) kept ∙ is.below q n past)
         (λ cut. ap (list_any (nat_eq n)) cut
-            ∙ ⊎_elim
-            (λ here. any-without_same n k (old q) here)
-            (λ apart. any-without_apart n k (old q) apart ∙ is.below q n past)
-            (cases_eq n k))
+        ∙ ⊎_elim
+        (λ here. any-without_same n k (old q) here)
+        (λ apart. any-without_apart n k (old q) apart ∙ is.below q n past)
+        (cases_eq n k))
         (goes q);
     rising = λ q. ⊎_elim
         (λ kept. rw kept (is.rising q))
         (λ cut. rw cut (AllPairs-filter (λ (m n : ℕ). m < n) (λ (n : ℕ). not (nat_eq n k)) (old q) (is.rising q)))
-        (goes q)
+        (goes q);
   }
 
   module _ (new : K → List ℕ) where
@@ -83,7 +83,7 @@ module _ {K : Type 0} {same : K → K → Bool} {key : Lock → K} {at : ℕ →
     filed-same same_lists = record {
       found = λ q n lock there. ap (list_any (nat_eq n)) (same_lists q) ∙ is.found q n lock there;
       below = λ q n past. ap (list_any (nat_eq n)) (same_lists q) ∙ is.below q n (omega arith);
-      rising = λ q. rw (same_lists q) (is.rising q)
+      rising = λ q. rw (same_lists q) (is.rising q);
     }
 
     module _ (k : K) (files : (q : K) → new q ≡ cond (same k q) (old q ++ bound ∷ []) (old q)) where
@@ -92,22 +92,23 @@ module _ {K : Type 0} {same : K → K → Bool} {key : Lock → K} {at : ℕ →
       others-filed q n apart =
           ap (list_any (nat_eq n)) (files q)
           ∙ elim (same k q) as (λ b. list_any (nat_eq n) (cond b (old q ++ bound ∷ []) (old q)) ≡ list_any (nat_eq n) (old q))
-            [ true ↦ any-push_apart n bound (old q) apart | false ↦ refl ]
+          [ true ↦ any-push_apart n bound (old q) apart | false ↦ refl ]
 
       -- and this one under its key alone
       pub number-filed : (q : K) → list_any (nat_eq bound) (new q) ≡ same k q
       number-filed q =
           ap (list_any (nat_eq bound)) (files q)
           ∙ elim (same k q) as (λ b. list_any (nat_eq bound) (cond b (old q ++ bound ∷ []) (old q)) ≡ b)
-            [ true ↦ any-push_same bound (old q) | false ↦ is.below q bound (omega arith) ]
+          [ true ↦ any-push_same bound (old q) | false ↦ is.below q bound (omega arith) ]
 
       pub filed-added : AreBelow at bound → IsFiled same key at (bound + 1) new
       filed-added free = record {
         found = λ q n lock there. others-filed q n (λ one. none-some lock (sym (free n (omega arith)) ∙ there)) ∙ is.found q n lock there;
         below = λ q n past. others-filed q n (λ one. omega arith) ∙ is.below q n (omega arith);
         rising = λ q. rw (files q)
-            (elim (same k q) as (λ b. AllPairs (λ (m n : ℕ). m < n) (cond b (old q ++ bound ∷ []) (old q)))
-            [ true ↦ all_pairs_push (λ (m n : ℕ). m < n) (old q) bound (is.rising q)
-                (λ m d within. rw (get_or_default (old q) m d 0 within) (below-filed is q m within))
-            | false ↦ is.rising q ])
+            (elim (same k q) as (λ b. AllPairs (λ (m n : ℕ). m < n) (cond b (old q ++ bound ∷ []) (old q))) [
+              | true ↦ all_pairs_push (λ (m n : ℕ). m < n) (old q) bound (is.rising q)
+                  (λ m d within. rw (get_or_default (old q) m d 0 within) (below-filed is q m within))
+              | false ↦ is.rising q
+            ]);
       }

@@ -1,9 +1,9 @@
 -- What becomes of the table where a name is granted.
-use Rattle.std.proofs.Common.{◌≡◌, ◌≢◌, ℕ, ◌+◌, ◌<◌, ◌≤◌, Bool, true, false, cond, not, ◌&&◌, ◌||◌, nat_eq, List, [], ◌∷◌, ◌++◌, Option, None, Some, refl, sym, ap, subst, ◌∙◌, ◌⊎◌, arith, ⊎_elim, inl, inr}
+use Rattle.std.proofs.Common.{◌≡◌, ◌≢◌, ℕ, ◌<◌, true, false, cond, not, ◌||◌, nat_eq, Option, None, Some, refl, sym, ap, subst, ◌∙◌, ◌⊎◌, arith, ⊎_elim, inl, inr}
 use Rattle.std.specs.HashMap.{get}
 use Rattle.std.specs.List.{list_any}
 use Rattle.std.specs.Option.{option_map}
-use Rattle.std.proofs.lemmas.Bool.{and_from, and_left, and_parts, and_right, cases_Bool, cases_eq, cases_lt, eq-eqb, false_from_ne_true, ne_eqb, or_left, or_parts, true≢false}
+use Rattle.std.proofs.lemmas.Bool.{and_left, and_parts, and_right, cases_Bool, cases_eq, cases_lt, eq-eqb, false_from_ne_true, ne_eqb, or_parts, true≢false}
 use Rattle.std.proofs.lemmas.Option.{none-some, same_Some}
 use Rattle.vr_types.specs.declared.lock_name.LockName.{LockName}
 use Rattle.vr_types.specs.declared.unit.Mode.{Mode}
@@ -11,11 +11,11 @@ use Rattle.vr_types.specs.declared.unit.Mode.TheVariants.{Shared, Exclusive}
 use Rattle.vr_types.specs.declared.unit.Unit as units
 use Rattle.vr_types.specs.LockName.{lock_name_eq}
 use Rattle.vr_types.specs.Locks.{Lock}
-use Rattle.vr_locks.specs.declared.inside.Inside.{Inside}
+use Rattle.vr_locks.specs.declared.maps.LockMaps.{LockMaps}
 use Rattle.vr_locks.specs.Conflict.{conflicts, is_exclusive, same_unit, stands_against}
 use Rattle.vr_locks.specs.Filed.{numbers_in}
-use Rattle.vr_locks.specs.Inside.{IsKept, KeepsFiled, lock_at, locks_in, of_name, of_unit}
-use Rattle.vr_locks.specs.Listed.{AreBelow, AreSound, IsFiled, listed}
+use Rattle.vr_locks.specs.Maps.{IsConsistent, KeepsFiled, lock_at, locks_in, of_name, of_unit}
+use Rattle.vr_locks.specs.Listed.{AreBelow, AreSound, listed}
 use Rattle.vr_locks.specs.Locked.{is_own, raise, with_lock}
 use Rattle.vr_locks.specs.Plan.{Grants, IsFiledFor, IsOwnAt, NoneAgainst}
 use Rattle.vr_locks.specs.Sound.{GoTogether}
@@ -36,14 +36,14 @@ own_once at unit name m n a b sound there_a there_b own_a own_b =
     ⊎_elim
     (λ before. absurd ((sound m n a b before there_a there_b (sym name_a ∙ name_b)).0 (sym unit_a ∙ unit_b)))
     (λ not_before. ⊎_elim
-        (λ after. absurd ((sound n m b a after there_b there_a (sym name_b ∙ name_a)).0 (sym unit_b ∙ unit_a)))
-        (λ not_after. omega arith)
-        (cases_lt n m))
+    (λ after. absurd ((sound n m b a after there_b there_a (sym name_b ∙ name_a)).0 (sym unit_b ∙ unit_a)))
+    (λ not_after. omega arith)
+    (cases_lt n m))
     (cases_lt m n)
 
 -- the number of a lock is in use
-pub live-below : {inside : Inside} {bound : ℕ} → IsKept inside bound → (n : ℕ) (lock : Lock) → lock_at inside n ≡ Some lock → n < bound
-live-below {inside} {bound} kept n lock there =
+pub live-below : {maps : LockMaps} {bound : ℕ} → IsConsistent maps bound → (n : ℕ) (lock : Lock) → lock_at maps n ≡ Some lock → n < bound
+live-below {maps} {bound} kept n lock there =
     ⊎_elim (λ less. less) (λ past. absurd (none-some lock (sym (kept.below n past) ∙ there))) (cases_lt n bound)
 
 -- a lock of the unit's own is never in its way
@@ -100,29 +100,29 @@ module _ (unit : units.Unit) (mode : Mode) (name : LockName) where
             let parts = and_parts (lock_name_eq name a.name) (same_unit unit a.unit) own in
             let named : lock_name_eq name b.name ≡ true = rw (sym names) parts.0 in
             let other : same_unit unit b.unit ≡ false =
-                false_from_ne_true (same_unit unit b.unit) (λ same. apart (sym (unit_equality.exact unit a.unit parts.1) ∙ unit_equality.exact unit b.unit same)) in
+            false_from_ne_true (same_unit unit b.unit) (λ same. apart (sym (unit_equality.exact unit a.unit parts.1) ∙ unit_equality.exact unit b.unit same)) in
             let plain : mode ≡ Shared = (both_shared unit mode name b free named other).0 in
             rw (own, plain) was
         | inr other ↦ rw other was
       ]
 
-  module _ (old new : Inside) (kept : IsKept old old.next) (free : NoneAgainst old unit mode name) where
+  module _ (old new : LockMaps) (kept : IsConsistent old old.next) (free : NoneAgainst old unit mode name) where
     module _ (own : ℕ) (is : IsOwnAt old unit name own) (filed : KeepsFiled old new)
         (locks : (n : ℕ) → lock_at new n ≡ cond (nat_eq own n) (option_map (raise mode) (lock_at old n)) (lock_at old n)) where
       same-elsewhere : (n : ℕ) (o : Option Lock) → lock_at old n ≡ o → own ≢ n → o ≡ option_map change o
       same-elsewhere n None there apart = refl
       same-elsewhere n (Some lock) there apart =
           ap (λ (one : Lock). Some one) (sym (change-other lock (false_from_ne_true (is_own unit name lock)
-              (λ owned. apart (own_once (lock_at old) unit name own n is.0 lock kept.sound is.1 there is.2 owned)))))
+          (λ owned. apart (own_once (lock_at old) unit name own n is.0 lock kept.sound is.1 there is.2 owned)))))
 
       -- each lock is changed where it is the unit's own, and kept elsewhere
       changes : (n : ℕ) → lock_at new n ≡ option_map change (lock_at old n)
       changes n =
           ⊎_elim
           (λ here.
-              let there : lock_at old n ≡ Some is.0 = ap (lock_at old) (sym here) ∙ is.1 in
-              let raised : change is.0 ≡ raise mode is.0 = rw is.2 refl in
-              locks n ∙ rw (eq-eqb own n here, there) (ap (λ (one : Lock). Some one) (sym raised)))
+          let there : lock_at old n ≡ Some is.0 = ap (lock_at old) (sym here) ∙ is.1 in
+          let raised : change is.0 ≡ raise mode is.0 = rw is.2 refl in
+          locks n ∙ rw (eq-eqb own n here, there) (ap (λ (one : Lock). Some one) (sym raised)))
           (λ apart. locks n ∙ rw (ne_eqb own n apart) (same-elsewhere n (lock_at old n) refl apart))
           (cases_eq own n)
 
@@ -134,24 +134,25 @@ module _ (unit : units.Unit) (mode : Mode) (name : LockName) where
           let was_a = was m a there_a in
           let was_b = was n b there_b in
           let named : was_a.0.name ≡ was_b.0.name = sym (change-name was_a.0) ∙ ap (λ (l : Lock). l.name) was_a.2 ∙ names ∙ sym (ap (λ (l : Lock). l.name) was_b.2) ∙ change-name was_b.0 in
-          let together = kept.sound m n was_a.0 was_b.0 less was_a.1 was_b.1 named in
-          (λ units. together.0 (sym (change-unit was_a.0) ∙ ap (λ (l : Lock). l.unit) was_a.2 ∙ units ∙ sym (ap (λ (l : Lock). l.unit) was_b.2) ∙ change-unit was_b.0),
+          let together = kept.sound m n was_a.0 was_b.0 less was_a.1 was_b.1 named in (
+            λ units. together.0 (sym (change-unit was_a.0) ∙ ap (λ (l : Lock). l.unit) was_a.2 ∙ units ∙ sym (ap (λ (l : Lock). l.unit) was_b.2) ∙ change-unit was_b.0),
             sym (ap (λ (l : Lock). l.mode) was_a.2) ∙ change-shared was_a.0 was_b.0 named together.0 together.1 (free n was_b.0 was_b.1),
-            sym (ap (λ (l : Lock). l.mode) was_b.2) ∙ change-shared was_b.0 was_a.0 (sym named) (λ units. together.0 (sym units)) together.2 (free m was_a.0 was_a.1))
+            sym (ap (λ (l : Lock). l.mode) was_b.2) ∙ change-shared was_b.0 was_a.0 (sym named) (λ units. together.0 (sym units)) together.2 (free m was_a.0 was_a.1),
+          )
 
-      raised-kept : IsKept new new.next
+      raised-kept : IsConsistent new new.next
       raised-kept = record {
         names = filed-over kept.names (of_name new) (lock_at new) new.next (omega (arith, filed.next))
             (λ q. ap (λ map. numbers_in (get lock_name_eq map q)) filed.names)
             (λ q n lock there. let before = was n lock there in
-                kept.names.found q n before.0 before.1 ∙ ap (lock_name_eq q) (sym (change-name before.0) ∙ ap (λ (l : Lock). l.name) before.2));
+            kept.names.found q n before.0 before.1 ∙ ap (lock_name_eq q) (sym (change-name before.0) ∙ ap (λ (l : Lock). l.name) before.2));
         units = filed-over kept.units (of_unit new) (lock_at new) new.next (omega (arith, filed.next))
             (λ q. ap (λ map. numbers_in (get same_unit map q)) filed.units)
             (λ q n lock there. let before = was n lock there in
-                kept.units.found q n before.0 before.1 ∙ ap (same_unit q) (sym (change-unit before.0) ∙ ap (λ (l : Lock). l.unit) before.2));
+            kept.units.found q n before.0 before.1 ∙ ap (same_unit q) (sym (change-unit before.0) ∙ ap (λ (l : Lock). l.unit) before.2));
         below = λ n above. changes n ∙ ap (option_map change) (kept.below n (omega (arith, filed.next)));
         sound = raised-sound;
-        room = omega arith
+        room = omega arith;
       }
 
       raised-free : (other : LockName) → NoneAgainst old unit mode other → NoneAgainst new unit mode other
@@ -166,14 +167,16 @@ module _ (unit : units.Unit) (mode : Mode) (name : LockName) where
           ]
 
       raised-owned : (other : LockName) (n : ℕ) → IsOwnAt old unit other n → IsOwnAt new unit other n
-      raised-owned other n owned =
-          (change owned.0, changes n ∙ ap (option_map change) owned.1,
-              rw (change-name owned.0, change-unit owned.0) owned.2)
+      raised-owned other n owned = (
+        change owned.0,
+        changes n ∙ ap (option_map change) owned.1,
+        rw (change-name owned.0, change-unit owned.0) owned.2,
+      )
 
       raised-locks : locks_in new ≡ with_lock unit mode (locks_in old) name
       raised-locks =
           let held : list_any (is_own unit name) (locks_in old) ≡ true =
-              any-listed_some (is_own unit name) (lock_at old) own old.next is.0 (live-below kept own is.0 is.1) is.1 is.2 in
+          any-listed_some (is_own unit name) (lock_at old) own old.next is.0 (live-below kept own is.0 is.1) is.1 is.2 in
           let same : listed (lock_at new) new.next ≡ listed (lock_at new) old.next = ap (listed (lock_at new)) filed.next in
           same ∙ listed-map change (lock_at old) (lock_at new) old.next changes ∙ rw held refl
 
@@ -200,8 +203,8 @@ module _ (unit : units.Unit) (mode : Mode) (name : LockName) where
       goes : (n : ℕ) (lock : Lock) → lock_at old n ≡ Some lock → GoTogether lock taken
       goes n lock there = λ names.
           let differs : is_own unit name lock ≡ false =
-              false_from_ne_true (is_own unit name lock)
-              (λ owned. true≢false (sym (any-listed_some (is_own unit name) (lock_at old) n old.next lock (live-below kept n lock there) there owned) ∙ not_held)) in
+          false_from_ne_true (is_own unit name lock)
+          (λ owned. true≢false (sym (any-listed_some (is_own unit name) (lock_at old) n old.next lock (live-below kept n lock there) there owned) ∙ not_held)) in
           let named : lock_name_eq name lock.name ≡ true = ap (lock_name_eq name) names ∙ name_equality.itself name in
           let other : same_unit unit lock.unit ≡ false = rw named at differs in
           let both = both_shared unit mode name lock (free n lock there) named other in
@@ -211,43 +214,43 @@ module _ (unit : units.Unit) (mode : Mode) (name : LockName) where
       put-sound m n a b less there_a there_b =
           ⊎_elim
           (λ (last_b : (k ≡ n) × (taken ≡ b)). ⊎_elim
-              (λ (last_a : (k ≡ m) × (taken ≡ a)). absurd (omega (arith, last_a.0, last_b.0)))
-              (λ old_a. let P : Lock → Type 0 = λ lock. GoTogether a lock in subst P last_b.1 (goes m a old_a))
-              (new_or_old m a there_a))
+          (λ (last_a : (k ≡ m) × (taken ≡ a)). absurd (omega (arith, last_a.0, last_b.0)))
+          (λ old_a. let P : Lock → Type 0 = λ lock. GoTogether a lock in subst P last_b.1 (goes m a old_a))
+          (new_or_old m a there_a))
           (λ old_b. ⊎_elim
-              (λ (last_a : (k ≡ m) × (taken ≡ a)). absurd (none-some b (sym (last n (omega (arith, last_a.0))) ∙ old_b)))
-              (λ old_a. kept.sound m n a b less old_a old_b)
-              (new_or_old m a there_a))
+          (λ (last_a : (k ≡ m) × (taken ≡ a)). absurd (none-some b (sym (last n (omega (arith, last_a.0))) ∙ old_b)))
+          (λ old_a. kept.sound m n a b less old_a old_b)
+          (new_or_old m a there_a))
           (new_or_old n b there_b)
 
-      put-kept : IsKept new new.next
+      put-kept : IsConsistent new new.next
       put-kept = record {
         names = filed-over kept.names (of_name new) (lock_at new) new.next (omega (arith, filed.next))
             (λ q. ap (λ map. numbers_in (get lock_name_eq map q)) filed.names)
             (λ q n lock there. ⊎_elim
-                (λ (here : (k ≡ n) × (taken ≡ lock)).
-                    ap (λ (j : ℕ). list_any (nat_eq j) (of_name old q)) (sym here.0) ∙ alone.name_alone q ∙ same-flip name_equality name q
-                    ∙ ap (λ (l : Lock). lock_name_eq q l.name) here.1)
-                (λ before. kept.names.found q n lock before)
-                (new_or_old n lock there));
+            (λ (here : (k ≡ n) × (taken ≡ lock)).
+            ap (λ (j : ℕ). list_any (nat_eq j) (of_name old q)) (sym here.0) ∙ alone.name_alone q ∙ same-flip name_equality name q
+            ∙ ap (λ (l : Lock). lock_name_eq q l.name) here.1)
+            (λ before. kept.names.found q n lock before)
+            (new_or_old n lock there));
         units = filed-over kept.units (of_unit new) (lock_at new) new.next (omega (arith, filed.next))
             (λ q. ap (λ map. numbers_in (get same_unit map q)) filed.units)
             (λ q n lock there. ⊎_elim
-                (λ (here : (k ≡ n) × (taken ≡ lock)).
-                    ap (λ (j : ℕ). list_any (nat_eq j) (of_unit old q)) (sym here.0) ∙ alone.unit_alone q ∙ same-flip unit_equality unit q
-                    ∙ ap (λ (l : Lock). same_unit q l.unit) here.1)
-                (λ before. kept.units.found q n lock before)
-                (new_or_old n lock there));
+            (λ (here : (k ≡ n) × (taken ≡ lock)).
+            ap (λ (j : ℕ). list_any (nat_eq j) (of_unit old q)) (sym here.0) ∙ alone.unit_alone q ∙ same-flip unit_equality unit q
+            ∙ ap (λ (l : Lock). same_unit q l.unit) here.1)
+            (λ before. kept.units.found q n lock before)
+            (new_or_old n lock there));
         below = λ n above. elsewhere n (λ here. omega (arith, filed.next)) ∙ kept.below n (omega (arith, filed.next));
         sound = put-sound;
-        room = omega arith
+        room = omega arith;
       }
 
       put-free : (other : LockName) → NoneAgainst old unit mode other → NoneAgainst new unit mode other
       put-free other none n lock there =
           ⊎_elim
           (λ (here : (k ≡ n) × (taken ≡ lock)).
-              own_passes unit mode other lock (ap (λ (l : Lock). same_unit unit l.unit) (sym here.1) ∙ unit_equality.itself unit))
+          own_passes unit mode other lock (ap (λ (l : Lock). same_unit unit l.unit) (sym here.1) ∙ unit_equality.itself unit))
           (λ before. none n lock before)
           (new_or_old n lock there)
 

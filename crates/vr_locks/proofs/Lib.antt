@@ -4,8 +4,8 @@ mod EndLemmas
 mod FiledLemmas
 mod FilingLemmas
 mod GrantLemmas
-mod InsideLemmas
 mod ListedLemmas
+mod MapLemmas
 mod NameLemmas
 mod PlanLemmas
 mod RefusalLemmas

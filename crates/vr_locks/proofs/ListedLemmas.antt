@@ -1,7 +1,7 @@
 -- The list of locks, by the numbers under which they are kept.
-use Rattle.std.proofs.Common.{◌≡◌, ◌≢◌, ℕ, zero, suc, ◌+◌, ◌<◌, ◌≤◌, Bool, true, false, cond, nat_eq, List, [], ◌∷◌, ◌++◌, ◌||◌, map, Option, None, Some, refl, sym, ap, ◌∙◌, arith, ⊎_elim, All, AllPairs, append-nil}
+use Rattle.std.proofs.Common.{◌≡◌, ◌≢◌, ℕ, zero, suc, ◌<◌, ◌≤◌, Bool, true, false, cond, nat_eq, List, [], ◌∷◌, ◌++◌, ◌||◌, map, Option, None, Some, refl, sym, ◌∙◌, arith, ⊎_elim, All, append-nil}
 use Rattle.std.specs.List.{filter, find, list_any}
-use Rattle.std.specs.Option.{option_map, option_or, option_to_list}
+use Rattle.std.specs.Option.{option_map, option_to_list}
 use Rattle.std.proofs.lemmas.Bool.{cases_eq, cases_lt, eq-eqb, ne_eqb, or_right, true≢false, false_from_ne_true}
 use Rattle.std.proofs.lemmas.List.{map-append}
 use Rattle.std.proofs.lemmas.List.Elements.{All-append, All-nil, All-cons, All-head, All-tail, filter-append}
@@ -43,15 +43,15 @@ listed-add at other k zero lock within above is = elim within [ ]
 listed-add at other k (suc n) lock within above is =
     ⊎_elim
     (λ same.
-        let earlier : listed other n ≡ listed at n = listed-same at other n (λ j less. other_below at other k j lock is (omega arith)) in
-        let here : other n ≡ Some lock = is n ∙ rw (eq-eqb k n same) refl in
-        let gone : at n ≡ None = above n (omega arith) in
-        rw (earlier, here, gone, append-nil) refl)
+    let earlier : listed other n ≡ listed at n = listed-same at other n (λ j less. other_below at other k j lock is (omega arith)) in
+    let here : other n ≡ Some lock = is n ∙ rw (eq-eqb k n same) refl in
+    let gone : at n ≡ None = above n (omega arith) in
+    rw (earlier, here, gone, append-nil) refl)
     (λ apart.
-        let before = listed-add at other k n lock (omega arith) above is in
-        let gone : at n ≡ None = above n (omega arith) in
-        let here : other n ≡ None = other_below at other k n lock is apart ∙ gone in
-        rw (here, gone, append-nil, append-nil) before)
+    let before = listed-add at other k n lock (omega arith) above is in
+    let gone : at n ≡ None = above n (omega arith) in
+    let here : other n ≡ None = other_below at other k n lock is apart ∙ gone in
+    rw (here, gone, append-nil (listed other n), append-nil (listed at n)) before)
     (cases_eq k n)
 
 one-map : (change : Lock → Lock) (p o : Option Lock) → o ≡ option_map change p → option_to_list o ≡ map change (option_to_list p)
@@ -119,13 +119,13 @@ find-listed_some test at k zero lock within is passes none = elim within [ ]
 find-listed_some test at k (suc n) lock within is passes none =
     ⊎_elim
     (λ less.
-        let earlier = find-listed_some test at k n lock less is passes none in
-        rw (find-append test (listed at n) (option_to_list (at n)), earlier) refl)
+    let earlier = find-listed_some test at k n lock less is passes none in
+    rw (find-append test (listed at n) (option_to_list (at n)), earlier) refl)
     (λ not_less.
-        let same : k ≡ n = omega arith in
-        let earlier : find test (listed at n) ≡ None = find-listed_none test at n (λ j other less. none j other (omega arith)) in
-        let here : at n ≡ Some lock = rw (sym same) is in
-        rw (find-append test (listed at n) (option_to_list (at n)), earlier, here, passes) refl)
+    let same : k ≡ n = omega arith in
+    let earlier : find test (listed at n) ≡ None = find-listed_none test at n (λ j other less. none j other (omega arith)) in
+    let here : at n ≡ Some lock = rw (sym same) is in
+    rw (find-append test (listed at n) (option_to_list (at n)), earlier, here, passes) refl)
     (cases_lt k n)
 
 -- a lock below n passes the test
@@ -137,9 +137,9 @@ any-listed_some test at k (suc n) lock within is passes =
     ⊎_elim
     (λ less. rw (list_any-append test (listed at n) (option_to_list (at n)), any-listed_some test at k n lock less is passes) refl)
     (λ not_less.
-        let same : k ≡ n = omega arith in
-        let here : at n ≡ Some lock = rw (sym same) is in
-        rw (list_any-append test (listed at n) (option_to_list (at n)), here) (or_right (list_any test (listed at n)) (test lock || false) (rw passes refl)))
+    let same : k ≡ n = omega arith in
+    let here : at n ≡ Some lock = rw (sym same) is in
+    rw (list_any-append test (listed at n) (option_to_list (at n)), here) (or_right (list_any test (listed at n)) (test lock || false) (rw passes refl)))
     (cases_lt k n)
 
 any_from_find : (test : Lock → Bool) (locks : List Lock) → find test locks ≡ None → list_any test locks ≡ false

@@ -1,5 +1,5 @@
 -- What stands in the way of a request.
-use Rattle.std.proofs.Common.{◌≡◌, ℕ, zero, suc, ◌+◌, ◌<◌, Bool, true, false, cond, List, [], ◌∷◌, length, get_or, drop, Option, None, Some, refl, sym, ap, ◌∙◌, ◌&&◌, arith, inl, inr}
+use Rattle.std.proofs.Common.{◌≡◌, ℕ, zero, suc, ◌+◌, ◌<◌, Bool, true, List, [], ◌∷◌, length, get_or, drop, Option, None, Some, refl, sym, ap, ◌∙◌, arith, inl, inr}
 use Rattle.std.specs.List.{find}
 use Rattle.std.specs.Option.{option_map, option_or}
 use Rattle.std.proofs.lemmas.Bool.{and_parts, cases_Bool}
@@ -11,7 +11,7 @@ use Rattle.vr_types.specs.declared.unit.Unit as units
 use Rattle.vr_types.specs.LockName.{lock_name_eq}
 use Rattle.vr_types.specs.Locks.{Lock}
 use Rattle.vr_locks.specs.Conflict.{conflicts, first_conflict, holding, refusal, stands_against}
-use Rattle.vr_locks.proofs.NameLemmas.{IsEquality, name_equality}
+use Rattle.vr_locks.proofs.NameLemmas.{name_equality}
 
 neither : (one other : Option Lock) → option_or one other ≡ None → (one ≡ None) × (other ≡ None)
 neither None other none = (refl, none)

@@ -1,3 +1,4 @@
+-- Numbers under a key of a map. The form is this project's own.
 use Rattle.std.specs.Prelude.{ℕ, List, [], Option, None, Some}
 use Rattle.std.specs.Global.{Vec}
 

@@ -1,8 +1,7 @@
+-- Which locks may stand side by side, as the DFSMStvs Planning and Operating Guide gives record locks.
 use Rattle.std.specs.Prelude.{◌≡◌, ◌≢◌, List, AllPairs}
 use Rattle.vr_types.specs.declared.unit.Mode.TheVariants.{Shared}
 use Rattle.vr_types.specs.Locks.{Lock}
-
--- Which locks may stand side by side, as the DFSMStvs Planning and Operating Guide gives record locks.
 
 -- two locks on one name are of two units, and both are shared
 abbrev pub GoTogether : Lock → Lock → Type 0

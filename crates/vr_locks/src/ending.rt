@@ -5,13 +5,13 @@ ghost use Rattle.vr_types.specs.LockName.{lock_name_eq};
 ghost use Rattle.vr_types.specs.Locks.{Lock};
 ghost use Rattle.vr_locks.specs.Locked.{without_unit};
 ghost use Rattle.vr_locks.specs.Listed.{IsFiled};
-ghost use Rattle.vr_locks.specs.Inside.{IsKept, lock_at, locks_in, of_name};
+ghost use Rattle.vr_locks.specs.Maps.{IsConsistent, lock_at, locks_in, of_name};
 
 use crate::filed::{drop_number, take_numbers};
-use crate::inside::Inside;
+use crate::maps::LockMaps;
 use vr_types::{LockName, Unit};
 
-impl Inside {
+impl LockMaps {
     /// Takes away the lock with a number, if there is one, and the number from under its name.
     fn drop_lock(&mut self, number: u64)
         ensures locks { (n : ℕ) → lock_at self.new n ≡ cond (nat_eq number n) None (lock_at self.old n) }
@@ -40,9 +40,9 @@ impl Inside {
 
     /// Takes the unit's locks away, and touches no others. It takes no memory.
     pub(crate) fn end(&mut self, unit: Unit)
-        requires { IsKept self.old self.old.next }
+        requires { IsConsistent self.old self.old.next }
         ensures locks { locks_in self.new ≡ without_unit unit (locks_in self.old) }
-        ensures kept { IsKept self.new self.new.next }
+        ensures kept { IsConsistent self.new self.new.next }
     {
         let numbers = take_numbers(self.alloc, &mut self.units, &unit);
         self.drop_locks(&numbers);

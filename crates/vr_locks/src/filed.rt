@@ -1,4 +1,4 @@
-//! Numbers under keys.
+//! Maps from a key to the numbers that are filed under it.
 ghost use Rattle.std.specs.Prelude.{◌≡◌, ℕ, List, [], ◌∷◌, ◌++◌, not, nat_eq, cond, OnOk, OnErr};
 ghost use Rattle.std.specs.HashMap.{get};
 ghost use Rattle.std.specs.List.{filter};

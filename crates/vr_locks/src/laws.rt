@@ -13,7 +13,7 @@ pub fn locks_go_together(table: &LockTable)
     ensures apart { (a b : Lock) → Contains table.now a → Contains table.now b → Conflict a b → ⊥ }
     ensures once { AllPairs (λ (a b : Lock). a.name ≡ b.name → a.unit ≢ b.unit) table.now }
 {
-    let _ = &table.inside;
+    let _ = &table.maps;
 }
 
 /// A lock stands in the way of a request exactly where it conflicts with the lock that is asked for.

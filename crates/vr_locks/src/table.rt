@@ -5,7 +5,7 @@ ghost use Rattle.vr_locks.specs.Answer.{CauseOf};
 ghost use Rattle.vr_locks.specs.Conflict.{first_conflict, holding, refusal};
 ghost use Rattle.vr_locks.specs.Locked.{with_locks, without_unit};
 
-use crate::inside::Inside;
+use crate::maps::LockMaps;
 use crate::no::LockNo;
 use std::alloc::Global;
 use std::collections::HashMap;
@@ -16,7 +16,7 @@ use vr_types::{LockName, LockNames, Mode, Unit};
 /// (DFSMStvs Planning and Operating Guide, record locks).
 #[derive(Drop)]
 pub struct LockTable {
-    pub(crate) inside: Inside,
+    pub(crate) maps: LockMaps,
 }
 
 impl Model for LockTable {
@@ -25,11 +25,11 @@ impl Model for LockTable {
 
     ghost Value = { List Lock };
 
-    ghost use Rattle.vr_locks.specs.Inside.{IsKept, locks_in};
+    ghost use Rattle.vr_locks.specs.Maps.{IsConsistent, locks_in};
 
-    ghost view = { λ table. locks_in table.inside };
+    ghost view = { λ table. locks_in table.maps };
 
-    ghost invariant = { λ table. IsKept table.inside table.inside.next };
+    ghost invariant = { λ table. IsConsistent table.maps table.maps.next };
 }
 
 /// A table with no lock.
@@ -37,7 +37,7 @@ pub fn lock_table(alloc: Global) -> LockTable
     ensures { result ≡ [] }
 {
     LockTable {
-        inside: Inside {
+        maps: LockMaps {
             locks: HashMap::new(alloc),
             names: HashMap::new(alloc),
             units: HashMap::new(alloc),
@@ -57,7 +57,7 @@ impl LockTable {
         ensures taken { OnOk result (self.new ≡ with_locks unit mode self.old names.now) }
         ensures unchanged { OnErr result (self.new ≡ self.old) }
     {
-        self.inside.ask(unit, mode, names.as_slice())
+        self.maps.ask(unit, mode, names.as_slice())
     }
 
     /// The holder and the mode of the earliest lock that stands in the way of a unit that would ask for a name. It takes
@@ -65,13 +65,13 @@ impl LockTable {
     pub fn test(&self, unit: Unit, name: &LockName, mode: Mode) -> Option<(Unit, Mode)>
         ensures { result ≡ option_map holding (first_conflict self.now unit mode name.now) }
     {
-        self.inside.conflict(unit, mode, name)
+        self.maps.conflict(unit, mode, name)
     }
 
     /// Takes a unit's locks away, and leaves those of the others in their order. It takes no memory.
     pub fn end(&mut self, unit: Unit)
         ensures { self.new ≡ without_unit unit self.old }
     {
-        self.inside.end(unit);
+        self.maps.end(unit);
     }
 }

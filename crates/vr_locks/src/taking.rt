@@ -1,18 +1,30 @@
 //! A request that is granted: first all of its memory, then its locks.
 ghost use Rattle.std.specs.Prelude.{
-    ◌≡◌, ◌<◌, ◌≤◌, ◌+◌, ℕ, false, cond, nat_eq, length, Some, IfOk, OnOk, slice_index_or
+  ◌≡◌,
+  ◌<◌,
+  ◌≤◌,
+  ◌+◌,
+  ℕ,
+  false,
+  cond,
+  nat_eq,
+  length,
+  Some,
+  IfOk,
+  OnOk,
+  slice_index_or,
 };
 ghost use Rattle.std.specs.HashMap.{spare};
 ghost use Rattle.std.specs.List.{list_any};
 ghost use Rattle.std.specs.Option.{option_map};
 ghost use Rattle.vr_locks.specs.Locked.{is_own, raise, with_locks};
-ghost use Rattle.vr_locks.specs.Inside.{IsKept, KeepsFiled, lock_at, locks_in};
+ghost use Rattle.vr_locks.specs.Maps.{IsConsistent, KeepsFiled, lock_at, locks_in};
 ghost use Rattle.vr_locks.specs.Listed.{AreBelow};
-ghost use Rattle.vr_locks.specs.Plan.{IsFiledFor, IsOwnAt, IsStepFor, ArePlansFor, Grants, NoneAgainst};
+ghost use Rattle.vr_locks.specs.Plan.{IsFiledFor, IsOwnAt, IsStepFor, AreStepsFor, Grants, NoneAgainst};
 
 use crate::filed::{drop_number, file};
-use crate::inside::Inside;
-use crate::kept::Kept;
+use crate::held::HeldLock;
+use crate::maps::LockMaps;
 use std::alloc::Global;
 use vr_types::{LockName, Mode, OutOfMemory, Unit};
 
@@ -25,7 +37,7 @@ pub(crate) enum Step {
     Take { number: u64, name: LockName },
 }
 
-impl Inside {
+impl LockMaps {
     /// Makes the lock with a number exclusive, where the mode is.
     fn raise_at(&mut self, number: u64, mode: Mode)
         ensures locks { (n : ℕ) → lock_at self.new n ≡ cond (nat_eq number n) (option_map (raise mode) (lock_at self.old n)) (lock_at self.old n) }
@@ -38,7 +50,7 @@ impl Inside {
     }
 
     /// Puts a lock under a number, for which there is room.
-    fn put_at(&mut self, number: u64, lock: Kept)
+    fn put_at(&mut self, number: u64, lock: HeldLock)
         requires { 0 < spare self.old.locks }
         ensures locks { (n : ℕ) → lock_at self.new n ≡ cond (nat_eq number n) (Some lock) (lock_at self.old n) }
         ensures filed { KeepsFiled self.old self.new }
@@ -50,7 +62,7 @@ impl Inside {
 
     /// Raises the unit's own lock on a name in its place, where the mode is exclusive.
     fn raise(&mut self, unit: Unit, mode: Mode, name: &LockName, own: u64)
-        requires kept { IsKept self.old self.old.next }
+        requires kept { IsConsistent self.old self.old.next }
         requires own { IsOwnAt self.old unit name.now own }
         requires free { NoneAgainst self.old unit mode name.now }
         ensures grants { Grants unit mode name.now self.old self.new }
@@ -62,7 +74,7 @@ impl Inside {
 
     /// Puts a new lock under a number that is filed for it, as the last. There is room for it.
     fn put(&mut self, unit: Unit, mode: Mode, name: LockName, number: u64)
-        requires kept { IsKept self.old self.old.next }
+        requires kept { IsConsistent self.old self.old.next }
         requires within { number < self.old.next }
         requires last { AreBelow (lock_at self.old) number }
         requires filed { IsFiledFor self.old unit name number }
@@ -73,16 +85,16 @@ impl Inside {
         ensures last { AreBelow (lock_at self.new) (number + 1) }
         ensures room { spare self.old.locks ≤ spare self.new.locks + 1 }
     {
-        self.put_at(number, Kept::new(name, unit, mode));
+        self.put_at(number, HeldLock::new(name, unit, mode));
     }
 
     /// Files a number that was never used under a unit and a name. Where memory runs out, the number stays unused.
     fn file_under(&mut self, unit: Unit, name: LockName, number: u64) -> Result<(), OutOfMemory>
-        requires kept { IsKept self.old number }
+        requires kept { IsConsistent self.old number }
         requires room { number < self.old.next }
         ensures locks { self.new.locks ≡ self.old.locks }
         ensures next { self.new.next ≡ self.old.next }
-        ensures kept { IsKept self.new (number + 1) }
+        ensures kept { IsConsistent self.new (number + 1) }
         ensures others { (n : ℕ) (other : LockName) → n < number → IsFiledFor self.old unit other n → IsFiledFor self.new unit other n }
         ensures filed { OnOk result (IsFiledFor self.new unit name number) }
     {
@@ -93,11 +105,11 @@ impl Inside {
 
     /// Takes the memory for one name, which may take a number that was never used. No lock changes.
     fn plan(&mut self, unit: Unit, name: &LockName, number: u64) -> Result<Step, OutOfMemory>
-        requires kept { IsKept self.old number }
+        requires kept { IsConsistent self.old number }
         requires room { number < self.old.next }
         ensures locks { self.new.locks ≡ self.old.locks }
         ensures next { self.new.next ≡ self.old.next }
-        ensures kept { IsKept self.new (number + 1) }
+        ensures kept { IsConsistent self.new (number + 1) }
         ensures others { (n : ℕ) (other : LockName) → n < number → IsFiledFor self.old unit other n → IsFiledFor self.new unit other n }
         ensures step { IfOk result (IsStepFor self.new unit name.now number) }
     {
@@ -111,13 +123,18 @@ impl Inside {
     }
 
     /// Takes the memory for each name of a request, whose numbers begin with `first`. No lock changes.
-    pub(crate) fn plans(&mut self, unit: Unit, names: &[LockName], first: u64) -> Result<Vec<Step>, OutOfMemory>
-        requires kept { IsKept self.old first }
+    pub(crate) fn plan_all(
+        &mut self,
+        unit: Unit,
+        names: &[LockName],
+        first: u64,
+    ) -> Result<Vec<Step>, OutOfMemory>
+        requires kept { IsConsistent self.old first }
         requires room { first + length names.now ≤ self.old.next }
         ensures locks { self.new.locks ≡ self.old.locks }
         ensures next { self.new.next ≡ self.old.next }
-        ensures kept { IsKept self.new self.new.next }
-        ensures steps { IfOk result (λ steps. ArePlansFor self.new unit names.now first steps.items) }
+        ensures kept { IsConsistent self.new self.new.next }
+        ensures steps { IfOk result (λ steps. AreStepsFor self.new unit names.now first steps.items) }
     {
         let mut steps = Vec::new(self.alloc);
         for (i, name) in names.iter().enumerate() {
@@ -129,7 +146,7 @@ impl Inside {
 
     /// Does what is to be done for one name, which takes no memory: the unit's own lock on it is raised, or a new one comes last.
     fn carry(&mut self, unit: Unit, mode: Mode, name: &LockName, number: u64, step: Step)
-        requires kept { IsKept self.old self.old.next }
+        requires kept { IsConsistent self.old self.old.next }
         requires within { number < self.old.next }
         requires last { AreBelow (lock_at self.old) number }
         requires step { IsStepFor self.old unit name.now number step }
@@ -149,15 +166,22 @@ impl Inside {
     }
 
     /// Does what is to be done for each name of a request, which takes no memory.
-    pub(crate) fn carry_out(&mut self, unit: Unit, mode: Mode, names: &[LockName], first: u64, steps: Vec<Step>)
-        requires kept { IsKept self.old self.old.next }
+    pub(crate) fn carry_out(
+        &mut self,
+        unit: Unit,
+        mode: Mode,
+        names: &[LockName],
+        first: u64,
+        steps: Vec<Step>,
+    )
+        requires kept { IsConsistent self.old self.old.next }
         requires within { first + length names.now ≤ self.old.next }
         requires last { AreBelow (lock_at self.old) first }
-        requires steps { ArePlansFor self.old unit names.now first steps.items }
+        requires steps { AreStepsFor self.old unit names.now first steps.items }
         requires free { (m : ℕ) (name : LockName) → m < length names.now → NoneAgainst self.old unit mode (slice_index_or names.now m name) }
         requires room { length names.now ≤ spare self.old.locks }
         ensures locks { locks_in self.new ≡ with_locks unit mode (locks_in self.old) names.now }
-        ensures kept { IsKept self.new self.new.next }
+        ensures kept { IsConsistent self.new self.new.next }
     {
         let mut place = 0usize;
         for step in steps {

@@ -1,6 +1,6 @@
 use Rattle.std.proofs.Common.{List, subst}
 use Rattle.vr_types.specs.Locks.{Lock}
-use Rattle.vr_locks.specs.Inside.{lock_at, locks_in}
+use Rattle.vr_locks.specs.Maps.{lock_at}
 use Rattle.vr_locks.specs.Sound.{IsSound}
 use Rattle.vr_locks.proofs.CallerLemmas.{sound-apart}
 use Rattle.vr_locks.proofs.ListedLemmas.{sound-listed}
@@ -8,12 +8,12 @@ use Rattle.vr_locks.proofs.laws.locks_go_together.Goals as goal
 
 pub returns-clause-apart : goal.returns-clause-apart
 returns-clause-apart c =
-    let inside = c.table.inside.inside in
+    let maps = c.table.inside.maps in
     let P : List Lock → Type 0 = λ locks. IsSound locks in
-    sound-apart c.args.table.now (subst P c.table.view_is (sound-listed (lock_at inside) inside.next c.table.invariant.sound))
+    sound-apart c.args.table.now (subst P c.table.view_is (sound-listed (lock_at maps) maps.next c.table.invariant.sound))
 
 pub returns-clause-once : goal.returns-clause-once
 returns-clause-once c = λ i j d less within names.
-    let inside = c.table.inside.inside in
+    let maps = c.table.inside.maps in
     let P : List Lock → Type 0 = λ locks. IsSound locks in
-    ((subst P c.table.view_is (sound-listed (lock_at inside) inside.next c.table.invariant.sound)) i j d less within names).0
+    ((subst P c.table.view_is (sound-listed (lock_at maps) maps.next c.table.invariant.sound)) i j d less within names).0

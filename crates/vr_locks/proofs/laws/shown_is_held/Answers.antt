@@ -1,6 +1,6 @@
-use Rattle.std.proofs.Common.{◌≡◌, List, Contains, sym, subst}
+use Rattle.std.proofs.Common.{Contains, subst}
 use Rattle.vr_types.specs.declared.lock_name.LockName.{LockName}
-use Rattle.vr_types.specs.Locks.{Conflict, Lock}
+use Rattle.vr_types.specs.Locks.{Conflict}
 use Rattle.vr_locks.specs.Conflict.{conflicts}
 use Rattle.vr_locks.proofs.CallerLemmas.{conflict-from, found-held, refusal-at}
 use Rattle.vr_locks.proofs.RefusalLemmas.{find-passes}
