@@ -65,6 +65,7 @@ fn interval(alloc: Global, block: &mut [u8], rest: &str, out: &mut String) -> An
         "slots" => intervals::slots(alloc, block, rest, out),
         "item" => intervals::item(alloc, block, rest, out),
         "write" => writers::records(alloc, block, rest, out),
+        "write-bytes" => writers::single_bytes(block, rest, out),
         "write-slots" => writers::slots_of(alloc, block, rest, out),
         "write-segment" => writers::segment(alloc, block, rest, out),
         _ => Err(Stop::Line),

@@ -1,22 +1,22 @@
 -- A block with a fault is no control interval.
+use Rattle.vr_ci_match.specs.declared.fault.CiFault.TheVariants as faults
 use Rattle.std.proofs.Common.{◌≡◌, ℕ, ◌+◌, ◌-◌, ◌/◌, ◌%◌, ◌≤◌, inl, inr, Bool, true, false, List, [], ◌∷◌, ◌++◌, length, take, drop, None, refl, sym, ap, ◌∙◌, subst, arith, append_assoc, length-append, length-take, length-drop}
 use Rattle.std.specs.Prelude.{slice_index, bit_and}
 use Rattle.std.proofs.lemmas.List.{drop_at, take-append-drop, take-take, get_or_at, get_or-take}
-use Rattle.vr_ci.specs.declared.form.Form.{Form}
-use Rattle.vr_ci.specs.declared.form.Form.TheVariants.{Plain, Slots}
-use Rattle.vr_ci.specs.declared.form.Piece.{Piece}
-use Rattle.vr_ci.specs.declared.form.Piece.TheVariants.{First, Inner, Last}
-use Rattle.vr_ci.specs.declared.rdf.Rdf.{Rdf}
-use Rattle.vr_ci.specs.declared.rdf.Rdf.TheVariants.{Single, Run, Segment}
-use Rattle.vr_ci.specs.declared.fault.CiFault.{CiFault}
-use Rattle.vr_ci.specs.declared.fault.CiFault.TheVariants as faults
-use Rattle.vr_ci.specs.Rdf.{two_bytes, withdrawn_bit, segment_bits, rdf_bytes, control, IsChain}
-use Rattle.vr_ci.specs.Interval.{Interval, control_at, IsInterval}
-use Rattle.vr_ci.specs.Fault.{cidf_at, free_end, HasZeroCidf, IsCidfSound, IsUnit, IsBroken, IsWhole, described, rdfs_room, IsRoomPassed, HasWrongLengths, IsFirstFault}
-use Rattle.vr_ci.proofs.RdfLemmas.{control_prefix, control_thirds, control_same}
-use Rattle.vr_ci.proofs.ChainLemmas.{size_bounds, chain-front}
+use Rattle.vr_ci_match.specs.declared.form.Form.{Form}
+use Rattle.vr_ci_match.specs.declared.form.Form.TheVariants.{Plain, Slots}
+use Rattle.vr_ci_match.specs.declared.form.Piece.{Piece}
+use Rattle.vr_ci_match.specs.declared.form.Piece.TheVariants.{First, Inner, Last}
+use Rattle.vr_ci_match.specs.declared.rdf.Rdf.{Rdf}
+use Rattle.vr_ci_match.specs.declared.rdf.Rdf.TheVariants.{Single, Run, Segment}
+use Rattle.vr_ci_match.specs.declared.fault.CiFault.{CiFault}
+use Rattle.vr_ci_match.specs.Rdf.{two_bytes, withdrawn_bit, segment_bits, rdf_bytes, control, IsChain}
+use Rattle.vr_ci.specs.Interval.{Interval, IsInterval}
+use Rattle.vr_ci_match.specs.Laid.{control_at}
+use Rattle.vr_ci_match.specs.Fault.{cidf_at, free_end, HasZeroCidf, IsCidfSound, IsUnit, IsBroken, IsWhole, described, rdfs_room, IsRoomPassed, HasWrongLengths, IsFirstFault}
+use Rattle.vr_ci_match.proofs.CallerLemmas.{control_prefix, control_thirds, control_same, size_bounds, chain-front, rdfs_room-append}
 use Rattle.vr_ci.proofs.IntervalLemmas.{Laid, laid_says, free_end_is, not_zero, zero_block}
-use Rattle.vr_ci.proofs.MaskLemmas.{described_is, room_in, rdfs_room-append}
+use Rattle.vr_ci.proofs.DescribedLemmas.{described_is, room_in}
 
 -- the flags of an RDF that stands before an end: a pair's right half has X'40', and no other RDF has
 flags_single : (live : Bool) → bit_and (withdrawn_bit live) 64 ≡ 0
@@ -63,7 +63,7 @@ unit_of low block end at p (Segment piece live number n) h e l u =
 
 -- an interval with RDFs is laid out
 laid_of : (form : Form) (block : List ℕ) (value : Interval) → (HasZeroCidf block → ⊥) → IsInterval form block value → Laid form block value
-laid_of form block value some a = elim a.image [ inl l ↦ laid_says form block value a.size a.fits l | inr e ↦ absurd (some (zero_block block e.1)) ]
+laid_of form block value some a = elim a.laid [ inl l ↦ laid_says form block value a.size a.fits l | inr e ↦ absurd (some (zero_block block e.1)) ]
 
 -- before the CIDF, cut where a chain begins
 pub cut : (block : List ℕ) (at : ℕ) (rs : List Rdf) → drop at (take (cidf_at block) block) ≡ control rs → take at (take (cidf_at block) block) ++ control rs ≡ take (cidf_at block) block
@@ -142,7 +142,7 @@ not_wrong form block value a l rs w at wrong =
 sound : (form : Form) (block : List ℕ) (value : Interval) → IsInterval form block value → IsCidfSound block
 sound form block value a =
     let least = (size_bounds (length block) a.size).0 in
-    elim a.image [
+    elim a.laid [
       | inl x ↦
           let l = laid_says form block value a.size a.fits x in
           record { fits = omega (arith, free_end_is l, l.place); zeros = λ z. absurd (not_zero l least z) }

@@ -4,22 +4,18 @@ use Rattle.std.specs.Prelude.{map, replicate, if◌then◌else◌}
 use Rattle.std.specs.List.{flat_map}
 use Rattle.std.proofs.lemmas.Nat.{div-add-mod'}
 use Rattle.std.proofs.lemmas.List.{take_at, drop_at, length-replicate}
-use Rattle.vr_ci.specs.declared.form.Form.{Form}
-use Rattle.vr_ci.specs.declared.form.Form.TheVariants.{Plain, Slots}
-use Rattle.vr_ci.specs.declared.form.Piece.TheVariants.{First, Inner, Last}
-use Rattle.vr_ci.specs.declared.rdf.Rdf.{Rdf}
-use Rattle.vr_ci.specs.declared.rdf.Rdf.TheVariants.{Single, Run, Segment}
-use Rattle.vr_ci.specs.Size.{IsBlockSize}
-use Rattle.vr_ci.specs.Rdf.{marks, spans, rdf_bytes, control, IsChain}
-use Rattle.vr_ci.specs.Interval.{slots_in, padded, cidf, control_at, laid}
-use Rattle.vr_ci.specs.Fault.{cidf_at, displacement, free_length, free_end, is_busy, IsWhole, masked, slotted, slots_of, meant, HasRightLengths}
-use Rattle.vr_ci.proofs.RdfLemmas.{control_thirds, control_same}
-use Rattle.vr_ci.proofs.ItemLemmas.{total-all}
-use Rattle.vr_ci.proofs.LayoutLemmas.{zeros, length-padded, padded_fits, Parts, before_cidf, cidf_says, field_busy}
-use Rattle.vr_ci.proofs.ChainLemmas.{size_bounds, alone, all_records}
+use Rattle.vr_ci_match.specs.declared.form.Form.{Form}
+use Rattle.vr_ci_match.specs.declared.form.Form.TheVariants.{Plain, Slots}
+use Rattle.vr_ci_match.specs.declared.form.Piece.TheVariants.{First, Inner, Last}
+use Rattle.vr_ci_match.specs.declared.rdf.Rdf.{Rdf}
+use Rattle.vr_ci_match.specs.declared.rdf.Rdf.TheVariants.{Single, Run, Segment}
+use Rattle.vr_types.specs.BlockSize.{IsBlockSize}
+use Rattle.vr_ci_match.specs.Rdf.{marks, spans, rdf_bytes, control, IsChain}
+use Rattle.vr_ci_match.specs.Laid.{slots_in, padded, cidf, control_at, laid}
+use Rattle.vr_ci_match.specs.Fault.{cidf_at, displacement, free_length, free_end, is_busy, IsWhole, masked, slotted, slots_of, meant, HasRightLengths}
+use Rattle.vr_ci_match.proofs.CallerLemmas.{control_thirds, control_same, total-all, zeros, length-padded, padded_fits, Parts, before_cidf, cidf_says, field_busy, size_bounds, alone, all_records, AreSingles, singles, masked_is, length-masked_marks, whole_end}
 use Rattle.vr_ci.proofs.FaultLemmas.{cut}
 use Rattle.std.proofs.Math.Nat.{mul-le-mul_right}
-use Rattle.vr_ci.proofs.MaskLemmas.{AreSingles, singles, masked_is, length-masked_marks}
 
 abbrev pub AreSlots : ℕ → List Rdf → Type 0
 AreSlots len [] = Unit {0}
@@ -107,11 +103,6 @@ pub record Right (form : Form) (block : List ℕ) (rs : List Rdf) : Type 0 where
   pub layout : block ≡ laid (length block) (masked rs block) rs (is_busy block)
   pub low : free_end block ≡ control_at (length block) rs
   pub masked : masked rs block ≡ take (spans rs) block
-
-pub whole_end : (form : Form) (block : List ℕ) (rs : List Rdf) → 512 ≤ length block → IsWhole form block rs → length (control rs) + control_at (length block) rs ≡ cidf_at block
-whole_end form block rs least w =
-    let upto : List ℕ = take (cidf_at block) block in
-    omega (arith, ap length w.right.bytes, length-drop (control_at (length block) rs) upto, length-take (cidf_at block) block, w.right.high, least)
 
 pub right_is : (form : Form) (block : List ℕ) (rs : List Rdf) → IsBlockSize (length block) → IsWhole form block rs → HasRightLengths form block rs → Right form block rs
 right_is form block rs size w right =

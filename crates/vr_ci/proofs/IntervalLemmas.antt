@@ -1,22 +1,21 @@
 -- What a block that is a control interval says, and that it says one value.
+use Rattle.vr_ci_match.specs.declared.form.Shape.TheVariants as shapes
 use Rattle.std.proofs.Common.{◌≡◌, ℕ, zero, suc, ◌+◌, ◌-◌, ◌*◌, ◌%◌, ◌<◌, ◌≤◌, inl, inr, List, [], ◌∷◌, ◌++◌, length, take, drop, None, refl, sym, ap, ◌∙◌, subst, arith, append_assoc}
-use Rattle.std.specs.Prelude.{map, replicate, if◌then◌else◌}
+use Rattle.std.specs.Prelude.{map, if◌then◌else◌}
 use Rattle.std.specs.List.{flat_map, AllByRecursion}
 use Rattle.std.proofs.lemmas.List.{drop_at, take-append-drop}
-use Rattle.vr_ci.specs.declared.form.Form.{Form}
-use Rattle.vr_ci.specs.declared.form.Shape.{Shape}
-use Rattle.vr_ci.specs.declared.form.Shape.TheVariants as shapes
-use Rattle.vr_ci.specs.declared.rdf.Rdf.{Rdf}
-use Rattle.vr_ci.specs.declared.rdf.Rdf.TheVariants.{Single, Run, Segment}
-use Rattle.vr_ci.specs.Size.{IsBlockSize}
-use Rattle.vr_ci.specs.Rdf.{Mark, marks, span, spans, control, IsRdf, IsChain, shape_of}
-use Rattle.vr_ci.specs.Interval.{Item, Interval, mark_of, bytes_of, FitsBlock, Fits, padded, cidf, control_at, laid, IsLaidOut, IsInterval}
+use Rattle.vr_ci_match.specs.declared.form.Form.{Form}
+use Rattle.vr_ci_match.specs.declared.form.Shape.{Shape}
+use Rattle.vr_ci_match.specs.declared.rdf.Rdf.{Rdf}
+use Rattle.vr_ci_match.specs.declared.rdf.Rdf.TheVariants.{Single, Run, Segment}
+use Rattle.vr_types.specs.BlockSize.{IsBlockSize}
+use Rattle.vr_ci_match.specs.Rdf.{Mark, marks, span, spans, control, IsRdf, IsChain, shape_of}
+use Rattle.vr_ci.specs.Interval.{Item, Interval, mark_of, bytes_of, FitsBlock, Fits, IsLaidOut, IsInterval}
+use Rattle.vr_ci_match.specs.Laid.{padded, cidf, control_at, laid}
 use Rattle.vr_ci.specs.Reading.{items_at}
-use Rattle.vr_ci.specs.Fault.{displacement, free_field, free_length, free_end, is_busy, HasZeroCidf}
-use Rattle.vr_ci.proofs.RdfLemmas.{control_same}
-use Rattle.vr_ci.proofs.ItemLemmas.{total, total-all, length-bytes, items_at-bytes}
-use Rattle.vr_ci.proofs.LayoutLemmas.{zeros, length-padded, padded_fits, Parts, before_cidf, cidf_says, field_busy}
-use Rattle.vr_ci.proofs.ChainLemmas.{size_bounds, chain_rdfs, room_kept}
+use Rattle.vr_ci_match.specs.Fault.{displacement, free_field, free_length, free_end, is_busy, HasZeroCidf}
+use Rattle.vr_ci_match.proofs.CallerLemmas.{control_same, total, total-all, zeros, length-padded, padded_fits, Parts, before_cidf, cidf_says, field_busy, size_bounds, chain_rdfs}
+use Rattle.vr_ci.proofs.ItemLemmas.{length-bytes, items_at-bytes, room_kept}
 
 -- what the bytes of a block that is laid out say
 pub record Laid (form : Form) (block : List ℕ) (value : Interval) : Type 0 where
@@ -124,8 +123,8 @@ end_items form size s items e f = let g : FitsBlock form size shapes.EndOfFile i
 -- Each block has at most one value.
 pub one_value : (form : Form) (block : List ℕ) (v w : Interval) → IsInterval form block v → IsInterval form block w → v ≡ w
 one_value form block v w a b =
-    elim a.image [
-      | inl la ↦ elim b.image [
+    elim a.laid [
+      | inl la ↦ elim b.laid [
         | inl lb ↦
             let l = laid_says form block v a.size a.fits la in
             let m = laid_says form block w b.size b.fits lb in
@@ -135,7 +134,7 @@ one_value form block v w a b =
             (sym l.busy ∙ m.busy)
         | inr eb ↦ absurd (not_zero (laid_says form block v a.size a.fits la) ((size_bounds (length block) a.size).0) (zero_block block eb.1))
       ]
-      | inr ea ↦ elim b.image [
+      | inr ea ↦ elim b.laid [
         | inl lb ↦ absurd (not_zero (laid_says form block w b.size b.fits lb) ((size_bounds (length block) a.size).0) (zero_block block ea.1))
         | inr eb ↦ same_value v w (ea.0 ∙ sym eb.0)
             (end_items form (length block) v.shape v.items ea.0 a.fits.block ∙ sym (end_items form (length block) w.shape w.items eb.0 b.fits.block))

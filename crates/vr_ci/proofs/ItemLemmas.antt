@@ -1,35 +1,21 @@
 -- Items, their marks and their bytes.
-use Rattle.std.proofs.Common.{◌≡◌, ℕ, zero, suc, ◌+◌, ◌*◌, ◌≤◌, List, [], ◌∷◌, ◌++◌, length, take, drop, refl, sym, ap, ◌∙◌, arith, append_assoc, length-append, length-take, length-drop}
-use Rattle.std.specs.Prelude.{map, replicate}
-use Rattle.std.specs.List.{flat_map}
-use Rattle.std.proofs.lemmas.List.{take_at, drop_at}
-use Rattle.vr_ci.specs.declared.rdf.Rdf.{Rdf}
-use Rattle.vr_ci.specs.declared.rdf.Rdf.TheVariants.{Single, Run, Segment}
-use Rattle.vr_ci.specs.Rdf.{Mark, marks, span, spans}
-use Rattle.vr_ci.specs.Interval.{Item, bytes_of, mark_of, room}
+use Rattle.vr_ci_match.specs.declared.form.Shape.TheVariants as shapes
+use Rattle.std.proofs.Common.{◌≡◌, ℕ, ◌+◌, ◌*◌, ◌≤◌, List, [], ◌∷◌, ◌++◌, length, take, drop, refl, sym, ap, ◌∙◌, arith, append_assoc, length-append, length-take, length-drop, ◌-◌, true, None}
+use Rattle.std.specs.Prelude.{map}
+use Rattle.std.specs.List.{flat_map, AllByRecursion}
+use Rattle.std.proofs.lemmas.List.{take_at, drop_at, length-map, length-replicate}
+use Rattle.vr_ci_match.specs.declared.rdf.Rdf.{Rdf}
+use Rattle.vr_ci_match.specs.declared.rdf.Rdf.TheVariants.{Single, Run, Segment}
+use Rattle.vr_ci_match.specs.Rdf.{Mark, marks, spans, rdf_bytes, control, IsRdf, IsOfRecords, IsChain, shape_of}
+use Rattle.vr_ci.specs.Interval.{Item, bytes_of, mark_of, room, FitsBlock}
 use Rattle.vr_ci.specs.Reading.{items_at}
-
--- the bytes that marked records have
-abbrev pub total : List Mark → ℕ
-total [] = 0
-total (m ∷ ms) = m.len + total ms
-
-pub total-append : (ms ns : List Mark) → total (ms ++ ns) ≡ total ms + total ns
-total-append [] ns = omega arith
-total-append (m ∷ ms) ns = omega (arith, total-append ms ns)
-
-total-replicate : (k : ℕ) (m : Mark) → total (replicate k m) ≡ m.len * k
-total-replicate zero m = omega arith
-total-replicate (suc k) m = omega (arith, total-replicate k m)
-
-pub total-marks : (r : Rdf) → total (marks r) ≡ span r
-total-marks (Single live n) = omega arith
-total-marks (Run n k) = total-replicate k _
-total-marks (Segment piece live number n) = omega arith
-
-pub total-all : (rs : List Rdf) → total (flat_map marks rs) ≡ spans rs
-total-all [] = refl
-total-all (r ∷ rs) = omega (arith, total-append (marks r) (flat_map marks rs), total-marks r, total-all rs)
+use Rattle.std.proofs.lemmas.Nat.{div-add-mod'}
+use Rattle.vr_ci_match.specs.declared.form.Form.{Form}
+use Rattle.vr_ci_match.specs.declared.form.Form.TheVariants.{Plain, Slots}
+use Rattle.vr_ci_match.specs.declared.form.Piece.{Piece}
+use Rattle.vr_ci_match.specs.declared.form.Piece.TheVariants.{First, Inner, Last}
+use Rattle.vr_ci_match.specs.Laid.{slots_in}
+use Rattle.vr_ci_match.proofs.CallerLemmas.{total, total-all, take-add, chain_rdfs, alone, all_records}
 
 pub length-bytes : (items : List Item) → length (flat_map bytes_of items) ≡ total (map mark_of items)
 length-bytes [] = refl
@@ -63,19 +49,76 @@ marks-items_at (m ∷ ms) bytes h =
     let others = marks-items_at ms (drop m.len bytes) (omega (arith, length-drop m.len bytes)) in
     cc
 
-pub take-add : (m n : ℕ) (bytes : List ℕ) → take (m + n) bytes ≡ take m bytes ++ take n (drop m bytes)
-take-add zero n bytes = let e : 0 + n ≡ n = omega arith in ap (λ (k : ℕ). take k bytes) e
-take-add (suc m) n [] = drop_none (suc m + n) ∙ sym (drop_none n)
-  where
-    drop_none : (k : ℕ) → take {A = ℕ} k [] ≡ []
-    drop_none zero = refl
-    drop_none (suc k) = refl
-take-add (suc m) n (b ∷ bytes) = rw suc_plus (ap (λ (t : List ℕ). b ∷ t) (take-add m n bytes))
-  where
-    suc_plus : suc m + n ≡ suc (m + n)
-    suc_plus = omega arith
-
 pub bytes-items_at : (ms : List Mark) (bytes : List ℕ) → flat_map bytes_of (items_at ms bytes) ≡ take (total ms) bytes
 bytes-items_at [] bytes = refl
 bytes-items_at (m ∷ ms) bytes =
     ap (λ (t : List ℕ). take m.len bytes ++ t) (bytes-items_at ms (drop m.len bytes)) ∙ sym (take-add m.len (total ms) bytes)
+
+-- each record has three bytes of RDFs or less
+control_short : (rs : List Rdf) → AllByRecursion IsRdf rs → AllByRecursion IsOfRecords rs → length (control rs) ≤ 3 * length (flat_map marks rs)
+control_short [] v o = omega arith
+control_short (Single live n ∷ rs) v o =
+    omega (arith, control_short rs v.1 o.1, length-append (control rs) (rdf_bytes (Single live n)))
+control_short (Run n k ∷ rs) v o =
+    omega (arith, control_short rs v.1 o.1, length-append (control rs) (rdf_bytes (Run n k)), length-append (marks (Run n k)) (flat_map marks rs), length-replicate k (let m : Mark = record { live = true; len = n } in m), v.0.2)
+control_short (Segment piece live number n ∷ rs) v o = absurd o.0
+
+slots_room : (len : ℕ) (items : List Item) → AllByRecursion (λ item. length item.bytes ≡ len) items → room items ≡ length items * (len + 3)
+slots_room len [] h = omega arith
+slots_room len (i ∷ items) h = omega (arith, slots_room len items h.1, h.0)
+
+pub records_room : (form : Form) (size : ℕ) (items : List Item) → FitsBlock form size shapes.Records items → room items ≤ size - 4
+records_room Plain size items h = h
+records_room (Slots len) size items h =
+    let some : room items ≡ slots_in size len * (len + 3) = slots_room len items h.0 ∙ ap (λ (k : ℕ). k * (len + 3)) h.1 in
+    omega (arith, some, div-add-mod' (size - 4) (len + 3))
+
+-- the length of the first record, where there is one
+abbrev pub first_len : List Mark → ℕ
+first_len [] = 0
+first_len (m ∷ ms) = m.len
+
+-- the records, and the RDFs, of a value that fits have place
+pub room_kept : (form : Form) (size : ℕ) (rs : List Rdf) (items : List Item) → 512 ≤ size → IsChain form rs → FitsBlock form size (shape_of rs) items
+    → flat_map marks rs ≡ map mark_of items → spans rs + length (control rs) + 4 ≤ size
+room_kept form size [] items least h f e = omega arith
+room_kept form size (Segment piece live number n ∷ rs) items least h f e = segment piece items f e
+  where
+    none : rs ≡ []
+    none = alone form piece live number n rs h
+
+    lengths : (spans (Segment piece live number n ∷ rs) ≡ n) × (length (control (Segment piece live number n ∷ rs)) ≡ 6)
+    lengths = (ap (λ (t : List Rdf). spans (Segment piece live number n ∷ t)) none ∙ omega arith, ap (λ (t : List Rdf). length (control (Segment piece live number n ∷ t))) none)
+
+    segment : (p : Piece) (is : List Item) → FitsBlock form size (shapes.Segment p number) is → flat_map marks (Segment piece live number n ∷ rs) ≡ map mark_of is
+        → spans (Segment piece live number n ∷ rs) + length (control (Segment piece live number n ∷ rs)) + 4 ≤ size
+    segment First [] f e = absurd cc
+    segment Inner [] f e = absurd cc
+    segment Last [] f e = absurd cc
+    segment First (i ∷ is) f e = let m : n ≡ length i.bytes = ap first_len e in omega (arith, m, lengths, f.1.0)
+    segment Inner (i ∷ is) f e = let m : n ≡ length i.bytes = ap first_len e in omega (arith, m, lengths, f.1.0)
+    segment Last (i ∷ is) f e = let m : n ≡ length i.bytes = ap first_len e in omega (arith, m, lengths, f.1.0)
+room_kept form size (Single live n ∷ rs) items least h f e =
+    let all = Single live n ∷ rs in
+    omega (
+      arith,
+      records_room form size items f,
+      room_is items,
+      ap total e,
+      total-all all,
+      ap length e,
+      length-map items mark_of,
+      control_short all (chain_rdfs form None all h) (all_records form None all h refl),
+    )
+room_kept form size (Run n k ∷ rs) items least h f e =
+    let all = Run n k ∷ rs in
+    omega (
+      arith,
+      records_room form size items f,
+      room_is items,
+      ap total e,
+      total-all all,
+      ap length e,
+      length-map items mark_of,
+      control_short all (chain_rdfs form None all h) (all_records form None all h refl),
+    )

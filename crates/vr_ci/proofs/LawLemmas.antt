@@ -1,23 +1,23 @@
 -- Each value that a block of a size holds has one block of that size.
+use Rattle.vr_ci_match.specs.declared.form.Shape.TheVariants as shapes
 use Rattle.std.proofs.Common.{◌≡◌, ℕ, suc, ◌+◌, ◌-◌, ◌<◌, ◌≤◌, inl, inr, Bool, true, false, List, [], ◌∷◌, ◌++◌, length, Option, Some, None, refl, sym, ap, ◌∙◌, subst, arith, length-append}
 use Rattle.std.specs.Prelude.{map, replicate, ◌==◌}
 use Rattle.std.specs.List.{flat_map, AllByRecursion}
 use Rattle.std.proofs.lemmas.Bool.{eqb-true, eqb-false}
 use Rattle.std.proofs.lemmas.List.{length-map, length-replicate}
-use Rattle.vr_ci.specs.declared.form.Form.{Form}
-use Rattle.vr_ci.specs.declared.form.Form.TheVariants.{Plain, Slots}
-use Rattle.vr_ci.specs.declared.form.Piece.{Piece}
-use Rattle.vr_ci.specs.declared.form.Piece.TheVariants.{First, Inner, Last}
-use Rattle.vr_ci.specs.declared.form.Shape.{Shape}
-use Rattle.vr_ci.specs.declared.form.Shape.TheVariants as shapes
-use Rattle.vr_ci.specs.declared.rdf.Rdf.{Rdf}
-use Rattle.vr_ci.specs.declared.rdf.Rdf.TheVariants.{Single, Run, Segment}
-use Rattle.vr_ci.specs.Size.{IsBlockSize}
-use Rattle.vr_ci.specs.Rdf.{Mark, marks, spans, control, IsCount, run_length, AreApart, IsOfForm, IsOfRecords, IsChainFrom, IsChain, shape_of}
-use Rattle.vr_ci.specs.Interval.{Item, Interval, IsItem, mark_of, bytes_of, room, slots_in, FitsBlock, Fits, padded, cidf, control_at, laid, IsLaidOut, IsImage, IsInterval}
-use Rattle.vr_ci.proofs.ItemLemmas.{room_is}
-use Rattle.vr_ci.proofs.LayoutLemmas.{zeros, length-zeros, length-padded}
-use Rattle.vr_ci.proofs.ChainLemmas.{size_bounds, room_kept, records_room}
+use Rattle.vr_ci_match.specs.declared.form.Form.{Form}
+use Rattle.vr_ci_match.specs.declared.form.Form.TheVariants.{Plain, Slots}
+use Rattle.vr_ci_match.specs.declared.form.Piece.{Piece}
+use Rattle.vr_ci_match.specs.declared.form.Piece.TheVariants.{First, Inner, Last}
+use Rattle.vr_ci_match.specs.declared.form.Shape.{Shape}
+use Rattle.vr_ci_match.specs.declared.rdf.Rdf.{Rdf}
+use Rattle.vr_ci_match.specs.declared.rdf.Rdf.TheVariants.{Single, Run, Segment}
+use Rattle.vr_types.specs.BlockSize.{IsBlockSize}
+use Rattle.vr_ci_match.specs.Rdf.{Mark, marks, spans, control, IsCount, run_length, AreApart, IsOfForm, IsOfRecords, IsChainFrom, IsChain, shape_of}
+use Rattle.vr_ci.specs.Interval.{Item, Interval, IsItem, mark_of, bytes_of, room, FitsBlock, Fits, IsInterval}
+use Rattle.vr_ci_match.specs.Laid.{padded, cidf, control_at, laid}
+use Rattle.vr_ci.proofs.ItemLemmas.{room_is, room_kept, records_room}
+use Rattle.vr_ci_match.proofs.CallerLemmas.{zeros, length-zeros, length-padded, size_bounds}
 use Rattle.vr_ci.proofs.SpellingLemmas.{one_spelling, mark, single, join, spelled, Apart, join-apart, join-same, join-more}
 
 pub no_end : (rs : List Rdf) → shape_of rs ≡ shapes.EndOfFile → ⊥
@@ -29,8 +29,8 @@ no_end (Segment piece live number n ∷ rs) e = cc
 pub one_block : (form : Form) (size : ℕ) (value : Interval) (one other : List ℕ) → IsInterval form one value → IsInterval form other value
     → length one ≡ size → length other ≡ size → one ≡ other
 one_block form size value one other a b e f =
-    elim a.image [
-      | inl la ↦ elim b.image [
+    elim a.laid [
+      | inl la ↦ elim b.laid [
         | inl lb ↦
             let same : la.rdfs ≡ lb.rdfs = one_spelling form la.rdfs lb.rdfs la.chain lb.chain (la.shape ∙ sym lb.shape) (la.said ∙ sym lb.said) in
             la.layout
@@ -39,7 +39,7 @@ one_block form size value one other a b e f =
             ∙ sym lb.layout
         | inr eb ↦ absurd (no_end la.rdfs (la.shape ∙ eb.0))
       ]
-      | inr ea ↦ elim b.image [
+      | inr ea ↦ elim b.laid [
         | inl lb ↦ absurd (no_end lb.rdfs (lb.shape ∙ ea.0))
         | inr eb ↦ ea.1 ∙ ap (λ (n : ℕ). zeros n) (e ∙ sym f) ∙ sym eb.1
       ]
@@ -157,7 +157,7 @@ made_block form size value s f rs c h e =
       record {
         size = subst IsBlockSize (sym long) s;
         fits = subst (λ (n : ℕ). Fits form n value) (sym long) f;
-        image = inl (record { rdfs = rs; chain = c; shape = h; said = e; layout = ap (λ (n : ℕ). laid n front rs value.busy) (sym long) });
+        laid = inl (record { rdfs = rs; chain = c; shape = h; said = e; layout = ap (λ (n : ℕ). laid n front rs value.busy) (sym long) });
       },
     )
 
@@ -212,6 +212,6 @@ some_block form size value s f = by_shape value.shape refl
       record {
         size = subst IsBlockSize (sym (length-zeros size)) s;
         fits = subst (λ (n : ℕ). Fits form n value) (sym (length-zeros size)) f;
-        image = inr (e, ap (λ (n : ℕ). zeros n) (sym (length-zeros size)));
+        laid = inr (e, ap (λ (n : ℕ). zeros n) (sym (length-zeros size)));
       },
     )

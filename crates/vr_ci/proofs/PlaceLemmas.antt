@@ -3,11 +3,11 @@ use Rattle.std.proofs.Common.{◌≡◌, ℕ, suc, ◌+◌, ◌-◌, ◌<◌, �
 use Rattle.std.specs.Prelude.{if◌then◌else◌}
 use Rattle.std.proofs.lemmas.Bool.{ne_eqb}
 use Rattle.std.proofs.lemmas.List.{take_at, drop_at, take-append-drop, take-take, drop-drop, take-append-le, set_split}
-use Rattle.vr_ci.specs.declared.rdf.Rdf.{Rdf}
-use Rattle.vr_ci.specs.declared.rdf.Rdf.TheVariants.{Single, Run}
-use Rattle.vr_ci.specs.Rdf.{two_bytes, rdf_bytes}
+use Rattle.vr_ci_match.specs.declared.rdf.Rdf.{Rdf}
+use Rattle.vr_ci_match.specs.declared.rdf.Rdf.TheVariants.{Single, Run}
+use Rattle.vr_ci_match.specs.Rdf.{two_bytes, rdf_bytes}
 use Rattle.vr_ci.specs.Writer.{placed, run_rdf}
-use Rattle.vr_ci.proofs.ItemLemmas.{take-add}
+use Rattle.vr_ci_match.proofs.CallerLemmas.{take-add}
 
 pub set-placed : (block : List ℕ) (i v : ℕ) → i < length block → set block i v ≡ placed block i (v ∷ [])
 set-placed block i v h = let e : suc i ≡ i + 1 = omega arith in

@@ -1,12 +1,12 @@
 -- RDFs are read again from the right.
 use Rattle.std.proofs.Common.{◌≡◌, ℕ, zero, suc, ◌+◌, ◌*◌, ◌/◌, ◌%◌, ◌≤◌, true, false, List, [], ◌∷◌, ◌++◌, length, take, drop, reverse, refl, ap, ◌∙◌, arith, length-append}
 use Rattle.std.proofs.lemmas.List.{reverse-append}
-use Rattle.vr_ci.specs.declared.form.Piece.TheVariants.{First, Inner, Last}
-use Rattle.vr_ci.specs.declared.rdf.Rdf.{Rdf}
-use Rattle.vr_ci.specs.declared.rdf.Rdf.TheVariants.{Single, Run, Segment}
-use Rattle.vr_ci.specs.Rdf.{withdrawn_bit, segment_bits, rdf_bytes, control}
+use Rattle.vr_ci_match.specs.declared.form.Piece.TheVariants.{First, Inner, Last}
+use Rattle.vr_ci_match.specs.declared.rdf.Rdf.{Rdf}
+use Rattle.vr_ci_match.specs.declared.rdf.Rdf.TheVariants.{Single, Run, Segment}
+use Rattle.vr_ci_match.specs.Rdf.{withdrawn_bit, segment_bits, rdf_bytes, control}
 use Rattle.vr_ci.specs.Reading.{rdf_back, rdfs_back, rdfs_between}
-use Rattle.vr_ci.proofs.RdfLemmas.{some_bytes}
+use Rattle.vr_ci_match.proofs.CallerLemmas.{some_bytes}
 
 number : (n : ℕ) → n % 256 + n / 256 * 256 ≡ n
 number n = omega arith

@@ -1,30 +1,30 @@
 -- What a view is made of, where the block is what its RDFs describe.
-use Rattle.std.proofs.Common.{◌≡◌, ℕ, zero, suc, ◌+◌, ◌-◌, ◌≤◌, inl, Bool, true, false, List, [], ◌∷◌, ◌++◌, length, take, drop, None, refl, sym, ap, ◌∙◌, subst, arith, length-take, length-drop}
+use Rattle.vr_ci_match.specs.declared.form.Shape.TheVariants as shapes
+use Rattle.std.proofs.Common.{◌≡◌, ℕ, zero, suc, ◌+◌, ◌-◌, ◌≤◌, ◌⊎◌, inl, inr, Bool, true, false, List, [], ◌∷◌, ◌++◌, length, take, drop, None, refl, sym, ap, ◌∙◌, subst, arith, length-take, length-drop, inr}
 use Rattle.std.specs.Prelude.{replicate, if◌then◌else◌}
 use Rattle.std.specs.List.{flat_map, AllByRecursion}
-use Rattle.vr_ci.specs.declared.form.Form.{Form}
-use Rattle.vr_ci.specs.declared.form.Form.TheVariants.{Plain, Slots}
-use Rattle.vr_ci.specs.declared.form.Piece.{Piece}
-use Rattle.vr_ci.specs.declared.form.Piece.TheVariants.{First, Inner, Last}
-use Rattle.vr_ci.specs.declared.form.Shape.{Shape}
-use Rattle.vr_ci.specs.declared.form.Shape.TheVariants as shapes
-use Rattle.vr_ci.specs.declared.rdf.Rdf.{Rdf}
-use Rattle.vr_ci.specs.declared.rdf.Rdf.TheVariants.{Single, Run, Segment}
-use Rattle.vr_ci.specs.declared.reading.Found.{Found}
-use Rattle.vr_ci.specs.Size.{IsBlockSize}
-use Rattle.vr_ci.specs.Rdf.{Mark, marks, spans, control, IsCount, IsRdf, IsChain, shape_of}
-use Rattle.vr_ci.specs.Interval.{Item, Interval, IsItem, bytes_of, IsSegmentLength, FitsBlock, control_at, laid, IsLaidOut, IsInterval}
-use Rattle.vr_ci.specs.Fault.{free_end, is_busy, IsWhole, masked, filled, slots_of, meant, IsRoomKept, HasRightLengths}
+use Rattle.vr_ci_match.specs.declared.form.Form.{Form}
+use Rattle.vr_ci_match.specs.declared.form.Form.TheVariants.{Plain, Slots}
+use Rattle.vr_ci_match.specs.declared.form.Piece.{Piece}
+use Rattle.vr_ci_match.specs.declared.form.Piece.TheVariants.{First, Inner, Last}
+use Rattle.vr_ci_match.specs.declared.form.Shape.{Shape}
+use Rattle.vr_ci_match.specs.declared.rdf.Rdf.{Rdf}
+use Rattle.vr_ci_match.specs.declared.rdf.Rdf.TheVariants.{Single, Run, Segment}
+use Rattle.vr_ci_match.specs.declared.matching.Found.{Found}
+use Rattle.vr_types.specs.BlockSize.{IsBlockSize}
+use Rattle.vr_ci_match.specs.Rdf.{Mark, marks, spans, control, IsCount, IsRdf, IsChain, shape_of}
+use Rattle.vr_ci.specs.Interval.{Item, Interval, IsItem, bytes_of, IsSegmentLength, FitsBlock, IsLaidOut, IsInterval}
+use Rattle.vr_ci_match.specs.Laid.{control_at, laid}
+use Rattle.vr_ci_match.specs.Fault.{free_end, is_busy, IsWhole, masked, filled, slots_of, meant, IsRoomKept, HasRightLengths}
 use Rattle.vr_ci.specs.Reading.{items_at, rdfs_in, value_in, rdfs_between, CountFits}
-use Rattle.vr_ci.specs.Tally.{IsFound}
-use Rattle.vr_ci.proofs.RdfLemmas.{same_ends}
-use Rattle.vr_ci.proofs.ItemLemmas.{total, total-all, room_is, length-items_at, marks-items_at, bytes-items_at, take-add}
-use Rattle.vr_ci.proofs.LayoutLemmas.{zeros}
-use Rattle.vr_ci.proofs.ChainLemmas.{size_bounds, chain_rdfs, alone, all_records}
+use Rattle.vr_ci.specs.Found.{IsFound}
+use Rattle.vr_ci_match.specs.Matched.{IsDescribed, IsZeros, IsMatched}
+use Rattle.vr_ci_match.proofs.CallerLemmas.{same_ends, total, total-all, take-add, zeros, size_bounds, chain_rdfs, alone, all_records, masked_marks, masked_is, length-masked_marks, room_of_rdfs, singles}
+use Rattle.vr_ci.proofs.ItemLemmas.{room_is, length-items_at, marks-items_at, bytes-items_at}
 use Rattle.vr_ci.proofs.LawLemmas.{no_end}
-use Rattle.vr_ci.proofs.MaskLemmas.{masked_marks, masked_is, length-masked_marks, room_of_rdfs, singles}
 use Rattle.vr_ci.proofs.ReadLemmas.{rdfs_between-is}
 use Rattle.vr_ci.proofs.FoundLemmas.{Right, right_is, AreSlots, slots_are}
+use Rattle.std.proofs.lemmas.List.{drop_all}
 
 counts-append : (ms ns : List Mark) → AllByRecursion (λ m. IsCount m.len) ms → AllByRecursion (λ m. IsCount m.len) ns → AllByRecursion (λ m. IsCount m.len) (ms ++ ns)
 counts-append [] ns h g = g
@@ -153,7 +153,7 @@ found_is form block rs found size w right low shape busy count =
         block = fits_shape form block rs bounds.0 w.right.chain r right.room;
         idle = λ e. absurd (no_end rs e);
       };
-      image = inl laid_out;
+      laid = inl laid_out;
     } in
     record {
       interval = subst (λ (v : Interval). IsInterval form block v) same interval;
@@ -173,3 +173,50 @@ found_is form block rs found size w right low shape busy count =
             (count_fits form n (shape_of rs) items (fits_shape form block rs bounds.0 w.right.chain r right.room)));
       };
     }
+
+pub end_found : (form : Form) (block : List ℕ) → IsBlockSize (length block) → block ≡ zeros (length block)
+    → IsFound form block (record { shape = shapes.EndOfFile; count = 0; low = length block - 4; busy = false })
+end_found form block size e =
+    let top : ℕ = length block - 4 in
+    let least = (size_bounds (length block) size).0 in
+    let nothing : drop top (take top block) ≡ [] = drop_all top (take top block) (omega (arith, length-take top block)) in
+    let rdfs : rdfs_in block top ≡ [] = rdfs_between-is top top block [] nothing in
+    let items : items_at (flat_map marks (rdfs_in block top)) block ≡ [] = ap (λ (x : List Rdf). items_at (flat_map marks x) block) rdfs in
+    let value : Interval = record { shape = shapes.EndOfFile; items = []; busy = false } in
+    let same : value ≡ value_in block top shapes.EndOfFile false = let i = sym items in cc in
+    let interval : IsInterval form block value = record {
+      size = size;
+      fits = record { items = tt; block = fits form; idle = λ _. refl };
+      laid = inr (refl, e);
+    } in
+    record {
+      interval = subst (λ (v : Interval). IsInterval form block v) same interval;
+      view = record {
+        shown = record {
+          lent = record {
+            order = omega arith;
+            within = omega (arith, least);
+            control = nothing ∙ ap control (sym rdfs);
+            rdfs = subst (λ (x : List Rdf). AllByRecursion IsRdf x) (sym rdfs) tt;
+          };
+          bytes = omega (arith, ap spans rdfs);
+          count = ap (λ (x : List Rdf). length (flat_map marks x)) (sym rdfs);
+        };
+        count = refl;
+      };
+    }
+  where
+    fits : (g : Form) → Rattle.vr_ci.specs.Interval.FitsBlock g (length block) shapes.EndOfFile []
+    fits Plain = refl
+    fits (Slots len) = refl
+
+-- What a block without a fault was found to hold is its value.
+pub matched_found : (form : Form) (block : List ℕ) (found : Found) → IsMatched form block found → IsFound form block found
+matched_found form block found matched = by_content matched.content
+  where
+    by_content : (IsDescribed form block found ⊎ IsZeros block found) → IsFound form block found
+    by_content (inl described) =
+        found_is form block described.rdfs found matched.size described.whole described.right described.low described.shape
+        described.busy described.count
+    by_content (inr empty) =
+        subst (λ (end : Found). IsFound form block end) (sym empty.is) (end_found form block matched.size empty.zeros)

@@ -1,15 +1,15 @@
 -- The one chain of RDFs that says given marks: runs are joined from the back.
+use Rattle.vr_ci_match.specs.declared.form.Shape.TheVariants as shapes
 use Rattle.std.proofs.Common.{◌≡◌, ℕ, zero, suc, ◌+◌, Bool, true, false, List, [], ◌∷◌, ◌++◌, Option, Some, None, refl, sym, ap, ◌∙◌, subst, arith}
 use Rattle.std.specs.Prelude.{map, replicate, if◌then◌else◌, ◌==◌}
 use Rattle.std.specs.List.{flat_map, AllByRecursion}
 use Rattle.std.proofs.lemmas.Bool.{eq-eqb, ne_eqb}
-use Rattle.vr_ci.specs.declared.form.Form.{Form}
-use Rattle.vr_ci.specs.declared.form.Form.TheVariants.{Plain, Slots}
-use Rattle.vr_ci.specs.declared.form.Shape.TheVariants as shapes
-use Rattle.vr_ci.specs.declared.rdf.Rdf.{Rdf}
-use Rattle.vr_ci.specs.declared.rdf.Rdf.TheVariants.{Single, Run, Segment}
-use Rattle.vr_ci.specs.Rdf.{Mark, marks, run_length, AreApart, IsOfRecords, IsChainFrom, IsChain, shape_of}
-use Rattle.vr_ci.proofs.ChainLemmas.{alone, all_records}
+use Rattle.vr_ci_match.specs.declared.form.Form.{Form}
+use Rattle.vr_ci_match.specs.declared.form.Form.TheVariants.{Plain, Slots}
+use Rattle.vr_ci_match.specs.declared.rdf.Rdf.{Rdf}
+use Rattle.vr_ci_match.specs.declared.rdf.Rdf.TheVariants.{Single, Run, Segment}
+use Rattle.vr_ci_match.specs.Rdf.{Mark, marks, run_length, AreApart, IsOfRecords, IsChainFrom, IsChain, shape_of}
+use Rattle.vr_ci_match.proofs.CallerLemmas.{alone, all_records}
 
 abbrev pub mark : Bool → ℕ → Mark
 mark live n = record { live = live; len = n }

@@ -1,25 +1,24 @@
 -- What a writer holds after each step, and the interval that it leaves.
+use Rattle.vr_ci_match.specs.declared.form.Shape.TheVariants as shapes
 use Rattle.std.proofs.Common.{◌≡◌, ℕ, zero, suc, ◌+◌, ◌-◌, ◌*◌, ◌<◌, ◌≤◌, inl, Bool, true, false, List, [], ◌∷◌, ◌++◌, length, take, drop, Option, Some, None, refl, sym, ap, ◌∙◌, subst, arith, append_assoc, length-append, length-take, length-drop}
 use Rattle.std.specs.Prelude.{map, replicate, IsTrue}
 use Rattle.std.specs.List.{flat_map, AllByRecursion}
 use Rattle.std.proofs.lemmas.List.{take_at, drop_at, take-append-drop, take-take, drop-drop, drop-take, append-nil, map-append, replicate_more, drop_all}
 use Rattle.std.proofs.lemmas.List.Concat.{flat_map-append}
-use Rattle.vr_ci.specs.declared.form.Form.{Form}
-use Rattle.vr_ci.specs.declared.form.Form.TheVariants.{Plain, Slots}
-use Rattle.vr_ci.specs.declared.form.Piece.{Piece}
-use Rattle.vr_ci.specs.declared.form.Piece.TheVariants.{First, Inner, Last}
-use Rattle.vr_ci.specs.declared.form.Shape.TheVariants as shapes
-use Rattle.vr_ci.specs.declared.rdf.Rdf.{Rdf}
-use Rattle.vr_ci.specs.declared.rdf.Rdf.TheVariants.{Single, Run, Segment}
+use Rattle.vr_ci_match.specs.declared.form.Form.{Form}
+use Rattle.vr_ci_match.specs.declared.form.Form.TheVariants.{Plain, Slots}
+use Rattle.vr_ci_match.specs.declared.form.Piece.{Piece}
+use Rattle.vr_ci_match.specs.declared.form.Piece.TheVariants.{First, Inner, Last}
+use Rattle.vr_ci_match.specs.declared.rdf.Rdf.{Rdf}
+use Rattle.vr_ci_match.specs.declared.rdf.Rdf.TheVariants.{Single, Run, Segment}
 use Rattle.vr_ci.specs.declared.writer.CiWriter.{CiWriter}
-use Rattle.vr_ci.specs.Size.{IsBlockSize}
-use Rattle.vr_ci.specs.Rdf.{Mark, marks, spans, rdf_bytes, control, IsCount, IsRdf, run_length, AreApart, IsOfForm, IsOfRecords, MayFollow, IsChain, last_from, shape_of}
-use Rattle.vr_ci.specs.Interval.{Item, Interval, IsItem, bytes_of, mark_of, room, slots_in, FitsBlock, Fits, padded, cidf, control_at, laid, IsLaidOut, IsInterval}
+use Rattle.vr_types.specs.BlockSize.{IsBlockSize}
+use Rattle.vr_ci_match.specs.Rdf.{Mark, marks, spans, rdf_bytes, control, IsCount, IsRdf, run_length, AreApart, IsOfForm, IsOfRecords, MayFollow, IsChain, last_from, shape_of}
+use Rattle.vr_ci.specs.Interval.{Item, Interval, IsItem, bytes_of, mark_of, room, FitsBlock, Fits, IsInterval}
+use Rattle.vr_ci_match.specs.Laid.{slots_in, padded, cidf, control_at}
 use Rattle.vr_ci.specs.Writer.{Holds, IsItemLength, IsLastRun, SlotsAdded, written, placed, run_rdf, run_started}
-use Rattle.vr_ci.proofs.RdfLemmas.{control-push}
-use Rattle.vr_ci.proofs.ItemLemmas.{total, total-all, room_is, length-bytes}
-use Rattle.vr_ci.proofs.LayoutLemmas.{zeros, length-zeros, padded_fits}
-use Rattle.vr_ci.proofs.ChainLemmas.{size_bounds, chain-push, chain-last, chain-front, last_from-push, all_records}
+use Rattle.vr_ci_match.proofs.CallerLemmas.{control-push, total, total-all, zeros, length-zeros, padded_fits, size_bounds, chain-push, chain-last, chain-front, last_from-push, all_records}
+use Rattle.vr_ci.proofs.ItemLemmas.{room_is, length-bytes}
 use Rattle.vr_ci.proofs.PlaceLemmas.{placed-next, length-placed, take-placed, take-placed_all, drop-placed, run_is}
 
 -- ---- lists of items
@@ -265,7 +264,7 @@ interval_of form block value rs size chain shape said fits place parts =
     record {
       size = size;
       fits = fits;
-      image = inl (record {
+      laid = inl (record {
         rdfs = rs;
         chain = chain;
         shape = shape;
@@ -287,7 +286,7 @@ filled_block block out f b k c tail four least sum high e o =
     let cut : b + (top - b) ≡ top = omega (arith, high) in
     let first : take top filled ≡ (take f block ++ zeros k) ++ tail =
     ap (λ (z : List ℕ). take top z) shape ∙ ap (λ (i : ℕ). take i ((take f block ++ zeros k) ++ drop b block)) (sym cut)
-    ∙ Rattle.vr_ci.proofs.CompareLemmas.take-past b (top - b) (take f block ++ zeros k) (drop b block) front
+    ∙ Rattle.vr_ci_match.proofs.CallerLemmas.take-past b (top - b) (take f block ++ zeros k) (drop b block) front
     ∙ ap (λ (z : List ℕ). (take f block ++ zeros k) ++ z) (sym (drop-take b (top - b) block) ∙ ap (λ (i : ℕ). drop b (take i block)) cut ∙ e) in
     let whole : length filled ≡ length block = omega (arith, ap length shape, length-append (take f block ++ zeros k) (drop b block), front, length-drop b block, high) in
     let last : drop (top + length c) filled ≡ [] = drop_all (top + length c) filled (omega (arith, whole, four, least)) in

@@ -1,9 +1,9 @@
-pub mod Size
-pub mod Rdf
+pub use Rattle.vr_types.specs.BlockSize
+pub use Rattle.vr_ci_match.specs.Rdf
+pub use Rattle.vr_ci_match.specs.Laid
+pub use Rattle.vr_ci_match.specs.Fault
 pub mod Interval
-pub mod Compare
-pub mod Fault
-pub mod Layout
 pub mod Reading
-pub mod Tally
+pub mod Found
+pub mod Walk
 pub mod Writer

@@ -1,15 +1,15 @@
 -- What a view lends, read out of its block.
-use Rattle.std.specs.Prelude.{ℕ, zero, suc, ◌+◌, ◌-◌, ◌*◌, Bool, if◌then◌else◌, nat_lt, ◌≡◌, ◌≤◌, ◌==◌, ◌||◌, List, [], ◌∷◌, ◌++◌, length, take, drop, reverse, replicate, slice_index}
+use Rattle.std.specs.Prelude.{ℕ, zero, suc, ◌+◌, ◌-◌, ◌*◌, Bool, if◌then◌else◌, nat_lt, ◌≡◌, ◌≤◌, ◌==◌, ◌||◌, ◌<◌, List, [], ◌∷◌, ◌++◌, length, take, drop, reverse, replicate, slice_index}
 use Rattle.std.specs.List.{flat_map, AllByRecursion}
 use Rattle.std.specs.Borrow.{Bor}
-use Rattle.vr_ci.specs.declared.form.Piece.{Piece}
-use Rattle.vr_ci.specs.declared.form.Piece.TheVariants.{First, Inner, Last}
-use Rattle.vr_ci.specs.declared.rdf.Rdf.{Rdf}
-use Rattle.vr_ci.specs.declared.rdf.Rdf.TheVariants.{Single, Run, Segment}
-use Rattle.vr_ci.specs.declared.form.Shape.{Shape}
-use Rattle.vr_ci.specs.declared.form.Shape.TheVariants as shapes
+use Rattle.vr_ci_match.specs.declared.form.Piece.{Piece}
+use Rattle.vr_ci_match.specs.declared.form.Piece.TheVariants.{First, Inner, Last}
+use Rattle.vr_ci_match.specs.declared.rdf.Rdf.{Rdf}
+use Rattle.vr_ci_match.specs.declared.rdf.Rdf.TheVariants.{Single, Run, Segment}
+use Rattle.vr_ci_match.specs.declared.form.Shape.{Shape}
+use Rattle.vr_ci_match.specs.declared.form.Shape.TheVariants as shapes
 use Rattle.vr_ci.specs.declared.records.Batch.{Batch}
-use Rattle.vr_ci.specs.Rdf.{Mark, marks, spans, rdf_bytes, control, IsRdf}
+use Rattle.vr_ci_match.specs.Rdf.{Mark, marks, spans, rdf_bytes, control, IsRdf}
 use Rattle.vr_ci.specs.Interval.{Item, Interval}
 
 -- the items with these marks, one behind the other from the front of the bytes
@@ -82,6 +82,14 @@ pub record IsView (block : List ℕ) (low : ℕ) (shape : Shape) (items : ℕ) :
 abbrev pub marks_left : List ℕ → ℕ → Batch → List Mark
 marks_left block low batch =
     replicate batch.left (record { live = batch.live; len = batch.length }) ++ flat_map marks (rdfs_between low batch.end block)
+
+-- a batch with records left, with the same records to come as this one
+pub record IsNextBatch (block : List ℕ) (low : ℕ) (batch next : Batch) : Type 0 where
+  pub some : 0 < next.left
+  pub marks : marks_left block low next ≡ marks_left block low batch
+  pub lent : AreLent block low next.end
+  pub bytes : next.left * next.length + spans (rdfs_between low next.end block)
+      ≡ batch.left * batch.length + spans (rdfs_between low batch.end block)
 
 -- the items that an iterator still gives
 abbrev pub items_left : List ℕ → ℕ → Batch → ℕ → List Item

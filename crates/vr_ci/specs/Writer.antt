@@ -1,17 +1,18 @@
 -- What a writer holds before its block is ended.
 use Rattle.std.specs.Prelude.{◌≡◌, ℕ, ◌+◌, ◌-◌, ◌<◌, ◌≤◌, Bool, true, false, ◌==◌, if◌then◌else◌, List, ◌++◌, length, take, drop, map, replicate, Option, Some, None}
 use Rattle.std.specs.List.{flat_map, AllByRecursion}
-use Rattle.vr_ci.specs.declared.form.Form.{Form}
-use Rattle.vr_ci.specs.declared.form.Form.TheVariants.{Plain, Slots}
-use Rattle.vr_ci.specs.declared.form.Piece.{Piece}
-use Rattle.vr_ci.specs.declared.form.Piece.TheVariants.{First, Inner, Last}
-use Rattle.vr_ci.specs.declared.form.Shape.TheVariants.{Records}
-use Rattle.vr_ci.specs.declared.rdf.Rdf.{Rdf}
-use Rattle.vr_ci.specs.declared.rdf.Rdf.TheVariants.{Single, Run, Segment}
+use Rattle.vr_ci_match.specs.declared.form.Form.{Form}
+use Rattle.vr_ci_match.specs.declared.form.Form.TheVariants.{Plain, Slots}
+use Rattle.vr_ci_match.specs.declared.form.Piece.{Piece}
+use Rattle.vr_ci_match.specs.declared.form.Piece.TheVariants.{First, Inner, Last}
+use Rattle.vr_ci_match.specs.declared.form.Shape.TheVariants.{Records}
+use Rattle.vr_ci_match.specs.declared.rdf.Rdf.{Rdf}
+use Rattle.vr_ci_match.specs.declared.rdf.Rdf.TheVariants.{Single, Run, Segment}
 use Rattle.vr_ci.specs.declared.writer.CiWriter.{CiWriter}
-use Rattle.vr_ci.specs.Size.{IsBlockSize}
-use Rattle.vr_ci.specs.Rdf.{marks, control, IsChain, last_from, shape_of}
-use Rattle.vr_ci.specs.Interval.{Item, IsItem, bytes_of, mark_of, slots_in}
+use Rattle.vr_types.specs.BlockSize.{IsBlockSize}
+use Rattle.vr_ci_match.specs.Rdf.{marks, control, IsChain, last_from, shape_of}
+use Rattle.vr_ci.specs.Interval.{Item, IsItem, bytes_of, mark_of}
+use Rattle.vr_ci_match.specs.Laid.{slots_in}
 
 abbrev pub form_of : CiWriter → Form
 form_of w = w.form

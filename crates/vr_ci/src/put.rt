@@ -1,12 +1,11 @@
 //! Writing the parts of a control interval into a block.
 
 ghost use Rattle.std.specs.Prelude.{◌≡◌, ◌+◌, ◌-◌, ◌<◌, ◌≤◌, ◌↔◌, ℕ, length, drop, take, replicate, IsTrue};
-ghost use Rattle.vr_ci.specs.Rdf.{two_bytes, rdf_bytes, segment_bits, withdrawn_bit};
-ghost use Rattle.vr_ci.specs.Interval.{cidf};
+ghost use Rattle.vr_ci_match.specs.Rdf.{two_bytes, rdf_bytes, segment_bits, withdrawn_bit};
+ghost use Rattle.vr_ci_match.specs.Laid.{cidf};
 ghost use Rattle.vr_ci.specs.Writer.{placed, written, run_rdf, run_started};
 
-use crate::form::{Form, Piece};
-use crate::rdf::Rdf;
+use vr_ci_match::{Form, Piece, Rdf};
 
 /// The bytes of an item, or zeros where it is not live.
 pub fn put_item(out: &mut [u8], at: usize, item: &[u8], live: bool)

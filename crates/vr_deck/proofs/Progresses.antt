@@ -24,12 +24,12 @@ leads_nowhere n line meaning file orders says cannot step (InDeck other file' or
 
 pub fault_of_meaning : (n : ℕ) (line : List ℕ) (meaning : Meaning) (file : Option (List ℕ)) (orders : List Order) (fault : JobFault) → IsDeckLine line meaning → CannotAdd n meaning file orders fault → (step : List ℕ) → FaultAt n (InDeck step file orders) line fault
 fault_of_meaning n line meaning file orders Memory says cannot step = tt
-fault_of_meaning n line meaning file orders (Form m) says cannot step = (cannot.0, leads_nowhere n line meaning file orders says cannot.1 step)
+fault_of_meaning n line meaning file orders (Form fault) says cannot step = (cannot.0, leads_nowhere n line meaning file orders says cannot.1 step)
 
 -- a line that leads nowhere is a fault of the lines from it on
 pub fault_from_here : (n : ℕ) (from : Progress) (line : List ℕ) (lines rest : List (List ℕ)) (fault : JobFault) → lines ≡ line ∷ rest → FaultAt n from (without_end line) fault → FaultFrom n from (map without_end lines) fault
 fault_from_here n from line lines rest Memory told h = tt
-fault_from_here n from line lines rest (Form m) told h = rw told (inl h)
+fault_from_here n from line lines rest (Form fault) told h = rw told (inl h)
 
 -- the lines of a text, as they are read
 pub lines_read : (text : List ℕ) (lines : List (List ℕ)) → lines ≡ map without_terminator (lines_of text) → map without_end lines ≡ job_lines text
@@ -40,7 +40,7 @@ pub stops_behind : (n m : ℕ) (from mid : Progress) (line : List ℕ) (lines re
 stops_behind n m from mid line lines rest told leads stops = rw told (inr (mid, leads, stops))
 
 pub fault_behind : (n : ℕ) (from mid : Progress) (line : List ℕ) (lines rest : List (List ℕ)) (fault : JobFault) → lines ≡ line ∷ rest → Leads n from (without_end line) mid → FaultFrom (n + 1) mid (map without_end rest) fault → FaultFrom n from (map without_end lines) fault
-fault_behind n from mid line lines rest (Form m) told leads stops = stops_behind n m from mid line lines rest told leads stops
+fault_behind n from mid line lines rest (Form fault) told leads stops = stops_behind n fault.line from mid line lines rest told leads stops
 fault_behind n from mid line lines rest Memory told leads stops = tt
 
 pub reads_behind : (n : ℕ) (from mid to : Progress) (line : List ℕ) (lines rest : List (List ℕ)) → lines ≡ line ∷ rest → Leads n from (without_end line) mid → Reads (n + 1) mid (map without_end rest) to → Reads n from (map without_end lines) to
@@ -102,7 +102,7 @@ first_fault text m h =
     }
 
 pub cause_of : (text : List ℕ) (fault : JobFault) → FaultFrom 1 NoCard (job_lines text) fault → CauseOf text fault
-cause_of text (Form m) h = first_fault text m h
+cause_of text (Form fault) h = first_fault text fault.line h
 cause_of text Memory h = tt
 
 -- the orders at a point

@@ -65,5 +65,5 @@ pub record IsFirstFault (text : List ℕ) (n : ℕ) : Type 0 where
 
 -- when each fault comes; memory may run out at any time
 abbrev pub CauseOf : List ℕ → JobFault → Type 0
-CauseOf text (Form n) = IsFirstFault text n
+CauseOf text (Form fault) = IsFirstFault text fault.line
 CauseOf text Memory = Unit {0}

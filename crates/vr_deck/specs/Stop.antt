@@ -15,21 +15,21 @@ StopsAt n from (line ∷ lines) m =
 
 -- the same of a fault; memory may run out at any time
 abbrev pub FaultFrom : ℕ → Progress → List (List ℕ) → JobFault → Type 0
-FaultFrom n from lines (Form m) = StopsAt n from lines m
+FaultFrom n from lines (Form fault) = StopsAt n from lines fault.line
 FaultFrom n from lines Memory = Unit {0}
 
 -- line n leads nowhere
 abbrev pub FaultAt : ℕ → Progress → List ℕ → JobFault → Type 0
-FaultAt n from line (Form m) = (m ≡ n) × ((to : Progress) → Leads n from line to → ⊥)
+FaultAt n from line (Form fault) = (fault.line ≡ n) × ((to : Progress) → Leads n from line to → ⊥)
 FaultAt n from line Memory = Unit {0}
 
 -- a line of this meaning can't be line n of the deck
 abbrev pub CannotAdd : ℕ → Meaning → Option (List ℕ) → List Order → JobFault → Type 0
-CannotAdd n meaning file orders (Form m) =
-    (m ≡ n) × ((file' : Option (List ℕ)) (orders' : List Order) → Adds n meaning file orders file' orders' → ⊥)
+CannotAdd n meaning file orders (Form fault) =
+    (fault.line ≡ n) × ((file' : Option (List ℕ)) (orders' : List Order) → Adds n meaning file orders file' orders' → ⊥)
 CannotAdd n meaning file orders Memory = Unit {0}
 
 -- the file of an order on line n isn't the deck's
 abbrev pub IsUndeclared : ℕ → Option (List ℕ) → List ℕ → JobFault → Type 0
-IsUndeclared n declared name (Form m) = (m ≡ n) × (declared ≢ Some name)
+IsUndeclared n declared name (Form fault) = (fault.line ≡ n) × (declared ≢ Some name)
 IsUndeclared n declared name Memory = Unit {0}

@@ -19,4 +19,4 @@ pub use binding::bind;
 pub use bound::DeckRequests;
 pub use laws::{no_value_at_a_fault, one_fault, one_value};
 pub use parse::parse_job;
-pub use text::{DeckText, JobFault, JobText, Order, Orders};
+pub use text::{DeckText, JobFault, JobText, Order, Orders, TextFault};

@@ -7,7 +7,7 @@ ghost use Rattle.vr_deck.specs.Stop.{StopsAt, FaultFrom, FaultAt, CannotAdd, IsU
 use crate::card::{is_deck_card, step_card};
 use crate::deck_line::{DeckLine, read_line};
 use crate::line::right_line;
-use crate::text::{DeckText, JobFault, JobText, Order, Orders};
+use crate::text::{DeckText, JobFault, JobText, Order, Orders, TextFault};
 use bstr::{ByteSlice, Lines};
 use std::alloc::Global;
 use vr_types::{Bytes, bytes};
@@ -24,10 +24,10 @@ pub fn parse_job(alloc: Global, text: &[u8]) -> Result<JobText, JobFault>
 {
     let mut lines = text.lines();
     let Some(step) = first_card(&mut lines) else {
-        return Err(JobFault::Form { line: 1 });
+        return Err(JobFault::Form(TextFault { line: 1 }));
     };
     if !deck_card_follows(&mut lines) {
-        return Err(JobFault::Form { line: 2 });
+        return Err(JobFault::Form(TextFault { line: 2 }));
     }
     let deck = read_deck(alloc, lines)?;
     let step = bytes(alloc, step)?;
@@ -78,11 +78,11 @@ fn add_line(alloc: Global, deck: &mut DeckText, number: u32, line: &[u8]) -> Res
     ensures fault { IfErr result (λ fault. (step : List ℕ) → FaultAt number (InDeck step deck.old.file deck.old.orders) (without_end line.now) fault) }
 {
     let Some(line) = right_line(line) else {
-        return Err(JobFault::Form { line: number });
+        return Err(JobFault::Form(TextFault { line: number }));
     };
     match read_line(alloc, line)? {
         Some(read) => add(alloc, deck, number, read),
-        None => Err(JobFault::Form { line: number }),
+        None => Err(JobFault::Form(TextFault { line: number })),
     }
 }
 
@@ -95,7 +95,7 @@ fn add(alloc: Global, deck: &mut DeckText, number: u32, read: DeckLine) -> Resul
         DeckLine::Nothing => Ok(()),
         DeckLine::File { name } => {
             if deck.file.is_some() {
-                return Err(JobFault::Form { line: number });
+                return Err(JobFault::Form(TextFault { line: number }));
             }
             deck.file = Some(bytes(alloc, name)?);
             Ok(())
@@ -125,7 +125,7 @@ fn add_order(deck: &mut DeckText, number: u32, file: &[u8], order: Order) -> Res
     ensures fault { IfErr result (IsUndeclared number deck.old.file file.now) }
 {
     if !is_file(&deck.file, file) {
-        return Err(JobFault::Form { line: number });
+        return Err(JobFault::Form(TextFault { line: number }));
     }
     deck.orders.push(order)?;
     Ok(())

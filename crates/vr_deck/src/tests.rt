@@ -1,6 +1,6 @@
 use crate::binding::bind;
 use crate::parse::parse_job;
-use crate::text::{JobFault, JobText, Order};
+use crate::text::{JobFault, JobText, Order, TextFault};
 use std::alloc::{AllocError, Global};
 use std::process::Abort;
 use std::test::Fail;
@@ -47,7 +47,7 @@ fn assert_fault(rt: &impl Abort, alloc: Global, text: &[u8], line: u32) -> Resul
     assert!(rt; text.len() <= 1 << 26);
     match parse_job(alloc, text) {
         Ok(_job) => assert!(rt; false, "a job, and no fault at line {line}"),
-        Err(fault) => assert_eq!(rt; fault, JobFault::Form { line }),
+        Err(fault) => assert_eq!(rt; fault, JobFault::Form(TextFault { line })),
     }
     Ok(())
 }

@@ -70,11 +70,18 @@ impl Orders {
     }
 }
 
-/// Why a text is no job.
+/// Where a text departs from the form of a job: the first line that no job text has there, one past the last line where a
+/// card is missing. Lines are numbered from 1.
+#[derive(Clone, Copy, Debug, PartialEq, Eq, Hash)]
+pub struct TextFault {
+    pub line: u32,
+}
+
+/// Why a text gave no job.
 #[derive(Clone, Copy, Debug, PartialEq, Eq, Hash)]
 pub enum JobFault {
-    /// The first line that no job text has there; one past the last line where a card is missing.
-    Form { line: u32 },
+    /// The text is no job.
+    Form(TextFault),
     /// Memory ran out.
     Memory,
 }

@@ -4,3 +4,4 @@ pub mod Events
 pub mod Images
 pub mod Keeping
 pub mod Selecting
+pub mod WriteAhead

@@ -1,5 +1,6 @@
-pub mod Calls
+pub mod BlockFile
 pub mod Choices
+pub mod DeviceCalls
 pub mod Disk
 pub mod Kept
 pub mod Memory
@@ -8,3 +9,4 @@ pub mod PastEvent
 pub mod Readable
 pub mod Sizes
 pub mod Untold
+pub mod WriteAhead

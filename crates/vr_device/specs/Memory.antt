@@ -2,14 +2,14 @@
 use Rattle.std.specs.Prelude.{◌≡◌, ℕ}
 use Rattle.vr_types.specs.Image.{Block}
 use Rattle.vr_device.specs.Past.{Past, with_event, failed}
-use Rattle.vr_device.specs.Calls.{Calls, IsToFail, counted, write_failed, write_refused}
+use Rattle.vr_device.specs.DeviceCalls.{DeviceCalls, IsToFail, counted, write_failed, write_refused}
 use Rattle.vr_device.specs.declared.memory.MemoryDevice.{MemoryDevice}
 
 abbrev pub past_in : MemoryDevice → Past
 past_in device = device.past
 
-abbrev pub calls_in : MemoryDevice → Calls
-calls_in device = device.script
+abbrev pub calls_in : MemoryDevice → DeviceCalls
+calls_in device = device.calls
 
 -- A write was to fail. A crash may leave its bytes.
 pub record IsFailedWrite (old new : MemoryDevice) (n : ℕ) (bytes : Block) : Type 0 where

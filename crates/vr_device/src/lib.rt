@@ -4,25 +4,33 @@
 //! it and reports no content.
 #![tactic(auto)]
 
+mod block_file;
 mod choice;
 mod device;
-mod file;
+mod device_calls;
+mod device_file;
+mod file_device;
+mod host_file;
 mod image_no;
 mod laws;
 mod memory;
 mod new_direct;
 mod new_memory;
 mod past;
-mod script;
+mod write_ahead;
 mod write_through;
 
+pub use block_file::BlockFile;
 pub use device::BlockDevice;
-pub use file::FileDevice;
+pub use device_file::DeviceFile;
+pub use file_device::FileDevice;
+pub use host_file::HostFile;
 pub use image_no::ImageNo;
 pub use laws::choices_are_images;
 pub use memory::MemoryDevice;
 pub use new_direct::direct;
 pub use new_memory::memory_device;
+pub use write_ahead::{replace, replace_all};
 pub use write_through::Direct;
 
 #[cfg(test)]

@@ -4,7 +4,7 @@ ghost use Rattle.vr_device.specs.Sizes.{IsSized};
 use crate::device::BlockDevice;
 use crate::image_no::ImageNo;
 use crate::past::Past;
-use crate::script::Script;
+use crate::device_calls::DeviceCalls;
 use std::alloc::Global;
 use vr_types::{Failed, OutOfMemory};
 
@@ -15,7 +15,7 @@ use vr_types::{Failed, OutOfMemory};
 #[derive(Drop)]
 pub struct MemoryDevice {
     past: Past,
-    script: Script,
+    calls: DeviceCalls,
     ghost sized: { IsSized past },
 }
 
@@ -23,7 +23,7 @@ impl BlockDevice for MemoryDevice {
     ghost use Rattle.std.specs.Prelude.{◌≡◌, ◌<◌, ◌⊎◌, ◌↔◌, length, true, IsErr, OnOk, OnErr};
     ghost use Rattle.vr_types.specs.Image.{block_at};
     ghost use Rattle.vr_device.specs.Past.{disk_of, seen_of, wrote, forced, with_event};
-    ghost use Rattle.vr_device.specs.Calls.{IsToFail, counted, read_failed, faults_of};
+    ghost use Rattle.vr_device.specs.DeviceCalls.{IsToFail, counted, read_failed, faults_of};
     ghost use Rattle.vr_device.specs.Memory.{past_in, calls_in, IsFailedWrite, IsFailedSync, IsRefused};
     ghost use Rattle.vr_device.specs.Readable.{images-now, readable-of, read-image};
 
@@ -58,8 +58,8 @@ impl BlockDevice for MemoryDevice {
         ensures ok { OnOk result (calls_in self.new ≡ counted (calls_in self.old)) }
         ensures err { OnErr result (calls_in self.new ≡ read_failed (counted (calls_in self.old))) }
     {
-        if self.script.begin() {
-            self.script.fail_read();
+        if self.calls.begin() {
+            self.calls.fail_read();
             return Err(Failed);
         }
         self.past.read(n, into);
@@ -74,13 +74,13 @@ impl BlockDevice for MemoryDevice {
         ensures counted { OnOk result (calls_in self.new ≡ counted (calls_in self.old)) }
         ensures err { OnErr result (IsFailedWrite self.old self.new n from.now ⊎ IsRefused self.old self.new) }
     {
-        if self.script.begin() {
+        if self.calls.begin() {
             return Err(self.fail_write(n, from));
         }
         match self.past.write(n, from) {
             Ok(()) => Ok(()),
             Err(OutOfMemory) => {
-                self.script.refuse();
+                self.calls.refuse();
                 Err(Failed)
             }
         }
@@ -93,14 +93,14 @@ impl BlockDevice for MemoryDevice {
         ensures scripted { IsToFail (calls_in self.old) → IsFailedSync self.old self.new }
         ensures err { OnErr result (IsFailedSync self.old self.new ⊎ IsRefused self.old self.new) }
     {
-        if self.script.begin() {
-            self.script.fail_write();
+        if self.calls.begin() {
+            self.calls.fail_write();
             return Err(Failed);
         }
         match self.past.sync() {
             Ok(()) => Ok(()),
             Err(OutOfMemory) => {
-                self.script.refuse();
+                self.calls.refuse();
                 Err(Failed)
             }
         }
@@ -112,16 +112,16 @@ impl MemoryDevice {
     ghost use Rattle.vr_types.specs.Count.{shown_of};
     ghost use Rattle.vr_device.specs.Disk.{IsMisfit, IsChosen};
     ghost use Rattle.vr_device.specs.Past.{disk_of, failed, with_event, unwritten};
-    ghost use Rattle.vr_device.specs.Calls.{uncalled, write_failed, write_refused, stopped};
+    ghost use Rattle.vr_device.specs.DeviceCalls.{uncalled, write_failed, write_refused, stopped};
     ghost use Rattle.vr_device.specs.Memory.{past_in, calls_in};
 
     /// A device of this past, to which these calls are made.
-    pub(crate) fn over(past: Past, script: Script) -> MemoryDevice
+    pub(crate) fn over(past: Past, calls: DeviceCalls) -> MemoryDevice
         requires { IsSized past }
         ensures past { past_in result ≡ past }
-        ensures calls { calls_in result ≡ script }
+        ensures calls { calls_in result ≡ calls }
     {
-        MemoryDevice { past, script }
+        MemoryDevice { past, calls }
     }
 
     /// Makes every call from that number on fail.
@@ -129,21 +129,21 @@ impl MemoryDevice {
         ensures past { past_in self.new ≡ past_in self.old }
         ensures calls { calls_in self.new ≡ stopped call (calls_in self.old) }
     {
-        self.script.stop(call);
+        self.calls.stop(call);
     }
 
     /// The number of reads, writes and syncs so far, those that failed among them, up to 2^64 - 1.
     pub fn calls(&self) -> u64
-        ensures { result ≡ (calls_in self.now).next }
+        ensures { result ≡ (calls_in self.now).script.next }
     {
-        self.script.made()
+        self.calls.made()
     }
 
     /// The number of writes and syncs that failed for want of memory, up to 2^64 - 1.
     pub fn refused(&self) -> u64
         ensures { result ≡ shown_of (calls_in self.now).refused }
     {
-        self.script.refused()
+        self.calls.refused()
     }
 
     /// The device that a crash leaves now, when each block holds the content of its list that the choice names. The
@@ -162,7 +162,7 @@ impl MemoryDevice {
         let size = self.past.size();
         let start = self.past.chosen(alloc, choice)?;
         let past = Past::new(alloc, size, start)?;
-        Ok(MemoryDevice::over(past, Script::new(Vec::new(alloc))))
+        Ok(MemoryDevice::over(past, DeviceCalls::new(Vec::new(alloc))))
     }
 
     // A write that fails: its bytes join what a crash may leave, if there is memory for them.
@@ -173,8 +173,8 @@ impl MemoryDevice {
             ⊎ ((past_in self.new ≡ past_in self.old) × (calls_in self.new ≡ write_refused (calls_in self.old))) }
     {
         match self.past.fail(n, from) {
-            Ok(()) => self.script.fail_write(),
-            Err(OutOfMemory) => self.script.refuse(),
+            Ok(()) => self.calls.fail_write(),
+            Err(OutOfMemory) => self.calls.refuse(),
         }
         Failed
     }

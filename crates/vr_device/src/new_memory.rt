@@ -2,12 +2,12 @@
 ghost use Rattle.std.specs.Prelude.{◌≡◌, replicate, IfOk};
 ghost use Rattle.vr_device.specs.Past.{unwritten};
 ghost use Rattle.vr_device.specs.Memory.{past_in, calls_in};
-ghost use Rattle.vr_device.specs.Calls.{uncalled};
+ghost use Rattle.vr_device.specs.DeviceCalls.{uncalled};
 
 use crate::choice::zero_blocks;
 use crate::memory::MemoryDevice;
 use crate::past::Past;
-use crate::script::Script;
+use crate::device_calls::DeviceCalls;
 use std::alloc::Global;
 use vr_types::OutOfMemory;
 
@@ -25,5 +25,5 @@ pub fn memory_device(
     let start = zero_blocks(alloc, blocks, size)?;
     let failing = fails.to_vec(alloc)?;
     let past = Past::new(alloc, size, start)?;
-    Ok(MemoryDevice::over(past, Script::new(failing)))
+    Ok(MemoryDevice::over(past, DeviceCalls::new(failing)))
 }

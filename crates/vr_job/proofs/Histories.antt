@@ -1,10 +1,12 @@
 -- Histories that grow at their end.
-use Rattle.std.proofs.Common.{◌≡◌, ℕ, ◌<◌, List, [], ◌∷◌, ◌++◌, ◌-◌, suc, length, Some, slice_get, refl, ap, ◌∙◌, arith, append-nil}
+use Rattle.std.proofs.Common.{◌≡◌, ℕ, Bool, true, false, ◌==◌, if◌then◌else◌, ◌<◌, List, [], ◌∷◌, ◌++◌, ◌-◌, take, drop, suc, length, Some, slice_get, refl, ap, ◌∙◌, arith, append-nil}
 use Rattle.std.proofs.lemmas.Grind.{flat_map-append}
+use Rattle.std.proofs.lemmas.List.{take-append-drop}
+use Rattle.vr_types.specs.declared.bound.Bound.{Bound}
 use Rattle.vr_job.specs.declared.entry.Entry.{Entry}
 use Rattle.vr_job.specs.State.{State}
 use Rattle.vr_job.specs.Step.{Step, state_after}
-use Rattle.vr_job.specs.History.{IsLegal, state_of, IsStamped, last_stamp, asked_by, part_of_deck}
+use Rattle.vr_job.specs.History.{IsLegal, state_of, IsStamped, last_stamp, asked_by, part_of_deck, of_deck, AreParts, ArePrefixes}
 
 pub IsStamped-append : (before : ℕ) (entries : List Entry) (entry : Entry) → IsStamped before entries → last_stamp before entries < entry.stamp → IsStamped before (entries ++ entry ∷ [])
 IsStamped-append before [] entry stamped rises = (rises, tt)
@@ -32,3 +34,22 @@ IsLegal-append state (e ∷ entries) entry legal step = (legal.0, IsLegal-append
 
 pub part_of_deck-append : (volume deck : ℕ) (entries : List Entry) (entry : Entry) → part_of_deck volume deck (entries ++ entry ∷ []) ≡ part_of_deck volume deck entries ++ asked_by volume deck entry
 part_of_deck-append volume deck entries entry = flat_map-append (asked_by volume deck) entries (entry ∷ []) ∙ ap (λ l. part_of_deck volume deck entries ++ l) (append-nil (asked_by volume deck entry))
+
+-- the requests of a deck, as each deck number has them
+pub of_deck-nil : (own deck : ℕ) → [] ≡ of_deck own [] deck
+of_deck-nil own deck = either (own == deck) where
+  either : (same : Bool) → ◌≡◌ {A = List Bound} [] (if same then [] else [])
+  either true = refl
+  either false = refl
+
+pub of_deck-append : (own : ℕ) (first more : List Bound) (deck : ℕ) → of_deck own first deck ++ of_deck own more deck ≡ of_deck own (first ++ more) deck
+of_deck-append own first more deck = either (own == deck) where
+  either : (same : Bool) → (if same then first else []) ++ (if same then more else []) ≡ (if same then first ++ more else [])
+  either true = refl
+  either false = refl
+
+-- where the first requests were asked, they are a prefix of all
+pub parts_are_prefixes : (own i : ℕ) (requests : List Bound) (entries : List Entry) → AreParts own (take i requests) entries → ArePrefixes own requests entries
+parts_are_prefixes own i requests entries parts deck =
+    let rest = of_deck own (drop i requests) deck in
+    (rest, ap (λ part. part ++ rest) (parts deck) ∙ of_deck-append own (take i requests) (drop i requests) deck ∙ ap (λ all. of_deck own all deck) (take-append-drop i requests))

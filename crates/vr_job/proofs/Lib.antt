@@ -5,6 +5,7 @@ pub mod Codes
 pub mod Appends
 pub mod WordLists
 pub mod Readings
+pub mod Severities
 pub mod Ends
 pub mod Printing
 pub mod Completes

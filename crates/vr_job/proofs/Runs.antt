@@ -15,9 +15,9 @@ use Rattle.vr_job.specs.declared.positions.FilePosition.{FilePosition}
 use Rattle.vr_types.specs.Position.{unheld}
 use Rattle.vr_job.specs.Positions.{position_of, without_held, without_deck}
 use Rattle.vr_job.specs.Step.{after_what, state_after, slot_of, drops_held}
-use Rattle.vr_job.specs.History.{state_of, last_stamp}
+use Rattle.vr_job.specs.History.{state_of, last_stamp, of_deck}
 use Rattle.vr_job.specs.Run.{IsHere, IsPositioned, files_begun, files_ended, next_number, entry_of, Enters, Running}
-use Rattle.vr_job.proofs.Histories.{last_stamp-append, state_of-append, IsLegal-append, part_of_deck-append}
+use Rattle.vr_job.proofs.Histories.{last_stamp-append, state_of-append, IsLegal-append, part_of_deck-append, of_deck-nil, of_deck-append}
 
 -- the number of the unit after a reply is that of the state after it
 number_after : (request : Request) (reply : Reply) (state : State) → (after_what 1 (Asked request reply) state).numbers 1 ≡ next_number request reply (state.numbers 1)
@@ -80,7 +80,7 @@ pub Running-start : (requests : List Bound) (entries : List Entry) (content : Co
 Running-start requests entries content none empty files unset =
     let P : List Entry → Type 0 = λ es. Running requests 0 es content files 1 in
     let unset_positions : IsPositioned opening_state files = λ d s. ap (λ fs. position_of fs d s) (sym unset) in
-    subst P (sym none) (record { legal = tt; content_is = sym empty; positions_are = unset_positions; number_is = refl; few = omega arith; part = refl; stamps = refl })
+    subst P (sym none) (record { legal = tt; content_is = sym empty; positions_are = unset_positions; number_is = refl; few = omega arith; parts = λ deck. of_deck-nil 1 deck; stamps = refl })
 
 -- one request more
 pub Running-step : (requests : List Bound) (i : ℕ) (bound : Bound) (entries entries' : List Entry) (content content' : Content) (files files' : List FilePosition) (number next : ℕ)
@@ -91,16 +91,17 @@ Running-step requests i bound entries entries' content content' files files' num
     let state = state_of opening_state entries in
     let served = enters.served state 1 running.content_is in
     let asked : Bound = record { volume = 0; line = bound.line; request = bound.request } in
-    let same : asked ≡ bound = ap (λ (v : ℕ). record { volume = v; line = bound.line; request = bound.request }) (sym here.1) in
+    let same : asked ≡ bound = ap (λ (v : ℕ). record { volume = v; line = bound.line; request = bound.request }) (sym here.first_volume) in
+    let longer : take i requests ++ asked ∷ [] ≡ take (i + 1) requests = ap (λ b. take i requests ++ b ∷ []) (same ∙ at) ∙ sym (take_more requests i bound inside) in
     let P : List Entry → Type 0 = λ es. Running requests (i + 1) es content' files' next in
     let moved : IsPositioned (state_after state entry) files' = subst (IsPositioned (state_after state entry)) (sym enters.positioned) (positioned-after bound.request enters.reply state files running.positions_are) in
     let after : state_of opening_state (entries ++ entry ∷ []) ≡ state_after state entry = state_of-append opening_state entries entry in
     subst P (sym enters.entered) (record {
-      legal = IsLegal-append opening_state entries entry running.legal (sym running.number_is, here.0, served.0);
+      legal = IsLegal-append opening_state entries entry running.legal (sym running.number_is, here.offered, served.0);
       content_is = ap (λ (s : State). s.contents 1) after ∙ served.1;
       positions_are = subst (λ (s : State). IsPositioned s files') (sym after) moved;
       number_is = ap (λ (s : State). s.numbers 1) after ∙ number_after bound.request enters.reply state ∙ ap (next_number bound.request enters.reply) running.number_is ∙ sym enters.counted;
       few = let le : next_number bound.request enters.reply number ≤ number + 1 = next_number-le bound.request enters.reply number in omega (arith, enters.counted, running.few);
-      part = part_of_deck-append 0 1 entries entry ∙ ap (λ p. p ++ asked ∷ []) running.part ∙ ap (λ b. take i requests ++ b ∷ []) (same ∙ at) ∙ sym (take_more requests i bound inside);
+      parts = λ deck. part_of_deck-append 0 deck entries entry ∙ ap (λ p. p ++ of_deck 1 (asked ∷ []) deck) (running.parts deck) ∙ of_deck-append 1 (take i requests) (asked ∷ []) deck ∙ ap (λ l. of_deck 1 l deck) longer;
       stamps = last_stamp-append 0 entries entry ∙ ap (λ n. n + 1) running.stamps;
     })

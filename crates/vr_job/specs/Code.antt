@@ -1,21 +1,37 @@
 use Rattle.std.specs.Prelude.{ℕ, max, List, [], ◌∷◌}
 use Rattle.vr_types.specs.declared.reply.Refusal.{Refusal}
-use Rattle.vr_types.specs.declared.reply.Refusal.TheVariants.{NoSpace, Held, LogFull, Stopped, ReadFault, WriteFault, Memory, NotAllowed, NoFile}
+use Rattle.vr_types.specs.declared.reply.Refusal.TheVariants.{EndOfData, Duplicate, NotFound, NoAddress, NoSpace, NoPosition, NoGet, KeyChanged, LengthChanged, BadLength, BadSlot, Held, LogFull, Stopped, ReadFault, WriteFault, Memory, NotAllowed, NoFile}
 use Rattle.vr_types.specs.declared.reply.Reply.{Reply}
 use Rattle.vr_types.specs.declared.reply.Reply.TheVariants.{Done, Refused}
 use Rattle.vr_types.specs.Refusal.{feedback_code}
 use Rattle.vr_job.specs.declared.entry.Entry.{Entry}
 use Rattle.vr_job.specs.declared.entry.What.{What}
-use Rattle.vr_job.specs.declared.entry.What.TheVariants.{Asked}
+use Rattle.vr_job.specs.declared.entry.What.TheVariants.{Asked, Undone, Claimed, Split, Faulted}
 
 -- Return and condition codes. The return codes are those of Using Data Sets; the condition codes of deck steps are this
 -- project's own.
 
 -- 12 for a fault of the device, 8 for a request that was refused for another cause
 abbrev pub refused_code : Refusal → ℕ
+refused_code EndOfData = 8
+refused_code (Duplicate part) = 8
+refused_code NotFound = 8
+refused_code NoAddress = 8
+refused_code (NoSpace need free) = 8
+refused_code NoPosition = 8
+refused_code NoGet = 8
+refused_code KeyChanged = 8
+refused_code LengthChanged = 8
+refused_code (BadLength length) = 8
+refused_code BadSlot = 8
+refused_code (Held holder name mode) = 8
+refused_code (LogFull used need size) = 8
+refused_code (Stopped stamp) = 8
 refused_code ReadFault = 12
 refused_code WriteFault = 12
-refused_code _ = 8
+refused_code Memory = 8
+refused_code NotAllowed = 8
+refused_code NoFile = 8
 
 abbrev pub return_code : Reply → ℕ
 return_code (Done feedback place bytes) = 0
@@ -27,16 +43,25 @@ feedback_of (Refused refusal) = feedback_code refusal
 
 -- what a refusal makes of its step's condition code: 8 where the volume is at fault, 4 where something was in the way
 abbrev pub severity_of : Refusal → ℕ
+severity_of EndOfData = 0
+severity_of (Duplicate part) = 0
+severity_of NotFound = 0
+severity_of NoAddress = 0
+severity_of (NoSpace need free) = 4
+severity_of NoPosition = 0
+severity_of NoGet = 0
+severity_of KeyChanged = 0
+severity_of LengthChanged = 0
+severity_of (BadLength length) = 0
+severity_of BadSlot = 0
+severity_of (Held holder name mode) = 4
+severity_of (LogFull used need size) = 4
 severity_of (Stopped stamp) = 8
 severity_of ReadFault = 8
 severity_of WriteFault = 8
-severity_of (NoSpace need free) = 4
-severity_of (Held holder name mode) = 4
-severity_of (LogFull used need size) = 4
 severity_of Memory = 4
 severity_of NotAllowed = 4
 severity_of NoFile = 4
-severity_of _ = 0
 
 abbrev pub reply_severity : Reply → ℕ
 reply_severity (Done feedback place bytes) = 0
@@ -44,7 +69,10 @@ reply_severity (Refused refusal) = severity_of refusal
 
 abbrev pub severity : What → ℕ
 severity (Asked request reply) = reply_severity reply
-severity _ = 0
+severity (Undone part place) = 0
+severity (Claimed part area) = 0
+severity (Split part) = 0
+severity (Faulted fault) = 0
 
 -- the condition code of a step with these entries: the greatest of theirs
 abbrev pub step_code : List Entry → ℕ

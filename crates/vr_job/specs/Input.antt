@@ -15,8 +15,8 @@ pub record IsAll (left left' : Option (List ℕ)) (text : List ℕ) : Type 0 whe
 -- when each fault comes; memory may run out at any time
 abbrev pub CauseOf : Option (List ℕ) → ℕ → ℕ → InputFault → Type 0
 CauseOf left faults faults' Read = faults < faults'
-CauseOf left faults faults' TooLong = IfSome left (λ all. 2 ^ 26 < length all)
-CauseOf left faults faults' Memory = Unit {0}
+CauseOf left faults faults' TooLong = IfSome left (λ all. 2 ^ 26 < length all) × (faults' ≡ faults)
+CauseOf left faults faults' Memory = faults' ≡ faults
 
 -- the source handed out the bytes that stand behind those that were there
 abbrev pub ReadsBehind : Option (List ℕ) → Option (List ℕ) → List ℕ → List ℕ → Type 0

@@ -8,7 +8,9 @@ pub mod Kept
 pub mod Serve
 pub mod Run
 pub mod Code
+pub mod Ending
 pub mod Listing
 pub mod Input
 pub mod JobEnd
+pub mod Ends
 pub mod RecordFile

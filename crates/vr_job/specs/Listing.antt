@@ -1,4 +1,4 @@
-use Rattle.std.specs.Prelude.{◌≡◌, ◌⊎◌, ℕ, ◌==◌, if◌then◌else◌, List, [], ◌∷◌, ◌++◌, codes, Option, Some, None}
+use Rattle.std.specs.Prelude.{ℕ, List, [], ◌∷◌, ◌++◌, codes, Option, Some, None}
 use Rattle.std.specs.List.{flat_map}
 use Rattle.std.specs.Fmt.{decimal}
 use Rattle.vr_types.specs.declared.request.Request.{Request}
@@ -7,13 +7,13 @@ use Rattle.vr_types.specs.declared.reply.Reply.{Reply}
 use Rattle.vr_types.specs.declared.reply.Reply.TheVariants.{Done, Refused}
 use Rattle.vr_text.specs.Literal.{literal_of}
 use Rattle.vr_deck.specs.declared.text.JobText.{JobText}
-use Rattle.vr_deck.specs.declared.text.JobFault.{JobFault}
-use Rattle.vr_deck.specs.declared.text.JobFault.TheVariants.{Form, Memory}
+use Rattle.vr_deck.specs.declared.text.TextFault.{TextFault}
 use Rattle.vr_job.specs.declared.entry.Entry.{Entry}
 use Rattle.vr_job.specs.declared.entry.What.{What}
-use Rattle.vr_job.specs.declared.entry.What.TheVariants.{Asked}
+use Rattle.vr_job.specs.declared.entry.What.TheVariants.{Asked, Undone, Claimed, Split, Faulted}
 use Rattle.vr_job.specs.declared.trace.Trace.{Trace}
 use Rattle.vr_job.specs.Code.{return_code, feedback_of, step_code}
+use Rattle.vr_job.specs.Ending.{Ending, NoCommand, ReadFailed, TooLong, NoMemory, NotAJob, Ran, ending_of}
 
 -- The listing. Its lines are this project's own.
 
@@ -32,7 +32,12 @@ verb_of Backout = codes "BACKOUT"
 abbrev pub file_of : Request → List ℕ → List ℕ
 file_of Commit name = []
 file_of Backout name = []
-file_of _ name = codes " " ++ name
+file_of (Get file find update integrity) name = codes " " ++ name
+file_of (Point file find) name = codes " " ++ name
+file_of (Add file place bytes) name = codes " " ++ name
+file_of (Update file bytes) name = codes " " ++ name
+file_of (Erase file) name = codes " " ++ name
+file_of (EndReq file) name = codes " " ++ name
 
 -- a keyword and a literal, where there is a value
 abbrev pub shown : List ℕ → Option (List ℕ) → List ℕ
@@ -50,7 +55,10 @@ asked_line name entry request reply = codes "DECK " ++ decimal entry.unit.deck +
 
 abbrev pub what_line : List ℕ → Entry → What → List ℕ
 what_line name entry (Asked request reply) = asked_line name entry request reply
-what_line name entry _ = []
+what_line name entry (Undone part place) = []
+what_line name entry (Claimed part area) = []
+what_line name entry (Split part) = []
+what_line name entry (Faulted fault) = []
 
 -- the line of a request with its reply, in a deck that has this name for its file
 abbrev pub entry_line : List ℕ → Entry → List ℕ
@@ -69,25 +77,8 @@ step_listing job entries = codes "STEP " ++ job.step ++ codes " DECKS" ++ 10 ∷
     ++ codes "STEP " ++ job.step ++ codes " CODE " ++ decimal (step_code entries) ++ 10 ∷ [] ++ codes "JOB CODE " ++ decimal (step_code entries) ++ 10 ∷ []
 
 -- the line of a job that is refused
-abbrev pub fault_line : JobFault → List ℕ
-fault_line (Form line) = codes "JOB REFUSED FORM 0 LINE " ++ decimal line ++ codes " COLUMN 1" ++ 10 ∷ []
-fault_line Memory = []
-
--- how a job ended, by its status
-pub data Ending : Type 0 where
-  NoCommand : Ending
-  ReadFailed : Ending
-  TooLong : Ending
-  NotAJob : Ending
-  NoMemory : Ending
-  Ran : Ending
-
-abbrev pub ending_of : ℕ → Ending
-ending_of status = if status == 20 then NoCommand else (if status == 24 then ReadFailed else (if status == 26 then TooLong else (if status == 16 then NotAJob else (if status == 36 then NoMemory else Ran))))
-
-abbrev pub refused_listing : Option JobFault → List ℕ
-refused_listing None = []
-refused_listing (Some fault) = fault_line fault
+abbrev pub fault_line : TextFault → List ℕ
+fault_line fault = codes "JOB REFUSED FORM 0 LINE " ++ decimal fault.line ++ codes " COLUMN 1" ++ 10 ∷ []
 
 abbrev pub run_listing : Option JobText → List Entry → List ℕ
 run_listing None entries = []
@@ -97,14 +88,10 @@ abbrev pub ending_listing : Ending → Trace → List ℕ
 ending_listing NoCommand trace = codes "NO COMMAND" ++ 10 ∷ []
 ending_listing ReadFailed trace = codes "READ FAULT" ++ 10 ∷ []
 ending_listing TooLong trace = codes "INPUT TOO LONG" ++ 10 ∷ []
-ending_listing NotAJob trace = refused_listing trace.fault
 ending_listing NoMemory trace = []
+ending_listing (NotAJob fault) trace = fault_line fault
 ending_listing Ran trace = run_listing trace.job trace.history.entries
 
 -- the bytes that a job with this status and trace prints
 abbrev pub listing_of : ℕ → Trace → List ℕ
-listing_of status trace = ending_listing (ending_of status) trace
-
--- what is printed doesn't rest on the trace
-abbrev pub HasFixedLine : ℕ → Type 0
-HasFixedLine status = (status ≡ 20) ⊎ (status ≡ 24) ⊎ (status ≡ 26) ⊎ (status ≡ 36)
+listing_of status trace = ending_listing (ending_of status trace.fault) trace

@@ -1,8 +1,8 @@
 use Rattle.std.specs.Prelude.{◌≡◌, ℕ, ◌+◌, ◌≤◌, List, [], ◌∷◌, ◌++◌, take, Option, Some, None}
 use Rattle.vr_types.specs.declared.request.Request.{Request}
-use Rattle.vr_types.specs.declared.request.Request.TheVariants.{Commit}
+use Rattle.vr_types.specs.declared.request.Request.TheVariants.{Get, Point, Add, Update, Erase, EndReq, Commit, Backout}
 use Rattle.vr_types.specs.declared.reply.Reply.{Reply}
-use Rattle.vr_types.specs.declared.reply.Reply.TheVariants.{Done}
+use Rattle.vr_types.specs.declared.reply.Reply.TheVariants.{Done, Refused}
 use Rattle.vr_types.specs.Content.{Content}
 use Rattle.vr_types.specs.declared.bound.Bound.{Bound}
 use Rattle.vr_job.specs.declared.entry.Entry.{Entry}
@@ -10,20 +10,30 @@ use Rattle.vr_job.specs.declared.entry.What.TheVariants.{Asked}
 use Rattle.vr_job.specs.declared.positions.FilePosition.{FilePosition}
 use Rattle.vr_job.specs.Positions.{position_of, without_held, without_deck}
 use Rattle.vr_job.specs.State.{State, opening_state}
+use Rattle.vr_job.specs.Refusals.{not_allowed}
 use Rattle.vr_job.specs.Step.{IsOffered, slot_of}
-use Rattle.vr_job.specs.History.{IsLegal, state_of, last_stamp, part_of_deck}
+use Rattle.vr_job.specs.History.{IsLegal, AreParts, state_of, last_stamp}
 use Rattle.vr_job.specs.Serve.{Serves}
 
 -- The run of deck 1 on volume 0, request by request.
 
--- a request that there is, of volume 0
-abbrev pub IsHere : Bound → Type 0
-IsHere bound = IsOffered bound.request × (bound.volume ≡ 0)
+-- a request that there is, of volume 0, and the place that it names isn't empty
+pub record IsHere (bound : Bound) : Type 0 where
+  pub offered : IsOffered bound.request
+  pub first_volume : bound.volume ≡ 0
+  pub placed : (state : State) → not_allowed state bound.request ≡ None
 
 -- the number of the deck's unit after a reply
 abbrev pub next_number : Request → Reply → ℕ → ℕ
 next_number Commit (Done feedback place bytes) number = number + 1
-next_number _ _ number = number
+next_number Commit (Refused refusal) number = number
+next_number (Get file find update integrity) reply number = number
+next_number (Point file find) reply number = number
+next_number (Add file place bytes) reply number = number
+next_number (Update file bytes) reply number = number
+next_number (Erase file) reply number = number
+next_number (EndReq file) reply number = number
+next_number Backout reply number = number
 
 -- the positions that were set are those of the state
 abbrev pub IsPositioned : State → List FilePosition → Type 0
@@ -36,7 +46,14 @@ files_begun None files = files
 
 abbrev pub files_ended : Request → Reply → List FilePosition → List FilePosition
 files_ended Commit (Done feedback place bytes) files = without_deck 1 files
-files_ended _ _ files = files
+files_ended Commit (Refused refusal) files = files
+files_ended (Get file find update integrity) reply files = files
+files_ended (Point file find) reply files = files
+files_ended (Add file place bytes) reply files = files
+files_ended (Update file bytes) reply files = files
+files_ended (Erase file) reply files = files
+files_ended (EndReq file) reply files = files
+files_ended Backout reply files = files
 
 -- the entry of a request that was answered
 abbrev pub entry_of : ℕ → ℕ → Bound → Reply → Entry
@@ -57,9 +74,5 @@ pub record Running (requests : List Bound) (i : ℕ) (entries : List Entry) (con
   pub positions_are : IsPositioned (state_of opening_state entries) files
   pub number_is : (state_of opening_state entries).numbers 1 ≡ number
   pub few : number ≤ i + 1
-  pub part : part_of_deck 0 1 entries ≡ take i requests
+  pub parts : AreParts 1 (take i requests) entries
   pub stamps : last_stamp 0 entries ≡ i
-
--- a list goes on as another does
-abbrev pub IsFrontOf : List Bound → List Bound → Type 0
-IsFrontOf front whole = (rest : List Bound) × (front ++ rest ≡ whole)

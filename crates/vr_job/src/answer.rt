@@ -46,6 +46,9 @@ fn or_memory(reply: Result<Reply, OutOfMemory>) -> Reply
 fn reply_to_get(alloc: Global, file: &RecordFile, sought: &[u8]) -> Result<Reply, OutOfMemory>
     ensures { IfOk result (λ reply. reply ≡ reply_to file.now (get_request sought.now)) }
 {
+    if sought.is_empty() {
+        return Ok(Reply::Refused(Refusal::NotAllowed));
+    }
     if sought.len() != KEY_LENGTH {
         return Ok(bad_length(sought.len()));
     }

@@ -1,14 +1,14 @@
-ghost use Rattle.std.specs.Prelude.{◌≡◌, ◌≢◌, ◌⊎◌, ◌↔◌, ◌<◌, ◌≤◌, ◌^◌, length, Contains, [], ◌∷◌, OnOk, IfSome, Some, None};
+ghost use Rattle.std.specs.Prelude.{◌≡◌, ◌≢◌, ◌↔◌, ◌<◌, ◌≤◌, ◌⊎◌, ◌^◌, length, Contains, [], ◌∷◌, OnOk, IfSome, Some, None};
 ghost use Rattle.vr_outside.specs.Told.{Takes};
-ghost use Rattle.vr_job.specs.State.{opening_state};
 ghost use Rattle.vr_deck.specs.Bound.{bound_requests};
-ghost use Rattle.vr_job.specs.History.{IsLegal, IsStamped, part_of_deck};
-ghost use Rattle.vr_job.specs.Run.{IsFrontOf};
-ghost use Rattle.vr_deck.specs.declared.text.JobText.{JobText};
-ghost use Rattle.vr_job.specs.declared.trace.Trace.{Trace};
-ghost use Rattle.vr_job.specs.Listing.{ending_of, listing_of, HasFixedLine};
-ghost use Rattle.vr_job.specs.JobEnd.{run_words, IsOfText, Asks, IsPrinted, IsRunOf, HasCode, IsDeckEnd, IsInputEnd, IsWhole, PrintsAs, statuses};
 ghost use Rattle.vr_deck.specs.JobText.{IsJobText};
+ghost use Rattle.vr_deck.specs.declared.text.JobText.{JobText};
+ghost use Rattle.vr_job.specs.State.{opening_state};
+ghost use Rattle.vr_job.specs.History.{IsLegal, IsStamped, AreParts, ArePrefixes};
+ghost use Rattle.vr_job.specs.Ending.{Ran, ending_of, HasFixedLine};
+ghost use Rattle.vr_job.specs.Listing.{listing_of};
+ghost use Rattle.vr_job.specs.JobEnd.{run_words, KeepsNothing, IsOfText, Asks, IsStatusOf, HasCode, IsPrinted, IsWhole, statuses};
+ghost use Rattle.vr_job.specs.Ends.{IsRunOf, IsDeckEnd, IsInputEnd, PrintsAs};
 
 use crate::code::step_code;
 use crate::command::Plan;
@@ -19,7 +19,7 @@ use crate::run::run_deck;
 use crate::trace::Trace;
 use crate::words::plan;
 use std::alloc::Global;
-use vr_deck::{JobFault, JobText, bind, no_value_at_a_fault, parse_job};
+use vr_deck::{JobFault, JobText, TextFault, bind, no_value_at_a_fault, parse_job};
 use vr_outside::{Sink, Source, write_whole};
 use vr_types::{Bytes, OutOfMemory, Words};
 
@@ -34,40 +34,51 @@ pub struct JobEnd {
 ///
 /// | Status | Where |
 /// |---|---|
-/// | 0, 4 | the deck was run and all printed; 4 exactly where a reply was for want of memory |
-/// | 16 | exactly where the text is no job: the trace keeps the first line that no job has there |
-/// | 20 | exactly where the words are no command |
-/// | 24 | only where the source failed in this call |
-/// | 26 | exactly where more than 64 MiB came |
-/// | 28 | only where the sink failed in this call; it took a front of the listing |
-/// | 36 | want of memory; nothing was printed |
+/// | 0, 4 | the deck was run and all printed; between the two, 4 exactly where a reply was for want of memory |
+/// | 16 | only where the text is no job: the trace keeps the first line that no job has there |
+/// | 20 | exactly where the words are no command; the source is then untouched |
+/// | 24 | only where the source failed in this call, which no other status leaves unsaid |
+/// | 26 | only where more than 64 MiB came, if the source tells its bytes |
+/// | 28 | only where the sink failed in this call; it took a prefix of the listing |
+/// | 36 | out of memory, which may come in place of each but 20 and 24; nothing was printed |
 pub fn run_job<S: Source, K: Sink>(
     alloc: Global,
     words: &Words,
     input: &mut S,
     output: &mut K,
 ) -> JobEnd
-    // What was printed: the listing, whole unless the sink failed. The status of the first end stays where its line fails.
-    ensures listing { IsPrinted (K.taken output.old) (K.taken output.new) (K.faults output.old) (K.faults output.new) (listing_of result.status result.trace) }
-    ensures printed { IsWhole result.status → Takes (K.taken output.old) (K.taken output.new) (listing_of result.status result.trace) }
+    // What was printed: the listing, whole unless the sink failed.
+    ensures listing { IsPrinted (K.taken output.old) (K.taken output.new) (K.faults output.old) (K.faults output.new)
+        (listing_of result.status result.trace) }
+    ensures printed { IsWhole result.status
+        → Takes (K.taken output.old) (K.taken output.new) (listing_of result.status result.trace) }
 
-    // The job text is all that the source had left.
-    ensures text { IsOfText (ending_of result.status) (S.left input.old) (S.left input.new) result.trace }
+    // What the trace keeps: the job or the fault of the text that is all the source had left, or nothing.
+    ensures text { IsOfText (ending_of result.status result.trace.fault) (S.left input.old) (S.left input.new) result.trace }
 
-    // One legal history, whose stamps rise, with every request of the deck in order, once.
+    // One legal history, whose stamps rise, with every request of every deck in order, each once.
     ensures legal { IsLegal opening_state result.trace.history.entries }
     ensures stamped { IsStamped 0 result.trace.history.entries }
-    ensures requests { Asks (ending_of result.status) result.trace }
+    ensures requests { Asks (ending_of result.status result.trace.fault) result.trace }
 
     // When each status comes.
     ensures status { Contains statuses result.status }
+    ensures ending { IsStatusOf (ending_of result.status result.trace.fault) result.trace result.status }
     ensures code { HasCode result.status result.trace }
     ensures command { (result.status ≡ 20) ↔ (words.now ≢ run_words) }
-    ensures refused { result.status ≡ 16 → IfSome (S.left input.old) (λ text. (job : JobText) → IsJobText text job → ⊥) }
+    ensures refused { result.status ≡ 16
+        → IfSome (S.left input.old) (λ text. (job : JobText) → IsJobText text job → ⊥) }
     ensures source_fault { result.status ≡ 24 → S.faults input.old < S.faults input.new }
     ensures sink_fault { result.status ≡ 28 → K.faults output.old < K.faults output.new }
-    ensures complete { words.now ≡ run_words → S.faults input.new ≡ S.faults input.old → K.faults output.new ≡ K.faults output.old
-        → IfSome (S.left input.old) (λ text. (job : JobText) → IsJobText text job → length text ≤ 2 ^ 26 → IsWhole result.status ⊎ (result.status ≡ 36)) }
+    ensures complete { words.now ≡ run_words
+        → S.faults input.new ≡ S.faults input.old
+        → K.faults output.new ≡ K.faults output.old
+        → IfSome (S.left input.old) (λ text. (job : JobText) → IsJobText text job → length text ≤ 2 ^ 26
+        → IsWhole result.status ⊎ (result.status ≡ 36)) }
+
+    // What other words, and other statuses than 24, leave alone.
+    ensures untouched { result.status ≡ 20 → input.new ≡ input.old }
+    ensures steady { result.status ≢ 24 → S.faults input.new ≡ S.faults input.old }
 {
     no_value_at_a_fault();
     match plan(words) {
@@ -76,7 +87,7 @@ pub fn run_job<S: Source, K: Sink>(
             print_end(alloc, end, output)
         }
         None => {
-            let end = ended(alloc, 20);
+            let end = ended(alloc, 20, None);
             print_end(alloc, end, output)
         }
     }
@@ -84,42 +95,39 @@ pub fn run_job<S: Source, K: Sink>(
 
 /// Reads a job text and runs its deck. It prints nothing.
 fn run_input<S: Source>(alloc: Global, input: &mut S) -> JobEnd
-    ensures { IsInputEnd (S.left input.old) (S.left input.new) (S.faults input.old) (S.faults input.new) result.status result.trace }
+    ensures { IsInputEnd (S.left input.old) (S.left input.new) (S.faults input.old) (S.faults input.new)
+        result.status result.trace }
 {
     match read_text(alloc, input) {
         Ok(text) => run_text(alloc, text.as_slice()),
-        Err(InputFault::Read) => ended(alloc, 24),
-        Err(InputFault::TooLong) => ended(alloc, 26),
-        Err(InputFault::Memory) => ended(alloc, 36),
+        Err(InputFault::Read) => ended(alloc, 24, None),
+        Err(InputFault::TooLong) => ended(alloc, 26, None),
+        Err(InputFault::Memory) => ended(alloc, 36, None),
     }
 }
 
 /// Runs the deck of a job text. It reads nothing and prints nothing.
 fn run_text(alloc: Global, text: &[u8]) -> JobEnd
     requires { length text.now ≤ 2 ^ 26 }
-    ensures run { IsRunOf (ending_of result.status) text.now result.trace }
+    ensures run { IsRunOf (ending_of result.status result.trace.fault) text.now result.trace }
+    ensures requests { Asks (ending_of result.status result.trace.fault) result.trace }
+    ensures ending { IsStatusOf (ending_of result.status result.trace.fault) result.trace result.status }
     ensures legal { IsLegal opening_state result.trace.history.entries }
     ensures code { HasCode result.status result.trace }
+    ensures whole { ending_of result.status result.trace.fault ≡ Ran → IsWhole result.status }
     ensures status { Contains (0 ∷ 4 ∷ 16 ∷ 36 ∷ []) result.status }
 {
     match parse_job(alloc, text) {
         Ok(job) => run_job_text(alloc, job),
-        Err(JobFault::Memory) => ended(alloc, 36),
-        Err(JobFault::Form { line }) => JobEnd {
-            status: 16,
-            trace: Trace {
-                job: None,
-                fault: Some(JobFault::Form { line }),
-                history: History::new(alloc),
-            },
-        },
+        Err(JobFault::Memory) => ended(alloc, 36, None),
+        Err(JobFault::Form(fault)) => ended(alloc, 16, Some(fault)),
     }
 }
 
 /// Runs the deck of a job.
 fn run_job_text(alloc: Global, job: JobText) -> JobEnd
     requires { length job.deck.orders ≤ 2 ^ 26 }
-    ensures kept { result.trace.job ≡ Some job }
+    ensures kept { (result.trace.job ≡ Some job) × (result.trace.fault ≡ None) }
     ensures end { IsDeckEnd result.status job result.trace }
     ensures legal { IsLegal opening_state result.trace.history.entries }
 {
@@ -144,34 +152,39 @@ fn run_bound(alloc: Global, job: &JobText, history: &mut History) -> Result<(), 
     requires few { length job.now.deck.orders ≤ 2 ^ 26 }
     requires fresh { history.old.entries ≡ [] }
     ensures legal { IsLegal opening_state history.new.entries }
-    ensures whole { OnOk result (part_of_deck 0 1 history.new.entries ≡ bound_requests job.now.deck) }
-    ensures front { IsFrontOf (part_of_deck 0 1 history.new.entries) (bound_requests job.now.deck) }
+    ensures whole { OnOk result (AreParts 1 (bound_requests job.now.deck) history.new.entries) }
+    ensures prefix { ArePrefixes 1 (bound_requests job.now.deck) history.new.entries }
 {
     let requests = bind(alloc, &job.deck)?;
     run_deck(alloc, &requests, history)
 }
 
 /// A job that ended before it ran.
-fn ended(alloc: Global, status: u8) -> JobEnd
+fn ended(alloc: Global, status: u8, fault: Option<TextFault>) -> JobEnd
     ensures status { result.status ≡ status }
+    ensures fault { result.trace.fault ≡ fault }
     ensures nothing { (result.trace.job ≡ None) × (result.trace.history.entries ≡ []) }
 {
     JobEnd {
         status,
         trace: Trace {
             job: None,
-            fault: None,
+            fault,
             history: History::new(alloc),
         },
     }
 }
 
-/// Prints what a job with this end prints. Where memory runs out before, the status is 36; where the sink fails, that of a run is 28.
+/// Prints what a job with this end prints. Where memory runs out before, the status is 36; where the sink fails, that of a
+/// run is 28.
 fn print_end<K: Sink>(alloc: Global, end: JobEnd, output: &mut K) -> JobEnd
+    requires whole { IsWhole end.status → end.trace.fault ≡ None }
     ensures trace { result.trace ≡ end.trace }
-    ensures status { PrintsAs (K.faults output.old) (K.faults output.new) end.status result.status }
-    ensures listing { IsPrinted (K.taken output.old) (K.taken output.new) (K.faults output.old) (K.faults output.new) (listing_of result.status end.trace) }
-    ensures printed { IsWhole result.status → Takes (K.taken output.old) (K.taken output.new) (listing_of result.status end.trace) }
+    ensures status { PrintsAs (K.faults output.old) (K.faults output.new) end.trace end.status result.status }
+    ensures listing { IsPrinted (K.taken output.old) (K.taken output.new) (K.faults output.old) (K.faults output.new)
+        (listing_of result.status end.trace) }
+    ensures printed { IsWhole result.status
+        → Takes (K.taken output.old) (K.taken output.new) (listing_of result.status end.trace) }
 {
     if has_fixed_line(end.status) {
         let _ = write_whole(output, fixed_line(end.status));
@@ -190,29 +203,33 @@ fn print_end<K: Sink>(alloc: Global, end: JobEnd, output: &mut K) -> JobEnd
 fn print_listing<K: Sink>(end: JobEnd, text: Bytes, output: &mut K) -> JobEnd
     requires text { text ≡ listing_of end.status end.trace }
     requires fixed { ¬ HasFixedLine end.status }
+    requires whole { IsWhole end.status → end.trace.fault ≡ None }
     ensures trace { result.trace ≡ end.trace }
-    ensures status { PrintsAs (K.faults output.old) (K.faults output.new) end.status result.status }
-    ensures listing { IsPrinted (K.taken output.old) (K.taken output.new) (K.faults output.old) (K.faults output.new) (listing_of result.status end.trace) }
-    ensures printed { IsWhole result.status → Takes (K.taken output.old) (K.taken output.new) (listing_of result.status end.trace) }
+    ensures status { PrintsAs (K.faults output.old) (K.faults output.new) end.trace end.status result.status }
+    ensures listing { IsPrinted (K.taken output.old) (K.taken output.new) (K.faults output.old) (K.faults output.new)
+        (listing_of result.status end.trace) }
+    ensures printed { IsWhole result.status
+        → Takes (K.taken output.old) (K.taken output.new) (listing_of result.status end.trace) }
 {
     match write_whole(output, text.as_slice()) {
         Ok(()) => end,
         Err(_) => JobEnd {
-            status: failed_status(end.status),
+            status: failed_status(end.status, &end.trace.fault),
             trace: end.trace,
         },
     }
 }
 
-/// The status where the listing's sink failed: 28 in place of that of a run.
-fn failed_status(status: u8) -> u8
-    ensures listing { (trace : Trace) → listing_of result trace ≡ listing_of status trace }
-    ensures run { IsWhole status → result ≡ 28 }
-    ensures other { ¬ IsWhole status → result ≡ status }
-    ensures never { ¬ IsWhole result }
+/// The status where the listing's sink failed: 28 in place of that of a run. A refused text keeps its own.
+fn failed_status(status: u8, fault: &Option<TextFault>) -> u8
+    requires fixed { ¬ HasFixedLine status }
+    requires whole { IsWhole status → fault.now ≡ None }
+    ensures ending { ending_of result fault.now ≡ ending_of status fault.now }
+    ensures status { (result ≡ status) ⊎ ((result ≡ 28) × (fault.now ≡ None)) }
+    ensures failed { ¬ IsWhole result }
 {
-    match status {
-        0 | 4 => 28,
-        _ => status,
+    match fault {
+        Some(_) => status,
+        None => 28,
     }
 }

@@ -1,14 +1,15 @@
 ghost use Rattle.std.specs.Prelude.{◌≡◌, ℕ, List, [], ◌∷◌, ◌++◌, ◌↔◌, codes, IfOk, OnOk, IsTrue};
 ghost use Rattle.std.specs.Fmt.{decimal};
 ghost use Rattle.vr_job.specs.Code.{step_code};
-ghost use Rattle.vr_job.specs.Listing.{verb_of, file_of, shown, values_of, asked_line, entry_line, entry_lines, name_of, step_listing, fault_line, refused_listing, run_listing, listing_of, HasFixedLine};
+ghost use Rattle.vr_job.specs.Ending.{HasFixedLine};
+ghost use Rattle.vr_job.specs.Listing.{verb_of, file_of, shown, values_of, asked_line, entry_line, entry_lines, name_of, step_listing, fault_line, run_listing, listing_of};
 ghost use Rattle.vr_job.specs.declared.trace.Trace.{Trace};
 
 use crate::code::{feedback, return_code, step_code};
 use crate::entry::{Entry, What};
 use crate::trace::Trace;
 use std::alloc::Global;
-use vr_deck::{JobFault, JobText};
+use vr_deck::{JobText, TextFault};
 use vr_text::write_literal;
 use vr_types::{Bytes, OutOfMemory, Place, Reply, Request};
 
@@ -20,10 +21,12 @@ pub fn listing(alloc: Global, status: u8, trace: &Trace) -> Result<Bytes, OutOfM
     ensures { IfOk result (λ text. text ≡ listing_of status trace.now) }
 {
     let mut out = Bytes::new(alloc);
-    match status {
-        16 => write_refusal(alloc, &mut out, &trace.fault)?,
-        20 | 24 | 26 | 36 => out.extend(fixed_line(status))?,
-        _ => write_run(alloc, &mut out, &trace.job, trace.history.entries())?,
+    if has_fixed_line(status) {
+        out.extend(fixed_line(status))?;
+    } else if let Some(fault) = &trace.fault {
+        write_fault(alloc, &mut out, fault)?;
+    } else {
+        write_run(alloc, &mut out, &trace.job, trace.history.entries())?;
     }
     Ok(out)
 }
@@ -49,32 +52,13 @@ pub fn fixed_line(status: u8) -> &'static [u8]
 }
 
 /// Writes the line of a job that is refused.
-fn write_refusal(
-    alloc: Global,
-    out: &mut Bytes,
-    fault: &Option<JobFault>,
-) -> Result<(), OutOfMemory>
-    ensures { OnOk result (out.new ≡ out.old ++ refused_listing fault.now) }
-{
-    match fault {
-        Some(fault) => write_fault(alloc, out, fault),
-        None => Ok(()),
-    }
-}
-
-/// Writes the line of a fault of the job text.
-fn write_fault(alloc: Global, out: &mut Bytes, fault: &JobFault) -> Result<(), OutOfMemory>
+fn write_fault(alloc: Global, out: &mut Bytes, fault: &TextFault) -> Result<(), OutOfMemory>
     ensures { OnOk result (out.new ≡ out.old ++ fault_line fault.now) }
 {
-    match fault {
-        JobFault::Memory => Ok(()),
-        JobFault::Form { line } => {
-            out.extend(b"JOB REFUSED FORM 0 LINE ")?;
-            write_number(alloc, out, u64::from(*line))?;
-            out.extend(b" COLUMN 1")?;
-            out.push(NEW_LINE)
-        }
-    }
+    out.extend(b"JOB REFUSED FORM 0 LINE ")?;
+    write_number(alloc, out, u64::from(fault.line))?;
+    out.extend(b" COLUMN 1")?;
+    out.push(NEW_LINE)
 }
 
 /// Writes the listing of a job that ran.

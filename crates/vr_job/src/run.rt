@@ -1,8 +1,8 @@
 ghost use Rattle.std.specs.Prelude.{◌≡◌, ◌<◌, ◌≤◌, ◌^◌, ◌-◌, [], IfOk, OnOk, OnErr, All, length};
 ghost use Rattle.vr_job.specs.State.{opening_state};
-ghost use Rattle.vr_job.specs.History.{IsLegal, last_stamp, part_of_deck};
+ghost use Rattle.vr_job.specs.History.{IsLegal, AreParts, ArePrefixes, last_stamp};
 ghost use Rattle.vr_job.specs.Step.{slot_of};
-ghost use Rattle.vr_job.specs.Run.{IsHere, IsFrontOf, Enters, next_number, files_begun, files_ended};
+ghost use Rattle.vr_job.specs.Run.{IsHere, Enters, next_number, files_begun, files_ended};
 
 use crate::answer::answer;
 use crate::entry::{Entry, What};
@@ -27,8 +27,8 @@ pub fn run_deck(
     requires here { All IsHere requests.now }
     requires few { length requests.now < 2 ^ 31 }
     ensures legal { IsLegal opening_state history.new.entries }
-    ensures whole { OnOk result (part_of_deck 0 1 history.new.entries ≡ requests.now) }
-    ensures front { IsFrontOf (part_of_deck 0 1 history.new.entries) requests.now }
+    ensures whole { OnOk result (AreParts 1 requests.now history.new.entries) }
+    ensures prefix { ArePrefixes 1 requests.now history.new.entries }
 {
     let mut file = RecordFile::new(alloc);
     let mut positions = Positions::new(alloc);

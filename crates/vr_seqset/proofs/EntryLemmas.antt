@@ -3,9 +3,10 @@ use Rattle.std.proofs.Common.{◌≡◌, ℕ, zero, suc, ◌+◌, ◌-◌, ◌*�
 use Rattle.std.specs.List.{flat_map, slice_get}
 use Rattle.std.proofs.lemmas.List.{take-append-drop, drop-drop, length-drop, length-take, length-append, take_at, drop_at, take-take, drop-take}
 use Rattle.std.proofs.lemmas.List.Elements.{All-tail, All-head, All-cons, All-nil}
-use Rattle.vr_seqset.specs.Block.{two, two_at}
+use Rattle.vr_types.specs.Fields.{two, two_at}
 use Rattle.vr_seqset.specs.Entry.{Entry, entry_bytes, IsWhole, numbers_in, entry_in, entries_in}
-use Rattle.vr_seqset.proofs.Bytes.{IsBytes, IsBytes-drop, cut_two, length-two, two_at-two, drop-two}
+use Rattle.vr_types.specs.Fields.{IsBytes}
+use Rattle.vr_types.proofs.CallerLemmas.{IsBytes-drop, cut_two, length-two, two_at-two, drop-two}
 
 pub length-numbers_in : (n : ℕ) (bytes : List ℕ) → length (numbers_in n bytes) ≡ n
 unfolding numbers_in
@@ -228,9 +229,6 @@ pub record IsLeft (count place : ℕ) (bytes : List ℕ) (left : ℕ) (rest : Li
   pub all : All (IsWhole place) (entries_in left place rest) → All (IsWhole place) (entries_in count place bytes)
   pub others : All (IsWhole place) (entries_in count place bytes) → All (IsWhole place) (entries_in left place rest)
   pub behind : drop (length (flat_map entry_bytes (entries_in count place bytes))) bytes ≡ drop (length (flat_map entry_bytes (entries_in left place rest))) rest
-
-pub IsLeft-first : (count place : ℕ) (bytes : List ℕ) → IsLeft count place bytes count bytes
-IsLeft-first count place bytes = record { all = λ h. h; others = λ h. h; behind = refl }
 
 pub IsLeft-next : (count place : ℕ) (bytes : List ℕ) (left fewer : ℕ) (rest after : List ℕ) → IsLeft count place bytes left rest → left ≡ suc fewer → after ≡ drop (2 + 2 * two_at 0 rest + place) rest → IsWhole place (entry_in place rest) → IsLeft count place bytes fewer after
 IsLeft-next count place bytes left fewer rest after h e after-is whole =

@@ -7,14 +7,16 @@ use Rattle.std.specs.Cmp.Lexicographic.{slice_cmp}
 use Rattle.std.proofs.lemmas.List.Elements.{All-replicate}
 use Rattle.vr_seqset.specs.declared.fault.SeqFault.{SeqFault}
 use Rattle.vr_seqset.specs.declared.fault.SeqFault.TheVariants as faults
-use Rattle.vr_seqset.specs.Block.{four_at, AreZeros, intervals_used}
+use Rattle.vr_types.specs.Fields.{four_at, AreZeros}
+use Rattle.vr_seqset.specs.Numbers.{intervals_used}
 use Rattle.vr_seqset.specs.Entry.{Entry}
 use Rattle.vr_seqset.specs.Numbers.{AreOnceBelow}
-use Rattle.vr_seqset.specs.SequenceSet.{SequenceSet, spelling, image, bounds_of, HasLengths, HasFields, HasIntervals, Ascends, KeepsChain, IsSequenceSet}
+use Rattle.vr_seqset.specs.SequenceSet.{SequenceSet, spelling, block_of_record, bounds_of, HasLengths, HasFields, HasIntervals, Ascends, KeepsChain, IsSequenceSet}
 use Rattle.vr_seqset.specs.Reading.{record_in}
 use Rattle.vr_seqset.specs.Faults.{CanBeCut, HasZeros, Keeps}
-use Rattle.vr_seqset.proofs.Bytes.{IsBytes, four_below}
-use Rattle.vr_seqset.proofs.BlockLemmas.{area_has_field, zeros_behind}
+use Rattle.vr_types.specs.Fields.{IsBytes}
+use Rattle.vr_types.proofs.CallerLemmas.{four_below}
+use Rattle.vr_types.proofs.CallerLemmas.{IsArea-area_of, zeros_after}
 use Rattle.vr_seqset.proofs.RecordLemmas.{record_again, record_is, kind_back, first_back, gap_back, second_gap_back}
 
 flag_below : (b : Bool) → cond b 1 0 < 2
@@ -26,16 +28,16 @@ keeps_zeros cis block s is =
     let zeros = replicate (length block - length (spelling s)) 0 in
     let same = record_is cis block s is in
     record {
-      flag = subst (λ (x : List ℕ). get_or x 1 0 < 2) (sym is.image) (subst (λ (n : ℕ). n < 2) (sym (first_back s zeros)) (flag_below s.first));
-      gap = subst (λ (x : List ℕ). AreZeros (take 2 (drop 4 x))) (sym is.image) (subst AreZeros (sym (gap_back s zeros)) (All-replicate (λ (b : ℕ). b ≡ 0) 2 0 refl));
-      second_gap = subst (λ (x : List ℕ). AreZeros (take 8 (drop 24 x))) (sym is.image) (subst AreZeros (sym (second_gap_back s zeros)) (All-replicate (λ (b : ℕ). b ≡ 0) 8 0 refl));
+      flag = subst (λ (x : List ℕ). get_or x 1 0 < 2) (sym is.spelled) (subst (λ (n : ℕ). n < 2) (sym (first_back s zeros)) (flag_below s.first));
+      gap = subst (λ (x : List ℕ). AreZeros (take 2 (drop 4 x))) (sym is.spelled) (subst AreZeros (sym (gap_back s zeros)) (All-replicate (λ (b : ℕ). b ≡ 0) 2 0 refl));
+      second_gap = subst (λ (x : List ℕ). AreZeros (take 8 (drop 24 x))) (sym is.spelled) (subst AreZeros (sym (second_gap_back s zeros)) (All-replicate (λ (b : ℕ). b ≡ 0) 8 0 refl));
       chain = subst KeepsChain (sym same) is.rules.chain;
-      rest = subst (λ (x : List ℕ). AreZeros (drop (length (spelling (record_in block))) x)) (sym is.image) (subst (λ (t : SequenceSet). AreZeros (drop (length (spelling t)) (image (length block) s))) (sym same) (zeros_behind (length block) (spelling s)));
+      rest = subst (λ (x : List ℕ). AreZeros (drop (length (spelling (record_in block))) x)) (sym is.spelled) (subst (λ (t : SequenceSet). AreZeros (drop (length (spelling t)) (block_of_record (length block) s))) (sym same) (zeros_after (length block) (spelling s)));
     }
 
 -- a record's block keeps each rule
 pub keeps : (cis : ℕ) (block : List ℕ) (s : SequenceSet) → IsSequenceSet cis block s → (f : SeqFault) → Keeps cis block f
-keeps cis block s is faults.Kind = ap (λ (x : List ℕ). get_or x 0 0) is.image ∙ kind_back s (replicate (length block - length (spelling s)) 0)
+keeps cis block s is faults.Kind = ap (λ (x : List ℕ). get_or x 0 0) is.spelled ∙ kind_back s (replicate (length block - length (spelling s)) 0)
 keeps cis block s is faults.Lengths = record {
   lengths = subst (HasLengths (length block)) (sym (record_is cis block s is)) is.rules.lengths;
   some = subst (λ (t : SequenceSet). 0 < length t.entries) (sym (record_is cis block s is)) is.some;
@@ -48,9 +50,9 @@ fields_fit : (block : List ℕ) → IsBytes block → HasFields (record_in block
 unfolding record_in
 fields_fit block fits = record {
   part = four_below 8 block fits;
-  next = area_has_field (four_at 12 block) (four_below 12 block fits);
+  next = IsArea-area_of (four_at 12 block) (four_below 12 block fits);
   top = four_below 16 block fits;
-  index_area = area_has_field (four_at 20 block) (four_below 20 block fits);
+  index_area = IsArea-area_of (four_at 20 block) (four_below 20 block fits);
 }
 
 -- a block that keeps each rule is that of a record
@@ -58,7 +60,7 @@ pub is_record : (cis : ℕ) (block : List ℕ) → IsBytes block → get_or bloc
 is_record cis block fits kind cut numbers ascends zeros = record {
   rules = record { lengths = cut.lengths; fields = fields_fit block fits; numbers = numbers; ascends = ascends; chain = zeros.chain };
   some = cut.some;
-  image = record_again block fits kind cut zeros;
+  spelled = record_again block fits kind cut zeros;
 }
 
 -- ---- rules, as the code tests them on the parts that it read

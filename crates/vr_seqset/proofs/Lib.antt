@@ -1,6 +1,5 @@
-pub mod Bytes
 pub mod EntryLemmas
-pub mod BlockLemmas
+pub mod ListLemmas
 pub mod RecordLemmas
 pub mod FaultLemmas
 pub mod NumberLemmas

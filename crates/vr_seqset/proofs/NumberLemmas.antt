@@ -1,5 +1,6 @@
 -- Marking interval numbers one by one.
-use Rattle.std.proofs.Common.{◌≡◌, ℕ, ◌+◌, ◌<◌, ◌≤◌, Bool, true, false, ◌||◌, eqb, List, [], ◌∷◌, ◌++◌, length, get_or, set, take, drop, All, refl, sym, ap, subst, ◌∙◌, arith, append_assoc, inl, inr, replicate}
+use Rattle.std.proofs.Math.Nat.{div-le_self}
+use Rattle.std.proofs.Common.{◌≡◌, ℕ, ◌+◌, ◌<◌, ◌≤◌, Bool, true, false, ◌||◌, eqb, List, [], ◌∷◌, ◌++◌, length, get_or, set, take, drop, All, refl, sym, ap, subst, ◌∙◌, arith, append_assoc, inl, inr, replicate, ◌-◌}
 use Rattle.std.specs.List.{IsDistinct, list_any, flat_map}
 use Rattle.std.proofs.lemmas.Bool.{cases_eq, cases_lt, eqb-true, eq-eqb, ne_eqb, or_cases, or_right, true≢false}
 use Rattle.std.proofs.lemmas.Cmp.{nat_eq_equiv}
@@ -9,8 +10,12 @@ use Rattle.std.proofs.lemmas.List.Elements.{All-push, All-head, All-nil, All-fro
 use Rattle.std.proofs.lemmas.List.Folds.{list_any-append}
 use Rattle.std.proofs.lemmas.Map.Keys.{IsDistinct-push, IsDistinct-from_apart, apart_from_distinct, IsDistinct-head, IsDistinct-tail}
 use Rattle.vr_seqset.specs.Entry.{Entry}
-use Rattle.vr_seqset.specs.Numbers.{AreOnceBelow, Marks}
-use Rattle.vr_seqset.proofs.BlockLemmas.{All-left, All-right}
+use Rattle.vr_seqset.specs.Numbers.{AreOnceBelow, Marks, intervals_used}
+use Rattle.vr_seqset.proofs.ListLemmas.{All-left, All-right}
+
+-- no more intervals are used than a block has bytes
+pub used_below : (cis size place : ℕ) → intervals_used cis size place ≤ size
+used_below cis size place = omega (arith, div-le_self (size - 32 - place) (4 + place))
 
 IsDistinct-left : (xs ys : List ℕ) → IsDistinct eqb (xs ++ ys) → IsDistinct eqb xs
 IsDistinct-left xs ys once = IsDistinct-from_apart eqb xs (λ i j d lt below.

@@ -33,9 +33,6 @@ sorted_more p q places lt h = ((lt, below_all p q places lt (sorted_head (slice_
 sorted_first : (p q : List ℕ) (places : List (List ℕ)) → Sorted (p ∷ q ∷ places) → slice_cmp nat_cmp p q ≡ Less
 sorted_first p q places h = (sorted_head (slice_cmp nat_cmp) p (q ∷ places) h).0
 
-pub first_still : (all : List (List ℕ)) (below : Option (Bor (List ℕ))) (left : List Entry) → all ≡ places_below below ++ map (λ e. e.high) left → StillAscend all below left
-first_still all below left e = record { to = λ h. subst Sorted e h; back = λ h. subst Sorted (sym e) h }
-
 pub next_none : (all : List (List ℕ)) (left after : List Entry) (e : Entry) (high : Bor (List ℕ)) → left ≡ e ∷ after → high.now ≡ e.high → StillAscend all None left → StillAscend all (Some high) after
 next_none all left after e high cut high-is h =
     let same : map (λ (x : Entry). x.high) left ≡ high.now ∷ map (λ (x : Entry). x.high) after = ap (map (λ (x : Entry). x.high)) cut ∙ ap (λ (p : List ℕ). p ∷ map (λ (x : Entry). x.high) after) (sym high-is) in

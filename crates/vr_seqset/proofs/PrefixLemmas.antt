@@ -7,11 +7,11 @@ use Rattle.std.specs.Ordering.{nat_cmp}
 use Rattle.std.specs.Cmp.Lexicographic.{slice_cmp}
 use Rattle.std.proofs.lemmas.List.{length-append, map-append}
 use Rattle.std.proofs.lemmas.Grind.{flat_map-append}
-use Rattle.vr_seqset.specs.Block.{intervals_used}
+use Rattle.vr_seqset.specs.Numbers.{intervals_used}
 use Rattle.vr_seqset.specs.Entry.{Entry, entry_bytes, IsWhole}
 use Rattle.vr_seqset.specs.Numbers.{AreOnceBelow}
 use Rattle.vr_seqset.specs.SequenceSet.{SequenceSet, KeepsRules}
-use Rattle.vr_seqset.proofs.BlockLemmas.{All-left}
+use Rattle.vr_seqset.proofs.ListLemmas.{All-left}
 use Rattle.vr_seqset.proofs.RecordLemmas.{length-spelling}
 use Rattle.vr_seqset.proofs.NumberLemmas.{once_left}
 use Rattle.vr_seqset.proofs.PlaceLemmas.{Sorted}

@@ -7,14 +7,19 @@ use Rattle.std.proofs.lemmas.Bool.{cases_lt}
 use Rattle.std.proofs.lemmas.List.{take-append-drop, drop-drop, drop_all, length-drop, length-take, length-append, length-replicate, take_at, drop_at, take_rest}
 use Rattle.std.proofs.lemmas.List.Elements.{All-tail, All-head, All-cons, All-nil, All-weaker}
 use Rattle.std.proofs.lemmas.Nat.{from_be_bytes-to_be_bytes_2, from_be_bytes-to_be_bytes_4}
-use Rattle.vr_seqset.specs.Block.{IsBlockSize, intervals_used, two, four, two_at, four_at, area_field, area_of, AreZeros}
+use Rattle.vr_types.specs.BlockSize.{IsBlockSize}
+use Rattle.vr_seqset.specs.Numbers.{intervals_used}
+use Rattle.vr_types.specs.Fields.{two, four, two_at, four_at, area_field, area_of, AreZeros}
 use Rattle.vr_seqset.specs.Entry.{Entry, entry_bytes, IsWhole, entries_in}
-use Rattle.vr_seqset.specs.SequenceSet.{SequenceSet, head_bytes, spelling, image, used_by, HasFields, KeepsRules, IsSequenceSet}
+use Rattle.vr_seqset.specs.SequenceSet.{SequenceSet, head_bytes, spelling, block_of_record, used_by, HasFields, KeepsRules, IsSequenceSet}
 use Rattle.vr_seqset.specs.Reading.{record_in, entry_of}
 use Rattle.vr_seqset.specs.Faults.{CanBeCut, HasZeros}
-use Rattle.vr_seqset.proofs.Bytes.{IsBytes, IsBytes-drop, cut_one, cut_two, cut_four, zeros_are, zeros_cut}
+use Rattle.vr_types.specs.Fields.{IsBytes}
+use Rattle.vr_types.proofs.CallerLemmas.{IsBytes-drop, cut_one, cut_two, cut_four, zeros_are, cut_zeros}
 use Rattle.vr_seqset.proofs.EntryLemmas.{CanBeSpelled, entries_again, entries_back, length-entries_in, length-numbers_in, length-entry_bytes, length-twos, first_whole, some_within, whole_fewer, get_fewer}
-use Rattle.vr_seqset.proofs.BlockLemmas.{at_least, used_below, area_back, area_again, field_below, length-padded, All-left, All-right}
+use Rattle.vr_types.proofs.CallerLemmas.{block_size_least, area_of-area_field, area_field-area_of, area_field-below, length-padded}
+use Rattle.vr_seqset.proofs.NumberLemmas.{used_below}
+use Rattle.vr_seqset.proofs.ListLemmas.{All-left, All-right}
 
 -- ---- lengths
 
@@ -127,19 +132,19 @@ entries_cut block fits cut zeros =
     sym (take-append-drop (two_at 6 block) (drop 32 block))
     ∙ ap (λ (x : List ℕ). take (two_at 6 block) (drop 32 block) ++ x) (drop-drop (two_at 6 block) 32 block ∙ parts.1 ∙ ap (λ (x : List ℕ). flat_map entry_bytes entries ++ x) zeros-are)
 
-pub record_again : (block : List ℕ) → IsBytes block → get_or block 0 0 ≡ 83 → CanBeCut block → HasZeros block → block ≡ image (length block) (record_in block)
+pub record_again : (block : List ℕ) → IsBytes block → get_or block 0 0 ≡ 83 → CanBeCut block → HasZeros block → block ≡ block_of_record (length block) (record_in block)
 unfolding record_in
 record_again block fits kind cut zeros =
     let s = record_in block in
-    let size = at_least (length block) cut.lengths.block in
+    let size = block_size_least (length block) cut.lengths.block in
     let last = entries_cut block fits cut zeros.rest in
-    let at24 = zeros_cut 8 24 block (omega arith) zeros.second_gap ∙ ap (λ (x : List ℕ). replicate 8 0 ++ x) last in
-    let at20 = cut_four 20 block fits (omega arith) ∙ ap (λ (n : ℕ). four n ++ drop 24 block) (sym (area_again (four_at 20 block))) ∙ ap (λ (x : List ℕ). four (area_field (area_of (four_at 20 block))) ++ x) at24 in
+    let at24 = cut_zeros 8 24 block (omega arith) zeros.second_gap ∙ ap (λ (x : List ℕ). replicate 8 0 ++ x) last in
+    let at20 = cut_four 20 block fits (omega arith) ∙ ap (λ (n : ℕ). four n ++ drop 24 block) (sym (area_field-area_of (four_at 20 block))) ∙ ap (λ (x : List ℕ). four (area_field (area_of (four_at 20 block))) ++ x) at24 in
     let at16 = cut_four 16 block fits (omega arith) ∙ ap (λ (x : List ℕ). four (four_at 16 block) ++ x) at20 in
-    let at12 = cut_four 12 block fits (omega arith) ∙ ap (λ (n : ℕ). four n ++ drop 16 block) (sym (area_again (four_at 12 block))) ∙ ap (λ (x : List ℕ). four (area_field (area_of (four_at 12 block))) ++ x) at16 in
+    let at12 = cut_four 12 block fits (omega arith) ∙ ap (λ (n : ℕ). four n ++ drop 16 block) (sym (area_field-area_of (four_at 12 block))) ∙ ap (λ (x : List ℕ). four (area_field (area_of (four_at 12 block))) ++ x) at16 in
     let at8 = cut_four 8 block fits (omega arith) ∙ ap (λ (x : List ℕ). four (four_at 8 block) ++ x) at12 in
     let at6 = cut_two 6 block fits (omega arith) ∙ ap (λ (n : ℕ). two n ++ drop 8 block) (sym (place_is block cut)) ∙ ap (λ (x : List ℕ). two (length (take (two_at 6 block) (drop 32 block))) ++ x) at8 in
-    let at4 = zeros_cut 2 4 block (omega arith) zeros.gap ∙ ap (λ (x : List ℕ). 0 ∷ 0 ∷ x) at6 in
+    let at4 = cut_zeros 2 4 block (omega arith) zeros.gap ∙ ap (λ (x : List ℕ). 0 ∷ 0 ∷ x) at6 in
     let at2 = cut_two 2 block fits (omega arith) ∙ ap (λ (n : ℕ). two n ++ drop 4 block) (sym (length-entries_in (two_at 2 block) (two_at 6 block) (drop (32 + two_at 6 block) block))) ∙ ap (λ (x : List ℕ). two (length (entries_in (two_at 2 block) (two_at 6 block) (drop (32 + two_at 6 block) block))) ++ x) at4 in
     let at1 = cut_one 1 block (omega arith) ∙ ap (λ (b : ℕ). b ∷ drop 2 block) (flag_again (get_or block 1 0) zeros.flag) ∙ ap (λ (x : List ℕ). cond (eqb (get_or block 1 0) 1) 1 0 ∷ x) at2 in
     let at0 = cut_one 0 block (omega arith) ∙ ap (λ (b : ℕ). b ∷ drop 1 block) kind ∙ ap (λ (x : List ℕ). 83 ∷ x) at1 in
@@ -252,36 +257,27 @@ module _ (s : SequenceSet) (rest : List ℕ) where
       same_record (record_in (spelling s ++ rest)) s
       (ap (λ (b : ℕ). eqb b 1) first_back ∙ flag_back s.first)
       (part_field fits.fields.part)
-      (ap area_of (next_field (field_below s.next fits.fields.next)) ∙ area_back s.next)
+      (ap area_of (next_field (area_field-below s.next fits.fields.next)) ∙ area_of-area_field s.next)
       (top_field fits.fields.top)
-      (ap area_of (index_field (field_below s.index_area fits.fields.index_area)) ∙ area_back s.index_area)
+      (ap area_of (index_field (area_field-below s.index_area fits.fields.index_area)) ∙ area_of-area_field s.index_area)
       low
       entries
 
 -- ---- the laws
 
-pub record_of_image : (cis size : ℕ) (s : SequenceSet) → KeepsRules cis size s → record_in (image size s) ≡ s
-record_of_image cis size s rules = record_back s (replicate (size - length (spelling s)) 0) (has_spelling cis size s rules)
+pub record_of_block : (cis size : ℕ) (s : SequenceSet) → KeepsRules cis size s → record_in (block_of_record size s) ≡ s
+record_of_block cis size s rules = record_back s (replicate (size - length (spelling s)) 0) (has_spelling cis size s rules)
 
 pub record_is : (cis : ℕ) (block : List ℕ) (s : SequenceSet) → IsSequenceSet cis block s → record_in block ≡ s
-record_is cis block s is = ap record_in is.image ∙ record_of_image cis (length block) s is.rules
+record_is cis block s is = ap record_in is.spelled ∙ record_of_block cis (length block) s is.rules
 
-pub length-image : (cis size : ℕ) (s : SequenceSet) → KeepsRules cis size s → length (image size s) ≡ size
-length-image cis size s rules = length-padded size (spelling s) rules.lengths.room
-
-pub image_is : (cis size : ℕ) (s : SequenceSet) → KeepsRules cis size s → 0 < length s.entries → IsSequenceSet cis (image size s) s
-image_is cis size s rules some =
-    let len = length-image cis size s rules in
-    record {
-      rules = subst (λ (n : ℕ). KeepsRules cis n s) (sym len) rules;
-      some = some;
-      image = ap (λ (n : ℕ). image n s) (sym len);
-    }
+pub length-block_of_record : (cis size : ℕ) (s : SequenceSet) → KeepsRules cis size s → length (block_of_record size s) ≡ size
+length-block_of_record cis size s rules = length-padded size (spelling s) rules.lengths.room
 
 -- ---- what the readers need
 
 pub size_of : (block : List ℕ) → CanBeCut block → 512 ≤ length block
-size_of block cut = at_least (length block) cut.lengths.block
+size_of block cut = block_size_least (length block) cut.lengths.block
 
 pub ruleset reads = (size_of, place_within, place_some, all_whole, length-entries_in, take_rest)
 

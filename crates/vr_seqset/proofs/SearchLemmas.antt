@@ -1,5 +1,5 @@
 -- Searching the entries that are left.
-use Rattle.std.proofs.Common.{◌≡◌, ℕ, zero, suc, ◌+◌, Bool, true, false, cond, List, [], ◌∷◌, drop, Some, None, refl, sym, ap, ◌∙◌}
+use Rattle.std.proofs.Common.{◌≡◌, ℕ, zero, suc, ◌+◌, Bool, true, false, cond, List, [], ◌∷◌, drop, Some, refl, sym, ap, ◌∙◌}
 use Rattle.std.specs.List.{position, position_from, slice_get}
 use Rattle.std.proofs.lemmas.Iterator.Adapters.{position_from-zero}
 use Rattle.std.proofs.lemmas.List.{drop-drop}
@@ -34,6 +34,3 @@ found test all left rest i e cut hits h =
 
 pub is_there : (test : Entry → Bool) (all left rest : List Entry) (i : ℕ) (e : Entry) → left ≡ e ∷ rest → Searches test all i left → slice_get all i ≡ Some e
 is_there test all left rest i e cut h = get_at all rest i e (sym h.behind ∙ cut)
-
-pub none_found : (test : Entry → Bool) (all left : List Entry) (i : ℕ) → left ≡ [] → Searches test all i left → position test all ≡ None
-none_found test all left i e h = h.same ∙ ap (position_from test i) e

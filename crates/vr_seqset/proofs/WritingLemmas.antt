@@ -4,13 +4,13 @@ use Rattle.std.specs.List.{flat_map}
 use Rattle.std.specs.Int.{w16, w32, to_be_bytes}
 use Rattle.std.proofs.lemmas.List.{take_more_set, take_more, length-set, append-nil, drop-drop, length-append, length_push, take_at, drop_at, drop-replicate}
 use Rattle.std.proofs.lemmas.Grind.{flat_map-append}
-use Rattle.vr_seqset.specs.Block.{two, four, two_at, area_field}
+use Rattle.vr_types.specs.Fields.{two, four, two_at, area_field}
 use Rattle.vr_seqset.specs.Entry.{Entry, entry_bytes}
-use Rattle.vr_seqset.specs.SequenceSet.{SequenceSet, head_bytes, spelling, image, KeepsRules}
+use Rattle.vr_seqset.specs.SequenceSet.{SequenceSet, head_bytes, spelling, block_of_record, KeepsRules}
 use Rattle.vr_seqset.specs.Reading.{record_in}
 use Rattle.vr_seqset.specs.Writing.{with_entry, IsBegun}
 use Rattle.vr_seqset.proofs.EntryLemmas.{length-entry_bytes, length-twos, length-entries_in}
-use Rattle.vr_seqset.proofs.RecordLemmas.{length-spelling, length-head_bytes, count_within, record_of_image, length-image}
+use Rattle.vr_seqset.proofs.RecordLemmas.{length-spelling, length-head_bytes, count_within, record_of_block, length-block_of_record}
 
 -- ---- numbers one after another
 
@@ -63,7 +63,7 @@ spelling_head s none = ap (λ (es : List Entry). head_bytes s ++ s.low ++ flat_m
 pub length-spelling_head : (s : SequenceSet) → s.entries ≡ [] → length (spelling s) ≡ 32 + length s.low
 length-spelling_head s none = omega (arith, length-spelling s, ap (λ (es : List Entry). length (flat_map entry_bytes es)) none)
 
-pub head_put : (size : ℕ) (s : SequenceSet) (front low free : List ℕ) → s.entries ≡ [] → front ≡ head_bytes s → low ≡ s.low → free ≡ replicate (size - (32 + length s.low)) 0 → front ++ (low ++ free) ≡ image size s
+pub head_put : (size : ℕ) (s : SequenceSet) (front low free : List ℕ) → s.entries ≡ [] → front ≡ head_bytes s → low ≡ s.low → free ≡ replicate (size - (32 + length s.low)) 0 → front ++ (low ++ free) ≡ block_of_record size s
 head_put size s front low free none front-is low-is free-is =
     ap (λ (x : List ℕ). x ++ (low ++ free)) front-is ∙ ap (λ (x : List ℕ). head_bytes s ++ (x ++ free)) low-is
     ∙ sym (append_assoc (head_bytes s) s.low free)
@@ -103,10 +103,10 @@ module _ (s : SequenceSet) (intervals high : List ℕ) where
       ap (λ (x : List ℕ). head_bytes (with_entry s intervals high) ++ s.low ++ x) flat_more
       ∙ sym (append_assoc (head_bytes (with_entry s intervals high) ++ s.low) (flat_map entry_bytes s.entries) (entry_bytes (record { intervals = intervals; high = high })))
 
-  pub entry_added : (size end : ℕ) (block front free c : List ℕ) → block ≡ image size s → end ≡ length (spelling s) → length (spelling (with_entry s intervals high)) ≤ size → c ≡ two (length (with_entry s intervals high).entries)
+  pub entry_added : (size end : ℕ) (block front free c : List ℕ) → block ≡ block_of_record size s → end ≡ length (spelling s) → length (spelling (with_entry s intervals high)) ≤ size → c ≡ two (length (with_entry s intervals high).entries)
       → front ≡ take end (set (set block 2 (get_or c 0 0)) 3 (get_or c 1 0))
       → free ≡ entry_bytes (record { intervals = intervals; high = high }) ++ drop (length (entry_bytes (record { intervals = intervals; high = high }))) (drop end (set (set block 2 (get_or c 0 0)) 3 (get_or c 1 0)))
-      → front ++ free ≡ image size (with_entry s intervals high)
+      → front ++ free ≡ block_of_record size (with_entry s intervals high)
   entry_added size end block front free c block-is end-is room c-is front-is free-is =
       let e = entry_bytes (record { intervals = intervals; high = high }) in
       let whole : set (set block 2 (get_or c 0 0)) 3 (get_or c 1 0) ≡ front_of ++ replicate (size - length (spelling s)) 0 =
@@ -140,13 +140,13 @@ end_after cis block end intervals high begun =
 
 -- ---- what a writer keeps
 
-pub begun_of : (cis size : ℕ) (s : SequenceSet) (block : List ℕ) (end : ℕ) → KeepsRules cis size s → block ≡ image size s → end ≡ length (spelling s) → IsBegun cis block end × (record_in block ≡ s)
+pub begun_of : (cis size : ℕ) (s : SequenceSet) (block : List ℕ) (end : ℕ) → KeepsRules cis size s → block ≡ block_of_record size s → end ≡ length (spelling s) → IsBegun cis block end × (record_in block ≡ s)
 begun_of cis size s block end rules block-is end-is =
-    let same : record_in block ≡ s = ap record_in block-is ∙ record_of_image cis size s rules in
-    let len : length block ≡ size = ap (λ (x : List ℕ). length x) block-is ∙ length-image cis size s rules in (
+    let same : record_in block ≡ s = ap record_in block-is ∙ record_of_block cis size s rules in
+    let len : length block ≡ size = ap (λ (x : List ℕ). length x) block-is ∙ length-block_of_record cis size s rules in (
       record {
         rules = subst (λ (n : ℕ). KeepsRules cis n (record_in block)) (sym len) (subst (KeepsRules cis size) (sym same) rules);
-        image = block-is ∙ ap (λ (n : ℕ). image n s) (sym len) ∙ ap (image (length block)) (sym same);
+        spelled = block-is ∙ ap (λ (n : ℕ). block_of_record n s) (sym len) ∙ ap (block_of_record (length block)) (sym same);
         ends = end-is ∙ ap (λ (t : SequenceSet). length (spelling t)) (sym same);
       },
       same,

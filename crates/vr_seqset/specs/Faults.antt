@@ -1,19 +1,22 @@
--- Which fault a block has that is nobody's: the first rule that it breaks, in the order in which they are tried.
+-- Which fault a block has that is nobody's: the first rule that it breaks, in the order in which
+-- they are tried.
 use Rattle.std.specs.Prelude.{◌≡◌, ℕ, ◌<◌, ◌≤◌, List, length, take, drop, slice_index}
-use Rattle.vr_seqset.specs.Block.{IsBlockSize, AreZeros}
+use Rattle.vr_types.specs.BlockSize.{IsBlockSize}
+use Rattle.vr_types.specs.Fields.{AreZeros}
 use Rattle.vr_seqset.specs.SequenceSet.{spelling, HasLengths, HasIntervals, Ascends, KeepsChain}
 use Rattle.vr_seqset.specs.Reading.{record_in, roster_in}
 use Rattle.vr_seqset.specs.declared.fault.SeqFault.{SeqFault}
 use Rattle.vr_seqset.specs.declared.fault.SeqFault.TheVariants as faults
 
--- Lengths and counts: the block's size is allowed, places have a byte at least, there is an entry, each entry has an interval
--- and a whole high place, and the last ends in the block.
+-- Lengths and counts: the block's size is allowed, places have a byte at least, there is an entry,
+-- each entry has an interval and a whole high place, and the last ends in the block.
 pub record CanBeCut (block : List ℕ) : Type 0 where
   pub lengths : HasLengths (length block) (record_in block)
   pub some : 0 < length (record_in block).entries
 
--- Every byte without a name is zero: those at 4, 5 and 24 to 31, and those behind the last entry. The flag is 1 or zero. In the
--- first of a chain the low place is zeros, and in the others the fields of the index are.
+-- Every byte without a name is zero: those at 4, 5 and 24 to 31, and those after the last entry.
+-- The flag is 1 or zero. In the first of a chain the low place is zeros, and in the others the
+-- fields of the index are.
 pub record HasZeros (block : List ℕ) : Type 0 where
   pub flag : slice_index block 1 < 2
   pub gap : AreZeros (take 2 (drop 4 block))
@@ -21,7 +24,8 @@ pub record HasZeros (block : List ℕ) : Type 0 where
   pub chain : KeepsChain (record_in block)
   pub rest : AreZeros (drop (length (spelling (record_in block))) block)
 
--- the rule that a fault names, for the block of a sequence-set record in an area of so many intervals
+-- the rule that a fault names, for the block of a sequence-set record in an area of so many
+-- intervals
 abbrev pub Keeps : ℕ → List ℕ → SeqFault → Type 0
 Keeps intervals block faults.Kind = slice_index block 0 ≡ 83
 Keeps intervals block faults.Lengths = CanBeCut block
@@ -40,7 +44,8 @@ pub record RosterHasZeros (block : List ℕ) : Type 0 where
   pub gap : AreZeros (take 4 (drop 4 block))
   pub rest : AreZeros (drop 16 block)
 
--- the rule that a fault names, for the block of a roster, which has no interval numbers and no places
+-- the rule that a fault names, for the block of a roster, which has no interval numbers and no
+-- places
 abbrev pub KeepsRoster : ℕ → List ℕ → SeqFault → Type 0
 KeepsRoster intervals block faults.Kind = slice_index block 0 ≡ 82
 KeepsRoster intervals block faults.Lengths = RosterFits intervals block

@@ -1,4 +1,3 @@
-pub mod Block
 pub mod Entry
 pub mod Numbers
 pub mod SequenceSet

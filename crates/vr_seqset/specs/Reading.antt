@@ -1,6 +1,6 @@
--- What stands in a block at the places of the fields, whether or not the block keeps the rules.
+-- What a block has at the places of the fields, whether or not the block keeps the rules.
 use Rattle.std.specs.Prelude.{ℕ, ◌+◌, List, take, drop, slice_index, slice_index_or, nat_eq, []}
-use Rattle.vr_seqset.specs.Block.{two_at, four_at, area_of}
+use Rattle.vr_types.specs.Fields.{two_at, four_at, area_of}
 use Rattle.vr_seqset.specs.Entry.{Entry, entries_in}
 use Rattle.vr_seqset.specs.SequenceSet.{SequenceSet}
 use Rattle.vr_seqset.specs.Roster.{Roster}

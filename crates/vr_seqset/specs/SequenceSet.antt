@@ -1,17 +1,21 @@
--- The sequence-set record of an area of a keyed data set: which control intervals hold the records up to which place, in
--- ascending order of places. It is the lowest level of the index of a key-sequenced data set (DFSMS Using Data Sets); its bytes
--- are this project's own.
-use Rattle.std.specs.Prelude.{◌≡◌, ℕ, ◌<◌, ◌≤◌, ◌^◌, Bool, List, [], ◌∷◌, ◌++◌, length, map, replicate, All, Option, None, if◌then◌else◌, MatchBool}
+-- The sequence-set record of an area of a keyed data set: which control intervals hold the records
+-- up to which place, in ascending order of places. It is the lowest level of the index of a
+-- key-sequenced data set (DFSMS Using Data Sets); its bytes are this project's own.
+use Rattle.std.specs.Prelude.{◌≡◌, ℕ, ◌<◌, ◌≤◌, ◌^◌, Bool, List, [], ◌∷◌, ◌++◌, length, map}
+use Rattle.std.specs.Prelude.{replicate, All, Option, None, if◌then◌else◌, MatchBool}
 use Rattle.std.specs.List.{flat_map}
 use Rattle.std.specs.List.Sorted.{IsStrictlySortedBy}
 use Rattle.std.specs.Ordering.{nat_cmp}
 use Rattle.std.specs.Cmp.Lexicographic.{slice_cmp}
-use Rattle.vr_seqset.specs.Block.{IsBlockSize, intervals_used, two, four, area_field, IsArea, AreZeros, padded}
+use Rattle.vr_types.specs.BlockSize.{IsBlockSize}
+use Rattle.vr_seqset.specs.Numbers.{intervals_used}
+use Rattle.vr_types.specs.Fields.{two, four, area_field, IsArea, AreZeros, padded}
 use Rattle.vr_seqset.specs.Entry.{Entry, entry_bytes, IsWhole}
 use Rattle.vr_seqset.specs.Numbers.{AreOnceBelow}
 
--- What a record says: whether it is the first of its part's chain, the part, the next area of the chain, the block of the top
--- index record, the first index area, the place above which its records begin, and its entries.
+-- What a record says: whether it is the first of its part's chain, the part, the next area of the
+-- chain, the block of the top index record, the first index area, the place above which its records
+-- begin, and its entries.
 pub record SequenceSet : Type 0 where
   pub first : Bool
   pub part : ℕ
@@ -30,26 +34,27 @@ unfoldable pub spelling : SequenceSet → List ℕ
 spelling s = head_bytes s ++ s.low ++ flat_map entry_bytes s.entries
 
 -- the block of that size which spells the record
-abbrev pub image : ℕ → SequenceSet → List ℕ
-image size s = padded size (spelling s)
+abbrev pub block_of_record : ℕ → SequenceSet → List ℕ
+block_of_record size s = padded size (spelling s)
 
 -- the intervals of all entries, in their order
 abbrev pub used_by : SequenceSet → List ℕ
 used_by s = flat_map (λ entry. entry.intervals) s.entries
 
--- The places that bound the entries. The first record of a chain has no place below it: its first entry holds all records up to
--- its high place.
+-- The places that bound the entries. The first record of a chain has no place below it: its first
+-- entry holds all records up to its high place.
 abbrev pub bounds_of : SequenceSet → List (List ℕ)
 bounds_of s = (if s.first then [] else s.low ∷ []) ++ map (λ entry. entry.high) s.entries
 
--- the block has an allowed size and the record has room in it, places have one length, and each entry has an interval
+-- the block has an allowed size and the record has room in it, places have one length, and each
+-- entry has an interval
 pub record HasLengths (size : ℕ) (s : SequenceSet) : Type 0 where
   pub block : IsBlockSize size
   pub place : 0 < length s.low
   pub whole : All (IsWhole (length s.low)) s.entries
   pub room : length (spelling s) ≤ size
 
--- interval numbers are below that of the intervals used, and none stands twice
+-- interval numbers are below that of the intervals used, and none comes twice
 abbrev pub HasIntervals : ℕ → ℕ → SequenceSet → Type 0
 HasIntervals intervals size s = AreOnceBelow (intervals_used intervals size (length s.low)) (used_by s)
 
@@ -68,8 +73,8 @@ pub record HasFields (s : SequenceSet) : Type 0 where
   pub top : s.top < 2 ^ 32
   pub index_area : IsArea s.index_area
 
--- All rules of a record in a block of the size, of an area of so many intervals, but that there is an entry. That the last high
--- place of a chain is all X'FF', and no other, is a rule of the chain.
+-- All rules of a record in a block of the size, of an area of that many intervals, but that there is
+-- an entry. That the last high place of a chain is all X'FF', and no other, is a rule of the chain.
 pub record KeepsRules (intervals size : ℕ) (s : SequenceSet) : Type 0 where
   pub lengths : HasLengths size s
   pub fields : HasFields s
@@ -77,8 +82,8 @@ pub record KeepsRules (intervals size : ℕ) (s : SequenceSet) : Type 0 where
   pub ascends : Ascends s
   pub chain : KeepsChain s
 
--- The block is the record's, in an area of so many intervals.
+-- The block is the record's, in an area of that many intervals.
 pub record IsSequenceSet (intervals : ℕ) (block : List ℕ) (s : SequenceSet) : Type 0 where
   pub rules : KeepsRules intervals (length block) s
   pub some : 0 < length s.entries
-  pub image : block ≡ image (length block) s
+  pub spelled : block ≡ block_of_record (length block) s

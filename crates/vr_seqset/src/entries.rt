@@ -20,7 +20,8 @@ impl<'a> Model for SeqEntries<'a> {
 
     ghost view = { λ s. entries_in s.left s.place s.bytes.now };
 
-    ghost invariant = { λ s. (0 < s.place) × All (IsWhole s.place) (entries_in s.left s.place s.bytes.now) };
+    ghost invariant = { λ s. (0 < s.place)
+        × All (IsWhole s.place) (entries_in s.left s.place s.bytes.now) };
 }
 
 impl<'a> Iterator for SeqEntries<'a> {

@@ -1,12 +1,13 @@
 //! One entry of a sequence-set record.
-ghost use Rattle.std.specs.Prelude.{◌≡◌, ◌<◌, ◌≤◌, ◌+◌, ◌*◌, ℕ, All, length, slice_index, slice_get, drop, Some};
-ghost use Rattle.vr_seqset.specs.Block.{two_at as two_bytes_at};
+ghost use Rattle.std.specs.Prelude.{◌≡◌, ◌<◌, ◌≤◌, ◌+◌, ◌*◌, ℕ, All, length, slice_index};
+ghost use Rattle.std.specs.Prelude.{slice_get, drop, Some};
+ghost use Rattle.vr_types.specs.Fields.{two_at as two_bytes_at};
 ghost use Rattle.vr_seqset.specs.Entry.{entry_in, entries_in, IsWhole};
 
-use crate::block::two_at;
 use std::marker::Model;
+use vr_types::two_at;
 
-/// An entry, lent out of its block: the intervals that hold its records, and its high place.
+/// An entry, borrowed from its block: the intervals that hold its records, and its high place.
 #[derive(Debug, Drop)]
 pub struct SeqEntry<'a> {
     numbers: &'a [u8],
@@ -19,7 +20,11 @@ impl<'a> Model for SeqEntry<'a> {
 
     ghost Value = { Entry };
 
-    ghost view = { λ e. record { intervals = numbers_in (length e.numbers.now / 2) e.numbers.now; high = e.high.now } };
+    ghost view = { λ e. record {
+      intervals = numbers_in
+          (length e.numbers.now / 2) e.numbers.now;
+      high = e.high.now;
+    } };
 }
 
 impl<'a> SeqEntry<'a> {
@@ -48,7 +53,7 @@ impl<'a> SeqEntry<'a> {
     }
 }
 
-/// The entry at the front of the bytes, and the bytes after it.
+/// The first entry of the bytes, and the bytes after it.
 #[tactic(auto, using(crate::proofs::EntryLemmas::whole_within), unfolding(crate::specs::Entry::entry_in))]
 pub(crate) fn split_entry<'a>(bytes: &'a [u8], place: usize) -> (SeqEntry<'a>, &'a [u8])
     requires place { 0 < place }
@@ -62,7 +67,7 @@ pub(crate) fn split_entry<'a>(bytes: &'a [u8], place: usize) -> (SeqEntry<'a>, &
     (SeqEntry { numbers, high }, rest)
 }
 
-/// Entry `i` of those that begin at the front of the bytes.
+/// Entry `i` of those that the bytes begin with.
 pub(crate) fn entry_at<'a>(bytes: &'a [u8], place: usize, i: usize) -> SeqEntry<'a>
     requires place { 0 < place }
     requires whole { All (IsWhole place) (entries_in (i + 1) place bytes.now) }

@@ -1,3 +1,5 @@
+//! What a sequence-set record says beside its entries.
+
 /// What a sequence-set record says beside its entries, for a record that is to be written.
 #[derive(Clone, Copy, Debug)]
 pub struct SeqHead<'h> {
@@ -11,6 +13,7 @@ pub struct SeqHead<'h> {
     pub top: u32,
     /// The number of the first index area. Only the first of a chain has it.
     pub index_area: Option<u32>,
-    /// The place above which the record's entries begin, zeros in the first of a chain. All places have its length.
+    /// The place above which the record's entries begin, zeros in the first of a chain. All places
+    /// have its length.
     pub low: &'h [u8],
 }

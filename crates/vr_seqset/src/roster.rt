@@ -1,14 +1,15 @@
 //! The roster of an area.
 ghost use Rattle.std.specs.Prelude.{◌≡◌, ◌≤◌, ◌↔◌, length, drop, IfOk, IfErr, IsOkAnd, IsTrue};
-ghost use Rattle.vr_seqset.specs.Roster.{Roster, IsRoster, KeepsRosterRules, roster_image};
+ghost use Rattle.vr_seqset.specs.Roster.{Roster, IsRoster, KeepsRosterRules, block_of_roster};
 ghost use Rattle.vr_seqset.specs.Faults.{KeepsRoster, RosterFits, RosterHasZeros, IsFirstBroken};
 
-use crate::block::{are_zeros, area_field, area_of, four_at, is_block_size, two_at};
 use crate::checks::begins_with;
 use crate::fault::SeqFault;
 use std::marker::Model;
+use vr_types::{are_zeros, area_field, area_of, four_at, is_block_size, two_at};
 
-/// The roster of an area of an entry-sequenced or relative data set (DFSMS Using Data Sets). A clause sees what it says.
+/// The roster of an area of an entry-sequenced or relative data set (DFSMS Using Data Sets). A
+/// clause sees what it says.
 #[derive(Debug, Drop)]
 pub struct RosterView<'a> {
     block: &'a [u8],
@@ -28,8 +29,8 @@ impl<'a> Model for RosterView<'a> {
 
 #[tactic(auto, unfolding(crate::specs::Reading::roster_in))]
 impl<'a> RosterView<'a> {
-    /// Reads the head block of an area that has `cis` intervals. It answers `Ok` exactly for the block of a roster that keeps
-    /// the rules, and else the first rule that the block breaks.
+    /// Reads the head block of an area that has `cis` intervals. It answers `Ok` exactly for the
+    /// block of a roster that keeps the rules, and else the first rule that the block breaks.
     #[tactic(auto)]
     pub fn read(bytes: &'a [u8], cis: u16) -> Result<RosterView<'a>, SeqFault>
         // What is read is what the block spells.
@@ -74,15 +75,15 @@ impl<'a> RosterView<'a> {
     }
 }
 
-// Whether the block has an allowed size, and no more intervals are used than there are.
-#[tactic(auto, unfolding(crate::specs::Reading::roster_in), using(crate::proofs::BlockLemmas::at_least))]
+/// Whether the block has an allowed size, and no more intervals are used than there are.
+#[tactic(auto, unfolding(crate::specs::Reading::roster_in), using(vr_types::proofs::CallerLemmas::block_size_least))]
 fn fits(block: &[u8], cis: u16) -> bool
     ensures { IsTrue result ↔ RosterFits cis block.now }
 {
     is_block_size(block.len()) && two_at(block, 2) <= cis
 }
 
-// Whether each byte without a name is zero, where `rest` is behind the fields.
+/// Whether each byte without a name is zero, where `rest` is what comes after the fields.
 fn has_zeros(block: &[u8], rest: &[u8]) -> bool
     requires size { 16 ≤ length block.now }
     requires rest { rest.now ≡ drop 16 block.now }
@@ -93,7 +94,8 @@ fn has_zeros(block: &[u8], rest: &[u8]) -> bool
 
 /// Makes the block the roster of an area that has `cis` intervals, whatever it held.
 pub fn write_roster(used: u16, part: u32, next: Option<u32>, cis: u16, out: &mut [u8])
-    requires { KeepsRosterRules cis (length out.old) (record { used = used; part = part; next = next }) }
+    requires { KeepsRosterRules cis (length out.old)
+        (record { used = used; part = part; next = next }) }
     ensures { IsRoster cis out.new (record { used = used; part = part; next = next }) }
 {
     let u = used.to_be_bytes();
@@ -102,7 +104,7 @@ pub fn write_roster(used: u16, part: u32, next: Option<u32>, cis: u16, out: &mut
     let head = [
         b'R', 0, u[0], u[1], 0, 0, 0, 0, p[0], p[1], p[2], p[3], n[0], n[1], n[2], n[3],
     ];
-    let (front, rest) = out.split_at_mut(16);
-    front.copy_from_slice(&head);
+    let (fields, rest) = out.split_at_mut(16);
+    fields.copy_from_slice(&head);
     rest.fill(0);
 }

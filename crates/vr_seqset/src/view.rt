@@ -1,19 +1,22 @@
 //! A sequence-set record that was read.
-ghost use Rattle.std.specs.Prelude.{◌≡◌, ◌<◌, length, slice_index, slice_get, position, Some, None, IfOk, IfErr, IfSome, IfNone, IsOkAnd};
+ghost use Rattle.std.specs.Prelude.{◌≡◌, ◌<◌, length, slice_index, slice_get, position, Some, None};
+ghost use Rattle.std.specs.Prelude.{IfOk, IfErr, IfSome, IfNone, IsOkAnd};
 ghost use Rattle.vr_seqset.specs.SequenceSet.{SequenceSet, IsSequenceSet};
 ghost use Rattle.vr_seqset.specs.Reading.{entry_of};
 ghost use Rattle.vr_seqset.specs.Search.{reaches};
 ghost use Rattle.vr_seqset.specs.Faults.{Keeps, IsFirstBroken};
 
-use crate::block::{area_of, four_at, interval_limit, two_at};
 use crate::checks::{are_used_once, ascend, begins_with, has_zeros, keeps_chain, rest_of};
 use crate::entries::SeqEntries;
 use crate::entry::{SeqEntry, entry_at};
 use crate::fault::SeqFault;
+use crate::intervals::interval_limit;
 use std::marker::Model;
+use vr_types::{area_of, four_at, two_at};
 
-/// The sequence-set record of a keyed area (the lowest level of the index of a key-sequenced data set, DFSMS Using Data Sets).
-/// A clause sees what the record says. All that is read is lent out of the block, and nothing is copied.
+/// The sequence-set record of a keyed area (the lowest level of the index of a key-sequenced data
+/// set, DFSMS Using Data Sets). A clause sees what the record says. All that is read is lent out of
+/// the block, and nothing is copied.
 #[derive(Debug, Drop)]
 pub struct SeqView<'a> {
     block: &'a [u8],
@@ -33,14 +36,15 @@ impl<'a> Model for SeqView<'a> {
 
 #[tactic(auto, using(crate::proofs::RecordLemmas::reads), unfolding(crate::specs::Reading::record_in))]
 impl<'a> SeqView<'a> {
-    /// Reads the head block of an area that has `cis` intervals. It answers `Ok` exactly for the block of a record that keeps
-    /// the rules, and else the first rule that the block breaks.
+    /// Reads the head block of an area that has `cis` intervals. It answers `Ok` exactly for the
+    /// block of a record that keeps the rules, and else the first rule that the block breaks.
     #[tactic(auto)]
     pub fn read(bytes: &'a [u8], cis: u16) -> Result<SeqView<'a>, SeqFault>
         // What is read is what the block spells.
         ensures found { IfOk result (λ view. IsSequenceSet cis bytes.now view) }
         // What a block spells is read.
-        ensures only { (s : SequenceSet) → IsSequenceSet cis bytes.now s → IsOkAnd result (λ view. view ≡ s) }
+        ensures only { (s : SequenceSet) → IsSequenceSet cis bytes.now s
+            → IsOkAnd result (λ view. view ≡ s) }
         // A fault names the first rule that is broken.
         ensures fault { IfErr result (IsFirstBroken (Keeps cis bytes.now)) }
     {
@@ -100,7 +104,8 @@ impl<'a> SeqView<'a> {
         area_of(four_at(self.block, 20))
     }
 
-    /// The place above which the entries begin, zeros in the first of a chain. All places of the record have its length.
+    /// The place above which the entries begin, zeros in the first of a chain. All places of the
+    /// record have its length.
     pub fn low(&self) -> &'a [u8]
         ensures { result.now ≡ self.now.low }
     {
@@ -127,7 +132,7 @@ impl<'a> SeqView<'a> {
         }
     }
 
-    /// The entry of a number from 0 on. It goes over those before it.
+    /// The entry of a number from 0 on. It walks over those before it.
     pub fn entry(&self, i: usize) -> SeqEntry<'a>
         requires { i < length self.now.entries }
         ensures { result ≡ entry_of self.now i }
@@ -161,11 +166,12 @@ impl<'a> SeqView<'a> {
         self.entry(i).high()
     }
 
-    /// The entry whose range holds the place, with its number: the first one whose high place is at or past it. Places are
-    /// compared byte by byte, as slices are. None where all high places are below it. It reads each byte of the entries once at
-    /// most.
+    /// The entry whose range holds the place, with its number: the first one whose high place is at
+    /// or past it. Places are compared byte by byte, as slices are. None where all high places are
+    /// below it. It reads each byte of the entries once at most.
     pub fn find(&self, place: &[u8]) -> Option<(usize, SeqEntry<'a>)>
-        ensures first { IfSome result (λ found. position (reaches place.now) self.now.entries ≡ Some found.0) }
+        ensures first { IfSome result
+            (λ found. position (reaches place.now) self.now.entries ≡ Some found.0) }
         ensures entry { IfSome result (λ found. slice_get self.now.entries found.0 ≡ Some found.1) }
         ensures none { IfNone result (position (reaches place.now) self.now.entries ≡ None) }
     {

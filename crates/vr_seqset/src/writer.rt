@@ -7,8 +7,8 @@ ghost use Rattle.vr_seqset.specs.Writing.{IsBegun, with_entry};
 use crate::head::SeqHead;
 use crate::spelling::{put_entry, put_head};
 
-/// Writes the head block of a keyed area, an entry at a time. At each moment the block spells what was added so far, and
-/// `written` names that record in clauses.
+/// Writes the head block of a keyed area, an entry at a time. At each moment the block spells what
+/// was added so far, and `written` names that record in clauses.
 #[derive(Drop)]
 pub struct SeqWriter<'a> {
     block: &'a mut [u8],
@@ -38,7 +38,9 @@ impl<'a> SeqWriter<'a> {
 
     /// Whether the block has room for one more entry.
     pub fn fits(&self, intervals: &[u16], high: &[u8]) -> bool
-        ensures { IsTrue result ↔ (length (spelling (with_entry (written self.now) intervals.now high.now)) ≤ length (block_of self.now).now) }
+        ensures { IsTrue result
+            ↔ (length (spelling (with_entry (written self.now) intervals.now high.now))
+            ≤ length (block_of self.now).now) }
     {
         let room = self.block.len() - self.end;
         if room < 2 || intervals.len() > (room - 2) / 2 {
@@ -47,9 +49,10 @@ impl<'a> SeqWriter<'a> {
         high.len() <= room - 2 - 2 * intervals.len()
     }
 
-    /// Adds an entry behind the others. With it the record has to keep the rules.
+    /// Adds an entry after the others. With it the record has to keep the rules.
     pub fn add(&mut self, intervals: &[u16], high: &[u8])
-        requires { KeepsRules (intervals_of self.old) (length (block_of self.old).now) (with_entry (written self.old) intervals.now high.now) }
+        requires { KeepsRules (intervals_of self.old) (length (block_of self.old).now)
+            (with_entry (written self.old) intervals.now high.now) }
         ensures written { written self.new ≡ with_entry (written self.old) intervals.now high.now }
         ensures same_block { (block_of self.new).ghost_name ≡ (block_of self.old).ghost_name }
         ensures size { length (block_of self.new).now ≡ length (block_of self.old).now }
@@ -58,7 +61,7 @@ impl<'a> SeqWriter<'a> {
         self.end = put_entry(self.block, self.end, intervals, high);
     }
 
-    /// Ends the record. The block is its one image, as it was after the last `add`.
+    /// Ends the record. The block is the record's, as it was after the last `add`.
     pub fn end(self)
         requires { 0 < length (written self).entries }
         ensures { IsSequenceSet (intervals_of self.entry) self.exit.0.now (written self.entry) }

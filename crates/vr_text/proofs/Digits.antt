@@ -1,3 +1,4 @@
+-- Pairs of hexadecimal digits.
 use Rattle.std.proofs.Common.{◌≡◌, ℕ, zero, suc, ◌+◌, ◌*◌, ◌/◌, ◌%◌, ◌<◌, true, inl, inr, List, [], ◌∷◌, ◌++◌, length, get_or, Contains, take, flat_map, append_assoc, subst, refl, sym, ap, ap₂, ◌∙◌, arith}
 use Rattle.std.specs.Char.{digit_value}
 use Rattle.std.specs.Fmt.{digit_glyph}

@@ -1,9 +1,9 @@
 -- What the crates above cite of runs of calls of blocks, of sizes of blocks, of fields, and of the order of places and
 -- names.
-use Rattle.std.proofs.Common.{◌≡◌, ◌⊎◌, ℕ, ◌+◌, ◌%◌, ◌^◌, ◌<◌, ◌≤◌, List, [], ◌∷◌, ◌++◌, length, get_or, take, drop, refl, sym, ap, ◌∙◌, arith, inl, inr, replicate, Option, Some, None, add-one, zero, suc}
+use Rattle.std.proofs.Common.{◌≡◌, ◌⊎◌, ℕ, ◌+◌, ◌%◌, ◌^◌, ◌<◌, ◌≤◌, List, [], ◌∷◌, ◌++◌, length, get_or, take, drop, refl, sym, ap, ◌∙◌, arith, inl, inr, replicate, Option, Some, None, add-one, zero, suc, subst, ◌-◌}
 use Rattle.std.proofs.lemmas.Bool.{cases_lt}
-use Rattle.std.proofs.lemmas.List.{take-append-drop, drop-drop, length-drop, length-take, length-append, get_or-drop, get_or-take, get_or_past, drop_more}
-use Rattle.std.proofs.lemmas.List.Elements.{All-tail, All-head}
+use Rattle.std.proofs.lemmas.List.{take-append-drop, drop-drop, length-drop, length-take, length-append, get_or-drop, get_or-take, get_or_past, drop_more, length-replicate, drop_at}
+use Rattle.std.proofs.lemmas.List.Elements.{All-tail, All-head, All-replicate}
 use Rattle.std.proofs.lemmas.Nat.{be_bytes_2, be_bytes_4, be_bytes_8, from_be_bytes-to_be_bytes_2, from_be_bytes-to_be_bytes_4, from_be_bytes-to_be_bytes_8}
 use Rattle.std.proofs.lemmas.Map.Text.{is_eq-slice_cmp}
 use Rattle.std.proofs.lemmas.Slice.Eq.{bytes_eq-Decides}
@@ -12,19 +12,18 @@ use Rattle.std.specs.Ordering.{nat_cmp, ordering_then, is_eq}
 use Rattle.std.specs.declared.cmp.Ordering.{Ordering}
 use Rattle.std.specs.declared.cmp.Ordering.TheVariants.{Less, Equal, Greater}
 use Rattle.vr_types.specs.BlockSize.{IsBlockSize}
-use Rattle.vr_types.specs.Fields.{IsBytes, two, four, eight, two_at, four_at, eight_at, with_bytes, area_field, area_of, AreZeros}
+use Rattle.vr_types.specs.Fields.{IsBytes, two, four, eight, two_at, four_at, eight_at, with_bytes, area_field, area_of, AreZeros, IsArea, padded}
 use Rattle.vr_types.specs.Content.{place_cmp}
 use Rattle.vr_types.specs.declared.lock_name.LockName.{LockName}
 use Rattle.vr_types.specs.declared.lock_name.LockName.TheVariants.{Record, Unique}
 use Rattle.vr_types.specs.LockName.{lock_name_cmp}
 use Rattle.vr_types.specs.declared.unit.PartNo.{PartNo}
-
 -- ---- runs of calls of blocks
 pub use Rattle.vr_types.proofs.Runs.{during-weaken, during-none, during-then, each_since-then, each_since-start, each_since-weaken}
 pub use Rattle.vr_types.proofs.Runs.{guards-start, guards-keeps, guards-puts, guards-then, guards-weaken}
 pub use Rattle.vr_types.proofs.Runs.{only-keeps, only-elsewhere, only-here, only-forced, only-weaken, only-image, also-here, also-elsewhere, cur-put, cur-elsewhere, all-one, just-one}
 pub use Rattle.vr_types.proofs.Runs.{keeps-none, keeps-then, keeps-puts, keeps-then-puts, puts-then-keeps}
-pub use Rattle.vr_types.proofs.Runs.{on-mine, both-hold, mine-stays, touches-then, puts-touches, keeps-touches}
+pub use Rattle.vr_types.proofs.Runs.{on-mine, both-hold, mine-stays, touches-then, touches-weaken, touches-guards, puts-touches, keeps-touches}
 pub use Rattle.vr_types.proofs.Runs.{cause-then, write_cause-then, cause-ok}
 
 -- ---- sizes of blocks
@@ -167,6 +166,16 @@ pub area_field-area_of : (field : ℕ) → area_field (area_of field) ≡ field
 area_field-area_of zero = refl
 area_field-area_of (suc n) = rw add-one refl
 
+-- a field names an area that has a field
+pub IsArea-area_of : (field : ℕ) → field < 2 ^ 32 → IsArea (area_of field)
+IsArea-area_of zero below = tt
+IsArea-area_of (suc n) below = omega arith
+
+-- the field of an area has room
+pub area_field-below : (area : Option ℕ) → IsArea area → area_field area < 2 ^ 32
+area_field-below None named = omega arith
+area_field-below (Some n) named = named
+
 -- ---- zeros
 
 -- bytes that are zeros are known by their length
@@ -184,6 +193,17 @@ cut_zeros n at block within zeros =
     sym (take-append-drop n (drop at block))
     ∙ ap (λ (x : List ℕ). x ++ drop n (drop at block)) (zeros_are (take n (drop at block)) zeros ∙ ap (λ (m : ℕ). replicate m 0) long)
     ∙ ap (λ (x : List ℕ). replicate n 0 ++ x) (drop-drop n at block)
+
+-- bytes with zeros up to a size have that size
+pub length-padded : (size : ℕ) (bytes : List ℕ) → length bytes ≤ size → length (padded size bytes) ≡ size
+length-padded size bytes within =
+    let zeros : length (replicate {A = ℕ} (size - length bytes) 0) ≡ size - length bytes = length-replicate (size - length bytes) 0 in
+    omega (arith, length-append bytes (replicate (size - length bytes) 0), zeros)
+
+-- what comes after the bytes is zeros
+pub zeros_after : (size : ℕ) (bytes : List ℕ) → AreZeros (drop (length bytes) (padded size bytes))
+zeros_after size bytes =
+    subst AreZeros (sym (drop_at bytes (replicate (size - length bytes) 0) (length bytes) refl)) (All-replicate (λ (b : ℕ). b ≡ 0) (size - length bytes) 0 refl)
 
 -- ---- order
 

@@ -243,6 +243,24 @@ touches-then region Q a b c first second = record {
   rest = second.rest;
 }
 
+-- A weaker fact of each image.
+pub touches-weaken : (region : ℕ → Type 0) (P Q : Image → Type 0) (a b : Seen) → Touches region P a b → ((image : Image) → P image → Q image) → Touches region Q a b
+touches-weaken region P Q a b call weaker = record {
+  count_same = call.count_same;
+  size_same = call.size_same;
+  content = call.content;
+  adds_none = call.adds_none;
+  moments = during-weaken a b _ _ call.moments (λ image has. (has.0, weaker image has.1));
+  rest = λ image left. weaker image (call.rest image left);
+}
+
+-- What one owner says of each image is so of every image of the whole.
+pub touches-guards : (region : ℕ → Type 0) (Q : Image → Type 0) (a b : Seen) → Touches region Q a b → Guards a b Q
+touches-guards region Q a b call = record {
+  during = during-weaken a b _ _ call.moments (λ image has. has.1);
+  rest = λ image left. call.rest image (record { each = λ n below is. left.each n below });
+}
+
 -- A put into the region touches it alone, and owes Q of each image with the bytes or without them.
 pub puts-touches : (tells : Bool) (region : ℕ → Type 0) (Q : Image → Type 0) (n : ℕ) (bytes : Block) (a b : Seen) → IsTrue tells → region n → Puts tells n bytes a b
     → ((image : Image) → IsImageOn region a.count (MayAlso a.may n bytes) image → Q image) → Touches region Q a b

@@ -1,4 +1,7 @@
-use Rattle.std.specs.Prelude.{◌≡◌, ℕ, ◌<◌, List, [], ◌∷◌, map, All, Option, Some, None}
+-- The content of a data set, as Using Data Sets has it of the three kinds: records in the order of
+-- their places.
+use Rattle.std.specs.Prelude.{◌≡◌, ℕ, ◌<◌, not, List, [], ◌∷◌, map, filter, bytes_eq, All, Option}
+use Rattle.std.specs.Prelude.{Some, None}
 use Rattle.std.specs.List.{filter_map}
 use Rattle.std.specs.List.Sorted.{IsStrictlySortedBy}
 use Rattle.std.specs.Ordering.{nat_cmp}
@@ -6,14 +9,13 @@ use Rattle.std.specs.declared.cmp.Ordering.{Ordering}
 use Rattle.std.specs.declared.cmp.Ordering.TheVariants.{Less, Equal, Greater}
 use Rattle.std.specs.Cmp.Lexicographic.{slice_cmp}
 
--- The content of a data set, as Using Data Sets has it of the three kinds: records in the order of their places.
-
--- what stands at a place: a record, or in an entry-sequenced data set the length of an added record that was backed out
+-- what is at a place: a record, or in an entry-sequenced data set the length of an added record
+-- that was backed out
 pub data Item : Type 0 where
   Standing : List ℕ → Item
   Withdrawn : ℕ → Item
 
--- a place, and what stands there
+-- a place, and what is there
 abbrev pub Placed : Type 0
 Placed = List ℕ × Item
 
@@ -57,7 +59,7 @@ records_of content = filter_map record_at_place content
 abbrev pub Agree : Content → Content → Type 0
 Agree one other = records_of one ≡ records_of other
 
-abbrev pub found_by : Ordering → Option (List ℕ) → Option (List ℕ) → Option (List ℕ)
+abbrev pub found_by : {X : Type 0} → Ordering → Option X → Option X → Option X
 found_by Less here further = further
 found_by Equal here further = here
 found_by Greater here further = further
@@ -76,3 +78,12 @@ put_by Greater new entry content further = entry ∷ further
 abbrev pub with_item : Content → List ℕ → Item → Content
 with_item [] place item = (place, item) ∷ []
 with_item (entry ∷ content) place item = put_by (place_cmp place entry.0) (place, item) entry content (with_item content place item)
+
+-- what stands at a place
+abbrev pub item_at : Content → List ℕ → Option Item
+item_at [] place = None
+item_at (entry ∷ content) place = found_by (place_cmp place entry.0) (Some entry.1) (item_at content place)
+
+-- the content without what stands at a place
+abbrev pub without_item : Content → List ℕ → Content
+without_item content place = filter (λ (entry : Placed). not (bytes_eq place entry.0)) content

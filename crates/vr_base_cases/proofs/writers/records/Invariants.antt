@@ -5,6 +5,3 @@ use Rattle.vr_base_cases.proofs.writers.records.Given as goal
 
 abbrev pub invariant-loop-word : goal.invariant-loop-word
 invariant-loop-word l = form_of l.writer ≡ Plain
-
-abbrev pub invariant-loop : goal.invariant-loop
-invariant-loop l = form_of l.writer ≡ Plain

@@ -1,6 +1,6 @@
 use Rattle.std.proofs.Common.{◌≡◌, ℕ, List, ◌∷◌, ◌++◌, ◌+◌, ◌∙◌, sym, ap, set, length, arith}
-use Rattle.vr_ci.specs.declared.rdf.Rdf.{Rdf}
-use Rattle.vr_ci.specs.Rdf.{rdf_bytes, two_bytes, segment_bits, withdrawn_bit}
+use Rattle.vr_ci_match.specs.declared.rdf.Rdf.{Rdf}
+use Rattle.vr_ci_match.specs.Rdf.{rdf_bytes, two_bytes, segment_bits, withdrawn_bit}
 use Rattle.vr_ci.specs.Writer.{placed}
 use Rattle.vr_ci.proofs.PlaceLemmas.{pair_placed}
 use Rattle.vr_ci.proofs.put.put_rdf.Goals as goal

@@ -1,10 +1,10 @@
 use Rattle.std.proofs.Common.{ℕ, List, ◌≡◌, ◌<◌, ◌-◌, ◌∙◌, ap, length, arith}
-use Rattle.vr_ci.specs.declared.rdf.Rdf.TheVariants.{Segment}
-use Rattle.vr_ci.specs.Rdf.{rdf_bytes}
-use Rattle.vr_ci.specs.Interval.{cidf}
+use Rattle.vr_ci_match.specs.declared.rdf.Rdf.TheVariants.{Segment}
+use Rattle.vr_ci_match.specs.Rdf.{rdf_bytes}
+use Rattle.vr_ci_match.specs.Laid.{cidf}
 use Rattle.vr_ci.specs.Writer.{placed, written}
-use Rattle.vr_ci.proofs.LayoutLemmas.{zeros, length-zeros}
-use Rattle.vr_ci.proofs.ChainLemmas.{size_bounds}
+use Rattle.vr_ci_match.proofs.CallerLemmas.{zeros, length-zeros}
+use Rattle.vr_ci_match.proofs.CallerLemmas.{size_bounds}
 use Rattle.vr_ci.proofs.PlaceLemmas.{length-placed}
 use Rattle.vr_ci.proofs.WriterLemmas.{length-written, four_placed, segment_block}
 use Rattle.vr_ci.proofs.segment.write_segment.Goals as goal

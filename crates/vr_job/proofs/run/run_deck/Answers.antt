@@ -1,9 +1,9 @@
-use Rattle.std.proofs.Common.{◌≡◌, ◌<◌, List, ◌++◌, length, drop, get_or, subst, sym, ap, ◌∙◌}
-use Rattle.std.proofs.lemmas.List.{take-append-drop}
+use Rattle.std.proofs.Common.{◌≡◌, ◌<◌, List, length, get_or, subst, sym}
 use Rattle.vr_types.specs.declared.bound.Bound.{Bound}
 use Rattle.vr_job.specs.declared.entry.Entry.{Entry}
-use Rattle.vr_job.specs.History.{part_of_deck}
-use Rattle.vr_job.specs.Run.{IsHere, IsFrontOf}
+use Rattle.vr_job.specs.History.{ArePrefixes}
+use Rattle.vr_job.specs.Run.{IsHere}
+use Rattle.vr_job.proofs.Histories.{parts_are_prefixes}
 use Rattle.vr_job.proofs.Runs.{Running-start, Running-step}
 use Rattle.vr_job.proofs.run.run_deck.Goals as goal
 
@@ -22,9 +22,7 @@ loop-bound-preserved c =
     let here : IsHere bound = subst IsHere (sym at) (c.requires.here i bound inside) in
     Running-step requests i bound _ _ _ _ _ _ _ _ inside at here c.loop-bound.invariant c.in_ok-number.ensures.ok
 
-pub returns-in_err-number-clause-front : goal.returns-in_err-number-clause-front
-returns-in_err-number-clause-front c =
-    let requests = c.args.requests.now in
-    let i = c.loop-bound.bound-index in
-    let P : List Entry → Type 0 = λ es. IsFrontOf (part_of_deck 0 1 es) requests in
-    subst P (sym c.in_err-number.ensures.err) (drop i requests, ap (λ p. p ++ drop i requests) c.loop-bound.invariant.part ∙ take-append-drop i requests)
+pub returns-in_err-number-clause-prefix : goal.returns-in_err-number-clause-prefix
+returns-in_err-number-clause-prefix c =
+    let P : List Entry → Type 0 = ArePrefixes 1 c.args.requests.now in
+    subst P (sym c.in_err-number.ensures.err) (parts_are_prefixes 1 c.loop-bound.bound-index c.args.requests.now _ c.loop-bound.invariant.parts)

@@ -1,7 +1,7 @@
 use Rattle.std.proofs.Common.{◌≡◌, ℕ, ◌+◌, List, ◌++◌, length, get_or, set, drop, ap, ◌∙◌, arith}
 use Rattle.std.proofs.lemmas.List.{length-set}
 use Rattle.std.specs.Int.{w16, to_be_bytes}
-use Rattle.vr_seqset.specs.Block.{two}
+use Rattle.vr_types.specs.Fields.{two}
 use Rattle.vr_seqset.specs.Entry.{entry_bytes}
 use Rattle.vr_seqset.specs.SequenceSet.{SequenceSet}
 use Rattle.vr_seqset.specs.Reading.{record_in}
@@ -31,13 +31,13 @@ pub returns-clause-end : goal.returns-clause-end
 returns-clause-end c =
     omega (arith, length-spelling_more (record_in c.args.block.now) c.args.intervals.now c.args.high.now, c.put_bytes.ensures.length, c.requires.end)
 
-pub returns-clause-image : goal.returns-clause-image
+pub returns-clause-spelled : goal.returns-clause-spelled
 unfolding two
-returns-clause-image c =
+returns-clause-spelled c =
     let s : SequenceSet = record_in c.args.block.now in
     let e : List ℕ = entry_bytes (record { intervals = c.args.intervals.now; high = c.args.high.now }) in
     let count : c.two_at.result + 1 ≡ length (with_entry (record_in c.args.block.now) c.args.intervals.now c.args.high.now).entries =
     omega (arith, length-entries_more (record_in c.args.block.now) c.args.intervals.now c.args.high.now, count_is c.args.block.now, c.two_at.ensures) in
     entry_added s c.args.intervals.now c.args.high.now (length c.args.block.now) c.args.end c.args.block.now c.split_at_mut-free.result.0.now c.put_bytes.new.free c.to_be_bytes-count.result
-    c.requires.image c.requires.end c.requires.room (c.to_be_bytes-count.ensures ∙ ap (to_be_bytes w16) count) c.split_at_mut-free.ensures.front
+    c.requires.spelled c.requires.end c.requires.room (c.to_be_bytes-count.ensures ∙ ap (to_be_bytes w16) count) c.split_at_mut-free.ensures.front
     (c.put_bytes.ensures.bytes ∙ ap (λ (n : ℕ). e ++ drop n c.split_at_mut-free.result.1.now) c.put_bytes.ensures.length ∙ ap (λ (x : List ℕ). e ++ drop (length e) x) c.split_at_mut-free.ensures.back)

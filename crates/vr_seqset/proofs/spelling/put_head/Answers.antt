@@ -8,8 +8,8 @@ use Rattle.vr_seqset.proofs.spelling.put_head.Goals as goal
 pub overflow_cast-place : goal.overflow_cast-place
 overflow_cast-place c = omega (arith, length-spelling_head (begun_by c.args.head.now) refl)
 
-pub split_at_mut-front-requires : goal.split_at_mut-front-requires
-split_at_mut-front-requires c = omega (arith, length-spelling_head (begun_by c.args.head.now) refl)
+pub split_at_mut-fields-requires : goal.split_at_mut-fields-requires
+split_at_mut-fields-requires c = omega (arith, length-spelling_head (begun_by c.args.head.now) refl)
 
 pub split_at_mut-low-requires : goal.split_at_mut-low-requires
 split_at_mut-low-requires c = omega (arith, length-spelling_head (begun_by c.args.head.now) refl)
@@ -17,8 +17,8 @@ split_at_mut-low-requires c = omega (arith, length-spelling_head (begun_by c.arg
 pub returns-clause-end : goal.returns-clause-end
 returns-clause-end c = sym (length-spelling_head (begun_by c.args.head.now) refl)
 
-pub returns-clause-image : goal.returns-clause-image
-returns-clause-image c =
+pub returns-clause-spelled : goal.returns-clause-spelled
+returns-clause-spelled c =
     let s : SequenceSet = begun_by c.args.head.now in
     let n = c.to_be_bytes-n.ensures ∙ ap (to_be_bytes w32) c.area_field.ensures in
     let x = c.to_be_bytes-x.ensures ∙ ap (to_be_bytes w32) c.area_field-2.ensures in

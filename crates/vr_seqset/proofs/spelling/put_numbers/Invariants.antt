@@ -1,6 +1,6 @@
 use Rattle.std.proofs.Common.{◌≡◌, ◌*◌, take}
 use Rattle.std.specs.List.{flat_map}
-use Rattle.vr_seqset.specs.Block.{two}
+use Rattle.vr_types.specs.Fields.{two}
 use Rattle.vr_seqset.proofs.spelling.put_numbers.Given as goal
 
 abbrev pub invariant-loop-i : goal.invariant-loop-i

@@ -1,6 +1,6 @@
 use Rattle.std.proofs.Common.{ℕ, Bool, true, false, List, ◌≡◌, ◌+◌, ◌-◌, ◌≤◌, ◌∙◌, ap, sym, refl, length, arith}
-use Rattle.vr_ci.specs.declared.rdf.Rdf.TheVariants.{Single}
-use Rattle.vr_ci.specs.Rdf.{rdf_bytes}
+use Rattle.vr_ci_match.specs.declared.rdf.Rdf.TheVariants.{Single}
+use Rattle.vr_ci_match.specs.Rdf.{rdf_bytes}
 use Rattle.vr_ci.specs.Writer.{placed, written, run_rdf}
 use Rattle.vr_ci.proofs.WriterLemmas.{room_held, single_held, live_held, run_stands}
 use Rattle.vr_ci.proofs.writer.CiWriter.add.Goals as goal

@@ -1,7 +1,7 @@
 use Rattle.std.proofs.Common.{◌-◌, ◌∙◌, ℕ, List, ap, length, arith}
-use Rattle.vr_ci.specs.Interval.{cidf}
+use Rattle.vr_ci_match.specs.Laid.{cidf}
 use Rattle.vr_ci.specs.Writer.{placed}
-use Rattle.vr_ci.proofs.LayoutLemmas.{zeros, length-zeros}
+use Rattle.vr_ci_match.proofs.CallerLemmas.{zeros, length-zeros}
 use Rattle.vr_ci.proofs.PlaceLemmas.{length-placed}
 use Rattle.vr_ci.proofs.WriterLemmas.{ended}
 use Rattle.vr_ci.proofs.writer.CiWriter.end.Goals as goal

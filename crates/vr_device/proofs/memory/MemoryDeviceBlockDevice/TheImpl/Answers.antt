@@ -4,7 +4,7 @@ use Rattle.vr_types.specs.Blocks.{Keeps, Puts, AllForced}
 use Rattle.vr_device.specs.Disk.{MayHold, written}
 use Rattle.vr_device.specs.Choices.{MayHold-synced}
 use Rattle.vr_device.specs.Past.{disk_of, with_event, wrote, forced, seen_of}
-use Rattle.vr_device.specs.Calls.{counted, read_failed, faults_of}
+use Rattle.vr_device.specs.DeviceCalls.{counted, read_failed, faults_of}
 use Rattle.vr_device.specs.Memory.{past_in, calls_in, IsFailedWrite, IsFailedSync, IsRefused}
 use Rattle.vr_device.proofs.Answering.{either, on_ok, on_err}
 use Rattle.vr_device.proofs.Events.{disk-event, keeps-same, keeps-forced, puts-wrote, puts-failed, puts-none}

@@ -1,0 +1,14 @@
+pub mod Befores
+pub mod CallerLemmas
+pub mod Committing
+pub mod Counting
+pub mod Endings
+pub mod Holding
+pub mod Items
+pub mod LockLemmas
+pub mod LockRuns
+pub mod Merging
+pub mod Positions
+pub mod Replying
+pub mod Same
+pub mod Settling

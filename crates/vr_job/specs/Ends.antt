@@ -1,0 +1,42 @@
+use Rattle.std.specs.Prelude.{◌≡◌, ◌≢◌, ◌⊎◌, ℕ, ◌<◌, List, [], ◌∷◌, Option, None, Contains}
+use Rattle.vr_deck.specs.declared.text.JobText.{JobText}
+use Rattle.vr_deck.specs.Bound.{bound_requests}
+use Rattle.vr_job.specs.declared.trace.Trace.{Trace}
+use Rattle.vr_job.specs.State.{opening_state}
+use Rattle.vr_job.specs.History.{IsLegal, AreParts, ArePrefixes}
+use Rattle.vr_job.specs.Code.{step_code}
+use Rattle.vr_job.specs.Ending.{Ending, NoCommand, ReadFailed, TooLong, NoMemory, NotAJob, Ran, ending_of, HasFixedLine}
+use Rattle.vr_job.specs.JobEnd.{KeepsNothing, KeepsJob, KeepsFault, IsOfText, Asks, HasCode, IsStatusOf, IsWhole}
+
+-- What the parts of the top call know of a job's end, for the private functions that they are.
+
+-- the trace is that of a text, by the way in which it ended
+abbrev pub IsRunOf : Ending → List ℕ → Trace → Type 0
+IsRunOf NoCommand text trace = ⊥
+IsRunOf ReadFailed text trace = ⊥
+IsRunOf TooLong text trace = ⊥
+IsRunOf NoMemory text trace = KeepsNothing trace ⊎ KeepsJob text trace
+IsRunOf (NotAJob fault) text trace = KeepsFault text trace
+IsRunOf Ran text trace = KeepsJob text trace
+
+-- the status of a deck's run, and the part that was run
+abbrev pub IsDeckEnd : ℕ → JobText → Trace → Type 0
+IsDeckEnd status job trace = ((status ≡ 36) × ArePrefixes 1 (bound_requests job.deck) trace.history.entries)
+    ⊎ ((status ≡ step_code trace.history.entries) × AreParts 1 (bound_requests job.deck) trace.history.entries)
+
+-- What is known of a job's end before anything is printed.
+pub record IsInputEnd (left left' : Option (List ℕ)) (faults faults' status : ℕ) (trace : Trace) : Type 0 where
+  pub text : IsOfText (ending_of status trace.fault) left left' trace
+  pub asks : Asks (ending_of status trace.fault) trace
+  pub ending : IsStatusOf (ending_of status trace.fault) trace status
+  pub legal : IsLegal opening_state trace.history.entries
+  pub code : HasCode status trace
+  pub whole : ending_of status trace.fault ≡ Ran → IsWhole status
+  pub known : Contains (0 ∷ 4 ∷ 16 ∷ 24 ∷ 26 ∷ 36 ∷ []) status
+  pub source : status ≡ 24 → faults < faults'
+  pub steady : status ≢ 24 → faults' ≡ faults
+
+-- How printing changes a status: not, or to 36 where memory ran out, or from that of a run to 28 where the sink failed.
+abbrev pub PrintsAs : ℕ → ℕ → Trace → ℕ → ℕ → Type 0
+PrintsAs faults faults' trace before after = (after ≡ before) ⊎ ((after ≡ 36) × (¬ (HasFixedLine before)))
+    ⊎ ((after ≡ 28) × (¬ (HasFixedLine before)) × (trace.fault ≡ None) × (faults < faults'))
