@@ -38,7 +38,7 @@ fn say_no_room(room: NoRoom, out: &mut String) -> Answer {
 /// no room ends it.
 pub fn records(alloc: Global, block: &mut [u8], rest: &str, out: &mut String) -> Answer {
     let (busy, items) = parted(rest);
-    if !vr_ci::is_block_size(block.len()) {
+    if !vr_types::is_block_size(block.len()) {
         return Err(Stop::Line);
     }
     let mut writer = CiWriter::begin(Form::Plain, block);
@@ -66,7 +66,7 @@ pub fn slots_of(alloc: Global, block: &mut [u8], rest: &str, out: &mut String) -
     let (busy, rest) = parted(rest);
     let length = small_of(length)?;
     let size = block.len();
-    if !vr_ci::is_block_size(size) || length == 0 {
+    if !vr_types::is_block_size(size) || length == 0 {
         return Err(Stop::Line);
     }
     let items: Vec<&str> = rest.split_whitespace().collect(alloc)?;
@@ -101,7 +101,7 @@ pub fn segment(alloc: Global, block: &mut [u8], rest: &str, out: &mut String) ->
         _ => Piece::Last,
     };
     let fills = piece == Piece::Last || bytes.len() + 10 >= size;
-    if !vr_ci::is_block_size(size) || number == 0 || !fills {
+    if !vr_types::is_block_size(size) || number == 0 || !fills {
         return Err(Stop::Line);
     }
     match write_segment(piece, number, live, bytes.as_slice(), busy == "busy", block) {
