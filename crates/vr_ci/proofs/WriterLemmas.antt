@@ -16,10 +16,12 @@ use Rattle.vr_types.specs.BlockSize.{IsBlockSize}
 use Rattle.vr_ci_match.specs.Rdf.{Mark, marks, spans, rdf_bytes, control, IsCount, IsRdf, run_length, AreApart, IsOfForm, IsOfRecords, MayFollow, IsChain, last_from, shape_of}
 use Rattle.vr_ci.specs.Interval.{Item, Interval, IsItem, bytes_of, mark_of, room, FitsBlock, Fits, IsInterval}
 use Rattle.vr_ci_match.specs.Laid.{slots_in, padded, cidf, control_at}
-use Rattle.vr_ci.specs.Writer.{Holds, IsItemLength, IsLastRun, SlotsAdded, written, placed, run_rdf, run_started}
+use Rattle.vr_ci.specs.Writer.{Holds, IsItemLength, IsLastRun, SlotsAdded, written, run_rdf, run_started}
+use Rattle.vr_types.specs.Fields.{with_bytes}
 use Rattle.vr_ci_match.proofs.CallerLemmas.{control-push, total, total-all, zeros, length-zeros, padded_fits, size_bounds, chain-push, chain-last, chain-front, last_from-push, all_records}
 use Rattle.vr_ci.proofs.ItemLemmas.{room_is, length-bytes}
-use Rattle.vr_ci.proofs.PlaceLemmas.{placed-next, length-placed, take-placed, take-placed_all, drop-placed, run_is}
+use Rattle.vr_ci.proofs.PlaceLemmas.{placed-next, take-placed, take-placed_all, drop-placed, run_is}
+use Rattle.vr_types.proofs.CallerLemmas.{length-with_bytes}
 
 -- ---- lists of items
 
@@ -106,12 +108,12 @@ longer_follows (Some b) n count more h m = (tt, m.1, tt, subst (λ (o : Option �
 
 -- an item's bytes, and an RDF or pair at the left of those that stand
 put_both : (block x y : List ℕ) (f r b top : ℕ) → f + length x ≤ r → r + length y ≡ b → b ≤ top → top ≤ length block
-    → (let out = placed (placed block f x) r y in (take (f + length x) out ≡ take f block ++ x) × (drop r (take top out) ≡ y ++ drop b (take top block)) × (length out ≡ length block))
+    → (let out = with_bytes (with_bytes block f x) r y in (take (f + length x) out ≡ take f block ++ x) × (drop r (take top out) ≡ y ++ drop b (take top block)) × (length out ≡ length block))
 put_both block x y f r b top h e l m =
-    let one : List ℕ = placed block f x in
-    let long : length one ≡ length block = length-placed block f x (omega (arith, h, e, l, m)) in
-    let out : List ℕ = placed one r y in
-    let fits : length out ≡ length one = length-placed one r y (omega (arith, e, l, m, long)) in
+    let one : List ℕ = with_bytes block f x in
+    let long : length one ≡ length block = length-with_bytes block f x (omega (arith, h, e, l, m)) in
+    let out : List ℕ = with_bytes one r y in
+    let fits : length out ≡ length one = length-with_bytes one r y (omega (arith, e, l, m, long)) in
     let front : take (f + length x) out ≡ take f block ++ x =
     take-placed one r (f + length x) y (omega (arith, e, l, m, long)) h ∙ take-placed_all block f (f + length x) x (omega (arith, h, e, l, m)) refl in
     let past : drop b out ≡ drop b block =
@@ -130,7 +132,7 @@ put_both block x y f r b top h e l m =
 pub single_held : (old new : CiWriter) (items : List Item) (bytes : List ℕ) (live : Bool) → Holds old items → IsItemLength old.form (length bytes) → length bytes < 65536
     → (IsTrue live → 0 < old.run_count → old.run_length ≡ length bytes → ⊥)
     → new.form ≡ old.form → new.front ≡ old.front + length bytes → new.added ≡ old.added + 1 → new.back + 3 ≡ old.back → old.front + length bytes ≤ new.back
-    → new.out.now ≡ placed (placed old.out.now old.front (written bytes live).bytes) new.back (rdf_bytes (Single live (length bytes)))
+    → new.out.now ≡ with_bytes (with_bytes old.out.now old.front (written bytes live).bytes) new.back (rdf_bytes (Single live (length bytes)))
     → new.run_length ≡ length bytes → new.run_count ≡ run_started old.form live → Holds new (items ++ written bytes live ∷ [])
 single_held old new items bytes live h len small apart form front added back place out n count =
     let block : List ℕ = old.out.now in
@@ -153,7 +155,7 @@ single_held old new items bytes live h len small apart form front added back pla
       said = flat_map-append marks h.rdfs (r ∷ []) ∙ ap (λ (z : List Mark). z ++ (marks r ++ [])) h.said
           ∙ ap (λ (k : ℕ). map mark_of items ++ (let m : Mark = record { live = live; len = k } in m) ∷ []) (sym long) ∙ sym (map-append mark_of items (written bytes live ∷ []));
       front = omega (arith, front, h.front, ap length (bytes-push items (written bytes live)), length-append (flat_map bytes_of items) x, long);
-      bytes = ap (λ (z : List ℕ). take new.front z) out ∙ ap (λ (k : ℕ). take k (placed (placed block old.front x) new.back (rdf_bytes r))) (front ∙ ap (λ (k : ℕ). old.front + k) (sym long))
+      bytes = ap (λ (z : List ℕ). take new.front z) out ∙ ap (λ (k : ℕ). take k (with_bytes (with_bytes block old.front x) new.back (rdf_bytes r))) (front ∙ ap (λ (k : ℕ). old.front + k) (sym long))
           ∙ both.0 ∙ ap (λ (z : List ℕ). z ++ x) h.bytes ∙ sym (bytes-push items (written bytes live));
       back = omega (arith, h.back, back, size, ap length (control-push h.rdfs r), length-append (rdf_bytes r) (control h.rdfs));
       control = ap (λ (k : ℕ). drop new.back (take (k - 4) new.out.now)) size ∙ ap (λ (z : List ℕ). drop new.back (take top z)) out ∙ both.1
@@ -181,7 +183,7 @@ pub run_held : (old new : CiWriter) (items : List Item) (bytes : List ℕ) → H
     → 0 < old.run_count → old.run_count < 65535 → old.run_length ≡ length bytes
     → new.form ≡ old.form → new.front ≡ old.front + length bytes → new.added ≡ old.added + 1 → old.front + length bytes ≤ new.back
     → new.back + 6 ≡ old.back + length (rdf_bytes (run_rdf old.run_length old.run_count))
-    → new.out.now ≡ placed (placed old.out.now old.front bytes) new.back (rdf_bytes (run_rdf old.run_length (old.run_count + 1)))
+    → new.out.now ≡ with_bytes (with_bytes old.out.now old.front bytes) new.back (rdf_bytes (run_rdf old.run_length (old.run_count + 1)))
     → new.run_length ≡ old.run_length → new.run_count ≡ old.run_count + 1 → Holds new (items ++ written bytes true ∷ [])
 run_held old new items bytes h len some few same form front added place back out n count =
     finish (runs old.form (last_from None h.rdfs) old.run_length old.run_count h.run some)
@@ -201,7 +203,7 @@ run_held old new items bytes h len some few same form front added place back out
         let end : ℕ = old.back + length (rdf_bytes was) in
         let controls : control h.rdfs ≡ rdf_bytes was ++ control init = ap control split.1 ∙ control-push init was in
         let high : end + length (control init) + 4 ≡ length block = omega (arith, h.back, ap length controls, length-append (rdf_bytes was) (control init)) in
-        let out' : new.out.now ≡ placed (placed block old.front bytes) new.back (rdf_bytes now) = out ∙ ap (λ (r : Rdf). placed (placed block old.front bytes) new.back (rdf_bytes r)) is_now in
+        let out' : new.out.now ≡ with_bytes (with_bytes block old.front bytes) new.back (rdf_bytes now) = out ∙ ap (λ (r : Rdf). with_bytes (with_bytes block old.front bytes) new.back (rdf_bytes r)) is_now in
         let both = put_both block bytes (rdf_bytes now) old.front new.back end top place (omega (arith, back)) (omega (arith, high)) (omega arith) in
         let size : length new.out.now ≡ length block = ap length out' ∙ both.2 in
         let behind : drop end (take top block) ≡ control init =
@@ -226,7 +228,7 @@ run_held old new items bytes h len some few same form front added place back out
               ∙ ap (λ (z : List Mark). z ++ m ∷ []) (ap (λ (z : List Mark). flat_map marks init ++ z) (sym (append-nil (marks was))) ∙ sym (flat_map-append marks init (was ∷ [])) ∙ ap (λ (z : List Rdf). flat_map marks z) (sym split.1) ∙ h.said)
               ∙ ap (λ (k : ℕ). map mark_of items ++ (let x : Mark = record { live = true; len = k } in x) ∷ []) same ∙ sym (map-append mark_of items (written bytes true ∷ []));
           front = omega (arith, front, h.front, ap length (bytes-push items (written bytes true)), length-append (flat_map bytes_of items) bytes);
-          bytes = ap (λ (z : List ℕ). take new.front z) out' ∙ ap (λ (k : ℕ). take k (placed (placed block old.front bytes) new.back (rdf_bytes now))) front
+          bytes = ap (λ (z : List ℕ). take new.front z) out' ∙ ap (λ (k : ℕ). take k (with_bytes (with_bytes block old.front bytes) new.back (rdf_bytes now))) front
               ∙ both.0 ∙ ap (λ (z : List ℕ). z ++ bytes) h.bytes ∙ sym (bytes-push items (written bytes true));
           back = omega (arith, back, high, size, ap length (control-push init now), length-append (rdf_bytes now) (control init));
           control = ap (λ (k : ℕ). drop new.back (take (k - 4) new.out.now)) size ∙ ap (λ (z : List ℕ). drop new.back (take top z)) out' ∙ both.1
@@ -275,11 +277,11 @@ interval_of form block value rs size chain shape said fits place parts =
 
 -- the free space filled, and the CIDF behind it
 filled_block : (block out : List ℕ) (f b k : ℕ) (c tail : List ℕ) → length c ≡ 4 → 4 ≤ length block → f + k ≡ b → b + 4 ≤ length block → drop b (take (length block - 4) block) ≡ tail
-    → out ≡ placed (placed block f (zeros k)) (length block - 4) c
+    → out ≡ with_bytes (with_bytes block f (zeros k)) (length block - 4) c
     → out ≡ ((take f block ++ zeros k) ++ tail) ++ c
 filled_block block out f b k c tail four least sum high e o =
     let top : ℕ = length block - 4 in
-    let filled : List ℕ = placed block f (zeros k) in
+    let filled : List ℕ = with_bytes block f (zeros k) in
     let past : drop (f + length (zeros k)) block ≡ drop b block = ap (λ (i : ℕ). drop (f + i) block) (length-zeros k) ∙ ap (λ (i : ℕ). drop i block) sum in
     let shape : filled ≡ (take f block ++ zeros k) ++ drop b block = ap (λ (z : List ℕ). take f block ++ zeros k ++ z) past in
     let front : length (take f block ++ zeros k) ≡ b = omega (arith, length-append (take f block) (zeros k), length-take f block, length-zeros k, sum, high) in
@@ -294,7 +296,7 @@ filled_block block out f b k c tail four least sum high e o =
 
 pub ended : (w : CiWriter) (items : List Item) (busy : Bool) (out : List ℕ) → Holds w items → SlotsAdded w.form (length w.out.now) w.added
     → w.front + 3 * w.added + 4 ≤ length w.out.now → w.front ≤ w.back
-    → out ≡ placed (placed w.out.now w.front (zeros (w.back - w.front))) (length w.out.now - 4) (cidf w.front (w.back - w.front) busy)
+    → out ≡ with_bytes (with_bytes w.out.now w.front (zeros (w.back - w.front))) (length w.out.now - 4) (cidf w.front (w.back - w.front) busy)
     → IsInterval w.form out (record { shape = shapes.Records; items = items; busy = busy })
 ended w items busy out h complete room order o =
     interval_of w.form out value h.rdfs size h.chain h.shape h.said fits place parts
@@ -389,18 +391,18 @@ segment_block form piece number live busy bytes old new size low high some short
 
 -- the parts of a segment's block, one behind the other
 pub four_placed : (block x z r c : List ℕ) (i j k : ℕ) → i ≡ length x → j ≡ i + length z → k ≡ j + length r → k + length c ≡ length block
-    → placed (placed (placed (placed block 0 x) i z) j r) k c ≡ ((x ++ z) ++ r) ++ c
+    → with_bytes (with_bytes (with_bytes (with_bytes block 0 x) i z) j r) k c ≡ ((x ++ z) ++ r) ++ c
 four_placed block x z r c i j k a b d e =
-    let one : placed (placed block 0 x) i z ≡ placed block 0 (x ++ z) = placed-next block 0 i x z (omega arith) (omega (arith, a)) in
-    let two : placed (placed block 0 (x ++ z)) j r ≡ placed block 0 ((x ++ z) ++ r) = placed-next block 0 j (x ++ z) r (omega arith) (omega (arith, a, b, length-append x z)) in
-    let all : placed (placed block 0 ((x ++ z) ++ r)) k c ≡ placed block 0 (((x ++ z) ++ r) ++ c) = placed-next block 0 k ((x ++ z) ++ r) c (omega arith) (omega (arith, a, b, d, length-append x z, length-append (x ++ z) r)) in
+    let one : with_bytes (with_bytes block 0 x) i z ≡ with_bytes block 0 (x ++ z) = placed-next block 0 i x z (omega arith) (omega (arith, a)) in
+    let two : with_bytes (with_bytes block 0 (x ++ z)) j r ≡ with_bytes block 0 ((x ++ z) ++ r) = placed-next block 0 j (x ++ z) r (omega arith) (omega (arith, a, b, length-append x z)) in
+    let all : with_bytes (with_bytes block 0 ((x ++ z) ++ r)) k c ≡ with_bytes block 0 (((x ++ z) ++ r) ++ c) = placed-next block 0 k ((x ++ z) ++ r) c (omega arith) (omega (arith, a, b, d, length-append x z, length-append (x ++ z) r)) in
     let none : drop (0 + length (((x ++ z) ++ r) ++ c)) block ≡ [] = drop_all (0 + length (((x ++ z) ++ r) ++ c)) block (omega (arith, a, b, d, e, length-append x z, length-append (x ++ z) r, length-append ((x ++ z) ++ r) c)) in
-    ap (λ (y : List ℕ). placed (placed y j r) k c) one ∙ ap (λ (y : List ℕ). placed y k c) two ∙ all
+    ap (λ (y : List ℕ). with_bytes (with_bytes y j r) k c) one ∙ ap (λ (y : List ℕ). with_bytes y k c) two ∙ all
     ∙ ap (λ (y : List ℕ). (((x ++ z) ++ r) ++ c) ++ y) none ∙ append-nil (((x ++ z) ++ r) ++ c)
 
 -- the RDF or pair of a run still stands when a record's bytes are put in front of it
 pub run_stands : (w : CiWriter) (items : List Item) (x : List ℕ) → Holds w items → 0 < w.run_count → w.front + length x ≤ w.back
-    → take (length (rdf_bytes (run_rdf w.run_length w.run_count))) (drop w.back (placed w.out.now w.front x)) ≡ rdf_bytes (run_rdf w.run_length w.run_count)
+    → take (length (rdf_bytes (run_rdf w.run_length w.run_count))) (drop w.back (with_bytes w.out.now w.front x)) ≡ rdf_bytes (run_rdf w.run_length w.run_count)
 run_stands w items x h some place =
     let block : List ℕ = w.out.now in
     let was : Rdf = run_rdf w.run_length w.run_count in
@@ -410,7 +412,7 @@ run_stands w items x h some place =
     let controls : control h.rdfs ≡ rdf_bytes was ++ control split.0 = ap control split.1 ∙ control-push split.0 was in
     let k : ℕ = length (rdf_bytes was) in
     let high : w.back + k ≤ top = omega (arith, h.back, ap length controls, length-append (rdf_bytes was) (control split.0)) in
-    let same : drop w.back (placed block w.front x) ≡ drop w.back block = drop-placed block w.front w.back x (omega (arith, place, h.back)) place in
+    let same : drop w.back (with_bytes block w.front x) ≡ drop w.back block = drop-placed block w.front w.back x (omega (arith, place, h.back)) place in
     let cut : take k (drop w.back (take top block)) ≡ take k (drop w.back block) =
     sym (drop-take w.back k (take top block)) ∙ ap (λ (z : List ℕ). drop w.back z) (take-take (w.back + k) top block high) ∙ drop-take w.back k block in
     ap (λ (z : List ℕ). take k z) same ∙ sym cut ∙ ap (λ (z : List ℕ). take k z) (h.control ∙ controls) ∙ take_at (rdf_bytes was) (control split.0) k refl
@@ -420,7 +422,7 @@ pub live_held : (old new : CiWriter) (items : List Item) (bytes : List ℕ) (liv
     → 0 < old.run_count → old.run_count < 65535 → old.run_length ≡ length bytes
     → new.form ≡ old.form → new.front ≡ old.front + length bytes → new.added ≡ old.added + 1 → old.front + length bytes ≤ new.back
     → new.back + 6 ≡ old.back + length (rdf_bytes (run_rdf old.run_length old.run_count))
-    → new.out.now ≡ placed (placed old.out.now old.front bytes) new.back (rdf_bytes (run_rdf old.run_length (old.run_count + 1)))
+    → new.out.now ≡ with_bytes (with_bytes old.out.now old.front bytes) new.back (rdf_bytes (run_rdf old.run_length (old.run_count + 1)))
     → new.run_length ≡ old.run_length → new.run_count ≡ old.run_count + 1 → Holds new (items ++ written bytes live ∷ [])
 live_held old new items bytes live is h len some few same form front added place back out n count =
     subst (λ (b : Bool). Holds new (items ++ written bytes b ∷ [])) (sym is) (run_held old new items bytes h len some few same form front added place back out n count)

@@ -76,10 +76,6 @@ run_started (Slots len) live = 0
 abbrev pub run_rdf : ℕ → ℕ → Rdf
 run_rdf n count = if count == 1 then Single true n else Run n count
 
--- a list with these bytes from a place on, and longer nowhere
-abbrev pub placed : List ℕ → ℕ → List ℕ → List ℕ
-placed block at bytes = take at block ++ bytes ++ drop (at + length bytes) block
-
 -- What a writer holds: these items stand at the front of its block, and their RDFs at the right end.
 pub record Holds (w : CiWriter) (held : List Item) : Type 0 where
   pub rdfs : List Rdf
