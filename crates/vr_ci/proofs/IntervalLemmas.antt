@@ -34,35 +34,35 @@ pub record Laid (form : Form) (block : List ℕ) (value : Interval) : Type 0 whe
   pub layout : block ≡ laid (length block) (flat_map bytes_of value.items) rdfs value.busy
 
 pub laid_says : (form : Form) (block : List ℕ) (value : Interval) → IsBlockSize (length block) → Fits form (length block) value → IsLaidOut form block value → Laid form block value
-laid_says form block value size fits l =
+laid_says form block value size fits laid_out =
     let front = flat_map bytes_of value.items in
     let n = length block in
-    let f = control_at n l.rdfs in
+    let f = control_at n laid_out.rdfs in
     let bounds = size_bounds n size in
-    let fits_shape : FitsBlock form n (shape_of l.rdfs) value.items = subst (λ (s : Shape). FitsBlock form n s value.items) (sym l.shape) fits.block in
-    let place = room_kept form n l.rdfs value.items bounds.0 l.chain fits_shape l.said in
-    let long : length front ≡ spans l.rdfs = length-bytes value.items ∙ ap total (sym l.said) ∙ total-all l.rdfs in
+    let fits_shape : FitsBlock form n (shape_of laid_out.rdfs) value.items = subst (λ (s : Shape). FitsBlock form n s value.items) (sym laid_out.shape) fits.block in
+    let place = room_kept form n laid_out.rdfs value.items bounds.0 laid_out.chain fits_shape laid_out.said in
+    let long : length front ≡ spans laid_out.rdfs = length-bytes value.items ∙ ap total (sym laid_out.said) ∙ total-all laid_out.rdfs in
     let fits_front : length front ≤ f = omega (arith, place, long) in
-    let parts : Parts block front l.rdfs (spans l.rdfs) (f - spans l.rdfs) value.busy =
-    record { whole = l.layout; fits = omega (arith, place) } in
+    let parts : Parts block front laid_out.rdfs (spans laid_out.rdfs) (f - spans laid_out.rdfs) value.busy =
+    record { whole = laid_out.layout; fits = omega (arith, place) } in
     let halves = before_cidf parts in
-    let numbers = cidf_says block (spans l.rdfs) ((f - spans l.rdfs) + (if value.busy then 32768 else 0)) halves.1 in
-    let flags = field_busy (f - spans l.rdfs) value.busy (omega (arith, bounds.1)) in
+    let numbers = cidf_says block (spans laid_out.rdfs) ((f - spans laid_out.rdfs) + (if value.busy then 32768 else 0)) halves.1 in
+    let flags = field_busy (f - spans laid_out.rdfs) value.busy (omega (arith, bounds.1)) in
     let spread : padded f front ≡ front ++ zeros (f - length front) = padded_fits f front fits_front in
     record {
-      rdfs = l.rdfs;
-      chain = l.chain;
-      shape = l.shape;
-      said = l.said;
+      rdfs = laid_out.rdfs;
+      chain = laid_out.chain;
+      shape = laid_out.shape;
+      said = laid_out.said;
       place = place;
       displacement = numbers.0;
       field = numbers.1;
       free = ap (λ (k : ℕ). k % 32768) numbers.1 ∙ flags.0;
       busy = ap (λ (k : ℕ). Rattle.std.specs.Prelude.nat_le 32768 k) numbers.1 ∙ flags.1;
-      control = ap (λ (b : List ℕ). drop f b) halves.0 ∙ drop_at (padded f front) (control l.rdfs) f (length-padded f front);
-      rest = zeros (f - length front) ++ (control l.rdfs ++ cidf (spans l.rdfs) (f - spans l.rdfs) value.busy);
-      front = l.layout ∙ ap (λ (b : List ℕ). b ++ control l.rdfs ++ cidf (spans l.rdfs) (f - spans l.rdfs) value.busy) spread ∙ regroup front (zeros (f - length front)) (control l.rdfs) (cidf (spans l.rdfs) (f - spans l.rdfs) value.busy);
-      layout = l.layout;
+      control = ap (λ (b : List ℕ). drop f b) halves.0 ∙ drop_at (padded f front) (control laid_out.rdfs) f (length-padded f front);
+      rest = zeros (f - length front) ++ (control laid_out.rdfs ++ cidf (spans laid_out.rdfs) (f - spans laid_out.rdfs) value.busy);
+      front = laid_out.layout ∙ ap (λ (b : List ℕ). b ++ control laid_out.rdfs ++ cidf (spans laid_out.rdfs) (f - spans laid_out.rdfs) value.busy) spread ∙ regroup front (zeros (f - length front)) (control laid_out.rdfs) (cidf (spans laid_out.rdfs) (f - spans laid_out.rdfs) value.busy);
+      layout = laid_out.layout;
     }
   where
     regroup : (a b c d : List ℕ) → ((a ++ b) ++ c) ++ d ≡ a ++ (b ++ (c ++ d))
@@ -86,25 +86,25 @@ one_chain {block = block} l m =
     control_same l.rdfs m.rdfs (take (control_at n l.rdfs) top) (take (control_at n m.rdfs) top) (omega (arith, l.place, m.place, same)) (one ∙ sym two)
 
 some_span : (r : Rdf) → IsRdf r → 0 < span r
-some_span (Single live n) h = h.low
-some_span (Run n k) h = positive n k h.0.low h.1.low
+some_span (Single live n) valid = valid.low
+some_span (Run n k) valid = positive n k valid.0.low valid.1.low
   where
     positive : (a b : ℕ) → 0 < a → 0 < b → 0 < a * b
-    positive (suc a) (suc b) p q = omega arith
-    positive zero b p q = absurd (omega arith)
-    positive (suc a) zero p q = absurd (omega arith)
-some_span (Segment piece live number n) h = h.1.low
+    positive (suc a) (suc b) some some_too = omega arith
+    positive zero b some some_too = absurd (omega arith)
+    positive (suc a) zero some some_too = absurd (omega arith)
+some_span (Segment piece live number n) valid = valid.1.low
 
 -- where the CIDF is zero the block has no RDF and no place for free space
 pub not_zero : {form : Form} {block : List ℕ} {value : Interval} (l : Laid form block value) → 512 ≤ length block → HasZeroCidf block → ⊥
 not_zero {form = form} {block = block} l least z = none l.rdfs (chain_rdfs form None l.rdfs l.chain) (sym l.displacement ∙ z.0) (omega (arith, l.field, z.1, l.place, sym l.displacement ∙ z.0))
   where
     none : (rs : List Rdf) → AllByRecursion IsRdf rs → spans rs ≡ 0 → length block ≤ length (control rs) + 4 → ⊥
-    none [] v e h = omega (arith, least)
-    none (r ∷ rs) v e h = omega (arith, some_span r v.0)
+    none [] valid same within = omega (arith, least)
+    none (r ∷ rs) valid same within = omega (arith, some_span r valid.0)
 
 pub zero_block : (block : List ℕ) → block ≡ zeros (length block) → HasZeroCidf block
-zero_block block e = (omega (arith, byte_zero (length block - 4), byte_zero (length block - 4 + 1)), omega (arith, byte_zero (length block - 4 + 2), byte_zero (length block - 4 + 2 + 1)))
+zero_block block same = (omega (arith, byte_zero (length block - 4), byte_zero (length block - 4 + 1)), omega (arith, byte_zero (length block - 4 + 2), byte_zero (length block - 4 + 2 + 1)))
   where
     at_zeros : (n i : ℕ) → Rattle.std.specs.Prelude.slice_index (zeros n) i ≡ 0
     at_zeros zero i = refl
@@ -112,32 +112,32 @@ zero_block block e = (omega (arith, byte_zero (length block - 4), byte_zero (len
     at_zeros (suc n) (suc i) = at_zeros n i
 
     byte_zero : (i : ℕ) → Rattle.std.specs.Prelude.slice_index block i ≡ 0
-    byte_zero i = ap (λ (b : List ℕ). Rattle.std.specs.Prelude.slice_index b i) e ∙ at_zeros (length block) i
+    byte_zero i = ap (λ (b : List ℕ). Rattle.std.specs.Prelude.slice_index b i) same ∙ at_zeros (length block) i
 
 same_value : (v w : Interval) → v.shape ≡ w.shape → v.items ≡ w.items → v.busy ≡ w.busy → v ≡ w
-same_value v w s i b = let e : (let x : Interval = record { shape = v.shape; items = v.items; busy = v.busy } in x) ≡ (let y : Interval = record { shape = w.shape; items = w.items; busy = w.busy } in y) = cc in e
+same_value v w shape_is items_is busy_is = let given : (let x : Interval = record { shape = v.shape; items = v.items; busy = v.busy } in x) ≡ (let y : Interval = record { shape = w.shape; items = w.items; busy = w.busy } in y) = cc in given
 
 end_items : (form : Form) (size : ℕ) (s : Shape) (items : List Item) → s ≡ shapes.EndOfFile → FitsBlock form size s items → items ≡ []
-end_items form size s items e f = let g : FitsBlock form size shapes.EndOfFile items = subst (λ (x : Shape). FitsBlock form size x items) e f in g
+end_items form size s items same fitting = let fits_block : FitsBlock form size shapes.EndOfFile items = subst (λ (x : Shape). FitsBlock form size x items) same fitting in fits_block
 
 -- Each block has at most one value.
 pub one_value : (form : Form) (block : List ℕ) (v w : Interval) → IsInterval form block v → IsInterval form block w → v ≡ w
-one_value form block v w a b =
-    elim a.laid [
-      | inl la ↦ elim b.laid [
+one_value form block v w interval is_interval =
+    elim interval.laid [
+      | inl la ↦ elim is_interval.laid [
         | inl lb ↦
-            let l = laid_says form block v a.size a.fits la in
-            let m = laid_says form block w b.size b.fits lb in
-            let same : l.rdfs ≡ m.rdfs = one_chain l m in
-            same_value v w (sym l.shape ∙ ap shape_of same ∙ m.shape)
-            (items_are l ∙ ap (λ (rs : List Rdf). items_at (flat_map marks rs) block) same ∙ sym (items_are m))
-            (sym l.busy ∙ m.busy)
-        | inr eb ↦ absurd (not_zero (laid_says form block v a.size a.fits la) ((size_bounds (length block) a.size).0) (zero_block block eb.1))
+            let laid_says_here = laid_says form block v interval.size interval.fits la in
+            let laid_says_there = laid_says form block w is_interval.size is_interval.fits lb in
+            let same : laid_says_here.rdfs ≡ laid_says_there.rdfs = one_chain laid_says_here laid_says_there in
+            same_value v w (sym laid_says_here.shape ∙ ap shape_of same ∙ laid_says_there.shape)
+            (items_are laid_says_here ∙ ap (λ (rs : List Rdf). items_at (flat_map marks rs) block) same ∙ sym (items_are laid_says_there))
+            (sym laid_says_here.busy ∙ laid_says_there.busy)
+        | inr eb ↦ absurd (not_zero (laid_says form block v interval.size interval.fits la) ((size_bounds (length block) interval.size).0) (zero_block block eb.1))
       ]
-      | inr ea ↦ elim b.laid [
-        | inl lb ↦ absurd (not_zero (laid_says form block w b.size b.fits lb) ((size_bounds (length block) a.size).0) (zero_block block ea.1))
+      | inr ea ↦ elim is_interval.laid [
+        | inl lb ↦ absurd (not_zero (laid_says form block w is_interval.size is_interval.fits lb) ((size_bounds (length block) interval.size).0) (zero_block block ea.1))
         | inr eb ↦ same_value v w (ea.0 ∙ sym eb.0)
-            (end_items form (length block) v.shape v.items ea.0 a.fits.block ∙ sym (end_items form (length block) w.shape w.items eb.0 b.fits.block))
-            (a.fits.idle ea.0 ∙ sym (b.fits.idle eb.0))
+            (end_items form (length block) v.shape v.items ea.0 interval.fits.block ∙ sym (end_items form (length block) w.shape w.items eb.0 is_interval.fits.block))
+            (interval.fits.idle ea.0 ∙ sym (is_interval.fits.idle eb.0))
       ]
     ]

@@ -42,8 +42,8 @@ length-items_at (m ∷ ms) bytes = omega (arith, length-items_at ms (drop m.len 
 
 -- what is read has the marks that it was read by
 pub marks-items_at : (ms : List Mark) (bytes : List ℕ) → total ms ≤ length bytes → map mark_of (items_at ms bytes) ≡ ms
-marks-items_at [] bytes h = refl
-marks-items_at (m ∷ ms) bytes h =
+marks-items_at [] bytes within = refl
+marks-items_at (m ∷ ms) bytes within =
     let long : length (take m.len bytes) ≡ m.len = omega (arith, length-take m.len bytes) in
     let first : (let x : Mark = record { live = m.live; len = length (take m.len bytes) } in x) ≡ m = ap (λ (n : ℕ). let x : Mark = record { live = m.live; len = n } in x) long in
     let others = marks-items_at ms (drop m.len bytes) (omega (arith, length-drop m.len bytes)) in
@@ -56,21 +56,21 @@ bytes-items_at (m ∷ ms) bytes =
 
 -- each record has three bytes of RDFs or less
 control_short : (rs : List Rdf) → AllByRecursion IsRdf rs → AllByRecursion IsOfRecords rs → length (control rs) ≤ 3 * length (flat_map marks rs)
-control_short [] v o = omega arith
-control_short (Single live n ∷ rs) v o =
-    omega (arith, control_short rs v.1 o.1, length-append (control rs) (rdf_bytes (Single live n)))
-control_short (Run n k ∷ rs) v o =
-    omega (arith, control_short rs v.1 o.1, length-append (control rs) (rdf_bytes (Run n k)), length-append (marks (Run n k)) (flat_map marks rs), length-replicate k (let m : Mark = record { live = true; len = n } in m), v.0.2)
-control_short (Segment piece live number n ∷ rs) v o = absurd o.0
+control_short [] valid records = omega arith
+control_short (Single live n ∷ rs) valid records =
+    omega (arith, control_short rs valid.1 records.1, length-append (control rs) (rdf_bytes (Single live n)))
+control_short (Run n k ∷ rs) valid records =
+    omega (arith, control_short rs valid.1 records.1, length-append (control rs) (rdf_bytes (Run n k)), length-append (marks (Run n k)) (flat_map marks rs), length-replicate k (let m : Mark = record { live = true; len = n } in m), valid.0.2)
+control_short (Segment piece live number n ∷ rs) valid records = absurd records.0
 
 slots_room : (len : ℕ) (items : List Item) → AllByRecursion (λ item. length item.bytes ≡ len) items → room items ≡ length items * (len + 3)
-slots_room len [] h = omega arith
-slots_room len (i ∷ items) h = omega (arith, slots_room len items h.1, h.0)
+slots_room len [] each_so = omega arith
+slots_room len (i ∷ items) each_so = omega (arith, slots_room len items each_so.1, each_so.0)
 
 pub records_room : (form : Form) (size : ℕ) (items : List Item) → FitsBlock form size shapes.Records items → room items ≤ size - 4
-records_room Plain size items h = h
-records_room (Slots len) size items h =
-    let some : room items ≡ slots_in size len * (len + 3) = slots_room len items h.0 ∙ ap (λ (k : ℕ). k * (len + 3)) h.1 in
+records_room Plain size items fitting = fitting
+records_room (Slots len) size items fitting =
+    let some : room items ≡ slots_in size len * (len + 3) = slots_room len items fitting.0 ∙ ap (λ (k : ℕ). k * (len + 3)) fitting.1 in
     omega (arith, some, div-add-mod' (size - 4) (len + 3))
 
 -- the length of the first record, where there is one
@@ -81,44 +81,44 @@ first_len (m ∷ ms) = m.len
 -- the records, and the RDFs, of a value that fits have place
 pub room_kept : (form : Form) (size : ℕ) (rs : List Rdf) (items : List Item) → 512 ≤ size → IsChain form rs → FitsBlock form size (shape_of rs) items
     → flat_map marks rs ≡ map mark_of items → spans rs + length (control rs) + 4 ≤ size
-room_kept form size [] items least h f e = omega arith
-room_kept form size (Segment piece live number n ∷ rs) items least h f e = segment piece items f e
+room_kept form size [] items least chain fitting same = omega arith
+room_kept form size (Segment piece live number n ∷ rs) items least chain fitting same = segment piece items fitting same
   where
     none : rs ≡ []
-    none = alone form piece live number n rs h
+    none = alone form piece live number n rs chain
 
     lengths : (spans (Segment piece live number n ∷ rs) ≡ n) × (length (control (Segment piece live number n ∷ rs)) ≡ 6)
     lengths = (ap (λ (t : List Rdf). spans (Segment piece live number n ∷ t)) none ∙ omega arith, ap (λ (t : List Rdf). length (control (Segment piece live number n ∷ t))) none)
 
     segment : (p : Piece) (is : List Item) → FitsBlock form size (shapes.Segment p number) is → flat_map marks (Segment piece live number n ∷ rs) ≡ map mark_of is
         → spans (Segment piece live number n ∷ rs) + length (control (Segment piece live number n ∷ rs)) + 4 ≤ size
-    segment First [] f e = absurd cc
-    segment Inner [] f e = absurd cc
-    segment Last [] f e = absurd cc
-    segment First (i ∷ is) f e = let m : n ≡ length i.bytes = ap first_len e in omega (arith, m, lengths, f.1.0)
-    segment Inner (i ∷ is) f e = let m : n ≡ length i.bytes = ap first_len e in omega (arith, m, lengths, f.1.0)
-    segment Last (i ∷ is) f e = let m : n ≡ length i.bytes = ap first_len e in omega (arith, m, lengths, f.1.0)
-room_kept form size (Single live n ∷ rs) items least h f e =
+    segment First [] fitting same = absurd cc
+    segment Inner [] fitting same = absurd cc
+    segment Last [] fitting same = absurd cc
+    segment First (i ∷ is) fitting same = let equal : n ≡ length i.bytes = ap first_len same in omega (arith, equal, lengths, fitting.1.0)
+    segment Inner (i ∷ is) fitting same = let equal : n ≡ length i.bytes = ap first_len same in omega (arith, equal, lengths, fitting.1.0)
+    segment Last (i ∷ is) fitting same = let equal : n ≡ length i.bytes = ap first_len same in omega (arith, equal, lengths, fitting.1.0)
+room_kept form size (Single live n ∷ rs) items least chain fitting same =
     let all = Single live n ∷ rs in
     omega (
       arith,
-      records_room form size items f,
+      records_room form size items fitting,
       room_is items,
-      ap total e,
+      ap total same,
       total-all all,
-      ap length e,
+      ap length same,
       length-map items mark_of,
-      control_short all (chain_rdfs form None all h) (all_records form None all h refl),
+      control_short all (chain_rdfs form None all chain) (all_records form None all chain refl),
     )
-room_kept form size (Run n k ∷ rs) items least h f e =
+room_kept form size (Run n k ∷ rs) items least chain fitting same =
     let all = Run n k ∷ rs in
     omega (
       arith,
-      records_room form size items f,
+      records_room form size items fitting,
       room_is items,
-      ap total e,
+      ap total same,
       total-all all,
-      ap length e,
+      ap length same,
       length-map items mark_of,
-      control_short all (chain_rdfs form None all h) (all_records form None all h refl),
+      control_short all (chain_rdfs form None all chain) (all_records form None all chain refl),
     )

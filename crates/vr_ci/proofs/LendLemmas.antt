@@ -157,9 +157,9 @@ marks_alike (Run n k) = ap (λ (j : ℕ). replicate j (let m : Mark = record { l
 marks_alike (Segment piece live number n) = refl
 
 pub some_marks : (r : Rdf) → IsRdf r → 0 < length (marks r)
-some_marks (Single live n) h = omega arith
-some_marks (Run n k) h = omega (arith, length-replicate k (let m : Mark = record { live = true; len = n } in m), h.2)
-some_marks (Segment piece live number n) h = omega arith
+some_marks (Single live n) valid = omega arith
+some_marks (Run n k) valid = omega (arith, length-replicate k (let m : Mark = record { live = true; len = n } in m), valid.2)
+some_marks (Segment piece live number n) valid = omega arith
 
 pub span_is : (r : Rdf) → length (marks r) * record_length r ≡ span r
 span_is (Single live n) = omega arith
@@ -188,9 +188,9 @@ batch_more block low old new r none parts valid left len live =
     )
 
 pub none_left : (block : List ℕ) (low : ℕ) (old : Batch) → old.left ≡ 0 → rdfs_between low old.end block ≡ [] → marks_left block low old ≡ []
-none_left block low old none e =
+none_left block low old none end_is =
     ap (λ (k : ℕ). replicate k (let m : Mark = record { live = old.live; len = old.length } in m) ++ flat_map marks (rdfs_between low old.end block)) none
-    ∙ ap (λ (x : List Rdf). flat_map marks x) e
+    ∙ ap (λ (x : List Rdf). flat_map marks x) end_is
 
 -- a batch is of an RDF or pair that begins there
 record IsOf (r : Rdf) (at : ℕ) (batch : Batch) : Type 0 where
@@ -290,7 +290,7 @@ pair_wide block low end lent some high =
 pub next_items : (block : List ℕ) (low : ℕ) (old new rest : Batch) (offset : ℕ) → 0 < new.left → marks_left block low new ≡ marks_left block low old
     → rest ≡ record new { left = new.left - 1 }
     → items_left block low old offset ≡ (let i : Item = record { bytes = take new.length (drop offset block); live = new.live } in i) ∷ items_left block low rest (offset + new.length)
-next_items block low old new rest offset some same e =
+next_items block low old new rest offset some same rest_is =
     let m : Mark = record { live = new.live; len = new.length } in
     let behind : List Mark = flat_map marks (rdfs_between low new.end block) in
     let one : new.left ≡ suc (new.left - 1) = omega arith in
@@ -298,19 +298,19 @@ next_items block low old new rest offset some same e =
     let further : drop new.length (drop offset block) ≡ drop (offset + new.length) block = drop-drop new.length offset block in
     ap (λ (x : List Mark). items_at x (drop offset block)) (sym same ∙ first)
     ∙ ap (λ (x : List ℕ). (let i : Item = record { bytes = take new.length (drop offset block); live = new.live } in i) ∷ items_at (replicate (new.left - 1) m ++ behind) x) further
-    ∙ ap (λ (b : Batch). (let i : Item = record { bytes = take new.length (drop offset block); live = new.live } in i) ∷ items_left block low b (offset + new.length)) (sym e)
+    ∙ ap (λ (b : Batch). (let i : Item = record { bytes = take new.length (drop offset block); live = new.live } in i) ∷ items_left block low b (offset + new.length)) (sym rest_is)
 
 -- what is left stays in the block
 pub lend_in : (block : List ℕ) (low : ℕ) (old new : Batch) (offset : ℕ) → AreIn block low old offset → 0 < new.left → AreLent block low new.end
     → new.left * new.length + spans (rdfs_between low new.end block) ≡ old.left * old.length + spans (rdfs_between low old.end block)
     → AreIn block low (record new { left = new.left - 1 }) (offset + new.length) × (offset + new.length ≤ length block)
-lend_in block low old new offset a some lent same =
+lend_in block low old new offset inside some lent same =
     let step : new.left * new.length ≡ (new.left - 1) * new.length + new.length = split new.left new.length some in
-    (record { lent = lent; bytes = omega (arith, a.bytes, same, step) }, omega (arith, a.bytes, same, step))
+    (record { lent = lent; bytes = omega (arith, inside.bytes, same, step) }, omega (arith, inside.bytes, same, step))
   where
     split : (k n : ℕ) → 0 < k → k * n ≡ (k - 1) * n + n
-    split zero n h = absurd (omega arith)
-    split (suc k) n h = let e : suc k - 1 ≡ k = omega arith in rw e (omega arith)
+    split zero n some = absurd (omega arith)
+    split (suc k) n some = let suc_is : suc k - 1 ≡ k = omega arith in rw suc_is (omega arith)
 
 pub part_of : (block : List ℕ) (offset n : ℕ) → take (offset + n - offset) (drop offset block) ≡ take n (drop offset block)
-part_of block offset n = let e : offset + n - offset ≡ n = omega arith in ap (λ (k : ℕ). take k (drop offset block)) e
+part_of block offset n = let offset_is : offset + n - offset ≡ n = omega arith in ap (λ (k : ℕ). take k (drop offset block)) offset_is
