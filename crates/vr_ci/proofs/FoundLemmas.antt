@@ -171,19 +171,19 @@ right_is form block rs size is_whole right =
     done : spans rs ≤ control_at (length block) rs → meant form (length block) rs ≡ rs
         → free_end block ≡ control_at (length block) rs
         → length (control rs) + control_at (length block) rs ≡ cidf_at block → Right form block rs
-    done branch branch low end =
+    done fits meant_is low end =
         let bounds = size_bounds (length block) size in
         let layout : block ≡ laid (length block) (masked rs block) rs (is_busy block) =
         right.same ∙ ap (λ (x : List Rdf). laid (length block) (masked x block) x (is_busy block))
-        branch in
+        meant_is in
         let f = control_at (length block) rs in
         let long : length (masked rs block) ≡ spans rs =
         ap length (masked_is rs block)
         ∙ length-masked_marks (flat_map marks rs) block
-        (omega (arith, total-all rs, branch, end)) ∙ total-all rs in
+        (omega (arith, total-all rs, fits, end)) ∙ total-all rs in
         let spread : padded f (masked rs block) ≡ masked rs block
         ++ zeros (f - length (masked rs block)) =
-        padded_fits f (masked rs block) (omega (arith, long, branch)) in
+        padded_fits f (masked rs block) (omega (arith, long, fits)) in
         let tail : List ℕ = cidf (spans rs) (f - spans rs) (is_busy block) in
         let front : take (spans rs) block ≡ masked rs block =
         ap (λ (b : List ℕ). take (spans rs) b) layout
@@ -193,8 +193,8 @@ right_is form block rs size is_whole right =
         ∙ take_at (masked rs block) (zeros (f - length (masked rs block)) ++ (control rs ++ tail))
         (spans rs) long in
         record {
-          place = omega (arith, branch, end, bounds.0);
-          meant = branch;
+          place = omega (arith, fits, end, bounds.0);
+          meant = meant_is;
           layout = layout;
           low = low;
           masked = sym front;
