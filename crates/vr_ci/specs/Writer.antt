@@ -61,7 +61,8 @@ Fills First size n = 0 < n → size - 10 ≤ n
 Fills Inner size n = 0 < n → size - 10 ≤ n
 Fills Last size n = Unit {0}
 
--- The length and the number of the last records, where they are live and a run could go on with them.
+-- The length and the number of the last records, where they are live and a run could go on with
+-- them.
 abbrev pub IsLastRun : Form → Option Rdf → ℕ → ℕ → Type 0
 IsLastRun Plain None n count = count ≡ 0
 IsLastRun Plain (Some (Single true m)) n count = (count ≡ 1) × (n ≡ m)
@@ -80,7 +81,8 @@ run_started (Slots len) live = 0
 abbrev pub run_rdf : ℕ → ℕ → Rdf
 run_rdf n count = if count == 1 then Single true n else Run n count
 
--- What a writer holds: these items stand at the front of its block, and their RDFs at the right end.
+-- What a writer holds: these items stand at the front of its block, and their RDFs at the right
+-- end.
 pub record Holds (w : CiWriter) (held : List Item) : Type 0 where
   pub rdfs : List Rdf
   pub size : IsBlockSize (length w.out.now)

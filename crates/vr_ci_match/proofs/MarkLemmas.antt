@@ -1,4 +1,5 @@
--- The records that RDFs are of: their marks, and their bytes with zeros for those that are withdrawn.
+-- The records that RDFs are of: their marks, and their bytes with zeros for those that are
+-- withdrawn.
 use Rattle.std.proofs.Common.{◌≡◌, ℕ, zero, suc, ◌+◌, ◌*◌, ◌≤◌, List, [], ◌∷◌, ◌++◌, length, take}
 use Rattle.std.proofs.Common.{drop, refl, sym, ap, ◌∙◌, arith, append_assoc, length-append}
 use Rattle.std.proofs.Common.{length-take, length-drop, ◌-◌, Bool, true, false, Option, Some, None}
