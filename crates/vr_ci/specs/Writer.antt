@@ -97,3 +97,12 @@ pub record Holds (w : CiWriter) (held : List Item) : Type 0 where
   pub lengths : AllByRecursion (λ item. IsItemLength w.form (length item.bytes)) held
   pub added : w.added ≡ length held
   pub run : IsLastRun w.form (last_from None rdfs) w.run_length w.run_count
+
+-- A writer of this form, for a buffer of this size, that holds these items: what a caller's loop
+-- keeps.
+pub record IsWriting (form : Form) (size buffer : ℕ) (items : List Item) (w : CiWriter) : Type 0 where
+  pub holds : Holds w items
+  pub same_form : form_of w ≡ form
+  pub same_size : size_of w ≡ size
+  pub same_buffer : buffer_of w ≡ buffer
+  pub count : added_of w ≡ length items

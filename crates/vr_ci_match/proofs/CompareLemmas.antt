@@ -18,6 +18,7 @@ use Rattle.vr_ci_match.proofs.MarkLemmas.{total, total-all, take-add, masked_mar
 use Rattle.vr_ci_match.proofs.MarkLemmas.{length-masked_marks}
 use Rattle.vr_ci_match.proofs.LayoutLemmas.{zeros, length-zeros, padded_fits, byte, at_drop}
 
+-- the first elements of two lists, beyond those of the first
 pub take-past : (n k : ℕ) (xs ys : List ℕ) → length xs ≡ n
     → take (n + k) (xs ++ ys) ≡ xs ++ take k ys
 take-past n k xs ys long =
@@ -114,6 +115,7 @@ in_control block a b c f top at long_too within lb same difference =
     subst (λ (x : List ℕ). Compares 0 x ((a ++ b) ++ c) (Some at)) (take-append-drop top block)
     three
 
+-- a block that is right before its CIDF compares as its CIDF does
 pub in_cidf : (block a b c : List ℕ) (f top : ℕ) (r : Option ℕ) → length a ≡ f → top ≤ length block
     → f + length b ≡ top → take f block ≡ a
     → drop f (take top block) ≡ b → Compares top (drop top block) c r

@@ -28,9 +28,11 @@ pub spans-append : (rs ss : List Rdf) → spans (rs ++ ss) ≡ spans rs + spans 
 spans-append [] ss = omega arith
 spans-append (r ∷ rs) ss = omega (arith, spans-append rs ss)
 
+-- the bytes of one RDF more
 pub spans-push : (rs : List Rdf) (r : Rdf) → spans (rs ++ r ∷ []) ≡ spans rs + span r
 spans-push rs r = omega (arith, spans-append rs (r ∷ []))
 
+-- the bytes of the records of one RDF or pair, with zeros for those that are withdrawn
 abbrev pub mask : Rdf → List ℕ → List ℕ
 mask r bytes = if is_live r then take (span r) bytes else zeros (span r)
 
@@ -44,6 +46,7 @@ masked-append (r ∷ rs) ss bytes =
     ∙ ap (λ (x : List ℕ). mask r bytes ++ masked rs (drop (span r) bytes) ++ masked ss x)
     (drop-drop (spans rs) (span r) bytes)
 
+-- the masked bytes of one RDF more
 pub masked-push : (rs : List Rdf) (r : Rdf) (bytes : List ℕ)
     → masked (rs ++ r ∷ []) bytes ≡ masked rs bytes ++ mask r (drop (spans rs) bytes)
 masked-push rs r bytes = masked-append rs (r ∷ []) bytes

@@ -27,6 +27,7 @@ use Rattle.vr_ci_match.proofs.ComparedLemmas.{spans-append, empties, control-emp
 use Rattle.vr_ci_match.proofs.ComparedLemmas.{masked-empties, masked-append}
 use Rattle.vr_ci_match.proofs.JudgedLemmas.{Ends, ends}
 
+-- RDFs that are all that the CIDF leaves place for end at the CIDF
 pub whole_end : (form : Form) (block : List ℕ) (rs : List Rdf) → 512 ≤ length block
     → IsWhole form block rs → length (control rs) + control_at (length block) rs ≡ cidf_at block
 whole_end form block rs least whole =

@@ -175,6 +175,7 @@ rdf_size (Single live n) = inl refl
 rdf_size (Run n k) = inr refl
 rdf_size (Segment piece live number n) = inr refl
 
+-- an RDF has three bytes or more
 pub some_bytes : (r : Rdf) → 3 ≤ length (rdf_bytes r)
 some_bytes r = elim (rdf_size r)
     [ inl branch ↦ omega (arith, branch) | inr branch ↦ omega (arith, branch) ]
@@ -184,9 +185,11 @@ control-append [] ss = sym (append-nil (control ss))
 control-append (r ∷ rs) ss = ap (λ (x : List ℕ). x ++ rdf_bytes r) (control-append rs ss)
     ∙ append_assoc (control ss) (control rs) (rdf_bytes r)
 
+-- the bytes of RDFs with one more at the left
 pub control-push : (rs : List Rdf) (r : Rdf) → control (rs ++ r ∷ []) ≡ rdf_bytes r ++ control rs
 control-push rs r = control-append rs (r ∷ [])
 
+-- RDFs have a multiple of three bytes
 pub control_thirds : (rs : List Rdf) → (k : ℕ) × (length (control rs) ≡ 3 * k)
 control_thirds [] = (0, refl)
 control_thirds (r ∷ rs) =
