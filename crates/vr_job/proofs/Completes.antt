@@ -1,5 +1,5 @@
 -- Which status a job ends with.
-use Rattle.std.proofs.Common.{◌≡◌, ◌≢◌, ◌⊎◌, inl, inr, ℕ, zero, suc, ◌<◌, ◌≤◌, ◌^◌, ◌==◌, if◌then◌else◌, List, [], ◌∷◌, length, get_or, Option, Some, None, IfSome, Contains, refl, sym, ◌∙◌, subst, arith}
+use Rattle.std.proofs.Common.{◌≡◌, ◌≢◌, ◌⊎◌, inl, inr, ℕ, zero, suc, ◌<◌, ◌≤◌, ◌^◌, List, [], ◌∷◌, length, get_or, Option, Some, None, IfSome, Contains, refl, sym, ◌∙◌, subst, arith}
 use Rattle.std.proofs.lemmas.Bool.Decides.{nat_tests}
 use Rattle.vr_deck.specs.declared.text.JobText.{JobText}
 use Rattle.vr_deck.specs.declared.text.TextFault.{TextFault}
@@ -8,14 +8,17 @@ use Rattle.vr_job.specs.declared.entry.Entry.{Entry}
 use Rattle.vr_job.specs.declared.trace.Trace.{Trace}
 use Rattle.vr_job.specs.State.{opening_state}
 use Rattle.vr_job.specs.History.{IsLegal}
-use Rattle.vr_job.specs.Code.{step_code}
 use Rattle.vr_job.specs.Ending.{Ending, NoCommand, ReadFailed, TooLong, NoMemory, NotAJob, Ran, ending_of_text, ending_of, HasFixedLine}
-use Rattle.vr_job.specs.JobEnd.{KeepsNothing, IsOfText, Asks, IsStatusOf, HasCode, IsWhole, statuses, RefusedText}
+use Rattle.vr_job.specs.JobEnd.{KeepsNothing, IsOfText, Asks, IsStatusOf, IsWhole, statuses, RefusedText}
 use Rattle.vr_job.specs.Ends.{IsInputEnd, PrintsAs}
 
 -- the statuses of an input's end
 abbrev pub input_statuses : List ℕ
 input_statuses = 0 ∷ 4 ∷ 16 ∷ 24 ∷ 26 ∷ 36 ∷ []
+
+-- a trace in which nothing is kept
+pub keeps_nothing : (trace : Trace) → trace.fault ≡ None → (trace.job ≡ None) × (trace.history.entries ≡ []) → KeepsNothing trace
+keeps_nothing trace no_fault none = record { no_job = none.0; no_fault = no_fault; no_entry = none.1 }
 
 -- an end before the text was known
 pub early_end : (left left' : Option (List ℕ)) (faults faults' n status : ℕ) (trace : Trace) → status ≡ n → KeepsNothing trace

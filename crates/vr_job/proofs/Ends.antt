@@ -1,16 +1,16 @@
 -- How a deck's run ends.
-use Rattle.std.proofs.Common.{◌≡◌, ◌⊎◌, inl, inr, ℕ, List, [], ◌∷◌, ◌++◌, Option, Some, None, Contains, refl, sym, ap, ◌∙◌, subst, arith, append-nil}
+use Rattle.std.proofs.Common.{◌≡◌, inl, inr, ℕ, List, [], ◌∷◌, Option, Some, None, Contains, refl, sym, ◌∙◌, subst, arith, append-nil}
 use Rattle.vr_deck.specs.declared.text.JobText.{JobText}
 use Rattle.vr_deck.specs.declared.text.TextFault.{TextFault}
 use Rattle.vr_deck.specs.JobText.{IsJobText}
 use Rattle.vr_deck.specs.Bound.{bound_requests}
 use Rattle.vr_job.specs.declared.trace.Trace.{Trace}
 use Rattle.vr_job.specs.State.{opening_state}
-use Rattle.vr_job.specs.History.{IsLegal, of_deck, AreParts, ArePrefixes}
+use Rattle.vr_job.specs.History.{IsLegal, AreParts}
 use Rattle.vr_job.specs.Code.{step_code}
 use Rattle.vr_job.specs.Input.{IsAll}
 use Rattle.vr_job.specs.Ending.{Ending, NoCommand, ReadFailed, TooLong, NoMemory, NotAJob, Ran, ending_of}
-use Rattle.vr_job.specs.JobEnd.{KeepsNothing, KeepsJob, AsksAll, IsOfText, Asks, IsStatusOf, HasCode, IsWhole}
+use Rattle.vr_job.specs.JobEnd.{KeepsJob, AsksAll, IsOfText, Asks, IsStatusOf, HasCode, IsWhole}
 use Rattle.vr_job.specs.Ends.{IsRunOf, IsDeckEnd}
 use Rattle.vr_job.proofs.Severities.{Coded, coded}
 
@@ -28,8 +28,10 @@ pub deck_ends : (text : List ℕ) (job : JobText) (status : ℕ) (trace : Trace)
 deck_ends text job status trace is_job kept no_fault legal end = subst (EndsAs text trace status) (sym no_fault) (ends end) where
   keeps : KeepsJob text trace
   keeps = record { job = job; kept = kept; is_job = is_job; no_fault = no_fault }
+
   E : ℕ → Type 0
   E status = EndsAs text trace status None
+
   at_code : AreParts 1 (bound_requests job.deck) trace.history.entries → Coded trace.history.entries → status ≡ step_code trace.history.entries → EndsAs text trace status None
   at_code parts (inl none) is =
       subst E (sym (is ∙ none.0)) (record {
@@ -49,6 +51,7 @@ deck_ends text job status trace is_job kept no_fault legal end = subst (EndsAs t
         whole = λ _. inr refl;
         known = (1, omega arith, refl);
       })
+
   ends : IsDeckEnd status job trace → EndsAs text trace status None
   ends (inl short) =
       subst E (sym short.0) (record {

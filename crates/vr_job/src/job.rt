@@ -48,19 +48,13 @@ pub fn run_job<S: Source, K: Sink>(
     output: &mut K,
 ) -> JobEnd
     // What was printed: the listing, whole unless the sink failed.
-    ensures listing {
-        IsPrinted (K.taken output.old) (K.taken output.new) (K.faults output.old) (K.faults output.new)
-            (listing_of result.status result.trace)
-    }
-    ensures printed {
-        IsWhole result.status
-            → Takes (K.taken output.old) (K.taken output.new) (listing_of result.status result.trace)
-    }
+    ensures listing { IsPrinted (K.taken output.old) (K.taken output.new) (K.faults output.old) (K.faults output.new)
+        (listing_of result.status result.trace) }
+    ensures printed { IsWhole result.status
+        → Takes (K.taken output.old) (K.taken output.new) (listing_of result.status result.trace) }
 
     // What the trace keeps: the job or the fault of the text that is all the source had left, or nothing.
-    ensures text {
-        IsOfText (ending_of result.status result.trace.fault) (S.left input.old) (S.left input.new) result.trace
-    }
+    ensures text { IsOfText (ending_of result.status result.trace.fault) (S.left input.old) (S.left input.new) result.trace }
 
     // One legal history, whose stamps rise, with every request of every deck in order, each once.
     ensures legal { IsLegal opening_state result.trace.history.entries }
@@ -72,19 +66,15 @@ pub fn run_job<S: Source, K: Sink>(
     ensures ending { IsStatusOf (ending_of result.status result.trace.fault) result.trace result.status }
     ensures code { HasCode result.status result.trace }
     ensures command { (result.status ≡ 20) ↔ (words.now ≢ run_words) }
-    ensures refused {
-        result.status ≡ 16
-            → IfSome (S.left input.old) (λ text. (job : JobText) → IsJobText text job → ⊥)
-    }
+    ensures refused { result.status ≡ 16
+        → IfSome (S.left input.old) (λ text. (job : JobText) → IsJobText text job → ⊥) }
     ensures source_fault { result.status ≡ 24 → S.faults input.old < S.faults input.new }
     ensures sink_fault { result.status ≡ 28 → K.faults output.old < K.faults output.new }
-    ensures complete {
-        words.now ≡ run_words
-            → S.faults input.new ≡ S.faults input.old
-            → K.faults output.new ≡ K.faults output.old
-            → IfSome (S.left input.old) (λ text. (job : JobText) → IsJobText text job → length text ≤ 2 ^ 26
-                → IsWhole result.status ⊎ (result.status ≡ 36))
-    }
+    ensures complete { words.now ≡ run_words
+        → S.faults input.new ≡ S.faults input.old
+        → K.faults output.new ≡ K.faults output.old
+        → IfSome (S.left input.old) (λ text. (job : JobText) → IsJobText text job → length text ≤ 2 ^ 26
+        → IsWhole result.status ⊎ (result.status ≡ 36)) }
 
     // What other words, and other statuses than 24, leave alone.
     ensures untouched { result.status ≡ 20 → input.new ≡ input.old }
@@ -97,7 +87,7 @@ pub fn run_job<S: Source, K: Sink>(
             print_end(alloc, end, output)
         }
         None => {
-            let end = ended(alloc, 20);
+            let end = ended(alloc, 20, None);
             print_end(alloc, end, output)
         }
     }
@@ -105,16 +95,14 @@ pub fn run_job<S: Source, K: Sink>(
 
 /// Reads a job text and runs its deck. It prints nothing.
 fn run_input<S: Source>(alloc: Global, input: &mut S) -> JobEnd
-    ensures {
-        IsInputEnd (S.left input.old) (S.left input.new) (S.faults input.old) (S.faults input.new)
-            result.status result.trace
-    }
+    ensures { IsInputEnd (S.left input.old) (S.left input.new) (S.faults input.old) (S.faults input.new)
+        result.status result.trace }
 {
     match read_text(alloc, input) {
         Ok(text) => run_text(alloc, text.as_slice()),
-        Err(InputFault::Read) => ended(alloc, 24),
-        Err(InputFault::TooLong) => ended(alloc, 26),
-        Err(InputFault::Memory) => ended(alloc, 36),
+        Err(InputFault::Read) => ended(alloc, 24, None),
+        Err(InputFault::TooLong) => ended(alloc, 26, None),
+        Err(InputFault::Memory) => ended(alloc, 36, None),
     }
 }
 
@@ -131,8 +119,8 @@ fn run_text(alloc: Global, text: &[u8]) -> JobEnd
 {
     match parse_job(alloc, text) {
         Ok(job) => run_job_text(alloc, job),
-        Err(JobFault::Memory) => ended(alloc, 36),
-        Err(JobFault::Form(fault)) => refused(alloc, fault),
+        Err(JobFault::Memory) => ended(alloc, 36, None),
+        Err(JobFault::Form(fault)) => ended(alloc, 16, Some(fault)),
     }
 }
 
@@ -171,32 +159,17 @@ fn run_bound(alloc: Global, job: &JobText, history: &mut History) -> Result<(), 
     run_deck(alloc, &requests, history)
 }
 
-/// A job that ended before its text was known.
-fn ended(alloc: Global, status: u8) -> JobEnd
+/// A job that ended before it ran.
+fn ended(alloc: Global, status: u8, fault: Option<TextFault>) -> JobEnd
     ensures status { result.status ≡ status }
-    ensures nothing { KeepsNothing result.trace }
+    ensures fault { result.trace.fault ≡ fault }
+    ensures nothing { (result.trace.job ≡ None) × (result.trace.history.entries ≡ []) }
 {
     JobEnd {
         status,
         trace: Trace {
             job: None,
-            fault: None,
-            history: History::new(alloc),
-        },
-    }
-}
-
-/// A job whose text is none.
-fn refused(alloc: Global, fault: TextFault) -> JobEnd
-    ensures status { result.status ≡ 16 }
-    ensures fault { result.trace.fault ≡ Some fault }
-    ensures nothing { (result.trace.job ≡ None) × (result.trace.history.entries ≡ []) }
-{
-    JobEnd {
-        status: 16,
-        trace: Trace {
-            job: None,
-            fault: Some(fault),
+            fault,
             history: History::new(alloc),
         },
     }
@@ -207,17 +180,11 @@ fn refused(alloc: Global, fault: TextFault) -> JobEnd
 fn print_end<K: Sink>(alloc: Global, end: JobEnd, output: &mut K) -> JobEnd
     requires whole { IsWhole end.status → end.trace.fault ≡ None }
     ensures trace { result.trace ≡ end.trace }
-    ensures status {
-        PrintsAs (K.faults output.old) (K.faults output.new) end.trace end.status result.status
-    }
-    ensures listing {
-        IsPrinted (K.taken output.old) (K.taken output.new) (K.faults output.old) (K.faults output.new)
-            (listing_of result.status end.trace)
-    }
-    ensures printed {
-        IsWhole result.status
-            → Takes (K.taken output.old) (K.taken output.new) (listing_of result.status end.trace)
-    }
+    ensures status { PrintsAs (K.faults output.old) (K.faults output.new) end.trace end.status result.status }
+    ensures listing { IsPrinted (K.taken output.old) (K.taken output.new) (K.faults output.old) (K.faults output.new)
+        (listing_of result.status end.trace) }
+    ensures printed { IsWhole result.status
+        → Takes (K.taken output.old) (K.taken output.new) (listing_of result.status end.trace) }
 {
     if has_fixed_line(end.status) {
         let _ = write_whole(output, fixed_line(end.status));
@@ -238,17 +205,11 @@ fn print_listing<K: Sink>(end: JobEnd, text: Bytes, output: &mut K) -> JobEnd
     requires fixed { ¬ HasFixedLine end.status }
     requires whole { IsWhole end.status → end.trace.fault ≡ None }
     ensures trace { result.trace ≡ end.trace }
-    ensures status {
-        PrintsAs (K.faults output.old) (K.faults output.new) end.trace end.status result.status
-    }
-    ensures listing {
-        IsPrinted (K.taken output.old) (K.taken output.new) (K.faults output.old) (K.faults output.new)
-            (listing_of result.status end.trace)
-    }
-    ensures printed {
-        IsWhole result.status
-            → Takes (K.taken output.old) (K.taken output.new) (listing_of result.status end.trace)
-    }
+    ensures status { PrintsAs (K.faults output.old) (K.faults output.new) end.trace end.status result.status }
+    ensures listing { IsPrinted (K.taken output.old) (K.taken output.new) (K.faults output.old) (K.faults output.new)
+        (listing_of result.status end.trace) }
+    ensures printed { IsWhole result.status
+        → Takes (K.taken output.old) (K.taken output.new) (listing_of result.status end.trace) }
 {
     match write_whole(output, text.as_slice()) {
         Ok(()) => end,

@@ -1,9 +1,9 @@
-use Rattle.std.proofs.Common.{◌≡◌, ◌∙◌, ℕ, List, Contains, Option, sym, subst, refl, arith}
+use Rattle.std.proofs.Common.{ℕ, Contains, sym, subst, refl, arith}
 use Rattle.vr_job.specs.declared.trace.Trace.{Trace}
 use Rattle.vr_job.specs.JobEnd.{IsOfText, Asks, IsStatusOf, statuses}
 use Rattle.vr_job.specs.Ending.{Ending, ending_of}
 use Rattle.vr_job.proofs.Ends.{asks_without_memory, text_without_memory}
-use Rattle.vr_job.proofs.Completes.{whole_has_no_fault, after_printing, status_after, known_status, not_20, command_status, steady_after, refused_is_no_job, completes}
+use Rattle.vr_job.proofs.Completes.{whole_has_no_fault, after_printing, status_after, known_status, command_status, steady_after, refused_is_no_job, completes}
 use Rattle.vr_job.proofs.job.run_job.Goals as goal
 
 pub print_end-requires : goal.print_end-requires
