@@ -77,11 +77,11 @@ run_started Plain true = 1
 run_started Plain false = 0
 run_started (Slots len) live = 0
 
--- the RDF or pair of so many live records
+-- the RDF or pair of `count` live records
 abbrev pub run_rdf : ℕ → ℕ → Rdf
 run_rdf n count = if count == 1 then Single true n else Run n count
 
--- What a writer holds: these items stand at the front of its block, and their RDFs at the right
+-- What a writer holds: these items are at the left end of its block, and their RDFs at the right
 -- end.
 pub record Holds (w : CiWriter) (held : List Item) : Type 0 where
   pub rdfs : List Rdf

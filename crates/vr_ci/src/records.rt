@@ -8,7 +8,7 @@ ghost use Rattle.vr_ci.specs.Reading.{AreLent, IsShown, IsNextBatch, value_in, m
 use std::marker::Model;
 
 /// The records that are left of an RDF or pair, and where it begins.
-#[derive(Clone, Copy, Debug, PartialEq, Eq)]
+#[derive(Clone, Copy, Debug)]
 struct Batch {
     end: usize,
     left: usize,
@@ -16,7 +16,7 @@ struct Batch {
     live: bool,
 }
 
-/// Records with their live marks, from the front of a block. Contracts see the items that are still
+/// Records with their live marks, from the left end of a block. Contracts see the items that are still
 /// to come.
 #[derive(Debug, Drop)]
 pub struct Records<'a> {

@@ -1,4 +1,4 @@
-//! A control interval that lends its records.
+//! A control interval whose records are borrowed from its block.
 
 ghost use Rattle.std.specs.Prelude.{◌≡◌, ◌≤◌, ◌<◌, length, map, slice_get, IfOk, IfErr, ℕ};
 
@@ -93,7 +93,7 @@ impl<'a> CiView<'a> {
         self.count
     }
 
-    /// The bytes of item `i`, lent out of the block. Items before it are gone over; `iter` goes
+    /// The bytes of item `i`, borrowed from the block. It walks over the items before it; `iter` visits
     /// over all.
     pub fn item(&self, i: usize) -> &'a [u8]
         requires { i < length self.now.items }

@@ -12,7 +12,7 @@ ghost use Rattle.vr_ci.specs.Walk.{MayStand, HasRoom, IsWalked};
 use vr_ci_match::{Cidf, Form, Found, Shape, slots};
 
 /// How far the RDFs of a block were walked, from the right.
-#[derive(Clone, Copy, Debug, PartialEq, Eq)]
+#[derive(Clone, Copy)]
 pub(crate) struct Walk {
     /// Where the RDF or pair begins that was read last.
     pub end: usize,

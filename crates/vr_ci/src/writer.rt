@@ -9,7 +9,7 @@ use crate::no_room::NoRoom;
 use crate::put::{extend_run, goes_on, put_cidf, put_item, put_rdf, put_zeros, run_started};
 use vr_ci_match::{Form, Rdf};
 
-/// Writes records into a block, one behind the other. The block is a control interval once `end` is
+/// Writes records into a block, one after the other. The block is a control interval once `end` is
 /// called.
 #[derive(Drop)]
 pub struct CiWriter<'a> {

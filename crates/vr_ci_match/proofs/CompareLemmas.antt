@@ -52,7 +52,7 @@ differ-left x1 x2 y1 y2 j long differs =
           ∙ get_or_append_left y1 y2 0 j low);
     }
 
--- they differ behind parts that are the same
+-- they differ after parts that are the same
 pub differ-right : (n : ℕ) (x1 x2 y1 y2 : List ℕ) (j : ℕ) → length x1 ≡ n → x1 ≡ y1
     → DifferFirst x2 y2 j → DifferFirst (x1 ++ x2) (y1 ++ y2) (n + j)
 differ-right n x1 x2 y1 y2 j long same differs =
@@ -177,7 +177,7 @@ length-masked rs bytes within = ap length (masked_is rs bytes)
     ∙ length-masked_marks (flat_map marks rs) bytes (omega (arith, total-all rs, within))
     ∙ total-all rs
 
--- the place of the data is the records' bytes, as far as they go, and zeros behind them
+-- the place of the data is the records' bytes, as far as they go, and zeros after them
 pub data_parts : (rs : List Rdf) (block : List ℕ) (f : ℕ) → f ≤ length block
     → padded f (masked rs block) ≡ take (min (spans rs) f) (masked rs block)
     ++ zeros (f - min (spans rs) f)

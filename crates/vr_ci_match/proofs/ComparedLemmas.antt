@@ -1,4 +1,4 @@
--- A block beside what its RDFs describe: one RDF more, and what is behind them all.
+-- A block beside what its RDFs describe: one RDF more, and what is after them all.
 use Rattle.std.proofs.Common.{◌≡◌, ℕ, zero, suc, ◌+◌, ◌-◌, ◌*◌, ◌<◌, ◌≤◌, inl, inr, Bool, true}
 use Rattle.std.proofs.Common.{false, List, [], ◌∷◌, ◌++◌, length, take, drop, Option, Some, None}
 use Rattle.std.proofs.Common.{refl, sym, ap, ◌∙◌, subst, arith, append_assoc, length-append}
@@ -313,7 +313,7 @@ compared_more block limit at rs wanted r len old new d within least compares byt
     both None difference = second_part at (length (rdf_bytes r)) (rdf_bytes r) (control rs)
         (rdf_bytes m) (control wanted) old.wrong_rdf refl difference old_rdf
 
--- ---- what is behind the records, and between the free space and the CIDF
+-- ---- what is after the records, and between the free space and the CIDF
 
 pub data_before : (block : List ℕ) (limit at : ℕ) (rs : List Rdf) (c : Compared)
     → limit ≤ length block → IsCompared block limit rs c → c.wrong ≡ Some at

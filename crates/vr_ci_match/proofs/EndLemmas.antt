@@ -94,7 +94,7 @@ at_zero : (xs ys : List ℕ) (at : ℕ) → Compares 0 xs ys (Some at) → Diffe
 at_zero xs ys at difference = let same : at - 0 ≡ at = omega arith in
     subst (λ (k : ℕ). DifferFirst xs ys k) same difference.1
 
--- zeros behind the bytes change nothing, since zeros follow
+-- zeros after the bytes change nothing, since zeros follow
 padded-zeros : (f k : ℕ) (xs : List ℕ) → padded f (xs ++ zeros k) ≡ padded f xs
 padded-zeros f k xs =
     ap (λ (x : List ℕ). take f x) (append_assoc xs (zeros k) (zeros f)

@@ -38,7 +38,7 @@ record_shape (Single live n) ss of_records = refl
 record_shape (Run n k) ss of_records = refl
 record_shape (Segment piece live number n) ss of_records = absurd of_records
 
--- what is added to RDFs in front of it
+-- what is added to RDFs to its left
 pub shape-push : (form : Form) (rs : List Rdf) (r : Rdf) → IsChain form (rs ++ r ∷ [])
     → shape_of (rs ++ r ∷ []) ≡ shape_by (Some r)
 shape-push form rs r chain =
@@ -291,7 +291,7 @@ limit_moves form block (Run n j ∷ rs) r c chain compares = compares
 limit_moves form block (Segment piece live number n ∷ rs) r c chain compares =
     absurd (some_records form (Segment piece live number n) rs r chain)
 
--- ---- behind all RDFs
+-- ---- after all RDFs
 
 -- the RDFs that are meant are those that are judged, and the empty slots' that the block has none
 -- of

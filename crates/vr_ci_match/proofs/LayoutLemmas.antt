@@ -28,7 +28,7 @@ length-padded n bytes = omega (
   length-zeros n,
 )
 
--- bytes that fit are there whole, with zeros behind
+-- bytes that fit are there whole, with zeros after them
 pub padded_fits : (n : ℕ) (bytes : List ℕ) → length bytes ≤ n
     → padded n bytes ≡ bytes ++ zeros (n - length bytes)
 padded_fits n bytes within =

@@ -1,4 +1,4 @@
--- Why a block is no control interval: the first cause, and where it stands. These rules are this
+-- Why a block is not a control interval: the first cause, and where it is. These rules are this
 -- project's own.
 use Rattle.std.specs.Prelude.{◌≡◌, ◌≢◌, ℕ, ◌+◌, ◌-◌, ◌*◌, ◌%◌, ◌<◌, ◌≤◌, ◌⊎◌, Bool, true, false}
 use Rattle.std.specs.Prelude.{if◌then◌else◌, nat_le, List, [], ◌∷◌, ◌++◌, length, take, drop, map}
@@ -158,7 +158,7 @@ HasWrongLengths form block rdfs at =
     DifferFirst block (described form block rdfs) at
     ⊎ ((block ≡ described form block rdfs) × IsRoomPassed form (length block) rdfs at)
 
--- the size and the CIDF are right, and the block is no end of file
+-- the size and the CIDF are right, and the block is not an end of file
 pub record HasControl (block : List ℕ) : Type 0 where
   pub size : IsBlockSize (length block)
   pub sound : IsCidfSound block

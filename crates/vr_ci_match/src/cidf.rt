@@ -1,4 +1,4 @@
-//! The CIDF: where the free space of a block lies, and whether it is busy.
+//! The CIDF: where the free space of a block is, and whether it is busy.
 
 ghost use Rattle.std.specs.Prelude.{◌≡◌, ◌+◌, ◌-◌, ◌*◌, ◌^◌, ◌<◌, ◌≤◌, ◌↔◌, Bool, IsTrue};
 ghost use Rattle.std.specs.Prelude.{MatchOption, length, drop, take, replicate};
@@ -10,7 +10,7 @@ ghost use Rattle.vr_ci_match.specs.Fault.{HasZeroCidf};
 use crate::compare::number_apart;
 
 /// The control interval definition field.
-#[derive(Clone, Copy, Debug, PartialEq, Eq)]
+#[derive(Clone, Copy, Debug)]
 pub struct Cidf {
     /// Where the free space begins.
     pub displacement: usize,

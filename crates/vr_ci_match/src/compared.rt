@@ -13,7 +13,7 @@ use crate::compare::{empty_difference, first_nonzero, wrong_byte};
 use crate::rdf::Rdf;
 
 /// What is wrong with the RDFs that were read, and with the bytes of their records.
-#[derive(Clone, Copy, Debug, PartialEq, Eq)]
+#[derive(Clone, Copy)]
 pub(crate) struct Compared {
     /// How many bytes the records have.
     pub span: usize,
@@ -78,7 +78,7 @@ impl Compared {
         }
     }
 
-    /// The first byte before `limit` that differs from the records' bytes and the zeros behind
+    /// The first byte before `limit` that differs from the records' bytes and the zeros after
     /// them.
     pub(crate) fn data_difference(self, bytes: &[u8], limit: usize) -> Option<usize>
         requires { limit ≤ length bytes.now }
@@ -92,7 +92,7 @@ impl Compared {
         first_nonzero(bytes, self.span.min(limit), limit)
     }
 
-    /// The first byte from `limit` up to the CIDF that differs from the RDFs, with those of so many
+    /// The first byte from `limit` up to the CIDF that differs from the RDFs, with those of that many
     /// empty slots to their left.
     pub(crate) fn control_difference(
         self,

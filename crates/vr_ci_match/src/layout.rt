@@ -8,7 +8,7 @@ use crate::form::{Form, Piece, slots};
 use crate::rdf::Rdf;
 
 /// What a block's form, size and CIDF say of its places.
-#[derive(Clone, Copy, Debug, PartialEq, Eq)]
+#[derive(Clone, Copy)]
 pub(crate) struct Layout {
     /// Where the free space ends, and the RDFs begin, by the CIDF.
     pub low: usize,
@@ -54,7 +54,7 @@ impl Layout {
         }
     }
 
-    /// The length that an RDF is to say with so many records to its right, unless it is of no slot
+    /// The length that an RDF is to say with that many records to its right, unless it is of no slot
     /// of the block.
     pub(crate) fn length_meant(
         self,

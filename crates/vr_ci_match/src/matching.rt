@@ -21,7 +21,7 @@ use crate::tally::Tally;
 use vr_types::is_block_size;
 
 /// What a block was found to hold, and where its RDFs begin.
-#[derive(Clone, Copy, Debug, PartialEq, Eq)]
+#[derive(Clone, Copy, Debug)]
 pub struct Found {
     pub shape: Shape,
     pub count: usize,

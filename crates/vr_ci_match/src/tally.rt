@@ -14,7 +14,7 @@ use crate::layout::Layout;
 use crate::rdf::Rdf;
 
 /// What the RDFs read so far say, and what is wrong with it.
-#[derive(Clone, Copy, Debug, PartialEq, Eq)]
+#[derive(Clone, Copy)]
 pub(crate) struct Tally {
     /// The RDF or pair that was read last.
     pub last: Option<Rdf>,
