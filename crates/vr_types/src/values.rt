@@ -77,6 +77,14 @@ impl Bytes {
         self.bytes.as_slice()
     }
 
+    /// Its bytes as a `Vec`, which takes no memory.
+    pub fn into_vec(self) -> Vec<u8>
+        ensures { result.items ≡ self }
+    {
+        let Bytes { bytes } = self;
+        bytes
+    }
+
     /// An equal value. Want of memory is its one error.
     pub fn copy(&self, alloc: Global) -> Result<Bytes, OutOfMemory>
         ensures { IfOk result (λ copy. copy ≡ self.now) }
