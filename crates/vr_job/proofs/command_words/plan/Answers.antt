@@ -2,7 +2,7 @@ use Rattle.std.proofs.Common.{◌≡◌, Some, refl, ap, ◌∙◌, codes, arith
 use Rattle.std.proofs.lemmas.Bool.Decides.{Decides-eqb}
 use Rattle.std.proofs.lemmas.Slice.Eq.{slice_eq-Decides}
 use Rattle.vr_job.proofs.WordLists.{three_words}
-use Rattle.vr_job.proofs.words.plan.Goals as goal
+use Rattle.vr_job.proofs.command_words.plan.Goals as goal
 
 pub returns-then-eq-3 : goal.returns-then-eq-3
 returns-then-eq-3 c =

@@ -1,7 +1,8 @@
+//! The words of the program.
 ghost use Rattle.std.specs.Prelude.{◌≡◌, ◌↔◌, IsSome};
 ghost use Rattle.vr_job.specs.JobEnd.{run_words};
 
-use crate::command::Plan;
+use crate::job_end::Plan;
 use vr_types::Words;
 
 /// Reads the words. It takes no memory. `None` comes exactly where they are no command.
