@@ -21,7 +21,7 @@ pub use altering::alter;
 pub use catalog::Catalog;
 pub use changes::{Change, Changes};
 pub use defining::define;
-pub use definition::Definition;
+pub use definition::{Definition, catalog_definition};
 pub use deleting::delete;
 pub use entry::{CatEntry, EntryKind, FreeSpace, ShareOptions, SpaceUnit};
 pub use fault::CatFault;
