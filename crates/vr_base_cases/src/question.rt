@@ -34,6 +34,7 @@ fn value(alloc: Global, rest: &str, out: &mut String) -> Answer {
         "words" => values::words(alloc, rest, out),
         "faults" => values::faults(rest, out),
         "request" => values::request(alloc, rest, out),
+        "position" => values::position(alloc, rest, out),
         "refusal" => values::refusal(alloc, rest, out),
         "reply" => values::reply(alloc, rest, out),
         _ => Err(Stop::Line),

@@ -4,8 +4,8 @@ use crate::answers::{Answer, Stop, say, say_bytes, say_debug, say_number};
 use crate::block::{bytes_of, parted, small_of, word_of};
 use std::alloc::Global;
 use vr_types::{
-    FaultCount, FileRef, Find, Integrity, Kind, LockName, Mode, PartNo, Refusal, Reply, Request,
-    Unit, Words, bytes, empty_place, number_place, place,
+    Bound, FaultCount, FileRef, Find, Integrity, Kind, LockName, Mode, PartNo, Position, Refusal,
+    Reply, Request, Stand, Unit, Words, bytes, empty_place, number_place, place,
 };
 
 /// The file of all requests.
@@ -32,10 +32,19 @@ pub fn numbered(alloc: Global, word: &str, out: &mut String) -> Answer {
     say_bytes(alloc, out, "", place.as_slice())
 }
 
-/// A place of no byte, with room: `NUMBER`.
-pub fn roomy(alloc: Global, word: &str, out: &mut String) -> Answer {
-    let place = empty_place(alloc, word_of(word)?)?;
-    say_bytes(alloc, out, "empty", place.as_slice())
+/// A place in room that was taken for it: `NUMBER HEX`.
+pub fn roomy(alloc: Global, rest: &str, out: &mut String) -> Answer {
+    let (room, digits) = parted(rest);
+    let room = word_of(room)?;
+    let from = bytes_of(alloc, digits)?;
+    if from.len() > room as usize {
+        return Err(Stop::Line);
+    }
+    let mut buffer = empty_place(alloc, room)?;
+    say_bytes(alloc, out, "empty", buffer.as_slice())?;
+    buffer.set(from.as_slice());
+    let place = buffer.into_place();
+    say_bytes(alloc, out, " then ", place.as_slice())
 }
 
 /// Bytes that are copied, grow by a list and by `45`, and lose that again: `HEX HEX`.
@@ -76,12 +85,16 @@ pub fn faults(word: &str, out: &mut String) -> Answer {
     say_number(out, "", faults.shown())
 }
 
-/// A request of a kind, with a place or record: `KIND HEX`.
+/// A copy of a request of a kind, with a place or record: `KIND HEX`.
 pub fn request(alloc: Global, rest: &str, out: &mut String) -> Answer {
     let (kind, digits) = parted(rest);
     let from = bytes_of(alloc, digits)?;
-    let request = request_of(alloc, kind, from.as_slice())?;
-    let copy = request.copy(alloc)?;
+    let bound = Bound {
+        volume: 1,
+        line: 4,
+        request: request_of(alloc, kind, from.as_slice())?,
+    };
+    let copy = bound.copy(alloc)?;
     say_debug(out, &copy)
 }
 
@@ -112,6 +125,29 @@ fn request_of(alloc: Global, kind: &str, from: &[u8]) -> Result<Request, Stop> {
         "endreq" => Ok(Request::EndReq { file: FILE }),
         "commit" => Ok(Request::Commit),
         "backout" => Ok(Request::Backout),
+        _ => Err(Stop::Line),
+    }
+}
+
+/// A copy of a position, with a place: `STAND HEX`.
+pub fn position(alloc: Global, rest: &str, out: &mut String) -> Answer {
+    let (stand, digits) = parted(rest);
+    let from = bytes_of(alloc, digits)?;
+    let position = Position {
+        stand: stand_of(alloc, stand, from.as_slice())?,
+        held: Some(place(alloc, from.as_slice())?),
+    };
+    let copy = position.copy(alloc)?;
+    say_debug(out, &copy)
+}
+
+fn stand_of(alloc: Global, stand: &str, from: &[u8]) -> Result<Stand, Stop> {
+    match stand {
+        "start" => Ok(Stand::Start),
+        "at" => Ok(Stand::At(place(alloc, from)?)),
+        "after" => Ok(Stand::After(place(alloc, from)?)),
+        "end" => Ok(Stand::End),
+        "none" => Ok(Stand::None),
         _ => Err(Stop::Line),
     }
 }

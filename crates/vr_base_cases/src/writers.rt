@@ -15,7 +15,7 @@ fn say_no_room(room: NoRoom, out: &mut String) -> Answer {
 /// no room ends it.
 pub fn records(alloc: Global, block: &mut [u8], rest: &str, out: &mut String) -> Answer {
     let (busy, items) = parted(rest);
-    if !vr_ci::is_block_size(block.len()) {
+    if !vr_types::is_block_size(block.len()) {
         return Err(Stop::Line);
     }
     let mut writer = CiWriter::begin(Form::Plain, block);
@@ -36,7 +36,7 @@ pub fn records(alloc: Global, block: &mut [u8], rest: &str, out: &mut String) ->
 /// that has no room ends it.
 pub fn single_bytes(block: &mut [u8], rest: &str, out: &mut String) -> Answer {
     let count = small_of(rest)?;
-    if !vr_ci::is_block_size(block.len()) {
+    if !vr_types::is_block_size(block.len()) {
         return Err(Stop::Line);
     }
     let mut writer = CiWriter::begin(Form::Plain, block);
@@ -57,7 +57,7 @@ pub fn slots_of(alloc: Global, block: &mut [u8], rest: &str, out: &mut String) -
     let length = small_of(length)?;
     let signs = signs.as_bytes();
     let size = block.len();
-    if !vr_ci::is_block_size(size) || length == 0 {
+    if !vr_types::is_block_size(size) || length == 0 {
         return Err(Stop::Line);
     }
     let slot = vec![in alloc; 0x5A; usize::from(length)]?;
@@ -90,7 +90,7 @@ pub fn segment(alloc: Global, block: &mut [u8], rest: &str, out: &mut String) ->
         _ => Piece::Last,
     };
     let fills = piece == Piece::Last || length + 10 >= size;
-    if !vr_ci::is_block_size(size) || number == 0 || !fills {
+    if !vr_types::is_block_size(size) || number == 0 || !fills {
         return Err(Stop::Line);
     }
     let bytes = vec![in alloc; 0x5A; length]?;

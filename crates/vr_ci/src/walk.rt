@@ -1,7 +1,25 @@
 //! Control intervals of records, found without looking for the fault of a block that is none.
 
 ghost use Rattle.std.specs.Prelude.{
-    ◌≡◌, ◌+◌, ◌-◌, ◌*◌, ◌^◌, ◌<◌, ◌≤◌, ◌↔◌, ℕ, List, ◌∷◌, length, drop, take, replicate, true, false, IsTrue, IfSome
+  ◌≡◌,
+  ◌+◌,
+  ◌-◌,
+  ◌*◌,
+  ◌^◌,
+  ◌<◌,
+  ◌≤◌,
+  ◌↔◌,
+  ℕ,
+  List,
+  ◌∷◌,
+  length,
+  drop,
+  take,
+  replicate,
+  true,
+  false,
+  IsTrue,
+  IfSome,
 };
 ghost use Rattle.vr_ci_match.specs.declared.rdf.Rdf.TheVariants.{Single, Run};
 ghost use Rattle.vr_types.specs.BlockSize.{IsBlockSize};

@@ -1,5 +1,6 @@
 -- Where two lists of bytes differ first.
-use Rattle.std.specs.Prelude.{◌≡◌, ◌≢◌, ℕ, ◌-◌, ◌<◌, ◌≤◌, List, length, take, slice_index, Option, Some, None}
+use Rattle.std.specs.Prelude.{◌≡◌, ◌≢◌, ℕ, ◌-◌, ◌<◌, ◌≤◌, List, length, take, slice_index, Option}
+use Rattle.std.specs.Prelude.{Some, None}
 
 -- the first place where the two differ
 pub record DifferFirst (xs ys : List ℕ) (at : ℕ) : Type 0 where

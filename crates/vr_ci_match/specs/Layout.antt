@@ -34,9 +34,11 @@ data_end form size low shapes.EndOfFile = records_end form size low
 
 -- The length that an RDF is to say with so many records to its right. One that is of no slot of the block has none.
 abbrev pub length_meant : Form → ℕ → ℕ → Rdf → Option ℕ
-length_meant form size before (Segment piece live number n) = Some (record_length (filled size (Segment piece live number n)))
+length_meant form size before (Segment piece live number n) =
+    Some (record_length (filled size (Segment piece live number n)))
 length_meant Plain size before r = Some (record_length r)
-length_meant (Slots len) size before r = if nat_lt before (slots_in size len) then Some len else None
+length_meant (Slots len) size before r =
+    if nat_lt before (slots_in size len) then Some len else None
 
 -- the layout of a block of this form and size whose RDFs begin there
 pub record IsLayout (form : Form) (size start : ℕ) (layout : Layout) : Type 0 where

@@ -1,7 +1,8 @@
 -- Record definition fields: what they say, how they are spelled, and which may stand side by side.
 -- That a block has RDFs of three bytes, from right to left, is DFSMS Using Data Sets, "Control interval
 -- format"; the bits, the pairing and the bytes of segments are this project's own profile.
-use Rattle.std.specs.Prelude.{◌≢◌, ℕ, ◌+◌, ◌*◌, ◌/◌, ◌%◌, ◌<◌, ◌≤◌, Bool, true, false, if◌then◌else◌, List, [], ◌∷◌, ◌++◌, Option, Some, None, replicate}
+use Rattle.std.specs.Prelude.{◌≢◌, ℕ, ◌+◌, ◌*◌, ◌/◌, ◌%◌, ◌<◌, ◌≤◌, Bool, true, false}
+use Rattle.std.specs.Prelude.{if◌then◌else◌, List, [], ◌∷◌, ◌++◌, Option, Some, None, replicate}
 use Rattle.vr_ci_match.specs.declared.form.Form.{Form}
 use Rattle.vr_ci_match.specs.declared.form.Form.TheVariants.{Plain, Slots}
 use Rattle.vr_ci_match.specs.declared.form.Piece.{Piece}
@@ -106,7 +107,8 @@ IsOfForm (Slots length) (Segment piece live number n) = Unit {0}
 abbrev pub MayFollow : Form → Option Rdf → Rdf → Type 0
 MayFollow form None r = IsOfForm form r
 MayFollow form (Some before) r =
-    IsOfForm form r × IsOfRecords before × IsOfRecords r × AreApart form (run_length before) (run_length r)
+    IsOfForm form r × IsOfRecords before × IsOfRecords r
+    × AreApart form (run_length before) (run_length r)
 
 -- The RDFs, from the right, of some block of the form, whatever its size and the slots' length.
 abbrev pub IsChainFrom : Form → Option Rdf → List Rdf → Type 0

@@ -5,7 +5,8 @@ use crate::memory::OutOfMemory;
 use crate::request::Request;
 use std::alloc::Global;
 
-/// A request of a deck with its volume and its line. The COMMIT that is added at a deck's end has line 0.
+/// A request of a deck with its volume and its line. The COMMIT that is added at a deck's end has
+/// line 0.
 #[derive(Debug, Drop, PartialEq, Eq)]
 pub struct Bound {
     pub volume: u32,
