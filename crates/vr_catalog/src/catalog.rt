@@ -25,7 +25,9 @@ impl Model for Catalog {
 
 impl Catalog {
     ghost use Rattle.vr_catalog.specs.Catalog.{
-        entry_named, entry_with_part, definition_of as definition_in
+      entry_named,
+      entry_with_part,
+      definition_of as definition_in,
     };
 
     /// No entry, which takes no memory.

@@ -1,7 +1,9 @@
 //! What a cluster states of its records.
 ghost use Rattle.std.specs.Prelude.{◌≡◌, ◌+◌, ◌≤◌, length};
 ghost use Rattle.vr_catalog.specs.Definition.{
-    is_valid_record as is_valid, key_of as key, catalog_definition as definition_of_catalog
+  is_valid_record as is_valid,
+  key_of as key,
+  catalog_definition as definition_of_catalog,
 };
 
 use vr_types::Kind;
