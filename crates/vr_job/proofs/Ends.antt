@@ -27,6 +27,7 @@ pub deck_ends : (text : List ℕ) (job : JobText) (status : ℕ) (trace : Trace)
 deck_ends text job status trace is_job run = subst (EndsAs text trace status) (sym run.no_fault) (ends run.part) where
   kept : trace.job ≡ Some job
   kept = run.kept
+
   keeps : KeepsJob text trace
   keeps = record { job = job; kept = kept; is_job = is_job; no_fault = run.no_fault }
 

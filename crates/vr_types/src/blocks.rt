@@ -1,6 +1,16 @@
 //! Blocks as the layers above a device read and write them, with what a crash may leave of them.
 ghost use Rattle.std.specs.Prelude.{
-    ◌≡◌, ◌<◌, ◌≤◌, ℕ, Bool, IsTrue, length, slice_set, IfOk, OnOk, All,
+  ◌≡◌,
+  ◌<◌,
+  ◌≤◌,
+  ℕ,
+  Bool,
+  IsTrue,
+  length,
+  slice_set,
+  IfOk,
+  OnOk,
+  All,
 };
 ghost use Rattle.std.specs.Borrow.{sem};
 ghost use Rattle.std.specs.Io.BufRead.{Rests};
