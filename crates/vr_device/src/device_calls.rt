@@ -21,10 +21,10 @@ impl Model for DeviceCalls {
     ghost Value = { DeviceCalls };
 
     ghost view = { λ c. record {
-        script = c.script;
-        refused = c.memory_faults;
-        read_faults = c.reads;
-        write_faults = c.writes;
+      script = c.script;
+      refused = c.memory_faults;
+      read_faults = c.reads;
+      write_faults = c.writes;
     } };
 }
 

@@ -28,9 +28,9 @@ impl<F: BlockFile> Model for FileDevice<F> {
     ghost Value = { FileState F };
 
     ghost view = { λ d. record {
-        file = d.file;
-        shut = d.shut;
-        faults = record { reads = d.reads_failed; writes = d.writes_failed };
+      file = d.file;
+      shut = d.shut;
+      faults = record { reads = d.reads_failed; writes = d.writes_failed };
     } };
 
     ghost invariant = { λ d. ((F.seen d.file).count ≡ d.blocks) × ((F.seen d.file).size ≡ d.size) };

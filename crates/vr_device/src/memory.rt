@@ -2,9 +2,9 @@
 ghost use Rattle.vr_device.specs.Sizes.{IsSized};
 
 use crate::device::BlockDevice;
+use crate::device_calls::DeviceCalls;
 use crate::image_no::ImageNo;
 use crate::past::Past;
-use crate::device_calls::DeviceCalls;
 use std::alloc::Global;
 use vr_types::{Failed, OutOfMemory};
 

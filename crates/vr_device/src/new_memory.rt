@@ -5,9 +5,9 @@ ghost use Rattle.vr_device.specs.Memory.{past_in, calls_in};
 ghost use Rattle.vr_device.specs.DeviceCalls.{uncalled};
 
 use crate::choice::zero_blocks;
+use crate::device_calls::DeviceCalls;
 use crate::memory::MemoryDevice;
 use crate::past::Past;
-use crate::device_calls::DeviceCalls;
 use std::alloc::Global;
 use vr_types::OutOfMemory;
 

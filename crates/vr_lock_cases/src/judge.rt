@@ -1,7 +1,9 @@
 //! The lock table beside the plain program, over all sequences of calls of a length.
 
 use crate::answers::{Answer, Stop, say_number};
-use crate::calls::{CALLS, Call, call_of, is_same, mode_of, name_of, names_of, plain_names, unit_of};
+use crate::calls::{
+    CALLS, Call, call_of, is_same, mode_of, name_of, names_of, plain_names, unit_of,
+};
 use crate::plain::PlainLocks;
 use std::alloc::Global;
 use vr_locks::{LockNo, LockTable, lock_table};
