@@ -1,18 +1,6 @@
 //! A request, from its refusal to its locks.
-ghost use Rattle.std.specs.Prelude.{
-  ◌≡◌,
-  ◌<◌,
-  ◌≤◌,
-  ◌+◌,
-  ℕ,
-  length,
-  None,
-  IfErr,
-  IfOk,
-  OnErr,
-  OnOk,
-  slice_index_or,
-};
+ghost use Rattle.std.specs.Prelude.{◌≡◌, ◌<◌, ◌≤◌, ◌+◌, ℕ, length, None, slice_index_or};
+ghost use Rattle.std.specs.Prelude.{IfErr, IfOk, OnErr, OnOk};
 ghost use Rattle.std.specs.HashMap.{spare};
 ghost use Rattle.vr_locks.specs.Answer.{CauseOf};
 ghost use Rattle.vr_locks.specs.Conflict.{refusal};
@@ -21,7 +9,6 @@ ghost use Rattle.vr_locks.specs.Locked.{with_locks};
 ghost use Rattle.vr_locks.specs.Maps.{IsConsistent, lock_at, locks_in};
 ghost use Rattle.vr_locks.specs.Plan.{NoneAgainst};
 
-use crate::filed::drop_number;
 use crate::maps::LockMaps;
 use crate::no::LockNo;
 use vr_types::{LockName, Mode, OutOfMemory, Unit};
@@ -56,18 +43,6 @@ impl LockMaps {
             }
             None => Err(OutOfMemory),
         }
-    }
-
-    /// Takes a number that no lock has back from under a name and a unit.
-    fn forget_one(&mut self, unit: Unit, name: &LockName, number: u64)
-        requires kept { IsConsistent self.old self.old.next }
-        requires unused { lock_at self.old number ≡ None }
-        ensures kept { IsConsistent self.new self.new.next }
-        ensures locks { self.new.locks ≡ self.old.locks }
-        ensures next { self.new.next ≡ self.old.next }
-    {
-        drop_number(&mut self.names, name, number);
-        drop_number(&mut self.units, &unit, number);
     }
 
     /// Takes the numbers of a request that came to nothing back from under its names and its unit.

@@ -1,41 +1,19 @@
-//! A request that is granted: first all of its memory, then its locks.
-ghost use Rattle.std.specs.Prelude.{
-  ◌≡◌,
-  ◌<◌,
-  ◌≤◌,
-  ◌+◌,
-  ℕ,
-  false,
-  cond,
-  nat_eq,
-  length,
-  Some,
-  IfOk,
-  OnOk,
-  slice_index_or,
-};
+//! The locks of a request, once all of its memory is there.
+ghost use Rattle.std.specs.Prelude.{◌≡◌, ◌≢◌, ◌<◌, ◌≤◌, ◌+◌, ℕ, false, cond, nat_eq, length, Some};
+ghost use Rattle.std.specs.Prelude.{slice_index_or};
 ghost use Rattle.std.specs.HashMap.{spare};
 ghost use Rattle.std.specs.List.{list_any};
 ghost use Rattle.std.specs.Option.{option_map};
+ghost use Rattle.vr_locks.specs.Listed.{AreBelow};
 ghost use Rattle.vr_locks.specs.Locked.{is_own, raise, with_locks};
 ghost use Rattle.vr_locks.specs.Maps.{IsConsistent, KeepsFiled, lock_at, locks_in};
-ghost use Rattle.vr_locks.specs.Listed.{AreBelow};
-ghost use Rattle.vr_locks.specs.Plan.{IsFiledFor, IsOwnAt, IsStepFor, AreStepsFor, Grants, NoneAgainst};
+ghost use Rattle.vr_locks.specs.Plan.{AreStepsFor, IsFiledFor, IsOwnAt, IsStepFor};
+ghost use Rattle.vr_locks.specs.Plan.{Grants, NoneAgainst};
 
-use crate::filed::{drop_number, file};
 use crate::held::HeldLock;
 use crate::maps::LockMaps;
-use std::alloc::Global;
-use vr_types::{LockName, Mode, OutOfMemory, Unit};
-
-/// What a request does for one of its names.
-#[derive(Drop)]
-pub(crate) enum Step {
-    /// The unit has a lock on the name already, with this number.
-    Raise { number: u64 },
-    /// A lock on the name is to stand under this number.
-    Take { number: u64, name: LockName },
-}
+use crate::planning::Step;
+use vr_types::{LockName, Mode, Unit};
 
 impl LockMaps {
     /// Makes the lock with a number exclusive, where the mode is.
@@ -66,6 +44,7 @@ impl LockMaps {
         requires own { IsOwnAt self.old unit name.now own }
         requires free { NoneAgainst self.old unit mode name.now }
         ensures grants { Grants unit mode name.now self.old self.new }
+        ensures filed { KeepsFiled self.old self.new }
         ensures last { (n : ℕ) → AreBelow (lock_at self.old) n → AreBelow (lock_at self.new) n }
         ensures room { spare self.new.locks ≡ spare self.old.locks }
     {
@@ -82,66 +61,28 @@ impl LockMaps {
         requires free { NoneAgainst self.old unit mode name }
         requires room { 0 < spare self.old.locks }
         ensures grants { Grants unit mode name self.old self.new }
+        ensures filed { KeepsFiled self.old self.new }
         ensures last { AreBelow (lock_at self.new) (number + 1) }
         ensures room { spare self.old.locks ≤ spare self.new.locks + 1 }
     {
         self.put_at(number, HeldLock::new(name, unit, mode));
     }
 
-    /// Files a number that was never used under a unit and a name. Where memory runs out, the number stays unused.
-    fn file_under(&mut self, unit: Unit, name: LockName, number: u64) -> Result<(), OutOfMemory>
-        requires kept { IsConsistent self.old number }
-        requires room { number < self.old.next }
-        ensures locks { self.new.locks ≡ self.old.locks }
-        ensures next { self.new.next ≡ self.old.next }
-        ensures kept { IsConsistent self.new (number + 1) }
-        ensures others { (n : ℕ) (other : LockName) → n < number → IsFiledFor self.old unit other n → IsFiledFor self.new unit other n }
-        ensures filed { OnOk result (IsFiledFor self.new unit name number) }
+    /// Raises the unit's lock on a name that a request has twice, and takes back the number that was
+    /// filed for it the second time.
+    fn raise_again(&mut self, unit: Unit, mode: Mode, name: &LockName, own: u64, number: u64)
+        requires kept { IsConsistent self.old self.old.next }
+        requires last { AreBelow (lock_at self.old) number }
+        requires own { IsOwnAt self.old unit name.now own }
+        requires free { NoneAgainst self.old unit mode name.now }
+        ensures grants { Grants unit mode name.now self.old self.new }
+        ensures others { (n : ℕ) (other : LockName) → n ≢ number
+            → IsFiledFor self.old unit other n → IsFiledFor self.new unit other n }
+        ensures last { AreBelow (lock_at self.new) number }
+        ensures room { spare self.new.locks ≡ spare self.old.locks }
     {
-        file(self.alloc, &mut self.units, unit, number)?;
-        file(self.alloc, &mut self.names, name, number)?;
-        Ok(())
-    }
-
-    /// Takes the memory for one name, which may take a number that was never used. No lock changes.
-    fn plan(&mut self, unit: Unit, name: &LockName, number: u64) -> Result<Step, OutOfMemory>
-        requires kept { IsConsistent self.old number }
-        requires room { number < self.old.next }
-        ensures locks { self.new.locks ≡ self.old.locks }
-        ensures next { self.new.next ≡ self.old.next }
-        ensures kept { IsConsistent self.new (number + 1) }
-        ensures others { (n : ℕ) (other : LockName) → n < number → IsFiledFor self.old unit other n → IsFiledFor self.new unit other n }
-        ensures step { IfOk result (IsStepFor self.new unit name.now number) }
-    {
-        if let Some(own) = self.own(unit, name) {
-            return Ok(Step::Raise { number: own });
-        }
-        let key = name.copy(self.alloc)?;
-        let name = name.copy(self.alloc)?;
-        self.file_under(unit, key, number)?;
-        Ok(Step::Take { number, name })
-    }
-
-    /// Takes the memory for each name of a request, whose numbers begin with `first`. No lock changes.
-    pub(crate) fn plan_all(
-        &mut self,
-        unit: Unit,
-        names: &[LockName],
-        first: u64,
-    ) -> Result<Vec<Step>, OutOfMemory>
-        requires kept { IsConsistent self.old first }
-        requires room { first + length names.now ≤ self.old.next }
-        ensures locks { self.new.locks ≡ self.old.locks }
-        ensures next { self.new.next ≡ self.old.next }
-        ensures kept { IsConsistent self.new self.new.next }
-        ensures steps { IfOk result (λ steps. AreStepsFor self.new unit names.now first steps.items) }
-    {
-        let mut steps = Vec::new(self.alloc);
-        for (i, name) in names.iter().enumerate() {
-            let step = self.plan(unit, name, first + i as u64)?;
-            steps.push(step)?;
-        }
-        Ok(steps)
+        self.raise(unit, mode, name, own);
+        self.forget_one(unit, name, number);
     }
 
     /// Does what is to be done for one name, which takes no memory: the unit's own lock on it is raised, or a new one comes last.
@@ -153,13 +94,15 @@ impl LockMaps {
         requires free { NoneAgainst self.old unit mode name.now }
         requires room { 0 < spare self.old.locks }
         ensures grants { Grants unit mode name.now self.old self.new }
+        ensures others { (n : ℕ) (other : LockName) → n ≢ number
+            → IsFiledFor self.old unit other n → IsFiledFor self.new unit other n }
         ensures last { AreBelow (lock_at self.new) (number + 1) }
         ensures room { spare self.old.locks ≤ spare self.new.locks + 1 }
     {
         match step {
             Step::Raise { number: own } => self.raise(unit, mode, name, own),
             Step::Take { number, name } => match self.own(unit, &name) {
-                Some(own) => self.raise(unit, mode, &name, own),
+                Some(own) => self.raise_again(unit, mode, &name, own, number),
                 None => self.put(unit, mode, name, number),
             },
         }
