@@ -14,7 +14,7 @@ use crate::no::LockNo;
 use vr_types::{LockName, Mode, OutOfMemory, Unit};
 
 impl LockMaps {
-    /// Makes room for so many locks more. No lock changes.
+    /// Makes room for that many locks more. No lock changes.
     fn reserve(&mut self, count: usize) -> Result<(), OutOfMemory>
         requires { IsConsistent self.old self.old.next }
         ensures kept { IsConsistent self.new self.new.next }
@@ -26,7 +26,8 @@ impl LockMaps {
         Ok(())
     }
 
-    /// Sets so many numbers aside, and gives the first. Where there aren't as many, it answers as where memory runs out.
+    /// Sets that many numbers aside, and gives the first. Where fewer are left, it answers as where
+    /// memory runs out.
     fn set_aside(&mut self, count: usize) -> Result<u64, OutOfMemory>
         requires { IsConsistent self.old self.old.next }
         ensures first { IfOk result (λ first. first ≡ self.old.next) }
@@ -59,12 +60,15 @@ impl LockMaps {
         }
     }
 
-    /// Gives a unit names that nothing stands in the way of. All memory is taken before a lock changes.
+    /// Gives a unit names that nothing stands in the way of. All memory is taken before a lock
+    /// changes.
     fn grant(&mut self, unit: Unit, mode: Mode, names: &[LockName]) -> Result<(), OutOfMemory>
         requires kept { IsConsistent self.old self.old.next }
-        requires free { (m : ℕ) (name : LockName) → m < length names.now → NoneAgainst self.old unit mode (slice_index_or names.now m name) }
+        requires free { (m : ℕ) (name : LockName) → m < length names.now
+            → NoneAgainst self.old unit mode (slice_index_or names.now m name) }
         ensures kept { IsConsistent self.new self.new.next }
-        ensures taken { OnOk result (locks_in self.new ≡ with_locks unit mode (locks_in self.old) names.now) }
+        ensures taken { OnOk result
+            (locks_in self.new ≡ with_locks unit mode (locks_in self.old) names.now) }
         ensures unchanged { OnErr result (locks_in self.new ≡ locks_in self.old) }
     {
         self.reserve(names.len())?;
@@ -87,7 +91,8 @@ impl LockMaps {
         ensures kept { IsConsistent self.new self.new.next }
         ensures granted { OnOk result (refusal (locks_in self.old) unit mode names.now ≡ None) }
         ensures refused { IfErr result (CauseOf (refusal (locks_in self.old) unit mode names.now)) }
-        ensures taken { OnOk result (locks_in self.new ≡ with_locks unit mode (locks_in self.old) names.now) }
+        ensures taken { OnOk result
+            (locks_in self.new ≡ with_locks unit mode (locks_in self.old) names.now) }
         ensures unchanged { OnErr result (locks_in self.new ≡ locks_in self.old) }
     {
         self.refuse(unit, mode, names)?;

@@ -18,14 +18,16 @@ pub(crate) enum Step {
 }
 
 impl LockMaps {
-    /// Files a number that was never used under a unit and a name. Where memory runs out, the number stays unused.
+    /// Files a number that was never used under a unit and a name. Where memory runs out, the
+    /// number stays unused.
     fn file_under(&mut self, unit: Unit, name: LockName, number: u64) -> Result<(), OutOfMemory>
         requires kept { IsConsistent self.old number }
         requires room { number < self.old.next }
         ensures locks { self.new.locks ≡ self.old.locks }
         ensures next { self.new.next ≡ self.old.next }
         ensures kept { IsConsistent self.new (number + 1) }
-        ensures others { (n : ℕ) (other : LockName) → n < number → IsFiledFor self.old unit other n → IsFiledFor self.new unit other n }
+        ensures others { (n : ℕ) (other : LockName) → n < number
+            → IsFiledFor self.old unit other n → IsFiledFor self.new unit other n }
         ensures filed { OnOk result (IsFiledFor self.new unit name number) }
     {
         file(self.alloc, &mut self.units, unit, number)?;
@@ -40,7 +42,8 @@ impl LockMaps {
         ensures locks { self.new.locks ≡ self.old.locks }
         ensures next { self.new.next ≡ self.old.next }
         ensures kept { IsConsistent self.new (number + 1) }
-        ensures others { (n : ℕ) (other : LockName) → n < number → IsFiledFor self.old unit other n → IsFiledFor self.new unit other n }
+        ensures others { (n : ℕ) (other : LockName) → n < number
+            → IsFiledFor self.old unit other n → IsFiledFor self.new unit other n }
         ensures step { IfOk result (IsStepFor self.new unit name.now number) }
     {
         if let Some(own) = self.own(unit, name) {
@@ -52,7 +55,8 @@ impl LockMaps {
         Ok(Step::Take { number, name })
     }
 
-    /// Takes the memory for each name of a request, whose numbers begin with `first`. No lock changes.
+    /// Takes the memory for each name of a request, whose numbers begin with `first`. No lock
+    /// changes.
     pub(crate) fn plan_all(
         &mut self,
         unit: Unit,
@@ -64,7 +68,8 @@ impl LockMaps {
         ensures locks { self.new.locks ≡ self.old.locks }
         ensures next { self.new.next ≡ self.old.next }
         ensures kept { IsConsistent self.new self.new.next }
-        ensures steps { IfOk result (λ steps. AreStepsFor self.new unit names.now first steps.items) }
+        ensures steps { IfOk result
+            (λ steps. AreStepsFor self.new unit names.now first steps.items) }
     {
         let mut steps = Vec::new(self.alloc);
         for (i, name) in names.iter().enumerate() {

@@ -18,7 +18,9 @@ use vr_types::{LockName, Mode, Unit};
 impl LockMaps {
     /// Makes the lock with a number exclusive, where the mode is.
     fn raise_at(&mut self, number: u64, mode: Mode)
-        ensures locks { (n : ℕ) → lock_at self.new n ≡ cond (nat_eq number n) (option_map (raise mode) (lock_at self.old n)) (lock_at self.old n) }
+        ensures locks { (n : ℕ) →
+            let old = lock_at self.old n in
+            lock_at self.new n ≡ cond (nat_eq number n) (option_map (raise mode) old) old }
         ensures filed { KeepsFiled self.old self.new }
         ensures room { spare self.new.locks ≡ spare self.old.locks }
     {
@@ -30,7 +32,8 @@ impl LockMaps {
     /// Puts a lock under a number, for which there is room.
     fn put_at(&mut self, number: u64, lock: HeldLock)
         requires { 0 < spare self.old.locks }
-        ensures locks { (n : ℕ) → lock_at self.new n ≡ cond (nat_eq number n) (Some lock) (lock_at self.old n) }
+        ensures locks { (n : ℕ) → lock_at self.new n
+            ≡ cond (nat_eq number n) (Some lock) (lock_at self.old n) }
         ensures filed { KeepsFiled self.old self.new }
         ensures room { spare self.old.locks ≤ spare self.new.locks + 1 }
     {
@@ -68,8 +71,8 @@ impl LockMaps {
         self.put_at(number, HeldLock::new(name, unit, mode));
     }
 
-    /// Raises the unit's lock on a name that a request has twice, and takes back the number that was
-    /// filed for it the second time.
+    /// Raises the unit's lock on a name that a request has twice, and takes back the number that
+    /// was filed for it the second time.
     fn raise_again(&mut self, unit: Unit, mode: Mode, name: &LockName, own: u64, number: u64)
         requires kept { IsConsistent self.old self.old.next }
         requires last { AreBelow (lock_at self.old) number }
@@ -85,7 +88,8 @@ impl LockMaps {
         self.forget_one(unit, name, number);
     }
 
-    /// Does what is to be done for one name, which takes no memory: the unit's own lock on it is raised, or a new one comes last.
+    /// Does what is to be done for one name, which takes no memory: the unit's own lock on it is
+    /// raised, or a new one comes last.
     fn carry(&mut self, unit: Unit, mode: Mode, name: &LockName, number: u64, step: Step)
         requires kept { IsConsistent self.old self.old.next }
         requires within { number < self.old.next }
@@ -121,7 +125,8 @@ impl LockMaps {
         requires within { first + length names.now ≤ self.old.next }
         requires last { AreBelow (lock_at self.old) first }
         requires steps { AreStepsFor self.old unit names.now first steps.items }
-        requires free { (m : ℕ) (name : LockName) → m < length names.now → NoneAgainst self.old unit mode (slice_index_or names.now m name) }
+        requires free { (m : ℕ) (name : LockName) → m < length names.now
+            → NoneAgainst self.old unit mode (slice_index_or names.now m name) }
         requires room { length names.now ≤ spare self.old.locks }
         ensures locks { locks_in self.new ≡ with_locks unit mode (locks_in self.old) names.now }
         ensures kept { IsConsistent self.new self.new.next }

@@ -36,11 +36,11 @@ returns-clause-others c = λ n other apart filed.
       name_alone = λ q.
           number-kept c.requires.kept.names names_new c.args.number n apart
           (λ r. kept-or-cut (lock_name_eq c.args.name.now r) (filter (λ (j : ℕ). not (nat_eq j c.args.number)) (of_name c.args.self.now r))
-              (of_name c.args.self.now r) (names_new r) (c.drop_number.ensures r)) q
+          (of_name c.args.self.now r) (names_new r) (c.drop_number.ensures r)) q
           ∙ filed.name_alone q;
       unit_alone = λ q.
           number-kept c.requires.kept.units units_new c.args.number n apart
           (λ r. kept-or-cut (same_unit c.args.unit r) (filter (λ (j : ℕ). not (nat_eq j c.args.number)) (of_unit c.args.self.now r))
-              (of_unit c.args.self.now r) (units_new r) (c.drop_number-2.ensures r)) q
+          (of_unit c.args.self.now r) (units_new r) (c.drop_number-2.ensures r)) q
           ∙ filed.unit_alone q;
     }
