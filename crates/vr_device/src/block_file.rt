@@ -24,7 +24,7 @@ pub trait BlockFile: Drop {
         requires whole { length into.old ≡ (seen self.old).size }
         ensures bytes { IsTrue tells → OnOk result
             ((n : ℕ) → BeginsAt (seen self.old) n start
-                → into.new ≡ block_at (seen self.old).cur n) }
+            → into.new ≡ block_at (seen self.old).cur n) }
         ensures after { Keeps tells (seen self.old) (seen self.new) };
 
     /// Writes the block that begins at this byte. After `Failed` the write may have happened.

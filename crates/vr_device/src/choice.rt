@@ -1,12 +1,31 @@
 //! The contents that a crash may leave in a block, found in a device's past.
 ghost use Rattle.std.specs.Prelude.{
-    ◌≡◌, ◌<◌, ◌^◌, ◌↔◌, IsTrue, ◌∷◌, ℕ, [], length, replicate, slice_index, slice_get,
-    option_copied, IfOk, OnOk,
+  ◌≡◌,
+  ◌<◌,
+  ◌^◌,
+  ◌↔◌,
+  IsTrue,
+  ◌∷◌,
+  ℕ,
+  [],
+  length,
+  replicate,
+  slice_index,
+  slice_get,
+  option_copied,
+  IfOk,
+  OnOk,
 };
 ghost use Rattle.std.specs.List.{AllByRecursion};
 ghost use Rattle.vr_device.specs.Disk.{contents_of};
 ghost use Rattle.vr_device.specs.Past.{
-    after_all, fresh, writes_in, content_of, contents_from, ArePicked, IsWithin,
+  after_all,
+  fresh,
+  writes_in,
+  content_of,
+  contents_from,
+  ArePicked,
+  IsWithin,
 };
 ghost use Rattle.vr_device.specs.PastEvent.{blocks_of, event_of, events_of};
 

@@ -2,7 +2,13 @@
 ghost use Rattle.std.specs.Prelude.{◌≡◌, ◌↔◌, IsTrue};
 ghost use Rattle.vr_types.specs.Count.{shown_of};
 ghost use Rattle.vr_device.specs.DeviceCalls.{
-    IsToFail, uncalled, counted, read_failed, write_failed, write_refused, stopped,
+  IsToFail,
+  uncalled,
+  counted,
+  read_failed,
+  write_failed,
+  write_refused,
+  stopped,
 };
 
 use std::marker::Model;

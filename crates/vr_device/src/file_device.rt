@@ -1,6 +1,17 @@
 //! A device over one file.
 ghost use Rattle.std.specs.Prelude.{
-    ◌≡◌, ◌<◌, ◌*◌, ◌↔◌, IsTrue, false, length, slice_set, OnOk, IsErr, true, ◌+◌,
+  ◌≡◌,
+  ◌<◌,
+  ◌*◌,
+  ◌↔◌,
+  IsTrue,
+  false,
+  length,
+  slice_set,
+  OnOk,
+  IsErr,
+  true,
+  ◌+◌,
 };
 ghost use Rattle.vr_types.specs.Blocks.{Keeps, Puts, AllForced};
 ghost use Rattle.vr_types.specs.Faults.{CountsWrite};

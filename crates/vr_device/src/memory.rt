@@ -26,7 +26,11 @@ impl BlockDevice for MemoryDevice {
     ghost use Rattle.vr_device.specs.Past.{disk_of, seen_of, wrote, forced, with_event};
     ghost use Rattle.vr_device.specs.DeviceCalls.{IsToFail, counted, read_failed, faults_of};
     ghost use Rattle.vr_device.specs.Memory.{
-        past_in, calls_in, IsFailedWrite, IsFailedSync, IsRefused,
+      past_in,
+      calls_in,
+      IsFailedWrite,
+      IsFailedSync,
+      IsRefused,
     };
     ghost use Rattle.vr_device.specs.Readable.{images-now, readable-of, read-image};
 
@@ -160,7 +164,7 @@ impl MemoryDevice {
             ↔ IsMisfit (length (past_in self.now).start) (disk_of (past_in self.now)) choice.now block }
         ensures chosen { IfOk result (λ d.
             IsChosen (length (past_in self.now).start) (disk_of (past_in self.now))
-                choice.now (past_in d).start) }
+            choice.now (past_in d).start) }
         ensures past { IfOk result (λ d.
             past_in d ≡ unwritten (past_in self.now).size (past_in d).start) }
         ensures calls { IfOk result (λ d. calls_in d ≡ uncalled []) }
@@ -178,11 +182,10 @@ impl MemoryDevice {
     fn fail_write(&mut self, n: u32, from: &[u8]) -> Failed
         requires block { n < length (past_in self.old).start }
         requires whole { length from.now ≡ (past_in self.old).size }
-        ensures {
-            ((past_in self.new ≡ with_event (past_in self.old) (failed n from.now))
-                × (calls_in self.new ≡ write_failed (calls_in self.old)))
+        ensures { ((past_in self.new ≡ with_event (past_in self.old) (failed n from.now))
+            × (calls_in self.new ≡ write_failed (calls_in self.old)))
             ⊎ ((past_in self.new ≡ past_in self.old)
-                × (calls_in self.new ≡ write_refused (calls_in self.old))) }
+            × (calls_in self.new ≡ write_refused (calls_in self.old))) }
     {
         match self.past.fail(n, from) {
             Ok(()) => self.calls.fail_write(),

@@ -1,7 +1,19 @@
 //! What a device in memory holds and held: the blocks as it was made, the blocks as they are read,
 //! and each write and each sync since.
 ghost use Rattle.std.specs.Prelude.{
-    ◌≡◌, ◌<◌, ◌^◌, ◌++◌, [], ◌∷◌, length, OnOk, OnErr, IfOk, MatchOption, All, ℕ,
+  ◌≡◌,
+  ◌<◌,
+  ◌^◌,
+  ◌++◌,
+  [],
+  ◌∷◌,
+  length,
+  OnOk,
+  OnErr,
+  IfOk,
+  MatchOption,
+  All,
+  ℕ,
 };
 ghost use Rattle.vr_types.specs.Image.{block_at};
 ghost use Rattle.vr_device.specs.Disk.{IsFit, IsMisfit, IsChosen};

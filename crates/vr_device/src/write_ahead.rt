@@ -5,7 +5,13 @@ ghost use Rattle.vr_types.specs.Image.{block_at};
 ghost use Rattle.vr_types.specs.Regions.{Touches};
 ghost use Rattle.vr_types.specs.Faults.{HasCause};
 ghost use Rattle.vr_device.specs.WriteAhead.{
-    IsContent, kept, IsPair, IsSettled, IsOneOf, content_after, IsAfterSome,
+  IsContent,
+  kept,
+  IsPair,
+  IsSettled,
+  IsOneOf,
+  content_after,
+  IsAfterSome,
 };
 ghost use Rattle.vr_device.specs.PastEvent.{blocks_of};
 

@@ -135,12 +135,7 @@ fn is_done<D: BlockDevice>(device: &mut D, call: Call) -> bool {
 }
 
 /// The image of each choice, and that no choice is one too high.
-fn judge_images(
-    alloc: Global,
-    device: &MemoryDevice,
-    disk: &Disk,
-    judged: &mut Judged,
-) -> Answer {
+fn judge_images(alloc: Global, device: &MemoryDevice, disk: &Disk, judged: &mut Judged) -> Answer {
     for (i, first) in (0..8u32).zip(disk.left[0].iter()) {
         for (j, second) in (0..8u32).zip(disk.left[1].iter()) {
             let blocks = image_blocks(alloc, device, &[i, j])?;

@@ -58,7 +58,14 @@ fn device(held: &mut Held, out: &mut String) -> Answer {
 fn host<R: Files<File = File>>(rt: &R, held: &mut Held, rest: &str, out: &mut String) -> Answer {
     let (verb, rest) = parted(rest);
     if verb == "remove" {
-        return say(out, if fs::remove_file(rt, PATH).is_ok() { "ok" } else { "failed" });
+        return say(
+            out,
+            if fs::remove_file(rt, PATH).is_ok() {
+                "ok"
+            } else {
+                "failed"
+            },
+        );
     }
     let (size, blocks) = parted(rest);
     let size = number(size)?;
