@@ -1,6 +1,15 @@
-// The pairs of an alternate index: which pointers it has over its base, and which a change of a base record adds and removes.
+// The pairs of an alternate index: which pointers it has over its base, and which a change of a base record adds and
+// removes. It stands on the shared words (vr_types). It promises that the pair of a record is the one that the definition
+// gives, and that a change of a base record makes exactly those changes of pairs that lead from the pairs of the old
+// content to those of the new one.
 #![tactic(auto)]
 
+mod changing;
 mod definition;
+mod lists;
+mod pairing;
 
+pub use changing::changes;
 pub use definition::AltDef;
+pub use lists::{AltList, PairChange, PairChanges};
+pub use pairing::pair;

@@ -1,7 +1,7 @@
 //! What verbs write their answers with, and why a line has none.
 
 use std::alloc::{AllocError, AllocFailed, Global};
-use std::fmt::Write;
+use std::fmt::{Debug, Write};
 use vr_types::OutOfMemory;
 
 /// Why a line has no answer.
@@ -47,28 +47,17 @@ pub fn say_number(out: &mut String, text: &str, number: u64) -> Answer {
     Ok(())
 }
 
-/// Writes a text, and a number or `none`.
-pub fn say_option(out: &mut String, text: &str, number: Option<u32>) -> Answer {
-    match number {
-        Some(number) => say_number(out, text, u64::from(number)),
-        None => {
-            out.push_str(text)?;
-            say(out, "none")
-        }
-    }
-}
-
-/// Writes a text, and `yes` or `no`.
-pub fn say_flag(out: &mut String, text: &str, flag: bool) -> Answer {
-    out.push_str(text)?;
-    say(out, if flag { "yes" } else { "no" })
-}
-
 /// Writes a text, and bytes as hexadecimal digits.
 pub fn say_bytes(alloc: Global, out: &mut String, text: &str, bytes: &[u8]) -> Answer {
     out.push_str(text)?;
     let digits = hex::encode_upper(alloc, bytes)?;
     say(out, digits.as_str())
+}
+
+/// Writes a value as `Debug` shows it.
+pub fn say_debug<T: Debug>(out: &mut String, value: &T) -> Answer {
+    write!(out, "{value:?}")?;
+    Ok(())
 }
 
 /// Writes bytes that are text.

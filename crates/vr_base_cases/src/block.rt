@@ -92,7 +92,7 @@ fn put_piece(alloc: Global, block: &mut [u8], at: usize, piece: &str) -> Result<
 
 /// Puts the bytes there, and answers where they end.
 fn put_bytes(block: &mut [u8], at: usize, bytes: &[u8]) -> Option<usize> {
-    let end = at.checked_add(bytes.len())?;
+    let end = at.saturating_add(bytes.len());
     block.get_mut(at..end)?.copy_from_slice(bytes);
     Some(end)
 }
@@ -101,7 +101,7 @@ fn put_bytes(block: &mut [u8], at: usize, bytes: &[u8]) -> Option<usize> {
 pub fn bytes_at(alloc: Global, block: &[u8], rest: &str, out: &mut String) -> Answer {
     let (at, count) = parted(rest);
     let at = size_of(at)?;
-    let end = at.checked_add(size_of(count)?).ok_or(Stop::Line)?;
+    let end = at.saturating_add(size_of(count)?);
     match block.get(at..end) {
         Some(bytes) => say_bytes(alloc, out, "", bytes),
         None => Err(Stop::Line),

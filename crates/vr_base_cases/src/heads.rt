@@ -2,9 +2,10 @@
 
 ghost use Rattle.std.specs.Prelude.{◌≡◌, IfOk};
 
-use crate::answers::{Answer, Stop, say, say_bytes, say_flag, say_number, say_option};
+use crate::answers::{Answer, Stop, say, say_bytes, say_number};
 use crate::block::{bytes_of, edited, parted, size_of, small_of, word_of};
 use std::alloc::{AllocError, Global};
+use std::fmt::Write;
 use vr_seqset::{
     RosterView, SeqEntry, SeqFault, SeqHead, SeqView, SeqWriter, interval_limit, write_roster,
 };
@@ -31,11 +32,15 @@ fn say_fault(fault: SeqFault, out: &mut String) -> Answer {
 }
 
 fn say_head(alloc: Global, view: &SeqView<'_>, out: &mut String) -> Answer {
-    say_flag(out, "first ", view.first())?;
-    say_number(out, " part ", u64::from(view.part()))?;
-    say_option(out, " next ", view.next())?;
-    say_number(out, " top ", u64::from(view.top()))?;
-    say_option(out, " index ", view.index_area())?;
+    let first = view.first();
+    let part = view.part();
+    let next = view.next();
+    let top = view.top();
+    let index = view.index_area();
+    write!(
+        out,
+        "first {first} part {part} next {next:?} top {top} index {index:?}"
+    )?;
     say_bytes(alloc, out, " low ", view.low())
 }
 
@@ -91,9 +96,11 @@ pub fn roster(alloc: Global, block: &[u8], rest: &str, out: &mut String) -> Answ
     let bytes = edited(alloc, block, pieces)?;
     match RosterView::read(bytes.as_slice(), intervals) {
         Ok(view) => {
-            say_number(out, "used ", u64::from(view.used()))?;
-            say_number(out, " part ", u64::from(view.part()))?;
-            say_option(out, " next ", view.next())
+            let used = view.used();
+            let part = view.part();
+            let next = view.next();
+            write!(out, "used {used} part {part} next {next:?}")?;
+            Ok(())
         }
         Err(fault) => say_fault(fault, out),
     }

@@ -1,9 +1,10 @@
 //! Questions to the reader of `vr_ci`.
 
-use crate::answers::{Answer, say, say_bytes, say_flag, say_number};
+use crate::answers::{Answer, say, say_bytes, say_number};
 use crate::block::{edited, parted, size_of, small_of};
 use std::alloc::Global;
-use vr_ci::{CiFault, CiView, Form, Piece, Shape};
+use std::fmt::Write;
+use vr_ci::{CiFault, CiView, Form, Shape};
 
 /// The block as a plain control interval: `PIECE..`.
 pub fn plain(alloc: Global, block: &[u8], pieces: &str, out: &mut String) -> Answer {
@@ -22,8 +23,7 @@ pub fn slots(alloc: Global, block: &[u8], rest: &str, out: &mut String) -> Answe
 fn interval(alloc: Global, form: Form, bytes: &[u8], out: &mut String) -> Answer {
     match CiView::read(form, bytes) {
         Ok(view) => {
-            say_shape(view.shape(), out)?;
-            say_flag(out, " busy ", view.busy())?;
+            say_shape(view.shape(), view.busy(), out)?;
             for (bytes, live) in view.iter() {
                 say_bytes(alloc, out, if live { " +" } else { " -" }, bytes)?;
             }
@@ -42,19 +42,13 @@ fn say_fault(fault: CiFault, out: &mut String) -> Answer {
     }
 }
 
-fn say_shape(shape: Shape, out: &mut String) -> Answer {
+fn say_shape(shape: Shape, busy: bool, out: &mut String) -> Answer {
     match shape {
-        Shape::Records => say(out, "records"),
-        Shape::EndOfFile => say(out, "end"),
-        Shape::Segment { piece, number } => {
-            let piece = match piece {
-                Piece::First => "first ",
-                Piece::Inner => "inner ",
-                Piece::Last => "last ",
-            };
-            say_number(out, piece, u64::from(number))
-        }
+        Shape::Records => write!(out, "records busy {busy}")?,
+        Shape::Segment { piece, number } => write!(out, "{piece:?} {number} busy {busy}")?,
+        Shape::EndOfFile => write!(out, "end busy {busy}")?,
     }
+    Ok(())
 }
 
 /// How many items the plain block has, and the one of a number: `ITEM`.

@@ -51,19 +51,25 @@ fn run<R: Input + Print + AllocGlobal>(rt: &R) -> io::Result<Tally> {
     for line in rt.lines(rt.alloc()) {
         let line = line?;
         let line = line.as_str();
-        if line.is_empty() || line.starts_with("#") {
-            continue;
-        }
-        let (asked, wanted) = line.split_once(" -> ").unwrap_or((line, "ok"));
-        let got = got(rt.alloc(), &mut block, asked)?;
-        tally.lines = tally.lines.saturating_add(1);
-        if got.as_str() != wanted {
-            tally.differ = tally.differ.saturating_add(1);
-            let got = got.as_str();
-            println!(rt; "{asked} -> {got}, but {wanted} is wanted")?;
+        if !line.is_empty() && !line.starts_with("#") {
+            let same = ask(rt, &mut block, line)?;
+            tally.lines = tally.lines.saturating_add(1);
+            tally.differ = tally.differ.saturating_add(if same { 0 } else { 1 });
         }
     }
     Ok(tally)
+}
+
+/// Asks a line, prints it if its answer differs, and says whether it is what is wanted.
+fn ask<R: Print + AllocGlobal>(rt: &R, block: &mut Vec<u8>, line: &str) -> io::Result<bool> {
+    let (asked, wanted) = line.split_once(" -> ").unwrap_or((line, "ok"));
+    let got = got(rt.alloc(), block, asked)?;
+    let got = got.as_str();
+    if got == wanted {
+        return Ok(true);
+    }
+    println!(rt; "{asked} -> {got}, but {wanted} is wanted")?;
+    Ok(false)
 }
 
 /// The answer to a question. A line that is no question has an answer that says so.

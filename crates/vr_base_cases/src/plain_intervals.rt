@@ -161,18 +161,28 @@ fn build(alloc: Global, form: Form, bytes: &[u8], listed: &Listed) -> Result<Vec
     let rdfs = rdfs(alloc, form, listed)?;
     let mut block = contents(alloc, bytes, listed.items.as_slice())?;
     let top = bytes.len().saturating_sub(4);
-    let displacement = block.len();
+    let busy = byte(bytes, top.saturating_add(2)) & 0x80;
+    push_control(&mut block, top, rdfs.as_slice(), busy)?;
+    Ok(block)
+}
+
+/// Adds the free space up to the RDFs, these, and the CIDF, which begins at `top`.
+fn push_control(
+    block: &mut Vec<u8>,
+    top: usize,
+    rdfs: &[[u8; 3]],
+    busy: u8,
+) -> Result<(), AllocError> {
+    let used = block.len();
     let low = top.saturating_sub(rdfs.len().saturating_mul(3));
-    let free = low.saturating_sub(displacement);
-    block.resize(low.max(displacement), 0)?;
+    block.resize(low.max(used), 0)?;
     for rdf in rdfs.iter().rev() {
         block.extend_from_slice(rdf.as_slice())?;
     }
-    let busy = byte(bytes, top.saturating_add(2)) & 0x80;
-    let [_, high, low] = rdf(0, displacement);
-    let [_, free_high, free_low] = rdf(0, free);
-    block.extend_from_slice(&[high, low, free_high | busy, free_low])?;
-    Ok(block)
+    let [_, used_high, used_low] = rdf(0, used);
+    let [_, free_high, free_low] = rdf(0, low.saturating_sub(used));
+    block.extend_from_slice(&[used_high, used_low, free_high | busy, free_low])?;
+    Ok(())
 }
 
 /// Whether a block of this size and form may have these items at all.
@@ -204,18 +214,32 @@ fn may_have(form: Form, size: usize, listed: &Listed) -> bool {
 /// What the block lists, if it is the block of just that.
 fn listed_in(alloc: Global, form: Form, bytes: &[u8]) -> Result<Option<Listed>, AllocError> {
     let top = bytes.len().saturating_sub(4);
-    let free = two(bytes, top.saturating_add(2)) % 32_768;
-    let low = two(bytes, top).saturating_add(free);
-    if bytes.iter().all(|byte| *byte == 0) {
-        return Ok(Some(list(alloc, bytes, bytes.len())?));
-    }
-    if low > top || bytes.get(top..) == Some([0; 4].as_slice()) {
+    let used = two(bytes, top);
+    let free = two(bytes, top.saturating_add(2));
+    let is_end_of_file = bytes.iter().all(|byte| *byte == 0);
+    let low = if is_end_of_file {
+        bytes.len()
+    } else {
+        used.saturating_add(free % 32_768)
+    };
+    if !is_end_of_file && (low > top || (used == 0 && free == 0)) {
         return Ok(None);
     }
     let listed = list(alloc, bytes, low)?;
-    let is_whole = may_have(form, bytes.len(), &listed)
-        && build(alloc, form, bytes, &listed)?.as_slice() == bytes;
-    Ok(if is_whole { Some(listed) } else { None })
+    if is_end_of_file || is_whole(alloc, form, bytes, &listed)? {
+        Ok(Some(listed))
+    } else {
+        Ok(None)
+    }
+}
+
+/// Whether the block is that of these items.
+fn is_whole(alloc: Global, form: Form, bytes: &[u8], listed: &Listed) -> Result<bool, AllocError> {
+    if !may_have(form, bytes.len(), listed) {
+        return Ok(false);
+    }
+    let block = build(alloc, form, bytes, listed)?;
+    Ok(block.as_slice() == bytes)
 }
 
 /// Whether a view has just these items of its block.

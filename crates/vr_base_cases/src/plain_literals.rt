@@ -9,7 +9,7 @@ use vr_types::Bytes;
 const ALPHABET: [&str; 8] = ["", "'", "A", "g", "0", "\u{e9}", "''", " "];
 
 /// How texts begin that may be literals.
-const BEGINS: [&str; 6] = ["C'", "X'", "C", "X", "", "c'"];
+const BEGINS: [&str; 8] = ["C'", "X'", "C", "X", "", "c'", "x'", "'"];
 
 /// Bytes at the ends of what may be printed.
 const BYTES: [u8; 8] = [0, 0x1F, b' ', b'\'', b'A', b'~', 0x7F, 0xFF];
@@ -17,122 +17,138 @@ const BYTES: [u8; 8] = [0, 0x1F, b' ', b'\'', b'A', b'~', 0x7F, 0xFF];
 /// What numbers are made of, and what they aren't.
 const DIGITS: [&str; 8] = ["", "0", "7", "+", "-", " ", "99999999", "0000000001"];
 
-/// The bytes that what stands between the quotes of `C'..'` stands for.
-fn characters(alloc: Global, quoted: &str) -> Result<Option<Vec<u8>>, AllocError> {
-    if quoted.split("''").any(|piece| piece.contains('\'')) {
-        return Ok(None);
+/// A copy of bytes, where memory is left.
+fn kept(alloc: Global, bytes: &[u8]) -> Result<Vec<u8>, LiteralFault> {
+    match Vec::from_slice(alloc, bytes) {
+        Ok(kept) => Ok(kept),
+        Err(_) => Err(LiteralFault::Memory),
     }
-    let text = quoted.replace(alloc, "''", "'")?;
-    Ok(Some(Vec::from_slice(alloc, text.as_bytes())?))
+}
+
+/// The bytes that what stands between the quotes of `C'..'` stands for.
+fn characters(alloc: Global, quoted: &str) -> Result<Vec<u8>, LiteralFault> {
+    for part in quoted.split("''") {
+        if part.contains('\'') {
+            return Err(LiteralFault::Unclosed);
+        }
+    }
+    match quoted.replace(alloc, "''", "'") {
+        Ok(text) => kept(alloc, text.as_bytes()),
+        Err(_) => Err(LiteralFault::Memory),
+    }
 }
 
 /// The value of a digit of either case.
-fn digit(letter: char) -> Option<u8> {
+fn digit(letter: char) -> Option<usize> {
     let capitals = "0123456789ABCDEF".find(letter);
-    let at = capitals.or("0123456789abcdef".find(letter))?;
-    u8::try_from(at).ok()
+    capitals.or("0123456789abcdef".find(letter))
 }
 
-/// The bytes that what stands between the quotes of `X'..'` stands for, or the place of the first
-/// digit at fault.
-fn hexadecimals(alloc: Global, digits: &str) -> Result<Result<Vec<u8>, usize>, AllocError> {
-    let mut bytes = Vec::new(alloc);
-    let mut high = None;
+/// The first place in `X'..'` that has no digit, where its digits begin at 2, or the last where
+/// their number is odd.
+fn digit_fault(digits: &str) -> Option<usize> {
     for (at, letter) in digits.char_indices() {
-        let Some(value) = digit(letter) else {
-            return Ok(Err(at));
-        };
-        high = match high {
-            None => Some(value),
-            Some(before) => {
-                bytes.push(before << 4 | value)?;
-                None
-            }
-        };
+        if digit(letter).is_none() {
+            return Some(at.saturating_add(2));
+        }
     }
-    Ok(match high {
-        None => Ok(bytes),
-        Some(_) => Err(digits.len().saturating_sub(1)),
-    })
+    if digits.len() % 2 == 0 {
+        None
+    } else {
+        Some(digits.len().saturating_add(1))
+    }
+}
+
+/// The bytes that what stands between the quotes of `X'..'` stands for.
+fn hexadecimals(alloc: Global, digits: &str) -> Result<Vec<u8>, LiteralFault> {
+    if let Some(at) = digit_fault(digits) {
+        return Err(LiteralFault::Digit { at });
+    }
+    match hex::decode(alloc, digits) {
+        Ok(bytes) => Ok(bytes),
+        Err(_) => Err(LiteralFault::Memory),
+    }
 }
 
 /// What a text is a literal of, or its fault.
-fn read(alloc: Global, text: &str) -> Result<Result<Vec<u8>, LiteralFault>, AllocError> {
-    let unclosed = Ok(Err(LiteralFault::Unclosed));
+fn read(alloc: Global, text: &str) -> Result<Vec<u8>, LiteralFault> {
     let Some(opened) = text.strip_suffix("'") else {
-        return unclosed;
+        return Err(LiteralFault::Unclosed);
     };
     if let Some(quoted) = opened.strip_prefix("C'") {
-        return Ok(characters(alloc, quoted)?.ok_or(LiteralFault::Unclosed));
+        return characters(alloc, quoted);
     }
     match opened.strip_prefix("X'") {
-        Some(digits) if !digits.contains('\'') => Ok(hexadecimals(alloc, digits)?.map_err(
-            |at| LiteralFault::Digit {
-                at: at.saturating_add(2),
-            },
-        )),
-        _ => unclosed,
+        Some(digits) if !digits.contains('\'') => hexadecimals(alloc, digits),
+        _ => Err(LiteralFault::Unclosed),
     }
 }
 
 /// Whether the crate reads a text as the grammar says.
-fn is_read(alloc: Global, text: &str) -> Result<bool, AllocError> {
-    match (read_literal(alloc, text), read(alloc, text)?) {
-        (Err(LiteralFault::Memory), _) => Err(AllocError),
-        (Ok(bytes), Ok(plain)) => Ok(bytes.as_slice() == plain.as_slice()),
-        (Err(fault), Err(plain)) => Ok(fault == plain),
-        (_, _) => Ok(false),
+fn is_read(alloc: Global, text: &str) -> bool {
+    match (read_literal(alloc, text), read(alloc, text)) {
+        (Ok(bytes), Ok(plain)) => bytes.as_slice() == plain.as_slice(),
+        (Err(fault), Err(plain)) => fault == plain && fault != LiteralFault::Memory,
+        (_, _) => false,
     }
 }
 
 /// Judges each beginning with up to five letters after it.
 pub fn judge_literals(alloc: Global) -> Result<Judged, AllocError> {
     let mut judged = Judged::new(alloc);
-    for begin in BEGINS {
-        for number in 0..32_768usize {
-            let mut text = String::from_str(alloc, begin)?;
-            push_letters(&mut text, &ALPHABET, 5, number)?;
-            judged.count(is_read(alloc, text.as_str())?, text.as_str())?;
-        }
+    for number in 0..262_144usize {
+        let mut text = String::new(alloc);
+        push_letters(&mut text, &BEGINS, 1, number % 8)?;
+        push_letters(&mut text, &ALPHABET, 5, number / 8)?;
+        judged.count(is_read(alloc, text.as_str()), text.as_str())?;
     }
     Ok(judged)
 }
 
 /// The one spelling of some bytes.
 fn spelling(alloc: Global, bytes: &[u8]) -> Result<String, AllocError> {
-    let mut characters = String::from_str(alloc, "C'")?;
-    let mut digits = String::from_str(alloc, "X'")?;
-    let mut all_printable = true;
-    for byte in bytes {
-        all_printable &= (' '..='~').contains(&char::from(*byte));
-        characters.push(char::from(*byte))?;
-        if *byte == b'\'' {
-            characters.push('\'')?;
+    match printable(bytes) {
+        Some(text) => {
+            let doubled = text.replace(alloc, "'", "''")?;
+            format!(in alloc; "C'{doubled}'")
         }
-        digits.push_str(format!(in alloc; "{byte:02X}")?.as_str())?;
+        None => {
+            let digits = hex::encode_upper(alloc, bytes)?;
+            format!(in alloc; "X'{digits}'")
+        }
     }
-    let mut text = if all_printable { characters } else { digits };
-    text.push('\'')?;
-    Ok(text)
+}
+
+/// The text of bytes that may all be printed.
+fn printable(bytes: &[u8]) -> Option<&str> {
+    let text = str::from_utf8(bytes).ok()?;
+    if text.chars().all(|letter| (' '..='~').contains(&letter)) {
+        Some(text)
+    } else {
+        None
+    }
 }
 
 /// Judges each list of up to four bytes.
 pub fn judge_spellings(alloc: Global) -> Result<Judged, AllocError> {
     let mut judged = Judged::new(alloc);
-    for count in 0..5u32 {
-        for number in 0..4_096usize {
-            let bytes = byte_list(alloc, count, number)?;
-            let mut out = Bytes::new(alloc);
-            write_literal(bytes.as_slice(), &mut out).map_err(|_| AllocError)?;
-            let plain = spelling(alloc, bytes.as_slice())?;
-            judged.count(out.as_slice() == plain.as_bytes(), plain.as_str())?;
-        }
+    for number in 0..20_480usize {
+        let bytes = byte_list(alloc, number % 5, number / 5)?;
+        let plain = spelling(alloc, bytes.as_slice())?;
+        let same = is_written(alloc, bytes.as_slice(), plain.as_str());
+        judged.count(same, plain.as_str())?;
     }
     Ok(judged)
 }
 
+/// Whether the crate writes some bytes so.
+fn is_written(alloc: Global, bytes: &[u8], plain: &str) -> bool {
+    let mut out = Bytes::new(alloc);
+    write_literal(bytes, &mut out).is_ok() && out.as_slice() == plain.as_bytes()
+}
+
 /// A list of bytes, by the digits of a number in base 8.
-fn byte_list(alloc: Global, count: u32, number: usize) -> Result<Vec<u8>, AllocError> {
+fn byte_list(alloc: Global, count: usize, number: usize) -> Result<Vec<u8>, AllocError> {
     let mut bytes = Vec::new(alloc);
     let mut rest = number;
     for _ in 0..count {

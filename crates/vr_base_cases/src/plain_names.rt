@@ -13,12 +13,16 @@ const OTHERS: &str = "0123456789-";
 /// One letter for each thing that may be at fault.
 const ALPHABET: [&str; 8] = ["", "A", "z", "9", "-", ".", "$", " "];
 
-/// Names that are within a qualifier's limits but for what is added.
-const BEGINS: [&str; 4] = [
+/// How texts begin: near the limits of a qualifier, of a name, or far from both.
+const BEGINS: [&str; 8] = [
     "",
-    "ABCDEFG",
-    "A.BCDEFGH",
-    "AAAAAAAA.AAAAAAAA.AAAAAAAA.AAAAAAAA.AAAAAA",
+    "ABCDEF",
+    "ABCDEFGH",
+    "A.BCDEFG",
+    "A.BCDEFGHI",
+    "AAAAAAAA.AAAAAAAA.AAAAAAAA.AAAAAAAA.AAAAA",
+    "AAAAAAAA.AAAAAAAA.AAAAAAAA.AAAAAAAA.AAAA.A",
+    "AAAAAAAA.AAAAAAAA.AAAAAAAA.AAAAAAAA.AAAAAAAA",
 ];
 
 /// The first byte of a qualifier that may not stand there.
@@ -56,33 +60,36 @@ fn fault_of(text: &str) -> Option<NameFault> {
 }
 
 /// Whether the crate takes a text for a name, or finds a fault, as the rule says.
-fn is_same(alloc: Global, text: &str) -> Result<bool, AllocError> {
+fn is_same(alloc: Global, text: &str) -> bool {
     match dataset_name(alloc, text) {
         Ok(name) => {
-            let mut capitals = String::from_str(alloc, text)?;
-            capitals.make_ascii_uppercase();
-            Ok(fault_of(text).is_none() && name.as_slice() == capitals.as_bytes())
+            fault_of(text).is_none()
+                && text.as_bytes().eq_ignore_ascii_case(name.as_slice())
+                && !name.as_slice().iter().any(|byte| byte.is_ascii_lowercase())
         }
-        Err(NameFault::Memory) => Err(AllocError),
-        Err(fault) => Ok(fault_of(text) == Some(fault)),
+        Err(fault) => fault_of(text) == Some(fault),
     }
 }
 
-/// Judges each text of up to five letters after each of the beginnings, and names of many lengths.
+/// Judges each beginning with up to five letters after it, and names of many lengths.
 pub fn judge(alloc: Global) -> Result<Judged, AllocError> {
     let mut judged = Judged::new(alloc);
-    for begin in BEGINS {
-        for number in 0..32_768usize {
-            let mut text = String::from_str(alloc, begin)?;
-            push_letters(&mut text, &ALPHABET, 5, number)?;
-            judged.count(is_same(alloc, text.as_str())?, text.as_str())?;
-        }
+    for number in 0..262_144usize {
+        let mut text = String::new(alloc);
+        push_letters(&mut text, &BEGINS, 1, number % 8)?;
+        push_letters(&mut text, &ALPHABET, 5, number / 8)?;
+        judged.count(is_same(alloc, text.as_str()), text.as_str())?;
     }
+    judge_lengths(alloc, &mut judged)?;
+    Ok(judged)
+}
+
+fn judge_lengths(alloc: Global, judged: &mut Judged) -> Result<(), AllocError> {
     for number in 0..2_500usize {
         let text = dotted(alloc, number / 50, number % 50)?;
-        judged.count(is_same(alloc, text.as_str())?, text.as_str())?;
+        judged.count(is_same(alloc, text.as_str()), text.as_str())?;
     }
-    Ok(judged)
+    Ok(())
 }
 
 /// A text of that length, with a dot at the place and at each ninth.

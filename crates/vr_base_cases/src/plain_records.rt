@@ -155,8 +155,7 @@ pub fn judge_sizes(alloc: Global) -> Result<Judged, AllocError> {
         for count in 1..=16usize {
             is_size |= size == 512 * count || size == 2_048 * count;
         }
-        let same = vr_types::is_block_size(size) == is_size
-            && vr_ci::is_block_size(size) == is_size;
+        let same = vr_types::is_block_size(size) == is_size;
         judged.count(same, "")?;
     }
     Ok(judged)

@@ -1,12 +1,11 @@
 //! Questions to `vr_types` about values. Each shows a copy of the value that it builds.
 
-use crate::answers::{Answer, Stop, say, say_bytes, say_number};
+use crate::answers::{Answer, Stop, say, say_bytes, say_debug, say_number};
 use crate::block::{bytes_of, parted, small_of, word_of};
 use std::alloc::Global;
-use std::fmt::Write;
 use vr_types::{
-    FaultCount, FileRef, Find, Integrity, Kind, LockName, Mode, PartNo, Refusal, Reply, Request,
-    Unit, Words, bytes, empty_place, number_place, place,
+    Bound, FaultCount, FileRef, Find, Integrity, Kind, LockName, Mode, PartNo, Position, Refusal,
+    Reply, Request, Stand, Unit, Words, bytes, empty_place, number_place, place,
 };
 
 /// The file of all requests.
@@ -22,7 +21,8 @@ const FILE: FileRef = FileRef {
 /// A place of bytes: `HEX`.
 pub fn place_of(alloc: Global, digits: &str, out: &mut String) -> Answer {
     let from = bytes_of(alloc, digits)?;
-    let copy = place(alloc, from.as_slice())?.copy(alloc)?;
+    let place = place(alloc, from.as_slice())?;
+    let copy = place.copy(alloc)?;
     say_bytes(alloc, out, "", copy.as_slice())
 }
 
@@ -32,25 +32,33 @@ pub fn numbered(alloc: Global, word: &str, out: &mut String) -> Answer {
     say_bytes(alloc, out, "", place.as_slice())
 }
 
-/// A place of no byte, with room: `NUMBER`.
-pub fn roomy(alloc: Global, word: &str, out: &mut String) -> Answer {
-    let place = empty_place(alloc, word_of(word)?)?;
-    say_bytes(alloc, out, "empty", place.as_slice())
+/// A place in room that was taken for it: `NUMBER HEX`.
+pub fn roomy(alloc: Global, rest: &str, out: &mut String) -> Answer {
+    let (room, digits) = parted(rest);
+    let room = word_of(room)?;
+    let from = bytes_of(alloc, digits)?;
+    if from.len() > room as usize {
+        return Err(Stop::Line);
+    }
+    let mut buffer = empty_place(alloc, room)?;
+    say_bytes(alloc, out, "empty", buffer.as_slice())?;
+    buffer.set(from.as_slice());
+    let place = buffer.into_place();
+    say_bytes(alloc, out, " then ", place.as_slice())
 }
 
-/// Bytes that are copied, grow twice, by a list and by each byte of another, and lose the last:
-/// `HEX HEX HEX`.
+/// Bytes that are copied, grow by a list and by `45`, and lose that again: `HEX HEX`.
 pub fn grown(alloc: Global, rest: &str, out: &mut String) -> Answer {
-    let (first, rest) = parted(rest);
-    let (second, third) = parted(rest);
-    let from = bytes_of(alloc, first)?;
-    let mut grown = bytes(alloc, from.as_slice())?.copy(alloc)?;
-    grown.extend(bytes_of(alloc, second)?.as_slice())?;
-    for byte in bytes_of(alloc, third)?.as_slice() {
-        grown.push(*byte)?;
-    }
+    let (first, second) = parted(rest);
+    let first = bytes_of(alloc, first)?;
+    let second = bytes_of(alloc, second)?;
+    let first = bytes(alloc, first.as_slice())?;
+    let mut grown = first.copy(alloc)?;
+    grown.extend(second.as_slice())?;
+    let length = grown.len();
+    grown.push(b'E')?;
     say_number(out, "", grown.len() as u64)?;
-    grown.truncate(grown.len().saturating_sub(1));
+    grown.truncate(length);
     say_bytes(alloc, out, " ", grown.as_slice())
 }
 
@@ -77,13 +85,17 @@ pub fn faults(word: &str, out: &mut String) -> Answer {
     say_number(out, "", faults.shown())
 }
 
-/// A request of a kind, with a place or record: `KIND HEX`.
+/// A copy of a request of a kind, with a place or record: `KIND HEX`.
 pub fn request(alloc: Global, rest: &str, out: &mut String) -> Answer {
     let (kind, digits) = parted(rest);
     let from = bytes_of(alloc, digits)?;
-    let copy = request_of(alloc, kind, from.as_slice())?.copy(alloc)?;
-    write!(out, "{copy:?}")?;
-    Ok(())
+    let bound = Bound {
+        volume: 1,
+        line: 4,
+        request: request_of(alloc, kind, from.as_slice())?,
+    };
+    let copy = bound.copy(alloc)?;
+    say_debug(out, &copy)
 }
 
 fn request_of(alloc: Global, kind: &str, from: &[u8]) -> Result<Request, Stop> {
@@ -117,6 +129,29 @@ fn request_of(alloc: Global, kind: &str, from: &[u8]) -> Result<Request, Stop> {
     }
 }
 
+/// A copy of a position, with a place: `STAND HEX`.
+pub fn position(alloc: Global, rest: &str, out: &mut String) -> Answer {
+    let (stand, digits) = parted(rest);
+    let from = bytes_of(alloc, digits)?;
+    let position = Position {
+        stand: stand_of(alloc, stand, from.as_slice())?,
+        held: Some(place(alloc, from.as_slice())?),
+    };
+    let copy = position.copy(alloc)?;
+    say_debug(out, &copy)
+}
+
+fn stand_of(alloc: Global, stand: &str, from: &[u8]) -> Result<Stand, Stop> {
+    match stand {
+        "start" => Ok(Stand::Start),
+        "at" => Ok(Stand::At(place(alloc, from)?)),
+        "after" => Ok(Stand::After(place(alloc, from)?)),
+        "end" => Ok(Stand::End),
+        "none" => Ok(Stand::None),
+        _ => Err(Stop::Line),
+    }
+}
+
 /// A GET for update, with consistent read.
 fn get(find: Find) -> Request {
     Request::Get {
@@ -129,10 +164,11 @@ fn get(find: Find) -> Request {
 
 /// The feedback number and a copy of a refusal: `NUMBER`, with `key` for a lock on a key.
 pub fn refusal(alloc: Global, rest: &str, out: &mut String) -> Answer {
-    let copy = refusal_of(alloc, rest)?.copy(alloc)?;
-    let code = copy.code();
-    write!(out, "{code} {copy:?}")?;
-    Ok(())
+    let refusal = refusal_of(alloc, rest)?;
+    let copy = refusal.copy(alloc)?;
+    say_number(out, "", u64::from(copy.code()))?;
+    say(out, " ")?;
+    say_debug(out, &copy)
 }
 
 /// A refusal that is to have that number.
@@ -187,9 +223,9 @@ fn plain_refusal(code: u16) -> Option<Refusal> {
 /// A copy of a reply: `refused KIND`, or `done` with a place and a record or with none.
 pub fn reply(alloc: Global, rest: &str, out: &mut String) -> Answer {
     let (kind, rest) = parted(rest);
-    let copy = reply_of(alloc, kind, rest)?.copy(alloc)?;
-    write!(out, "{copy:?}")?;
-    Ok(())
+    let reply = reply_of(alloc, kind, rest)?;
+    let copy = reply.copy(alloc)?;
+    say_debug(out, &copy)
 }
 
 fn reply_of(alloc: Global, kind: &str, rest: &str) -> Result<Reply, Stop> {

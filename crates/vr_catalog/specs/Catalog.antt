@@ -1,9 +1,8 @@
 -- A catalog: the list of its entries, in the order of their names; what it says of clusters, alternate indexes and paths, as
 -- DEFINE of Access Method Services Commands relates them.
-use Rattle.std.specs.Prelude.{ℕ, Bool, false, ◌==◌, if◌then◌else◌, List, [], map, Option, Some, None}
+use Rattle.std.specs.Prelude.{ℕ, Bool, false, ◌==◌, if◌then◌else◌, List, [], map, Option, Some, None, bytes_eq}
 use Rattle.std.specs.List.{find, filter_map, fold}
 use Rattle.std.specs.Option.{option_and_then, unwrap_or}
-use Rattle.std.specs.Cmp.Lexicographic.{pointwise}
 use Rattle.std.specs.Ordering.{nat_cmp}
 use Rattle.std.specs.BTreeMap.{insert_entry}
 use Rattle.vr_types.specs.Content.{Placed, Content, record_of}
@@ -21,7 +20,7 @@ entries_in content = filter_map (λ (placed : Placed). option_and_then entry_of 
 
 -- the entry with a name, and the one with a part number
 abbrev pub entry_named : List CatEntry → List ℕ → Option CatEntry
-entry_named entries name = find (λ entry. pointwise ◌==◌ entry.name name) entries
+entry_named entries name = find (λ entry. bytes_eq entry.name name) entries
 
 abbrev pub entry_with_part : List CatEntry → ℕ → Option CatEntry
 entry_with_part entries part = find (λ entry. entry.part.0 == part) entries

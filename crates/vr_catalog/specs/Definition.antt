@@ -1,15 +1,9 @@
--- What DEFINE CLUSTER of Access Method Services Commands states of the records of a cluster, and which records it allows.
+-- Which records a cluster allows, as DEFINE CLUSTER of Access Method Services Commands states it. A definition has INDEXED,
+-- NONINDEXED or NUMBERED; SPANNED; KEYS(length offset) and the maximum of RECORDSIZE, in bytes.
 use Rattle.std.specs.Prelude.{ℕ, ◌+◌, Bool, false, ◌==◌, ◌&&◌, nat_le, List, length, take, drop}
 use Rattle.vr_types.specs.declared.unit.Kind.{Kind}
+pub use Rattle.vr_catalog.specs.declared.definition.Definition.{Definition}
 use Rattle.vr_types.specs.declared.unit.Kind.TheVariants.{Keyed, Entry, Relative}
-
--- INDEXED, NONINDEXED or NUMBERED; SPANNED; KEYS(length offset) and the maximum of RECORDSIZE, in bytes
-pub record Definition : Type 0 where
-  pub kind : Kind
-  pub spanned : Bool
-  pub key_length : ℕ
-  pub key_offset : ℕ
-  pub maximum : ℕ
 
 -- the key of a record, as KEYS places it
 abbrev pub key_of : Definition → List ℕ → List ℕ

@@ -1,4 +1,10 @@
+pub mod Alter
 pub mod Catalog
+pub mod Define
 pub mod Definition
+pub mod Delete
 pub mod Entry
+pub mod Fault
+pub mod Limits
+pub mod Reading
 pub mod Record

@@ -1,12 +1,11 @@
 -- The catalog record: 204 bytes that spell an entry, numbers with the high byte first. The layout is this project's own.
-use Rattle.std.specs.Prelude.{◌≡◌, ℕ, ◌+◌, ◌-◌, IsTrue, ◌==◌, ◌&&◌, if◌then◌else◌, bit_and, List, [], ◌∷◌, ◌++◌, length, take, drop, replicate, slice_index, Option, Some, None}
-use Rattle.std.specs.List.{suffix_len, concat}
-use Rattle.std.specs.Int.{w16, w32, to_be_bytes, from_be_bytes}
-use Rattle.std.specs.Cmp.Lexicographic.{pointwise}
+use Rattle.std.specs.Prelude.{◌≡◌, ℕ, ◌+◌, ◌-◌, ◌^◌, min, IsTrue, ◌==◌, ◌&&◌, if◌then◌else◌, bit_and, List, [], ◌∷◌, ◌++◌, length, take, drop, replicate, slice_index, Option, Some, None, bytes_eq}
+use Rattle.std.specs.List.{before_first, concat}
 use Rattle.vr_types.specs.declared.unit.Kind.{Kind}
 use Rattle.vr_types.specs.declared.unit.Kind.TheVariants.{Keyed, Entry, Relative}
 use Rattle.vr_types.specs.declared.unit.AreaNo.{AreaNo}
 use Rattle.vr_types.specs.declared.unit.PartNo.{PartNo}
+use Rattle.vr_types.specs.Fields.{two, four, two_at, four_at}
 use Rattle.vr_catalog.specs.declared.entry.CatEntry.{CatEntry}
 use Rattle.vr_catalog.specs.declared.entry.EntryKind.{EntryKind}
 use Rattle.vr_catalog.specs.declared.entry.EntryKind.TheVariants.{Cluster, Alternate, Path}
@@ -14,14 +13,14 @@ use Rattle.vr_catalog.specs.declared.entry.SpaceUnit.{SpaceUnit}
 use Rattle.vr_catalog.specs.declared.entry.SpaceUnit.TheVariants.{Unstated, Cylinders, Tracks, Records}
 use Rattle.vr_catalog.specs.Entry.{is_entry}
 
--- a text with blanks after it, in a field of this size
-abbrev pub padded : ℕ → List ℕ → List ℕ
-padded size text = take size (text ++ replicate (size - length text) 32)
+-- a text in a field of this size, with blanks after it
+unfoldable pub padded : ℕ → List ℕ → List ℕ
+padded size text = take size text ++ replicate (size - length text) 32
 
 -- a name that there may be, or blanks
-abbrev pub padded_or_blank : ℕ → Option (List ℕ) → List ℕ
-padded_or_blank size None = padded size []
-padded_or_blank size (Some text) = padded size text
+abbrev pub text_of : Option (List ℕ) → List ℕ
+text_of None = []
+text_of (Some text) = text
 
 -- C, A or P
 abbrev pub entry_kind_byte : EntryKind → ℕ
@@ -41,14 +40,14 @@ abbrev pub flag_byte : CatEntry → ℕ
 flag_byte entry = (if entry.spanned then 1 else 0) + (if entry.unique then 2 else 0) + (if entry.built then 4 else 0)
 
 -- the related part, or zero
-abbrev pub part_number : Option PartNo → ℕ
-part_number None = 0
-part_number (Some part) = part.0
+abbrev pub part_field : Option PartNo → ℕ
+part_field None = 0
+part_field (Some part) = part.0
 
 -- one above the area's number, or zero
-abbrev pub area_number : Option AreaNo → ℕ
-area_number None = 0
-area_number (Some area) = area.0 + 1
+abbrev pub area_field : Option AreaNo → ℕ
+area_field None = 0
+area_field (Some area) = min (area.0 + 1) (2 ^ 32 - 1)
 
 abbrev pub space_byte : SpaceUnit → ℕ
 space_byte Unstated = 0
@@ -56,53 +55,45 @@ space_byte Cylinders = 1
 space_byte Tracks = 2
 space_byte Records = 3
 
--- two and four bytes, high byte first
-abbrev pub two : ℕ → List ℕ
-two n = to_be_bytes w16 n
+-- the fields of bytes 0 to 47: what the entry is
+abbrev pub kind_fields : CatEntry → List (List ℕ)
+kind_fields entry = padded 44 entry.name ∷ (entry_kind_byte entry.entry_kind ∷ kind_byte entry.kind ∷ flag_byte entry ∷ 0 ∷ []) ∷ []
 
-abbrev pub four : ℕ → List ℕ
-four n = to_be_bytes w32 n
-
--- the fields of the record, in order
-abbrev pub fields_of : CatEntry → List (List ℕ)
-fields_of entry =
-    padded 44 entry.name
-    ∷ (entry_kind_byte entry.entry_kind ∷ kind_byte entry.kind ∷ flag_byte entry ∷ 0 ∷ [])
-    ∷ four entry.part.0 ∷ four (part_number entry.related)
+-- of bytes 48 to 71: its parts, its records and its first area
+abbrev pub part_fields : CatEntry → List (List ℕ)
+part_fields entry =
+    four entry.part.0 ∷ four (part_field entry.related)
     ∷ two entry.key_length ∷ two entry.key_offset ∷ four entry.average ∷ four entry.maximum
-    ∷ four (area_number entry.first_area)
-    ∷ (entry.free_space.interval ∷ entry.free_space.area ∷ entry.share_options.regions ∷ entry.share_options.systems ∷ [])
+    ∷ four (area_field entry.first_area) ∷ []
+
+-- of bytes 72 to 91: how it shares and fills its space
+abbrev pub space_fields : CatEntry → List (List ℕ)
+space_fields entry =
+    (entry.free_space.interval ∷ entry.free_space.area ∷ entry.share_options.regions ∷ entry.share_options.systems ∷ [])
     ∷ (space_byte entry.space ∷ 0 ∷ 0 ∷ 0 ∷ []) ∷ four entry.primary ∷ four entry.secondary
-    ∷ four entry.interval_size
-    ∷ padded_or_blank 44 entry.data_name ∷ padded_or_blank 44 entry.index_name
-    ∷ padded_or_blank 8 entry.storage_class ∷ padded_or_blank 8 entry.data_class ∷ padded_or_blank 8 entry.management_class
-    ∷ []
+    ∷ four entry.interval_size ∷ []
+
+-- of bytes 92 to 203: its further names
+abbrev pub name_fields : CatEntry → List (List ℕ)
+name_fields entry =
+    padded 44 (text_of entry.data_name) ∷ padded 44 (text_of entry.index_name)
+    ∷ padded 8 (text_of entry.storage_class) ∷ padded 8 (text_of entry.data_class) ∷ padded 8 (text_of entry.management_class) ∷ []
 
 -- the bytes that spell an entry
 unfoldable pub spelling : CatEntry → List ℕ
-spelling entry = concat (fields_of entry)
+spelling entry = concat (kind_fields entry) ++ concat (part_fields entry) ++ concat (space_fields entry) ++ concat (name_fields entry)
 
--- the bytes are the record of the entry
+-- The bytes are the record of the entry.
 pub record IsCatalogRecord (bytes : List ℕ) (entry : CatEntry) : Type 0 where
-  pub is_one : IsTrue (is_entry entry)
+  pub entry_is : IsTrue (is_entry entry)
   pub spelled : bytes ≡ spelling entry
 
--- a text without the blanks after it
-abbrev pub unpadded : List ℕ → List ℕ
-unpadded field = take (length field - suffix_len (λ byte. byte == 32) field) field
+-- the text of a field: what stands before its first blank
+unfoldable pub text_at : ℕ → ℕ → List ℕ → List ℕ
+text_at at size bytes = before_first (λ byte. byte == 32) (take size (drop at bytes))
 
-abbrev pub unpadded_or_none : List ℕ → Option (List ℕ)
-unpadded_or_none field = if suffix_len (λ byte. byte == 32) field == length field then None else Some (unpadded field)
-
--- the part of the bytes at a place
-abbrev pub field_at : List ℕ → ℕ → ℕ → List ℕ
-field_at bytes at size = take size (drop at bytes)
-
-abbrev pub two_at : List ℕ → ℕ → ℕ
-two_at bytes at = from_be_bytes w16 (field_at bytes at 2)
-
-abbrev pub four_at : List ℕ → ℕ → ℕ
-four_at bytes at = from_be_bytes w32 (field_at bytes at 4)
+abbrev pub some_text : List ℕ → Option (List ℕ)
+some_text text = if length text == 0 then None else Some text
 
 abbrev pub entry_kind_of : ℕ → EntryKind
 entry_kind_of byte = if byte == 65 then Alternate else (if byte == 80 then Path else Cluster)
@@ -119,35 +110,35 @@ part_of number = if number == 0 then None else Some (record { 0 = number })
 abbrev pub area_of : ℕ → Option AreaNo
 area_of number = if number == 0 then None else Some (record { 0 = number - 1 })
 
--- the entry that has what the fields of a record say; only where its own spelling is those bytes do they spell it
+-- the entry that has what the fields of a record say. They spell it only where its own spelling is these bytes
 unfoldable pub entry_in : List ℕ → CatEntry
 entry_in bytes = record {
-  name = unpadded (field_at bytes 0 44);
+  name = text_at 0 44 bytes;
   entry_kind = entry_kind_of (slice_index bytes 44);
   kind = kind_of (slice_index bytes 45);
   spanned = bit_and (slice_index bytes 46) 1 == 1;
   unique = bit_and (slice_index bytes 46) 2 == 2;
   built = bit_and (slice_index bytes 46) 4 == 4;
-  part = record { 0 = four_at bytes 48 };
-  related = part_of (four_at bytes 52);
-  key_length = two_at bytes 56;
-  key_offset = two_at bytes 58;
-  average = four_at bytes 60;
-  maximum = four_at bytes 64;
-  first_area = area_of (four_at bytes 68);
+  part = record { 0 = four_at 48 bytes };
+  related = part_of (four_at 52 bytes);
+  key_length = two_at 56 bytes;
+  key_offset = two_at 58 bytes;
+  average = four_at 60 bytes;
+  maximum = four_at 64 bytes;
+  first_area = area_of (four_at 68 bytes);
   free_space = record { interval = slice_index bytes 72; area = slice_index bytes 73 };
   share_options = record { regions = slice_index bytes 74; systems = slice_index bytes 75 };
   space = space_of (slice_index bytes 76);
-  primary = four_at bytes 80;
-  secondary = four_at bytes 84;
-  interval_size = four_at bytes 88;
-  data_name = unpadded_or_none (field_at bytes 92 44);
-  index_name = unpadded_or_none (field_at bytes 136 44);
-  storage_class = unpadded_or_none (field_at bytes 180 8);
-  data_class = unpadded_or_none (field_at bytes 188 8);
-  management_class = unpadded_or_none (field_at bytes 196 8);
+  primary = four_at 80 bytes;
+  secondary = four_at 84 bytes;
+  interval_size = four_at 88 bytes;
+  data_name = some_text (text_at 92 44 bytes);
+  index_name = some_text (text_at 136 44 bytes);
+  storage_class = some_text (text_at 180 8 bytes);
+  data_class = some_text (text_at 188 8 bytes);
+  management_class = some_text (text_at 196 8 bytes);
 }
 
 -- the entry that bytes spell, if they spell one
 unfoldable pub entry_of : List ℕ → Option CatEntry
-entry_of bytes = if is_entry (entry_in bytes) && pointwise ◌==◌ (spelling (entry_in bytes)) bytes then Some (entry_in bytes) else None
+entry_of bytes = if is_entry (entry_in bytes) && bytes_eq (spelling (entry_in bytes)) bytes then Some (entry_in bytes) else None

@@ -1,6 +1,8 @@
 //! An entry of the catalog, with what DEFINE of Access Method Services Commands states of it.
+ghost use Rattle.std.specs.Prelude.{◌≡◌, IfOk};
 
-use vr_types::{AreaNo, Kind, Name, PartNo};
+use std::alloc::Global;
+use vr_types::{AreaNo, Kind, Name, OutOfMemory, PartNo};
 
 /// What an entry describes.
 #[derive(Clone, Copy, Debug, PartialEq, Eq, Hash)]
@@ -69,4 +71,48 @@ pub struct CatEntry {
     pub storage_class: Option<Name>,
     pub data_class: Option<Name>,
     pub management_class: Option<Name>,
+}
+
+impl CatEntry {
+    /// Copies the value; fails only if memory runs out.
+    pub fn copy(&self, alloc: Global) -> Result<CatEntry, OutOfMemory>
+        ensures { IfOk result (λ copy. copy ≡ self.now) }
+    {
+        Ok(CatEntry {
+            name: self.name.copy(alloc)?,
+            entry_kind: self.entry_kind,
+            kind: self.kind,
+            spanned: self.spanned,
+            unique: self.unique,
+            built: self.built,
+            part: self.part,
+            related: self.related,
+            key_length: self.key_length,
+            key_offset: self.key_offset,
+            average: self.average,
+            maximum: self.maximum,
+            first_area: self.first_area,
+            free_space: self.free_space,
+            share_options: self.share_options,
+            space: self.space,
+            primary: self.primary,
+            secondary: self.secondary,
+            interval_size: self.interval_size,
+            data_name: copy_of_name(alloc, &self.data_name)?,
+            index_name: copy_of_name(alloc, &self.index_name)?,
+            storage_class: copy_of_name(alloc, &self.storage_class)?,
+            data_class: copy_of_name(alloc, &self.data_class)?,
+            management_class: copy_of_name(alloc, &self.management_class)?,
+        })
+    }
+}
+
+/// A copy of the name, where there is one.
+pub(crate) fn copy_of_name(alloc: Global, name: &Option<Name>) -> Result<Option<Name>, OutOfMemory>
+    ensures { IfOk result (λ copy. copy ≡ name.now) }
+{
+    match name {
+        None => Ok(None),
+        Some(name) => Ok(Some(name.copy(alloc)?)),
+    }
 }

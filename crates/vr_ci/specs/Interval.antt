@@ -1,18 +1,19 @@
 -- The grammar of control intervals, as the relation between a block and its value.
--- Records from the front, free space, RDFs from right to left and the CIDF in the last four bytes are
--- DFSMS Using Data Sets, "Control interval format". Zero free space, the one spelling of each value and
--- the room of records are this project's own rules.
-use Rattle.std.specs.Prelude.{◌≡◌, ℕ, ◌+◌, ◌-◌, ◌/◌, ◌<◌, ◌≤◌, ◌⊎◌, Bool, false, if◌then◌else◌, List, [], ◌∷◌, ◌++◌, length, take, map, replicate}
+-- What lies where in a block is DFSMS Using Data Sets, "Control interval format". The one spelling of each
+-- value and the room of records are this project's own rules.
+use Rattle.std.specs.Prelude.{◌≡◌, ℕ, ◌+◌, ◌-◌, ◌<◌, ◌≤◌, ◌⊎◌, Bool, false, List, [], ◌∷◌, length}
+use Rattle.std.specs.Prelude.{map, replicate}
 use Rattle.std.specs.List.{flat_map, AllByRecursion}
-use Rattle.vr_ci.specs.declared.form.Form.{Form}
-use Rattle.vr_ci.specs.declared.form.Form.TheVariants.{Plain, Slots}
-use Rattle.vr_ci.specs.declared.form.Piece.{Piece}
-use Rattle.vr_ci.specs.declared.form.Piece.TheVariants.{First, Inner, Last}
-use Rattle.vr_ci.specs.declared.form.Shape.{Shape}
-use Rattle.vr_ci.specs.declared.form.Shape.TheVariants.{Records, Segment, EndOfFile}
-use Rattle.vr_ci.specs.declared.rdf.Rdf.{Rdf}
-use Rattle.vr_ci.specs.Size.{IsBlockSize}
-use Rattle.vr_ci.specs.Rdf.{Mark, marks, spans, two_bytes, control, IsCount, IsChain, shape_of}
+use Rattle.vr_ci_match.specs.declared.form.Form.{Form}
+use Rattle.vr_ci_match.specs.declared.form.Form.TheVariants.{Plain, Slots}
+use Rattle.vr_ci_match.specs.declared.form.Piece.{Piece}
+use Rattle.vr_ci_match.specs.declared.form.Piece.TheVariants.{First, Inner, Last}
+use Rattle.vr_ci_match.specs.declared.form.Shape.{Shape}
+use Rattle.vr_ci_match.specs.declared.form.Shape.TheVariants.{Records, Segment, EndOfFile}
+use Rattle.vr_ci_match.specs.declared.rdf.Rdf.{Rdf}
+use Rattle.vr_types.specs.BlockSize.{IsBlockSize}
+use Rattle.vr_ci_match.specs.Rdf.{Mark, marks, IsCount, IsChain, shape_of}
+use Rattle.vr_ci_match.specs.Laid.{slots_in, laid}
 
 -- a record, a slot or a segment
 pub record Item : Type 0 where
@@ -44,10 +45,6 @@ abbrev pub room : List Item → ℕ
 room [] = 0
 room (item ∷ items) = length item.bytes + 3 + room items
 
--- how many slots of this length a block has
-abbrev pub slots_in : ℕ → ℕ → ℕ
-slots_in size length = (size - 4) / (length + 3)
-
 -- A segment that is not the last fills its block.
 abbrev pub IsSegmentLength : Piece → ℕ → ℕ → Type 0
 IsSegmentLength First size n = n ≡ size - 10
@@ -60,30 +57,14 @@ FitsBlock Plain size Records items = room items ≤ size - 4
 FitsBlock (Slots len) size Records items =
     AllByRecursion (λ item. length item.bytes ≡ len) items × (length items ≡ slots_in size len)
 FitsBlock form size (Segment piece number) items =
-    IsCount number × AllByRecursion (λ item. IsSegmentLength piece size (length item.bytes)) items × (length items ≡ 1)
+    IsCount number × AllByRecursion (λ item. IsSegmentLength piece size (length item.bytes)) items
+    × (length items ≡ 1)
 FitsBlock form size EndOfFile items = items ≡ []
 
 pub record Fits (form : Form) (size : ℕ) (value : Interval) : Type 0 where
   pub items : AllByRecursion IsItem value.items
   pub block : FitsBlock form size value.shape value.items
   pub idle : value.shape ≡ EndOfFile → value.busy ≡ false
-
--- the first n bytes, with zeros behind them where there are fewer
-abbrev pub padded : ℕ → List ℕ → List ℕ
-padded n bytes = take n (bytes ++ replicate n 0)
-
--- displacement and length of the free space; the high bit is the busy flag
-abbrev pub cidf : ℕ → ℕ → Bool → List ℕ
-cidf displacement free busy = two_bytes displacement ++ two_bytes (free + (if busy then 32768 else 0))
-
--- where the RDFs begin, and the free space ends
-abbrev pub control_at : ℕ → List Rdf → ℕ
-control_at size rdfs = size - 4 - length (control rdfs)
-
--- a block with these bytes at its front, zeros behind them, these RDFs and their CIDF
-abbrev pub laid : ℕ → List ℕ → List Rdf → Bool → List ℕ
-laid size front rdfs busy =
-    padded (control_at size rdfs) front ++ control rdfs ++ cidf (spans rdfs) (control_at size rdfs - spans rdfs) busy
 
 -- The RDFs say the marks of the items in order, and the block is laid out from the items' bytes and the RDFs.
 pub record IsLaidOut (form : Form) (block : List ℕ) (value : Interval) : Type 0 where
@@ -94,12 +75,12 @@ pub record IsLaidOut (form : Form) (block : List ℕ) (value : Interval) : Type 
   pub layout : block ≡ laid (length block) (flat_map bytes_of value.items) rdfs value.busy
 
 -- A software end of file is all zeros.
-abbrev pub IsImage : Form → List ℕ → Interval → Type 0
-IsImage form block value =
+abbrev pub IsLaid : Form → List ℕ → Interval → Type 0
+IsLaid form block value =
     IsLaidOut form block value ⊎ ((value.shape ≡ EndOfFile) × (block ≡ replicate (length block) 0))
 
 -- the block is a control interval of the form, and this is its value
 pub record IsInterval (form : Form) (block : List ℕ) (value : Interval) : Type 0 where
   pub size : IsBlockSize (length block)
   pub fits : Fits form (length block) value
-  pub image : IsImage form block value
+  pub laid : IsLaid form block value

@@ -1,17 +1,19 @@
 -- What a writer holds before its block is ended.
-use Rattle.std.specs.Prelude.{◌≡◌, ℕ, ◌+◌, ◌-◌, ◌<◌, ◌≤◌, Bool, true, false, ◌==◌, if◌then◌else◌, List, ◌++◌, length, take, drop, map, replicate, Option, Some, None}
+use Rattle.std.specs.Prelude.{◌≡◌, ℕ, ◌+◌, ◌-◌, ◌<◌, ◌≤◌, Bool, true, false, ◌==◌, if◌then◌else◌}
+use Rattle.std.specs.Prelude.{List, ◌++◌, length, take, drop, map, replicate, Option, Some, None}
 use Rattle.std.specs.List.{flat_map, AllByRecursion}
-use Rattle.vr_ci.specs.declared.form.Form.{Form}
-use Rattle.vr_ci.specs.declared.form.Form.TheVariants.{Plain, Slots}
-use Rattle.vr_ci.specs.declared.form.Piece.{Piece}
-use Rattle.vr_ci.specs.declared.form.Piece.TheVariants.{First, Inner, Last}
-use Rattle.vr_ci.specs.declared.form.Shape.TheVariants.{Records}
-use Rattle.vr_ci.specs.declared.rdf.Rdf.{Rdf}
-use Rattle.vr_ci.specs.declared.rdf.Rdf.TheVariants.{Single, Run, Segment}
+use Rattle.vr_ci_match.specs.declared.form.Form.{Form}
+use Rattle.vr_ci_match.specs.declared.form.Form.TheVariants.{Plain, Slots}
+use Rattle.vr_ci_match.specs.declared.form.Piece.{Piece}
+use Rattle.vr_ci_match.specs.declared.form.Piece.TheVariants.{First, Inner, Last}
+use Rattle.vr_ci_match.specs.declared.form.Shape.TheVariants.{Records}
+use Rattle.vr_ci_match.specs.declared.rdf.Rdf.{Rdf}
+use Rattle.vr_ci_match.specs.declared.rdf.Rdf.TheVariants.{Single, Run, Segment}
 use Rattle.vr_ci.specs.declared.writer.CiWriter.{CiWriter}
-use Rattle.vr_ci.specs.Size.{IsBlockSize}
-use Rattle.vr_ci.specs.Rdf.{marks, control, IsChain, last_from, shape_of}
-use Rattle.vr_ci.specs.Interval.{Item, IsItem, bytes_of, mark_of, slots_in}
+use Rattle.vr_types.specs.BlockSize.{IsBlockSize}
+use Rattle.vr_ci_match.specs.Rdf.{marks, control, IsChain, last_from, shape_of}
+use Rattle.vr_ci.specs.Interval.{Item, IsItem, bytes_of, mark_of}
+use Rattle.vr_ci_match.specs.Laid.{slots_in}
 
 abbrev pub form_of : CiWriter → Form
 form_of w = w.form
@@ -48,7 +50,10 @@ IsComplete w = SlotsAdded w.form (length w.out.now) w.added
 
 -- A withdrawn record and an empty slot keep their length alone: their bytes are zero.
 abbrev pub written : List ℕ → Bool → Item
-written bytes live = record { bytes = if live then bytes else replicate (length bytes) 0; live = live }
+written bytes live = record {
+  bytes = if live then bytes else replicate (length bytes) 0;
+  live = live;
+}
 
 -- A segment that is not the last has as many bytes as fill its block, if it has any.
 abbrev pub Fills : Piece → ℕ → ℕ → Type 0
@@ -74,10 +79,6 @@ run_started (Slots len) live = 0
 -- the RDF or pair of so many live records
 abbrev pub run_rdf : ℕ → ℕ → Rdf
 run_rdf n count = if count == 1 then Single true n else Run n count
-
--- a list with these bytes from a place on, and longer nowhere
-abbrev pub placed : List ℕ → ℕ → List ℕ → List ℕ
-placed block at bytes = take at block ++ bytes ++ drop (at + length bytes) block
 
 -- What a writer holds: these items stand at the front of its block, and their RDFs at the right end.
 pub record Holds (w : CiWriter) (held : List Item) : Type 0 where

@@ -1,17 +1,18 @@
 //! Writing the parts of a control interval into a block.
 
 ghost use Rattle.std.specs.Prelude.{◌≡◌, ◌+◌, ◌-◌, ◌<◌, ◌≤◌, ◌↔◌, ℕ, length, drop, take, replicate, IsTrue};
-ghost use Rattle.vr_ci.specs.Rdf.{two_bytes, rdf_bytes, segment_bits, withdrawn_bit};
-ghost use Rattle.vr_ci.specs.Interval.{cidf};
-ghost use Rattle.vr_ci.specs.Writer.{placed, written, run_rdf, run_started};
+ghost use Rattle.vr_ci_match.specs.Rdf.{two_bytes, rdf_bytes, segment_bits, withdrawn_bit};
+ghost use Rattle.vr_ci_match.specs.Laid.{cidf};
+ghost use Rattle.vr_ci.specs.Writer.{written, run_rdf, run_started};
+ghost use Rattle.vr_types.specs.Fields.{with_bytes};
 
-use crate::form::{Form, Piece};
-use crate::rdf::Rdf;
+use vr_ci_match::{Form, Piece, Rdf};
+use vr_types::put_two;
 
 /// The bytes of an item, or zeros where it is not live.
 pub fn put_item(out: &mut [u8], at: usize, item: &[u8], live: bool)
     requires { at + length item.now ≤ length out.old }
-    ensures { out.new ≡ placed out.old at (written item.now live).bytes }
+    ensures { out.new ≡ with_bytes out.old at (written item.now live).bytes }
 {
     let end = at + item.len();
     if live {
@@ -25,23 +26,24 @@ pub fn put_item(out: &mut [u8], at: usize, item: &[u8], live: bool)
 pub fn put_zeros(out: &mut [u8], from: usize, to: usize)
     requires order { from ≤ to }
     requires within { to ≤ length out.old }
-    ensures { out.new ≡ placed out.old from (replicate (to - from) 0) }
+    ensures { out.new ≡ with_bytes out.old from (replicate (to - from) 0) }
 {
     out[from..to].fill(0);
 }
 
 /// A number in two bytes.
+#[tactic(auto, using(crate::proofs::PlaceLemmas::two_is))]
 fn put_number(out: &mut [u8], at: usize, number: u16)
     requires { at + 2 ≤ length out.old }
-    ensures { out.new ≡ placed out.old at (two_bytes number) }
+    ensures { out.new ≡ with_bytes out.old at (two_bytes number) }
 {
-    out[at..at + 2].copy_from_slice(&number.to_be_bytes());
+    put_two(out, at, number);
 }
 
 /// An RDF, or a pair.
 pub fn put_rdf(out: &mut [u8], at: usize, rdf: Rdf)
     requires { at + length (rdf_bytes rdf) ≤ length out.old }
-    ensures { out.new ≡ placed out.old at (rdf_bytes rdf) }
+    ensures { out.new ≡ with_bytes out.old at (rdf_bytes rdf) }
 {
     match rdf {
         Rdf::Single { live, length } => {
@@ -91,7 +93,7 @@ pub fn extend_run(out: &mut [u8], at: usize, count: usize) -> usize
     ensures length { length out.new ≡ length out.old }
     ensures run { (n : ℕ) → take (length (rdf_bytes (run_rdf n count))) (drop at out.old) ≡ rdf_bytes (run_rdf n count)
         → (result + 6 ≡ at + length (rdf_bytes (run_rdf n count)))
-        × (out.new ≡ placed out.old result (rdf_bytes (run_rdf n (count + 1)))) }
+        × (out.new ≡ with_bytes out.old result (rdf_bytes (run_rdf n (count + 1)))) }
 {
     if count == 1 {
         out[at] = 0x40;
@@ -109,7 +111,7 @@ pub fn put_cidf(out: &mut [u8], displacement: usize, free: usize, busy: bool)
     requires size { 4 ≤ length out.old }
     requires displacement { displacement < 65536 }
     requires free { free < 32768 }
-    ensures { out.new ≡ placed out.old (length out.old - 4) (cidf displacement free busy) }
+    ensures { out.new ≡ with_bytes out.old (length out.old - 4) (cidf displacement free busy) }
 {
     let at = out.len() - 4;
     let field = if busy { free + 32_768 } else { free };

@@ -1,12 +1,10 @@
 //! An iterator over the records of a control interval.
 
-ghost use Rattle.std.specs.Prelude.{◌≡◌, ◌+◌, ◌-◌, ◌*◌, ◌<◌, ◌≤◌, Bool, List, [], ◌∷◌, length, MatchOption, ℕ};
+ghost use Rattle.std.specs.Prelude.{◌≡◌, Bool, List, [], MatchOption, ℕ};
 ghost use Rattle.std.specs.Iterator.{YieldsFirstBy, item_count};
-ghost use Rattle.vr_ci.specs.declared.form.Shape.{Shape};
-ghost use Rattle.vr_ci.specs.Rdf.{IsRdf, spans};
-ghost use Rattle.vr_ci.specs.Reading.{rdfs_between, AreLent, IsShown, value_in, marks_left};
+ghost use Rattle.vr_ci_match.specs.declared.form.Shape.{Shape};
+ghost use Rattle.vr_ci.specs.Reading.{AreLent, IsShown, IsNextBatch, value_in, marks_left};
 
-use crate::rdf::{Rdf, unit_before};
 use std::marker::Model;
 
 /// The records that are left of an RDF or pair, and where it begins.
@@ -84,32 +82,39 @@ impl<'a> Iterator for Records<'a> {
 /// The batch with records left that the next record is of.
 fn batch_from(bytes: &[u8], low: usize, batch: Batch) -> Option<Batch>
     requires { AreLent bytes.now low batch.end }
-    ensures { MatchOption result (marks_left bytes.now low batch ≡ [])
-        (λ next. (0 < next.left) × (marks_left bytes.now low next ≡ marks_left bytes.now low batch) × AreLent bytes.now low next.end
-        × (next.left * next.length + spans (rdfs_between low next.end bytes.now) ≡ batch.left * batch.length + spans (rdfs_between low batch.end bytes.now))) }
+    ensures { MatchOption result (marks_left bytes.now low batch ≡ []) (IsNextBatch bytes.now low batch) }
 {
     if batch.left > 0 {
         return Some(batch);
     }
-    let (end, rdf) = rdf_before(bytes, low, batch.end)?;
-    Some(Batch {
-        end,
-        left: rdf.count(),
-        length: rdf.length(),
-        live: rdf.is_live(),
-    })
-}
-
-/// The rightmost RDF or pair between two places, and where it begins.
-fn rdf_before(bytes: &[u8], low: usize, end: usize) -> Option<(usize, Rdf)>
-    requires { AreLent bytes.now low end }
-    ensures { MatchOption result (rdfs_between low end bytes.now ≡ [])
-        (λ found. (rdfs_between low end bytes.now ≡ found.1 ∷ rdfs_between low found.0 bytes.now)
-        × AreLent bytes.now low found.0 × IsRdf found.1) }
-{
-    if end - low < 3 {
+    let end = batch.end;
+    if end == low {
         return None;
     }
-    let (at, read) = unit_before(bytes, low, end);
-    Some((at, read?))
+    let flags = bytes[end - 3];
+    let length = usize::from(u16::from_be_bytes([bytes[end - 2], bytes[end - 1]]));
+    let live = flags & 0x04 == 0;
+    if flags < 0x40 {
+        return Some(Batch {
+            end: end - 3,
+            left: 1,
+            length,
+            live,
+        });
+    }
+    if flags > 0x40 {
+        return Some(Batch {
+            end: end - 6,
+            left: 1,
+            length,
+            live,
+        });
+    }
+    let count = u16::from_be_bytes([bytes[end - 5], bytes[end - 4]]);
+    Some(Batch {
+        end: end - 6,
+        left: usize::from(count),
+        length,
+        live,
+    })
 }

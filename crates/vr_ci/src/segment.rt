@@ -1,15 +1,14 @@
 //! Writing a segment of a spanned record.
 
 ghost use Rattle.std.specs.Prelude.{◌≡◌, ◌+◌, ◌-◌, ◌<◌, ◌≤◌, ◌↔◌, ◌⊎◌, [], ◌∷◌, length, IsErr, OnOk, OnErr, IfErr};
-ghost use Rattle.vr_ci.specs.declared.form.Shape.TheVariants as shapes;
-ghost use Rattle.vr_ci.specs.Size.{IsBlockSize};
+ghost use Rattle.vr_ci_match.specs.declared.form.Shape.TheVariants as shapes;
+ghost use Rattle.vr_types.specs.BlockSize.{IsBlockSize};
 ghost use Rattle.vr_ci.specs.Interval.{IsInterval};
 ghost use Rattle.vr_ci.specs.Writer.{written, Fills};
 
-use crate::fault::NoRoom;
-use crate::form::{Form, Piece};
+use crate::no_room::NoRoom;
 use crate::put::{put_cidf, put_item, put_rdf, put_zeros};
-use crate::rdf::Rdf;
+use vr_ci_match::{Form, Piece, Rdf};
 
 /// Writes a segment of a spanned record, with the record's update number, into a block, whatever it held
 /// before. Of a withdrawn record the length alone is kept.

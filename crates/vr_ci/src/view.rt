@@ -2,11 +2,11 @@
 
 ghost use Rattle.std.specs.Prelude.{◌≡◌, ◌≤◌, ◌<◌, length, map, slice_get, IfOk, IfErr, ℕ};
 
-use crate::fault::CiFault;
-use crate::form::{Form, Shape};
-use crate::reading::found_in;
 use crate::records::Records;
+use crate::walk::records_found;
 use std::marker::Model;
+use vr_ci_match::{CiFault, Form, Found, Shape, match_block};
+use vr_types::is_block_size;
 
 /// A block that is a control interval. Contracts see its value: shape, items and busy flag. A segment is
 /// one item, and an end of file has none.
@@ -33,8 +33,8 @@ impl<'a> Model for CiView<'a> {
 
 impl<'a> CiView<'a> {
     ghost use Rattle.vr_ci.specs.Interval.{Interval, IsInterval, bytes_of, live_of};
-    ghost use Rattle.vr_ci.specs.Fault.{IsFirstFault};
-    ghost use Rattle.vr_ci.specs.Reading.{CountFits};
+    ghost use Rattle.vr_ci_match.specs.Fault.{IsFirstFault};
+    ghost use Rattle.vr_ci.specs.Reading.{CountFits, IsView, value_in};
 
     /// Reads a block in one pass. It answers Ok exactly for the control intervals of the form, and otherwise
     /// the first fault. The form says how records are spelled; segments and an end of file are the same in both.
@@ -46,14 +46,27 @@ impl<'a> CiView<'a> {
         // Which fault it is, and where.
         ensures fault { IfErr result (IsFirstFault form bytes.now) }
     {
-        let found = found_in(form, bytes)?;
-        Ok(CiView {
+        if is_block_size(bytes.len())
+            && let Some(found) = records_found(form, bytes)
+        {
+            return Ok(CiView::of(bytes, found));
+        }
+        let found = match_block(form, bytes)?;
+        Ok(CiView::of(bytes, found))
+    }
+
+    /// The view of a block that was found to hold this.
+    fn of(bytes: &'a [u8], found: Found) -> CiView<'a>
+        requires { IsView bytes.now found.low found.shape found.count }
+        ensures { result ≡ value_in bytes.now found.low found.shape found.busy }
+    {
+        CiView {
             bytes,
             shape: found.shape,
             busy: found.busy,
             count: found.count,
             low: found.low,
-        })
+        }
     }
 
     /// What the block holds.

@@ -1,13 +1,12 @@
 //! Writing a control interval into a block.
 
 ghost use Rattle.std.specs.Prelude.{◌≡◌, ◌+◌, ◌-◌, ◌*◌, ◌<◌, ◌≤◌, ◌↔◌, Bool, ℕ, List, [], ◌∷◌, ◌++◌, length, IsErr, OnOk, OnErr, IfErr};
-ghost use Rattle.vr_ci.specs.declared.form.Shape.TheVariants as shapes;
-ghost use Rattle.vr_ci.specs.Size.{IsBlockSize};
+ghost use Rattle.vr_ci_match.specs.declared.form.Shape.TheVariants as shapes;
+ghost use Rattle.vr_types.specs.BlockSize.{IsBlockSize};
 
-use crate::fault::NoRoom;
-use crate::form::Form;
+use crate::no_room::NoRoom;
 use crate::put::{extend_run, goes_on, put_cidf, put_item, put_rdf, put_zeros, run_started};
-use crate::rdf::Rdf;
+use vr_ci_match::{Form, Rdf};
 
 /// Writes records into a block, one behind the other. The block is a control interval once `end` is called.
 #[derive(Drop)]

@@ -8,7 +8,7 @@ use Rattle.std.proofs.lemmas.List.{append_cancel_left}
 use Rattle.vr_text.specs.declared.literal.LiteralFault.{LiteralFault}
 use Rattle.vr_text.specs.declared.literal.LiteralFault.TheVariants.{Memory}
 use Rattle.vr_text.specs.Literal.{IsLiteral, CauseOf}
-use Rattle.vr_text.proofs.Laws.{literal_has_no_cause}
+use Rattle.vr_text.proofs.CallerLemmas.{literal_has_no_cause}
 use Rattle.vr_deck.specs.Line.{unindented, word, after_word}
 use Rattle.vr_deck.specs.DeckLine.{Meaning, Nothing, FileOf, PutOf, GetOf, IsDeckLine, Orders, IsKeyword, IsFirstFile}
 

@@ -4,7 +4,7 @@ use Rattle.std.specs.List.{prefix_len}
 use Rattle.std.proofs.lemmas.List.{append_cancel_left}
 use Rattle.std.proofs.lemmas.List.Sums.{take_while-cons}
 use Rattle.vr_text.specs.Literal.{IsLiteral}
-use Rattle.vr_text.proofs.Laws.{one_value}
+use Rattle.vr_text.proofs.CallerLemmas.{one_value}
 use Rattle.vr_deck.specs.Line.{is_blank, unindented, word}
 use Rattle.vr_deck.specs.Card.{IsStepCard}
 use Rattle.vr_deck.specs.DeckLine.{Meaning, Nothing, FileOf, PutOf, GetOf, IsDeckLine, Orders, IsKeyword}

@@ -6,7 +6,8 @@ use Rattle.std.specs.Int.{w32, to_be_bytes}
 use Rattle.std.specs.Option.{option_map_or}
 use Rattle.vr_altkey.specs.Pairs.{field_of}
 use Rattle.vr_catalog.specs.Catalog.{Alternate}
-use Rattle.vr_catalog.specs.Definition.{Definition, key_of}
+use Rattle.vr_catalog.specs.declared.definition.Definition.{Definition}
+use Rattle.vr_catalog.specs.Definition.{key_of}
 use Rattle.vr_types.specs.Content.{Item, Standing, record_at}
 use Rattle.vr_types.specs.declared.request.Request.{Request}
 use Rattle.vr_types.specs.declared.request.Request.TheVariants.{Get, Point, Add, Update, Erase, EndReq, Commit, Backout}

@@ -3,7 +3,7 @@
 use Rattle.std.specs.Prelude.{ℕ, cond, List, Option, Some, None, ◌==◌, filter, find}
 use Rattle.std.specs.Option.{option_map_or}
 use Rattle.vr_catalog.specs.Catalog.{Alternate, entries_in, definition_of, alternates_over}
-use Rattle.vr_catalog.specs.Definition.{Definition}
+use Rattle.vr_catalog.specs.declared.definition.Definition.{Definition}
 use Rattle.vr_catalog.specs.declared.entry.CatEntry.{CatEntry}
 use Rattle.vr_types.specs.declared.request.FileRef.{FileRef}
 use Rattle.vr_types.specs.declared.unit.PartNo.{PartNo}

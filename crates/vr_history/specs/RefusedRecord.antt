@@ -4,7 +4,8 @@
 use Rattle.std.specs.Prelude.{ℕ, Bool, true, false, not, nat_eq, List, Option, Some, None, ◌&&◌, ◌||◌, length, bytes_eq, find, is_none, is_some, option_map, option_and_then}
 use Rattle.std.specs.List.{list_any}
 use Rattle.std.specs.Option.{option_map_or}
-use Rattle.vr_catalog.specs.Definition.{Definition, key_of}
+use Rattle.vr_catalog.specs.declared.definition.Definition.{Definition}
+use Rattle.vr_catalog.specs.Definition.{key_of}
 use Rattle.vr_types.specs.Content.{record_at}
 use Rattle.vr_types.specs.Locks.{Lock}
 use Rattle.vr_types.specs.declared.position.Stand.{Stand}

@@ -1,7 +1,7 @@
 -- Refusals of a change for want of room: in the areas of the volume, and in its log. Each word answers the refusal
 -- exactly where its cause is there. How much room a record needs is this project's own.
 use Rattle.std.specs.Prelude.{ℕ, ◌+◌, ◌-◌, nat_lt, List, Option, ◌&&◌, length, is_some, option_map, option_and_then}
-use Rattle.vr_catalog.specs.Definition.{Definition}
+use Rattle.vr_catalog.specs.declared.definition.Definition.{Definition}
 use Rattle.vr_types.specs.Geometry.{area_count}
 use Rattle.vr_types.specs.declared.reply.Refusal.{Refusal}
 use Rattle.vr_types.specs.declared.reply.Refusal.TheVariants.{NoSpace, LogFull}

@@ -27,12 +27,14 @@ ghost use Rattle.vr_history.specs.Step.{after_asked};
 
 /// A refused request changes nothing but where its file stands and what it holds.
 pub fn refused_changes_nothing()
-    ensures { (case : Case) (refusal : RefusalOf) → OnlyRefused case refusal (after_asked case (Refused refusal)) }
+    ensures { (case : Case) (refusal : RefusalOf)
+        → OnlyRefused case refusal (after_asked case (Refused refusal)) }
 {}
 
 /// A unit of recovery that ended holds no lock.
 pub fn ended_holds_nothing()
-    ensures { (unit : UnitOfRecovery) (state : State) → HasNoLock unit (ends_unit unit state).locks }
+    ensures { (unit : UnitOfRecovery) (state : State)
+        → HasNoLock unit (ends_unit unit state).locks }
 {}
 
 /// The entries of the merged history come by their stamps, and those of one stamp by their volumes.
@@ -42,7 +44,8 @@ pub fn merged_in_order()
 
 /// Two live units of recovery never hold one name where one of the two locks is exclusive.
 pub fn no_two_locks_conflict()
-    ensures { (geometry : Geometry) (contents : ℕ → Content) (owned : List Owned) (entries : List Entry)
+    ensures { (geometry : Geometry) (contents : ℕ → Content) (owned : List Owned)
+        (entries : List Entry)
         → AreSteps geometry (opening_state contents owned) entries
         → NoTwoConflict (state_of geometry (opening_state contents owned) entries).locks }
 {}
@@ -51,18 +54,19 @@ pub fn no_two_locks_conflict()
 /// record of the state, or the one that a unit which doesn't count keeps as its before-image. The part is one that the
 /// catalog has throughout.
 pub fn committed_is_settled()
-    ensures { (geometry : Geometry) (contents : ℕ → Content) (owned : List Owned) (entries : List Entry)
-        (others : List UnitOfRecovery) (part : ℕ)
+    ensures { (geometry : Geometry) (contents : ℕ → Content) (owned : List Owned)
+        (entries : List Entry) (others : List UnitOfRecovery) (part : ℕ)
         → let opening = opening_state contents owned in let counts = is_counted others entries in
-        AreSteps geometry opening entries → HasPartThroughout geometry part counts opening contents entries
+        AreSteps geometry opening entries
+        → HasPartThroughout geometry part counts opening contents entries
         → (place : List ℕ) → record_now (committed geometry opening entries others) part place
         ≡ settled_record counts (state_of geometry opening entries) part place }
 {}
 
 /// Where no unit keeps a before-image, as once all have ended, the committed contents are those of the state.
 pub fn committed_is_current()
-    ensures { (geometry : Geometry) (contents : ℕ → Content) (owned : List Owned) (entries : List Entry)
-        (others : List UnitOfRecovery) (part : ℕ)
+    ensures { (geometry : Geometry) (contents : ℕ → Content) (owned : List Owned)
+        (entries : List Entry) (others : List UnitOfRecovery) (part : ℕ)
         → let opening = opening_state contents owned in
         AreSteps geometry opening entries
         → HasPartThroughout geometry part (is_counted others entries) opening contents entries
@@ -73,8 +77,9 @@ pub fn committed_is_current()
 
 /// A unit of recovery that is backed out leaves the committed contents as they were.
 pub fn backed_out_changes_nothing()
-    ensures { (geometry : Geometry) (opening : State) (entries : List Entry) (others : List UnitOfRecovery)
-        (last : Entry) (feedback : ℕ) (place bytes : Option (List ℕ))
+    ensures { (geometry : Geometry) (opening : State) (entries : List Entry)
+        (others : List UnitOfRecovery) (last : Entry) (feedback : ℕ) (place bytes : Option (List ℕ))
         → last.what ≡ Asked Backout (Done feedback place bytes)
-        → committed geometry opening (entries ++ last ∷ []) others ≡ committed geometry opening entries others }
+        → committed geometry opening (entries ++ last ∷ []) others
+        ≡ committed geometry opening entries others }
 {}

@@ -1,41 +1,47 @@
-use Rattle.std.specs.Prelude.{◌≡◌, ℕ, ◌+◌, ◌==◌, ◌&&◌, nat_lt, min, if◌then◌else◌, List, length, take, ◌++◌}
-use Rattle.vr_types.specs.Count.{next_call}
-use Rattle.vr_outside.specs.Calls.{is_listed}
+-- A sink in memory, as clauses see it, and what its calls do. The rules are this project's own.
+use Rattle.std.specs.Prelude.{◌≡◌, ℕ, ◌+◌, ◌==◌, ◌&&◌, nat_lt, min, if◌then◌else◌, List, length}
+use Rattle.std.specs.Prelude.{take, ◌++◌}
+use Rattle.vr_types.specs.Calls.{Calls, counted, fails_next}
 
--- A sink in memory, as clauses see it.
+-- The bytes that it took, how many bytes a call takes at most, which calls fail and which take
+-- nothing, how many failed or took nothing of some bytes, and how many failed since memory ran out.
 pub record SinkState : Type 0 where
-  -- the bytes that it took
   pub taken : List ℕ
-  -- how many bytes a call takes at most
   pub most : ℕ
-  -- the numbers of the calls that fail, and of those that take nothing
-  pub fails : List ℕ
-  pub takes_none : List ℕ
-  -- the number of the next call
-  pub calls : ℕ
-  -- how many calls failed, or took nothing of a piece
+  pub calls : Calls
+  pub idle : Calls
   pub faults : ℕ
-  -- how many calls failed for want of memory
   pub refused : ℕ
 
--- how many bytes a call takes of a piece
+-- how many of these bytes the next call takes
 abbrev pub count_taken : SinkState → List ℕ → ℕ
-count_taken sink piece = if is_listed sink.calls sink.takes_none then 0 else min sink.most (length piece)
+count_taken sink bytes = if fails_next sink.idle then 0 else min sink.most (length bytes)
 
--- the faults of a call that took n bytes of a piece: one where it took nothing and there was something to take
+-- the faults of a call that took n of these bytes: one where it took nothing and there was
+-- something to take
 abbrev pub faults_of : List ℕ → ℕ → ℕ
-faults_of piece n = if n == 0 && nat_lt 0 (length piece) then 1 else 0
+faults_of bytes n = if n == 0 && nat_lt 0 (length bytes) then 1 else 0
 
--- The call took n bytes of the piece, and keeps them behind those that it had.
-pub record TakesFront (old new : SinkState) (piece : List ℕ) (n : ℕ) : Type 0 where
-  pub count : n ≡ count_taken old piece
-  pub state : new ≡ record old { taken = old.taken ++ take n piece; calls = next_call old.calls; faults = old.faults + faults_of piece n }
+-- The call took the first n of these bytes, and keeps them after those that it had.
+pub record TakesFirst (old new : SinkState) (bytes : List ℕ) (n : ℕ) : Type 0 where
+  pub count : n ≡ count_taken old bytes
+  pub state : new ≡ record old {
+    taken = old.taken ++ take n bytes;
+    calls = counted old.calls;
+    idle = counted old.idle;
+    faults = old.faults + faults_of bytes n;
+  }
 
--- whether a failing call failed for want of memory: one where its number isn't in the list
+-- whether a failing call failed since memory ran out: one that was not to fail
 abbrev pub refusals_of : SinkState → ℕ
-refusals_of sink = if is_listed sink.calls sink.fails then 0 else 1
+refusals_of sink = if fails_next sink.calls then 0 else 1
 
--- The call failed and took nothing. The count rose by one, and where the number isn't in the list, that of want of
--- memory did too.
+-- The call failed and took nothing. The count rose by one, and where the call was not to fail, that
+-- of refusals did too.
 abbrev pub FailsWriting : SinkState → SinkState → Type 0
-FailsWriting old new = new ≡ record old { calls = next_call old.calls; faults = old.faults + 1; refused = old.refused + refusals_of old }
+FailsWriting old new = new ≡ record old {
+  calls = counted old.calls;
+  idle = counted old.idle;
+  faults = old.faults + 1;
+  refused = old.refused + refusals_of old;
+}

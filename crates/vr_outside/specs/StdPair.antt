@@ -1,3 +1,4 @@
+-- What clauses see of a source over a std reader and of a sink over a std writer.
 use Rattle.std.specs.Prelude.{ℕ}
 use Rattle.vr_outside.specs.declared.std_source.StdSource.{StdSource}
 use Rattle.vr_outside.specs.declared.std_sink.StdSink.{StdSink}

@@ -1,25 +1,25 @@
-ghost use Rattle.std.specs.Prelude.{◌≡◌, ℕ, ◌+◌, ◌-◌, ◌^◌, ◌<◌, ◌≤◌, Option, List, [], Some, length, take, min, IsErr, IsTrue, IfOk, OnErr};
-ghost use Rattle.vr_outside.specs.Told.{Takes};
-ghost use Rattle.vr_outside.specs.Faults.{CountsRefusal};
-ghost use Rattle.vr_outside.specs.Calls.{is_listed};
+//! A sink in memory.
+ghost use Rattle.std.specs.Prelude.{◌≡◌, ℕ, ◌+◌, ◌≤◌, [], Some, length, take, IsErr, IsTrue};
+ghost use Rattle.std.specs.Prelude.{IfOk, OnErr};
+ghost use Rattle.vr_types.specs.Calls.{uncalled, fails_next};
 ghost use Rattle.vr_types.specs.Count.{shown_of};
-ghost use Rattle.vr_outside.specs.MemorySink.{TakesFront, FailsWriting};
+ghost use Rattle.vr_outside.specs.Faults.{CountsRefusal};
+ghost use Rattle.vr_outside.specs.MemorySink.{TakesFirst, FailsWriting};
+ghost use Rattle.vr_outside.specs.Told.{Takes};
 
 use crate::sink::Sink;
 use std::alloc::Global;
 use std::marker::Model;
-use vr_types::{Failed, FaultCount};
+use vr_types::{Failed, FaultCount, Script};
 
-/// A sink in memory that keeps what it takes. Its calls fail where their numbers are in a list, take nothing where
-/// they are in another, and beside that fail where memory runs out, which is counted apart. The first call has
-/// number 0; those from 2^64 - 1 on share that number.
+/// A sink in memory that keeps what it takes. Its calls fail where its script says so, take nothing
+/// where a second script says so, and also fail where memory runs out, which is counted apart.
 #[derive(Drop)]
 pub struct MemorySink {
     bytes: Vec<u8>,
     most: usize,
-    fails: Vec<u64>,
-    takes_none: Vec<u64>,
-    calls: u64,
+    script: Script,
+    idle: Script,
     faults: FaultCount,
     refused: FaultCount,
 }
@@ -32,25 +32,31 @@ impl Model for MemorySink {
     ghost view = { λ sink. record {
       taken = sink.bytes.items;
       most = sink.most;
-      fails = sink.fails.items;
-      takes_none = sink.takes_none.items;
-      calls = sink.calls;
+      calls = sink.script;
+      idle = sink.idle;
       faults = sink.faults;
       refused = sink.refused;
     } };
 }
 
 impl MemorySink {
-    /// An empty sink that fails at these calls, and takes a whole piece at each other. It takes no memory yet.
-    pub fn new(alloc: Global, fails: Vec<u64>) -> MemorySink
-        ensures { result ≡ record { taken = []; most = usize.MAX; fails = fails.items; takes_none = []; calls = 0; faults = 0; refused = 0 } }
+    /// An empty sink that fails at the calls of these numbers, the first of which is 0, and takes
+    /// all bytes at each other. It takes no memory yet.
+    pub fn new(alloc: Global, failing: Vec<u64>) -> MemorySink
+        ensures { result ≡ record {
+          taken = [];
+          most = usize.MAX;
+          calls = uncalled failing.items;
+          idle = uncalled [];
+          faults = 0;
+          refused = 0;
+        } }
     {
         MemorySink {
             bytes: Vec::new(alloc),
             most: usize::MAX,
-            fails,
-            takes_none: Vec::new(alloc),
-            calls: 0,
+            script: Script::new(failing),
+            idle: Script::new(Vec::new(alloc)),
             faults: FaultCount::new(),
             refused: FaultCount::new(),
         }
@@ -63,11 +69,14 @@ impl MemorySink {
         MemorySink { most, ..self }
     }
 
-    /// The same sink, which takes nothing at these calls.
-    pub fn taking_none_at(self, takes_none: Vec<u64>) -> MemorySink
-        ensures { result ≡ record self { takes_none = takes_none.items } }
+    /// The same sink, which takes nothing at the calls of these numbers, counted from now.
+    pub fn taking_none_at(self, idle: Vec<u64>) -> MemorySink
+        ensures { result ≡ record self { idle = uncalled idle.items } }
     {
-        MemorySink { takes_none, ..self }
+        MemorySink {
+            idle: Script::new(idle),
+            ..self
+        }
     }
 
     /// The bytes that it took.
@@ -77,14 +86,14 @@ impl MemorySink {
         self.bytes.as_slice()
     }
 
-    /// How many calls failed or took nothing of a piece, up to 2^64 - 1.
+    /// How many calls failed, or took nothing of some bytes, up to 2^64 - 1.
     pub fn fault_count(&self) -> u64
         ensures { result ≡ shown_of self.now.faults }
     {
         self.faults.shown()
     }
 
-    /// How many calls failed for want of memory, up to 2^64 - 1.
+    /// How many calls failed since memory ran out, up to 2^64 - 1.
     pub fn refused(&self) -> u64
         ensures { result ≡ shown_of self.now.refused }
     {
@@ -97,35 +106,36 @@ impl Sink for MemorySink {
 
     ghost faults = { λ sink. sink.faults };
 
-    fn write(&mut self, piece: &[u8]) -> Result<usize, Failed>
-        // A listed call fails, and any other fails only where memory runs out.
-        ensures fails { IsTrue (is_listed self.old.calls self.old.fails) → IsErr result }
-        ensures took { IfOk result (λ n. TakesFront self.old self.new piece.now n) }
+    fn write(&mut self, bytes: &[u8]) -> Result<usize, Failed>
+        // A call that is to fail fails, and any other fails only where memory runs out.
+        ensures fails { IsTrue (fails_next self.old.calls) → IsErr result }
+        ensures took { IfOk result (λ n. TakesFirst self.old self.new bytes.now n) }
         ensures failed { OnErr result (FailsWriting self.old self.new) }
 
         // The trait's clauses.
-        ensures within { IfOk result (λ n. n ≤ length piece.now) }
-        ensures bytes { IfOk result (λ n. Takes (Some self.old.taken) (Some self.new.taken) (take n piece.now)) }
+        ensures within { IfOk result (λ n. n ≤ length bytes.now) }
+        ensures bytes { IfOk result (λ n.
+            Takes (Some self.old.taken) (Some self.new.taken) (take n bytes.now)) }
         ensures kept { OnErr result (Some self.new.taken ≡ Some self.old.taken) }
-        ensures cause { CountsRefusal self.old.faults self.new.faults piece.now result }
+        ensures cause { CountsRefusal self.old.faults self.new.faults bytes.now result }
     {
-        let call = self.calls;
-        self.calls = call.saturating_add(1);
-        if self.fails.contains(&call) {
+        let fails = self.script.begin();
+        let takes_none = self.idle.begin();
+        if fails {
             self.faults.raise();
             return Err(Failed);
         }
-        let n = if self.takes_none.contains(&call) {
+        let n = if takes_none {
             0
         } else {
-            self.most.min(piece.len())
+            self.most.min(bytes.len())
         };
-        if self.bytes.extend_from_slice(&piece[..n]).is_err() {
+        if self.bytes.extend_from_slice(&bytes[..n]).is_err() {
             self.faults.raise();
             self.refused.raise();
             return Err(Failed);
         }
-        if n == 0 && !piece.is_empty() {
+        if n == 0 && !bytes.is_empty() {
             self.faults.raise();
         }
         Ok(n)

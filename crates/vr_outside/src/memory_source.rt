@@ -1,24 +1,24 @@
-ghost use Rattle.std.specs.Prelude.{◌≡◌, ◌↔◌, ℕ, ◌-◌, ◌^◌, ◌<◌, ◌≤◌, Option, List, [], Some, length, take, min, IsErr, IsTrue, IfOk, OnErr};
+//! A source in memory.
+ghost use Rattle.std.specs.Prelude.{◌≡◌, ◌↔◌, ℕ, ◌<◌, ◌≤◌, Some, length, take, IsErr, IsTrue};
+ghost use Rattle.std.specs.Prelude.{IfOk, OnErr};
 ghost use Rattle.std.specs.Io.KnownBytes.{IsAtEnd};
-ghost use Rattle.vr_outside.specs.Told.{Reads};
-ghost use Rattle.vr_types.specs.Faults.{CountsFault};
-ghost use Rattle.vr_outside.specs.Calls.{is_listed};
+ghost use Rattle.vr_types.specs.Calls.{uncalled, fails_next};
 ghost use Rattle.vr_types.specs.Count.{shown_of};
+ghost use Rattle.vr_types.specs.Faults.{CountsFault};
 ghost use Rattle.vr_outside.specs.MemorySource.{HandsOut, FailsReading};
+ghost use Rattle.vr_outside.specs.Told.{Reads};
 
 use crate::source::Source;
 use crate::steady::SteadySource;
 use std::marker::Model;
-use vr_types::{Failed, FaultCount};
+use vr_types::{Failed, FaultCount, Script};
 
-/// A source of bytes in memory whose calls fail where their numbers are in a list, and nowhere else. The first call
-/// has number 0; those from 2^64 - 1 on share that number.
+/// A source of bytes in memory whose calls fail where its script says so, and nowhere else.
 #[derive(Drop)]
 pub struct MemorySource {
     bytes: SteadySource,
     most: usize,
-    fails: Vec<u64>,
-    calls: u64,
+    script: Script,
     faults: FaultCount,
 }
 
@@ -31,8 +31,7 @@ impl Model for MemorySource {
     ghost view = { λ source. record {
       left = source.bytes;
       most = source.most;
-      fails = source.fails.items;
-      calls = source.calls;
+      calls = source.script;
       faults = source.faults;
     } };
 
@@ -40,15 +39,20 @@ impl Model for MemorySource {
 }
 
 impl MemorySource {
-    /// A source of these bytes that fails at these calls, and hands out as much as a call has room for.
-    pub fn new(bytes: Vec<u8>, fails: Vec<u64>) -> MemorySource
-        ensures { result ≡ record { left = bytes.items; most = usize.MAX; fails = fails.items; calls = 0; faults = 0 } }
+    /// A source of these bytes that fails at the calls of these numbers, the first of which is 0. A
+    /// call hands out as much as it has room for.
+    pub fn new(bytes: Vec<u8>, failing: Vec<u64>) -> MemorySource
+        ensures { result ≡ record {
+          left = bytes.items;
+          most = usize.MAX;
+          calls = uncalled failing.items;
+          faults = 0;
+        } }
     {
         MemorySource {
             bytes: SteadySource::new(bytes),
             most: usize::MAX,
-            fails,
-            calls: 0,
+            script: Script::new(failing),
             faults: FaultCount::new(),
         }
     }
@@ -83,21 +87,21 @@ impl Source for MemorySource {
 
     fn read(&mut self, into: &mut [u8]) -> Result<usize, Failed>
         // Which calls fail.
-        ensures fails { IsErr result ↔ IsTrue (is_listed self.old.calls self.old.fails) }
+        ensures fails { IsErr result ↔ IsTrue (fails_next self.old.calls) }
         ensures handed { IfOk result (λ n. HandsOut self.old self.new into.old into.new n) }
         ensures failed { OnErr result (FailsReading self.old self.new) }
-        ensures piece { OnErr result (into.new ≡ into.old) }
+        ensures untouched { OnErr result (into.new ≡ into.old) }
 
         // The trait's clauses.
         ensures within { IfOk result (λ n. n ≤ length into.new) }
-        ensures bytes { IfOk result (λ n. Reads (Some self.old.left) (Some self.new.left) (take n into.new)) }
-        ensures end { IfOk result (λ n. n ≡ 0 → 0 < length into.new → IsAtEnd (Some self.old.left)) }
+        ensures bytes { IfOk result (λ n.
+            Reads (Some self.old.left) (Some self.new.left) (take n into.new)) }
+        ensures end { IfOk result (λ n.
+            n ≡ 0 → 0 < length into.new → IsAtEnd (Some self.old.left)) }
         ensures kept { OnErr result (Some self.new.left ≡ Some self.old.left) }
         ensures cause { CountsFault self.old.faults self.new.faults result }
     {
-        let call = self.calls;
-        self.calls = call.saturating_add(1);
-        if self.fails.contains(&call) {
+        if self.script.begin() {
             self.faults.raise();
             return Err(Failed);
         }

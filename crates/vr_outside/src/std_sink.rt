@@ -1,4 +1,5 @@
-ghost use Rattle.std.specs.Prelude.{◌≡◌, ℕ, Option, List, None, ◌≤◌, length, take, IfOk, OnErr};
+//! A sink over a std writer.
+ghost use Rattle.std.specs.Prelude.{◌≡◌, ℕ, ◌+◌, None, ◌≤◌, length, take, IfOk};
 ghost use Rattle.std.specs.Io.KnownBytes.{WriteAppends};
 ghost use Rattle.vr_outside.specs.Told.{Takes};
 ghost use Rattle.vr_outside.specs.Faults.{CountsRefusal};
@@ -9,8 +10,9 @@ use crate::sink::Sink;
 use std::io::Write;
 use vr_types::{Failed, FaultCount};
 
-/// A sink over a std writer. It tells no content. Each `Err` of the writer is a fault, an interrupted write too, and
-/// so is an answer of 0 for a piece that isn't empty.
+/// A sink over a std writer. It doesn't report its bytes. Each `Err` of the writer is a fault, an
+/// interrupted write too, and isn't tried again. An answer of 0 where there were bytes is a fault
+/// as well.
 #[derive(Drop)]
 pub struct StdSink<W> {
     writer: W,
@@ -36,7 +38,7 @@ impl<W> StdSink<W> {
         self.writer
     }
 
-    /// How many calls failed or took nothing of a piece, up to 2^64 - 1.
+    /// How many calls failed or took nothing of some bytes, up to 2^64 - 1.
     pub fn fault_count(&self) -> u64
         ensures { result ≡ shown_of (sink_faults self.now) }
     {
@@ -49,18 +51,22 @@ impl<W: Write> Sink for StdSink<W> {
 
     ghost faults = { sink_faults };
 
-    fn write(&mut self, piece: &[u8]) -> Result<usize, Failed>
-        // Where the writer below tells its bytes, these go there.
-        ensures writer { WriteAppends (W.contents (writer_of self.old)) (W.contents (writer_of self.new)) result piece.now }
+    fn write(&mut self, bytes: &[u8]) -> Result<usize, Failed>
+        // Where the writer below reports its bytes, these go there.
+        ensures writer { WriteAppends (W.contents (writer_of self.old)) (W.contents (writer_of self.new)) result bytes.now }
+
+        // A call counts one fault at most.
+        ensures once { sink_faults self.new ≤ sink_faults self.old + 1 }
 
         // The trait's clauses.
-        ensures within { IfOk result (λ n. n ≤ length piece.now) }
-        ensures bytes { IfOk result (λ n. Takes None None (take n piece.now)) }
-        ensures cause { CountsRefusal (sink_faults self.old) (sink_faults self.new) piece.now result }
+        ensures within { IfOk result (λ n. n ≤ length bytes.now) }
+        ensures bytes { IfOk result (λ n. Takes None None (take n bytes.now)) }
+        ensures cause { CountsRefusal (sink_faults self.old)
+            (sink_faults self.new) bytes.now result }
     {
-        match self.writer.write(piece) {
+        match self.writer.write(bytes) {
             Ok(n) => {
-                if n == 0 && !piece.is_empty() {
+                if n == 0 && !bytes.is_empty() {
                     self.faults.raise();
                 }
                 Ok(n)

@@ -1,5 +1,6 @@
-ghost use Rattle.std.specs.Prelude.{◌≡◌, ℕ, Option, List, None, ◌≤◌, length, take, IfOk, OnErr};
-ghost use Rattle.std.specs.Io.KnownBytes.{IsAtEnd, ReadConsumes};
+//! A source over a std reader.
+ghost use Rattle.std.specs.Prelude.{◌≡◌, ℕ, ◌+◌, None, ◌≤◌, length, take, IfOk};
+ghost use Rattle.std.specs.Io.KnownBytes.{ReadConsumes};
 ghost use Rattle.vr_outside.specs.Told.{Reads};
 ghost use Rattle.vr_types.specs.Faults.{CountsFault};
 ghost use Rattle.vr_outside.specs.StdPair.{reader_of, source_faults};
@@ -9,7 +10,8 @@ use crate::source::Source;
 use std::io::Read;
 use vr_types::{Failed, FaultCount};
 
-/// A source over a std reader. It tells no content. Each `Err` of the reader is a fault, an interrupted read too.
+/// A source over a std reader. It doesn't report its bytes. Each `Err` of the reader is a fault, an
+/// interrupted read too, and isn't tried again.
 #[derive(Drop)]
 pub struct StdSource<R> {
     reader: R,
@@ -28,7 +30,7 @@ impl<R> StdSource<R> {
         }
     }
 
-    /// The reader, behind what was read.
+    /// The reader, as the last read left it.
     pub fn into_inner(self) -> R
         ensures { result ≡ reader_of self }
     {
@@ -49,8 +51,11 @@ impl<R: Read> Source for StdSource<R> {
     ghost faults = { source_faults };
 
     fn read(&mut self, into: &mut [u8]) -> Result<usize, Failed>
-        // Where the reader below tells its bytes, these come from there.
+        // Where the reader below reports its bytes, these come from there.
         ensures reader { ReadConsumes (R.remaining (reader_of self.old)) (R.remaining (reader_of self.new)) result into.new }
+
+        // A call counts one fault at most.
+        ensures once { source_faults self.new ≤ source_faults self.old + 1 }
 
         // The trait's clauses.
         ensures within { IfOk result (λ n. n ≤ length into.new) }

@@ -1,4 +1,6 @@
-ghost use Rattle.std.specs.Prelude.{◌≡◌, ℕ, Option, List, None, Some, ◌<◌, ◌≤◌, ◌++◌, length, take, drop, min, IsOk, IfOk, OnErr};
+//! A source and a sink that never fail.
+ghost use Rattle.std.specs.Prelude.{◌≡◌, ℕ, Option, List, None, Some, ◌<◌, ◌≤◌, ◌++◌, length};
+ghost use Rattle.std.specs.Prelude.{take, drop, min, IsOk, IfOk, OnErr};
 ghost use Rattle.std.specs.Io.KnownBytes.{IsAtEnd};
 ghost use Rattle.vr_outside.specs.Told.{Reads, Takes};
 ghost use Rattle.vr_types.specs.Faults.{CountsFault};
@@ -41,10 +43,11 @@ impl SteadySource {
         &self.bytes[self.at..]
     }
 
-    /// Hands out the next bytes at the front of `into`, at most `most` of them, and answers how many.
+    /// Hands out the next bytes into the first bytes of `into`, at most `most` of them, and answers
+    /// how many.
     pub fn hand_out(&mut self, into: &mut [u8], most: usize) -> usize
         ensures count { result ≡ min most (min (length into.old) (length self.old)) }
-        ensures piece { into.new ≡ take result self.old ++ drop result into.old }
+        ensures bytes { into.new ≡ take result self.old ++ drop result into.old }
         ensures left { self.new ≡ drop result self.old }
     {
         let rest = &self.bytes[self.at..];
@@ -63,7 +66,7 @@ impl Source for SteadySource {
     fn read(&mut self, into: &mut [u8]) -> Result<usize, Failed>
         ensures never_fails { IsOk result }
         ensures count { IfOk result (λ n. n ≡ min (length into.old) (length self.old)) }
-        ensures piece { IfOk result (λ n. into.new ≡ take n self.old ++ drop n into.old) }
+        ensures handed { IfOk result (λ n. into.new ≡ take n self.old ++ drop n into.old) }
         ensures left { IfOk result (λ n. self.new ≡ drop n self.old) }
 
         // The trait's clauses.
@@ -78,8 +81,8 @@ impl Source for SteadySource {
     }
 }
 
-/// A sink that takes everything and never fails. It keeps nothing, since keeping takes memory, and so it tells
-/// nothing of what it took.
+/// A sink that takes everything and never fails. It keeps nothing, since keeping takes memory, and
+/// so it doesn't report what it took.
 #[derive(Clone, Copy, Debug, Default, PartialEq, Eq, Hash)]
 pub struct SteadySink;
 
@@ -88,15 +91,15 @@ impl Sink for SteadySink {
 
     ghost faults = { λ _. 0 };
 
-    fn write(&mut self, piece: &[u8]) -> Result<usize, Failed>
+    fn write(&mut self, bytes: &[u8]) -> Result<usize, Failed>
         ensures never_fails { IsOk result }
-        ensures all { IfOk result (λ n. n ≡ length piece.now) }
+        ensures all { IfOk result (λ n. n ≡ length bytes.now) }
 
         // The trait's clauses.
-        ensures within { IfOk result (λ n. n ≤ length piece.now) }
-        ensures bytes { IfOk result (λ n. Takes None None (take n piece.now)) }
-        ensures cause { CountsRefusal 0 0 piece.now result }
+        ensures within { IfOk result (λ n. n ≤ length bytes.now) }
+        ensures bytes { IfOk result (λ n. Takes None None (take n bytes.now)) }
+        ensures cause { CountsRefusal 0 0 bytes.now result }
     {
-        Ok(piece.len())
+        Ok(bytes.len())
     }
 }

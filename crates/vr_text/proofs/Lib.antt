@@ -1,5 +1,5 @@
+pub mod CallerLemmas
 pub mod Digits
 pub mod Enclosed
-pub mod Laws
 pub mod Numbers
 pub mod Quotes

@@ -1,12 +1,13 @@
-use Rattle.std.specs.Prelude.{◌≡◌, ◌≢◌, ℕ, ◌+◌, ◌*◌, ◌/◌, ◌%◌, ◌<◌, ◌≤◌, ◌⊎◌, ⊤, Bool, true, ◌==◌, ◌&&◌, if◌then◌else◌, nat_le, List, [], ◌∷◌, ◌++◌, length, codes, slice_index, Contains}
+-- Literals of bytes: C'..' and X'..' of Access Method Services Commands. That the digits of X'..'
+-- may be in either case, and which of the two forms is written, are this project's own rules.
+use Rattle.std.specs.Prelude.{◌≡◌, ◌≢◌, ℕ, ◌+◌, ◌*◌, ◌/◌, ◌%◌, ◌<◌, ◌≤◌, ◌⊎◌, ⊤, Bool, true, ◌==◌}
+use Rattle.std.specs.Prelude.{◌&&◌, if◌then◌else◌, nat_le, List, [], ◌∷◌, ◌++◌, length, codes}
+use Rattle.std.specs.Prelude.{slice_index, Contains}
 use Rattle.std.specs.Char.{digit_value}
 use Rattle.std.specs.Fmt.{digit_glyph}
 use Rattle.std.specs.List.{flat_map, list_all}
 use Rattle.vr_text.specs.declared.literal.LiteralFault.{LiteralFault}
 use Rattle.vr_text.specs.declared.literal.LiteralFault.TheVariants.{Unclosed, Digit, Memory}
-
--- Literals of bytes: C'..' and X'..' of Access Method Services Commands. That the digits of X'..' may be in
--- either case, and which of the two forms is written, are this project's own rules.
 
 -- each quote is doubled
 abbrev pub doubled : List ℕ → List ℕ
@@ -30,12 +31,12 @@ SpellsBytes _ _ = ⊥
 abbrev pub IsLiteral : List ℕ → List ℕ → Type 0
 IsLiteral text bytes = (text ≡ character_form bytes) ⊎ ((digits : List ℕ) × (text ≡ hexadecimal_form digits) × SpellsBytes digits bytes)
 
--- the text is X'..', and the quote that closes it is the only one behind the first
+-- the text is X'..', and the quote that closes it is the only one after the first
 pub record IsClosed (text digits : List ℕ) : Type 0 where
   pub form : text ≡ hexadecimal_form digits
   pub quotes : ¬ Contains digits 39
 
--- the first byte that is no digit, or the last digit where it has no partner
+-- the first byte that is not a digit, or the last digit where it has no partner
 pub record IsFirstBadDigit (digits : List ℕ) (at : ℕ) : Type 0 where
   pub within : at < length digits
   pub before : (i : ℕ) → i < at → digit_value (slice_index digits i) < 16
@@ -46,17 +47,6 @@ abbrev pub CauseOf : List ℕ → LiteralFault → Type 0
 CauseOf text Unclosed = ((bytes : List ℕ) → text ≢ character_form bytes) × ((digits : List ℕ) → ¬ IsClosed text digits)
 CauseOf text (Digit at) = (digits : List ℕ) × (i : ℕ) × IsClosed text digits × IsFirstBadDigit digits i × (at ≡ i + 2)
 CauseOf text Memory = (bytes : List ℕ) × IsLiteral text bytes
-
--- the same of what stands in a C'..', and of what stands in an X'..'
-abbrev pub CauseInCharacters : List ℕ → LiteralFault → Type 0
-CauseInCharacters quoted Unclosed = (bytes : List ℕ) → quoted ≢ doubled bytes
-CauseInCharacters quoted (Digit at) = ⊥
-CauseInCharacters quoted Memory = (bytes : List ℕ) × (quoted ≡ doubled bytes)
-
-abbrev pub CauseInDigits : List ℕ → LiteralFault → Type 0
-CauseInDigits digits Unclosed = Contains digits 39
-CauseInDigits digits (Digit at) = (i : ℕ) × (¬ Contains digits 39) × IsFirstBadDigit digits i × (at ≡ i + 2)
-CauseInDigits digits Memory = (bytes : List ℕ) × SpellsBytes digits bytes
 
 -- X'20' to X'7E'
 abbrev pub is_printable : ℕ → Bool

@@ -1,3 +1,4 @@
+//! Numbers in text.
 ghost use Rattle.std.specs.Prelude.{◌≡◌, IfNone, IfSome};
 ghost use Rattle.vr_text.specs.Number.{IsNumber, number_of};
 

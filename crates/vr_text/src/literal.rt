@@ -1,18 +1,23 @@
-ghost use Rattle.std.specs.Prelude.{◌≡◌, ◌≢◌, ℕ, ◌+◌, ◌<◌, ◌*◌, ◌%◌, ◌++◌, ◌↔◌, List, length, codes, slice_index, Contains, IsTrue, IfOk, IfErr, IfNone, IfSome, MatchOption};
+//! Reading literals.
+ghost use Rattle.std.specs.Prelude.{◌≡◌, ◌≢◌, ℕ, ◌+◌, ◌<◌, ◌*◌, ◌%◌, ◌++◌, ◌↔◌, List, length};
+ghost use Rattle.std.specs.Prelude.{codes, slice_index, Contains, IsTrue, IfOk, IfErr, IfNone};
+ghost use Rattle.std.specs.Prelude.{IfSome, MatchOption};
 ghost use Rattle.std.specs.Char.{digit_value};
-ghost use Rattle.vr_text.specs.Literal.{doubled, SpellsBytes, IsLiteral, IsFirstBadDigit, CauseOf, CauseInCharacters, CauseInDigits};
+ghost use Rattle.vr_text.specs.Literal.{doubled, SpellsBytes, IsLiteral, IsFirstBadDigit, CauseOf};
+ghost use Rattle.vr_text.specs.LiteralParts.{CauseInCharacters, CauseInDigits};
 
 use std::alloc::Global;
 use vr_types::{Bytes, OutOfMemory};
 
+/// The byte that closes a literal.
 const QUOTE: u8 = b'\'';
 
-/// Why a text is no literal. Offsets are in bytes.
+/// Why a text is not a literal. Offsets are in bytes.
 #[derive(Clone, Copy, Debug, PartialEq, Eq)]
 pub enum LiteralFault {
     /// The text isn't `C'..'` or `X'..'`, or a quote closes it before its end, or none does.
     Unclosed,
-    /// The byte at `at` of an `X'..'` is no digit, or it is the last digit and has no partner.
+    /// The byte at `at` of an `X'..'` is not a digit, or it is the last digit and has no partner.
     Digit { at: usize },
     /// Memory ran out.
     Memory,
@@ -29,8 +34,9 @@ impl From<OutOfMemory> for LiteralFault {
     }
 }
 
-/// The bytes of a literal, after the rules of Access Method Services Commands: `C'..'` has the bytes as they
-/// are, each quote doubled; `X'..'` has two hexadecimal digits for each byte, in either case.
+/// The bytes of a literal, after the rules of Access Method Services Commands: `C'..'` has the
+/// bytes as they are, each quote doubled; `X'..'` has two hexadecimal digits for each byte, in
+/// either case.
 pub fn read_literal(alloc: Global, text: &str) -> Result<Bytes, LiteralFault>
     ensures bytes { IfOk result (IsLiteral text.now) }
     ensures fault { IfErr result (CauseOf text.now) }
@@ -45,14 +51,16 @@ pub fn read_literal(alloc: Global, text: &str) -> Result<Bytes, LiteralFault>
     }
 }
 
-/// What stands between the opening of a literal and a quote at its end.
+/// The bytes between the opening of a literal and a quote at its end.
 fn between<'a>(text: &'a [u8], opening: &[u8]) -> Option<&'a [u8]>
-    ensures { MatchOption result ((inner : List ℕ) → text.now ≢ opening.now ++ inner ++ codes "'") (λ inner. text.now ≡ opening.now ++ inner.now ++ codes "'") }
+    ensures { MatchOption result
+        ((inner : List ℕ) → text.now ≢ opening.now ++ inner ++ codes "'")
+        (λ inner. text.now ≡ opening.now ++ inner.now ++ codes "'") }
 {
     text.strip_prefix(opening)?.strip_suffix(b"'")
 }
 
-/// The bytes that stand in a `C'..'`, its quotes doubled.
+/// The bytes in a `C'..'`, its quotes doubled.
 fn read_characters(alloc: Global, quoted: &[u8]) -> Result<Bytes, LiteralFault>
     ensures bytes { IfOk result (λ bytes. quoted.now ≡ doubled bytes) }
     ensures fault { IfErr result (CauseInCharacters quoted.now) }
@@ -108,7 +116,8 @@ fn read_digits(alloc: Global, digits: &[u8]) -> Result<Bytes, LiteralFault>
 
 /// Where the digits first depart from pairs of digits.
 fn first_bad_digit(digits: &[u8]) -> Option<usize>
-    ensures none { IfNone result ((length digits.now % 2 ≡ 0) × ((i : ℕ) → i < length digits.now → digit_value (slice_index digits.now i) < 16)) }
+    ensures none { IfNone result ((length digits.now % 2 ≡ 0)
+        × ((i : ℕ) → i < length digits.now → digit_value (slice_index digits.now i) < 16)) }
     ensures some { IfSome result (IsFirstBadDigit digits.now) }
 {
     for (at, digit) in digits.iter().enumerate() {

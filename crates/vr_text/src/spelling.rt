@@ -1,12 +1,15 @@
-ghost use Rattle.std.specs.Prelude.{◌≡◌, ℕ, ◌<◌, ◌++◌, true, List, codes, length, take, OnOk, OnErr};
+//! Writing the spelling of bytes.
+ghost use Rattle.std.specs.Prelude.{◌≡◌, ℕ, ◌<◌, ◌++◌, true, List, codes, length, take, OnOk};
+ghost use Rattle.std.specs.Prelude.{OnErr};
 ghost use Rattle.std.specs.Fmt.{digit_glyph};
 ghost use Rattle.std.specs.List.{flat_map, list_all};
-ghost use Rattle.vr_text.specs.Literal.{doubled, digit_pair, is_printable, character_form, hexadecimal_form, literal_of};
+ghost use Rattle.vr_text.specs.Literal.{doubled, digit_pair, is_printable, character_form};
+ghost use Rattle.vr_text.specs.Literal.{hexadecimal_form, literal_of};
 
 use vr_types::{Bytes, OutOfMemory};
 
-/// Adds the one spelling of the bytes at the end: `C'..'` with each quote doubled where all are from X'20' to
-/// X'7E', else `X'..'` in upper case. Where memory runs out, nothing changes.
+/// Adds the one spelling of the bytes at the end: `C'..'` with each quote doubled where all are
+/// from X'20' to X'7E', else `X'..'` in upper case. Where memory runs out, `out` is as it was.
 pub fn write_literal(bytes: &[u8], out: &mut Bytes) -> Result<(), OutOfMemory>
     ensures ok { OnOk result (out.new ≡ out.old ++ literal_of bytes.now) }
     ensures err { OnErr result (out.new ≡ out.old) }
@@ -62,7 +65,8 @@ fn write_characters(bytes: &[u8], out: &mut Bytes) -> Result<(), OutOfMemory>
 
 /// Adds `X'..'`, or a part of it.
 fn write_digits(bytes: &[u8], out: &mut Bytes) -> Result<(), OutOfMemory>
-    ensures ok { OnOk result (out.new ≡ out.old ++ hexadecimal_form (flat_map digit_pair bytes.now)) }
+    ensures ok { OnOk result (out.new
+        ≡ out.old ++ hexadecimal_form (flat_map digit_pair bytes.now)) }
     ensures err { OnErr result (take (length out.old) out.new ≡ out.old) }
 {
     out.extend(b"X'")?;

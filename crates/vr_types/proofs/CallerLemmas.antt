@@ -18,7 +18,6 @@ use Rattle.vr_types.specs.declared.lock_name.LockName.{LockName}
 use Rattle.vr_types.specs.declared.lock_name.LockName.TheVariants.{Record, Unique}
 use Rattle.vr_types.specs.LockName.{lock_name_cmp}
 use Rattle.vr_types.specs.declared.unit.PartNo.{PartNo}
-
 -- ---- runs of calls of blocks
 pub use Rattle.vr_types.proofs.Runs.{during-weaken, during-none, during-then, each_since-then, each_since-start, each_since-weaken}
 pub use Rattle.vr_types.proofs.Runs.{guards-start, guards-keeps, guards-puts, guards-then, guards-weaken}

@@ -1,9 +1,12 @@
--- Which calls of a device, source or sink in memory fail. Calls are numbered from 0. The rules are this project's own.
-use Rattle.std.specs.Prelude.{ℕ, ◌==◌, ◌||◌, Bool, false, nat_le, List, Option, Some, None, min, unwrap_or}
+-- Which calls of a device, source or sink in memory fail. Calls are numbered from 0. The rules are
+-- this project's own.
+use Rattle.std.specs.Prelude.{ℕ, ◌==◌, ◌||◌, Bool, false, nat_le, List, Option, Some, None, min}
+use Rattle.std.specs.Prelude.{unwrap_or}
 use Rattle.std.specs.List.{list_any}
 use Rattle.vr_types.specs.Count.{next_call}
 
--- the number of the next call; the numbers of the calls that fail, and the number from which on every call fails
+-- the number of the next call; the numbers of the calls that fail, and the number from which on
+-- every call fails
 pub record Calls : Type 0 where
   pub next : ℕ
   pub fails : List ℕ

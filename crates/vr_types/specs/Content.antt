@@ -1,4 +1,7 @@
-use Rattle.std.specs.Prelude.{◌≡◌, ℕ, ◌<◌, not, List, [], ◌∷◌, map, filter, bytes_eq, All, Option, Some, None}
+-- The content of a data set, as Using Data Sets has it of the three kinds: records in the order of
+-- their places.
+use Rattle.std.specs.Prelude.{◌≡◌, ℕ, ◌<◌, not, List, [], ◌∷◌, map, filter, bytes_eq, All, Option}
+use Rattle.std.specs.Prelude.{Some, None}
 use Rattle.std.specs.List.{filter_map}
 use Rattle.std.specs.List.Sorted.{IsStrictlySortedBy}
 use Rattle.std.specs.Ordering.{nat_cmp}
@@ -6,14 +9,13 @@ use Rattle.std.specs.declared.cmp.Ordering.{Ordering}
 use Rattle.std.specs.declared.cmp.Ordering.TheVariants.{Less, Equal, Greater}
 use Rattle.std.specs.Cmp.Lexicographic.{slice_cmp}
 
--- The content of a data set, as Using Data Sets has it of the three kinds: records in the order of their places.
-
--- what stands at a place: a record, or in an entry-sequenced data set the length of an added record that was backed out
+-- what is at a place: a record, or in an entry-sequenced data set the length of an added record
+-- that was backed out
 pub data Item : Type 0 where
   Standing : List ℕ → Item
   Withdrawn : ℕ → Item
 
--- a place, and what stands there
+-- a place, and what is there
 abbrev pub Placed : Type 0
 Placed = List ℕ × Item
 

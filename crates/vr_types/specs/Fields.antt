@@ -1,5 +1,7 @@
--- Numbers as they stand in the bytes of a block, high byte first. The fields are this project's own.
-use Rattle.std.specs.Prelude.{◌≡◌, ℕ, zero, suc, ◌+◌, ◌-◌, ◌^◌, ◌<◌, List, ◌++◌, length, take, drop, replicate, All, Option, Some, None, IfSome, slice_index}
+-- Numbers as they stand in the bytes of a block, high byte first. The fields are this project's
+-- own.
+use Rattle.std.specs.Prelude.{◌≡◌, ℕ, zero, suc, ◌+◌, ◌-◌, ◌^◌, ◌<◌, List, ◌++◌, length, take, drop}
+use Rattle.std.specs.Prelude.{replicate, All, Option, Some, None, IfSome, slice_index}
 use Rattle.std.specs.Int.{w16, w32, w64, to_be_bytes, from_be_bytes}
 
 -- each element is a byte

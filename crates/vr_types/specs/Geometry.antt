@@ -1,5 +1,6 @@
--- The shape of a volume: block 0, the blocks of the log, and then the areas, each a head block and its intervals, which
--- are one block each. What the areas leave over is not used. The rules are this project's own.
+-- The shape of a volume: block 0, the blocks of the log, and then the areas, each a head block and
+-- its intervals, which are one block each. What the areas leave over is not used. The rules are
+-- this project's own.
 use Rattle.std.specs.Prelude.{ℕ, ◌+◌, ◌-◌, ◌*◌, ◌/◌, ◌^◌, ◌≤◌}
 use Rattle.vr_types.specs.BlockSize.{IsBlockSize}
 use Rattle.vr_types.specs.declared.geometry.Geometry.{Geometry}

@@ -1,5 +1,5 @@
--- The order of the names of locks: records before unique keys, then by part number, then by place. The order is this
--- project's own.
+-- The order of the names of locks: records before unique keys, then by part number, then by place.
+-- The order is this project's own.
 use Rattle.std.specs.Prelude.{ℕ, Bool, List, nat_eq, bytes_eq}
 use Rattle.std.specs.declared.cmp.Ordering.{Ordering}
 use Rattle.std.specs.Ordering.{nat_cmp, on, then_cmp, eq_of_both}

@@ -1,10 +1,11 @@
-use Rattle.std.specs.Prelude.{◌≡◌, ◌≢◌, ℕ, ◌<◌, ◌≤◌, Bool, true, false, not, ◌==◌, ◌||◌, ◌&&◌, if◌then◌else◌, nat_lt, List, [], length, map, take, slice_index}
+-- Names of data sets, as Using Data Sets gives them: up to 44 bytes, qualifiers of 1 to 8 joined by
+-- dots.
+use Rattle.std.specs.Prelude.{◌≡◌, ◌≢◌, ℕ, ◌<◌, ◌≤◌, Bool, true, false, not, ◌==◌, ◌||◌, ◌&&◌}
+use Rattle.std.specs.Prelude.{if◌then◌else◌, nat_lt, List, [], length, map, take, slice_index}
 use Rattle.std.specs.List.{suffix_len}
 use Rattle.std.specs.Char.{is_ascii_alphabetic, is_ascii_alphanumeric, to_ascii_uppercase}
 use Rattle.vr_types.specs.declared.name.NameFault.{NameFault}
 use Rattle.vr_types.specs.declared.name.NameFault.TheVariants.{Empty, TooLong, Qualifier, Memory}
-
--- Names of data sets, as Using Data Sets gives them: up to 44 bytes, qualifiers of 1 to 8 joined by dots.
 
 -- one of the three characters that count as letters: @ # $
 abbrev pub is_national : ℕ → Bool
@@ -18,15 +19,15 @@ begins_qualifier b = is_ascii_alphabetic b || is_national b
 abbrev pub continues_qualifier : ℕ → Bool
 continues_qualifier b = is_ascii_alphanumeric b || is_national b || b == 45
 
--- whether a byte may stand where `column` bytes of its qualifier stand before it
+-- whether a byte may come after `column` bytes of its qualifier
 abbrev pub fits_column : ℕ → ℕ → Bool
 fits_column column b = if column == 0 then begins_qualifier b else (b == 46 || (nat_lt column 8 && continues_qualifier b))
 
--- how many bytes of its qualifier stand before byte i: those since the last dot
+-- how many bytes of its qualifier come before byte i: those since the last dot
 abbrev pub column_at : List ℕ → ℕ → ℕ
 column_at text i = suffix_len (λ b. not (b == 46)) (take i text)
 
--- byte i may stand where it does; at the end, no qualifier is left empty
+-- byte i may be where it is; at the end, no qualifier is left empty
 abbrev pub is_right_at : List ℕ → ℕ → Bool
 is_right_at text i = if nat_lt i (length text) then fits_column (column_at text i) (slice_index text i) else nat_lt 0 (column_at text i)
 
@@ -36,7 +37,7 @@ pub record IsDatasetName (text : List ℕ) : Type 0 where
   pub short : length text ≤ 44
   pub right : (i : ℕ) → i ≤ length text → is_right_at text i ≡ true
 
--- the first byte that may not stand where it does, or the end of a text that leaves a qualifier empty
+-- the first byte that may not be where it is, or the end of a text that leaves a qualifier empty
 pub record IsFirstBad (text : List ℕ) (at : ℕ) : Type 0 where
   pub within : at ≤ length text
   pub before : (i : ℕ) → i < at → is_right_at text i ≡ true

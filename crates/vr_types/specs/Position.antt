@@ -1,4 +1,5 @@
--- Where a file is for sequential reading, and what it holds for update (DFSMS Using Data Sets, positioning).
+-- Where a file is for sequential reading, and what it holds for update (DFSMS Using Data Sets,
+-- positioning).
 use Rattle.std.specs.Prelude.{None}
 use Rattle.vr_types.specs.declared.position.Stand.TheVariants.{Start}
 use Rattle.vr_types.specs.declared.position.Position.{Position}

@@ -1,9 +1,15 @@
+-- The numbers of refusals.
 use Rattle.std.specs.Prelude.{ℕ}
 use Rattle.vr_types.specs.declared.reply.Refusal.{Refusal}
-use Rattle.vr_types.specs.declared.reply.Refusal.TheVariants.{EndOfData, Duplicate, NotFound, NoAddress, NoSpace, NoPosition, NoGet, KeyChanged, LengthChanged, BadLength, BadSlot, Held, LogFull, Stopped, ReadFault, WriteFault, Memory, NotAllowed, NoFile}
+use Rattle.vr_types.specs.declared.reply.Refusal.TheVariants.{EndOfData, Duplicate, NotFound}
+use Rattle.vr_types.specs.declared.reply.Refusal.TheVariants.{NoAddress, NoSpace, NoPosition, NoGet}
+use Rattle.vr_types.specs.declared.reply.Refusal.TheVariants.{KeyChanged, LengthChanged, BadLength}
+use Rattle.vr_types.specs.declared.reply.Refusal.TheVariants.{BadSlot, Held, LogFull, Stopped}
+use Rattle.vr_types.specs.declared.reply.Refusal.TheVariants.{ReadFault, WriteFault, Memory}
+use Rattle.vr_types.specs.declared.reply.Refusal.TheVariants.{NotAllowed, NoFile}
 
--- The feedback number of each refusal. Those up to 192 are the codes that Using Data Sets gives for these causes;
--- those from 901 on are this project's own.
+-- The feedback number of each refusal. Those up to 192 are the codes that Using Data Sets gives for
+-- these causes; those from 901 on are this project's own.
 abbrev pub feedback_code : Refusal → ℕ
 feedback_code EndOfData = 4
 feedback_code (Duplicate part) = 8

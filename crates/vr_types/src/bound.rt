@@ -4,7 +4,8 @@ ghost use Rattle.std.specs.Prelude.{◌≡◌, IfOk};
 use crate::memory::OutOfMemory;
 use crate::shared_request::SharedRequest;
 
-/// A request of a deck with its volume and its line. The COMMIT that is added at a deck's end has line 0.
+/// A request of a deck with its volume and its line. The COMMIT that is added at a deck's end has
+/// line 0.
 #[derive(Debug, Drop)]
 pub struct Bound {
     pub volume: u32,

@@ -1,18 +1,19 @@
+//! Counts of faults.
 ghost use Rattle.std.specs.Prelude.{◌≡◌, ℕ, ◌+◌};
 ghost use Rattle.vr_types.specs.Count.{shown_of};
 
 use std::marker::Model;
 use std::snapshot::Snapshot;
 
-/// The faults so far, as clauses see them: none, or one more than at an earlier moment. It takes no memory, and
-/// so has no end, as a number of the program would.
+/// The faults so far, as clauses see them: none, or one more than at an earlier moment. It takes no
+/// memory, and so has no greatest value, as a number of the program would have.
 #[derive(Drop)]
 enum Tally {
     Zero,
     After(Snapshot<Tally>),
 }
 
-/// How often a source, a sink or a device has failed. Clauses see a number without an end.
+/// How often a source, a sink or a device has failed. Clauses see a number that rises without end.
 #[derive(Drop)]
 pub struct FaultCount {
     tally: Tally,
@@ -49,7 +50,7 @@ impl FaultCount {
         self.shown = self.shown.saturating_add(1);
     }
 
-    /// The number as the program has it, which stands still at 2^64 - 1.
+    /// The number as the program has it, which stays at 2^64 - 1 once it is there.
     pub fn shown(&self) -> u64
         ensures { result ≡ shown_of self.now }
     {

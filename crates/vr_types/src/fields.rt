@@ -1,18 +1,8 @@
 //! Numbers as they stand in the bytes of a block, high byte first.
 ghost use Rattle.std.specs.Prelude.{◌≡◌, ◌+◌, ◌≤◌, ◌↔◌, length, IsTrue};
-ghost use Rattle.vr_types.specs.Fields.{
-  two,
-  four,
-  eight,
-  two_at as two_in,
-  four_at as four_in,
-  eight_at as eight_in,
-  with_bytes,
-  area_of as area_named,
-  area_field as field_of,
-  IsArea,
-  AreZeros,
-};
+ghost use Rattle.vr_types.specs.Fields.{two, four, eight, two_at as two_in, four_at as four_in};
+ghost use Rattle.vr_types.specs.Fields.{eight_at as eight_in, with_bytes, area_of as area_named};
+ghost use Rattle.vr_types.specs.Fields.{area_field as field_of, IsArea, AreZeros};
 
 /// The number in the two bytes at `at`.
 #[tactic(auto, unfolding(crate::specs::Fields::two_at))]

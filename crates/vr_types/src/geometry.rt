@@ -2,8 +2,8 @@
 ghost use Rattle.std.specs.Prelude.{◌≡◌, ◌↔◌, ◌<◌, IsTrue};
 ghost use Rattle.vr_types.specs.BlockSize.{IsBlockSize};
 
-/// The shape of a volume: block 0, the log, and then areas of a head block and their intervals. A call that takes
-/// blocks beside a geometry wants that `size` and `blocks` are theirs.
+/// The shape of a volume: block 0, the log, and then areas of a head block and their intervals. A
+/// call that takes blocks beside a geometry wants that `size` and `blocks` are theirs.
 #[derive(Clone, Copy, Debug, PartialEq, Eq)]
 pub struct Geometry {
     /// The bytes of a block.
@@ -19,8 +19,8 @@ pub struct Geometry {
 impl Geometry {
     ghost use Rattle.vr_types.specs.Geometry.{IsAllowed, area_count, head_block};
 
-    /// Whether a volume may have this shape: blocks of an allowed size, 1 to 65,535 blocks of log, 2 to 255 intervals
-    /// an area, room for two areas, and at most 2^31 bytes.
+    /// Whether a volume may have this shape: blocks of an allowed size, 1 to 65,535 blocks of log,
+    /// 2 to 255 intervals an area, room for two areas, and at most 2^31 bytes.
     pub fn is_allowed(self) -> bool
         ensures { IsTrue result ↔ IsAllowed self }
     {
@@ -51,8 +51,8 @@ impl Geometry {
     }
 }
 
-/// Whether a block may have this size in bytes: a multiple of 512 up to 8,192, or of 2,048 up to 32,768
-/// (DFSMS Using Data Sets, control interval size).
+/// Whether a block may have this size in bytes: a multiple of 512 up to 8,192, or of 2,048 up to
+/// 32,768 (DFSMS Using Data Sets, control interval size).
 pub fn is_block_size(size: usize) -> bool
     ensures { IsTrue result ↔ IsBlockSize size }
 {

@@ -1,31 +1,34 @@
-// The words that every layer of the record manager shares: places, bytes and names of data sets, units of
-// recovery, requests, replies and refusals with the number that each shows, the content of a data set, the count of
-// faults, and the trait of blocks with what a crash may leave of them. It stands on std alone. It promises that each value built
-// here is the list of bytes that it was built from, that a copy equals what it was copied from, and that a data
-// set name is taken exactly where the catalog's rules allow it.
+//! The words that every layer of the record manager shares: places, bytes and names of data sets,
+//! units of recovery, requests, replies and refusals with the number that each shows, names of
+//! locks, positions of files, the content of a data set, the shape of a volume and the fields of
+//! its blocks, which calls of a double fail, the count of faults, and the trait of blocks with what
+//! a crash may leave of them. It stands on std, and on the kit's lists. It promises that each value
+//! built here is the list of bytes that it was built from, that a copy equals what it was copied
+//! from, that places, bytes and names are compared by their bytes, and that a data set name is
+//! taken exactly when the catalog's rules allow it.
 #![tactic(auto)]
 
-pub mod blocks;
-pub mod bound;
-pub mod count;
-pub mod fault;
-pub mod fields;
-pub mod geometry;
-pub mod lock_name;
-pub mod makers;
-pub mod memory;
-pub mod name;
+mod blocks;
+mod bound;
+mod count;
+mod fault;
+mod fields;
+mod geometry;
+mod lock_name;
+mod makers;
+mod memory;
+mod name;
 mod order;
-pub mod place_buffer;
-pub mod position;
-pub mod reply;
-pub mod request;
-pub mod script;
-pub mod shared_request;
+mod place_buffer;
+mod position;
+mod reply;
+mod request;
+mod script;
+mod shared_request;
 mod settling;
-pub mod unit;
-pub mod values;
-pub mod words;
+mod unit;
+mod values;
+mod words;
 
 pub use blocks::Blocks;
 pub use bound::Bound;

@@ -5,13 +5,8 @@ ghost use Rattle.std.specs.Hash as fed;
 ghost use Rattle.std.specs.Cmp.{partial_order_from_own_ties};
 ghost use Rattle.std.specs.Cmp.Rules.{comparing, hashing};
 ghost use Rattle.std.specs.Ordering.{as_partial_cmp};
-ghost use Rattle.vr_types.specs.LockName.{
-  lock_name_cmp,
-  lock_name_eq,
-  kind_number,
-  part_number,
-  place_of,
-};
+ghost use Rattle.vr_types.specs.LockName.{lock_name_cmp, lock_name_eq, kind_number, part_number};
+ghost use Rattle.vr_types.specs.LockName.{place_of};
 
 use crate::memory::OutOfMemory;
 use crate::unit::PartNo;
@@ -32,7 +27,7 @@ pub enum LockName {
 pub type LockNames = Items<LockName>;
 
 impl LockName {
-    /// An equal value. Want of memory is its one error.
+    /// Copies the value; fails only if memory runs out.
     pub fn copy(&self, alloc: Global) -> Result<LockName, OutOfMemory>
         ensures { IfOk result (λ copy. copy ≡ self.now) }
     {
@@ -85,7 +80,8 @@ impl Eq for LockName {
 impl PartialOrd for LockName {
     ghost partial_cmp = { as_partial_cmp lock_name_cmp };
 
-    ghost laws = { partial_order_from_own_ties (Prim.search (comparing, rules)) (Prim.search (comparing, rules)) };
+    ghost laws = { partial_order_from_own_ties (Prim.search (comparing, rules))
+        (Prim.search (comparing, rules)) };
 
     fn partial_cmp(&self, other: &LockName) -> Option<Ordering> {
         Some(self.cmp(other))

@@ -5,7 +5,7 @@ use std::alloc::{AllocError, AllocFailed};
 use std::error::Error;
 use std::fmt;
 
-/// Memory ran out. The call that answers it changed nothing that it doesn't name.
+/// Memory ran out. The call that answers it changed nothing that its contract doesn't name.
 #[derive(Clone, Copy, Debug, PartialEq, Eq, Hash)]
 pub struct OutOfMemory;
 

@@ -1,5 +1,9 @@
-ghost use Rattle.std.specs.Prelude.{◌≡◌, ℕ, List, ◌<◌, ◌≤◌, length, IfOk, IfErr, IfNone, IfSome, true};
-ghost use Rattle.vr_types.specs.Name.{begins_qualifier, continues_qualifier, fits_column, is_national, is_right_at, in_capitals, IsDatasetName, IsFirstBad, CauseOf};
+//! Names of data sets.
+ghost use Rattle.std.specs.Prelude.{◌≡◌, ℕ, List, ◌<◌, ◌≤◌, length, IfOk, IfErr, IfNone, IfSome};
+ghost use Rattle.std.specs.Prelude.{true};
+ghost use Rattle.vr_types.specs.Name.{begins_qualifier, continues_qualifier, fits_column};
+ghost use Rattle.vr_types.specs.Name.{is_national, is_right_at, in_capitals, IsDatasetName};
+ghost use Rattle.vr_types.specs.Name.{IsFirstBad, CauseOf};
 
 use crate::memory::OutOfMemory;
 use std::alloc::{AllocError, Global};
@@ -27,14 +31,14 @@ impl Model for Name {
     ghost invariant = { λ name. (0 < length name.bytes.items) × (length name.bytes.items ≤ 44) };
 }
 
-/// Why a text is no name of a data set. Offsets and lengths are in bytes.
+/// Why a text is not the name of a data set. Offsets and lengths are in bytes.
 #[derive(Clone, Copy, Debug, PartialEq, Eq, Hash)]
 pub enum NameFault {
     /// The text is empty.
     Empty,
     /// The text has more than 44 bytes.
     TooLong { length: usize },
-    /// The byte at `at` may not stand there, or the text ends there in an empty qualifier.
+    /// The byte at `at` may not be there, or the text ends there in an empty qualifier.
     Qualifier { at: usize },
     /// Memory ran out.
     Memory,
@@ -61,7 +65,7 @@ impl Name {
         self.bytes.as_slice()
     }
 
-    /// An equal value. Want of memory is its one error.
+    /// Copies the value; fails only if memory runs out.
     pub fn copy(&self, alloc: Global) -> Result<Name, OutOfMemory>
         ensures { IfOk result (λ copy. copy ≡ self.now) }
     {
@@ -70,9 +74,9 @@ impl Name {
     }
 }
 
-/// The name that a text spells, in capitals, after the rules of Using Data Sets: up to 44 bytes; qualifiers
-/// of 1 to 8 bytes joined by dots; each begins with a letter, `@`, `#` or `$`, and goes on with these, digits
-/// or hyphens.
+/// The name that a text spells, in capitals, after the rules of Using Data Sets: up to 44 bytes;
+/// qualifiers of 1 to 8 bytes joined by dots; each begins with a letter, `@`, `#` or `$`, and goes
+/// on with these, digits or hyphens.
 pub fn dataset_name(alloc: Global, text: &str) -> Result<Name, NameFault>
     ensures name { IfOk result (λ name. IsDatasetName text.now × (name ≡ in_capitals text.now)) }
     ensures fault { IfErr result (CauseOf text.now) }
@@ -115,7 +119,7 @@ fn first_bad_byte(text: &[u8]) -> Option<usize>
     if column == 0 { Some(text.len()) } else { None }
 }
 
-/// Whether a byte may stand where `column` bytes of its qualifier stand before it.
+/// Whether a byte may come after `column` bytes of its qualifier.
 fn may_stand(column: usize, byte: u8) -> bool
     ensures { result ≡ fits_column column byte }
 {

@@ -6,8 +6,8 @@ use crate::request::copy_of_place;
 use crate::values::Place;
 use std::alloc::Global;
 
-/// Where a file is for sequential reading, as Using Data Sets has it of positioning: at its start, at or after a
-/// place, at its end, or nowhere.
+/// Where a file is for sequential reading, as Using Data Sets has it of positioning: at its start,
+/// at or after a place, at its end, or nowhere.
 #[derive(Debug, Drop, PartialEq, Eq)]
 pub enum Stand {
     Start,

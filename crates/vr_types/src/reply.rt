@@ -1,3 +1,4 @@
+//! What a request is answered.
 ghost use Rattle.std.specs.Prelude.{◌≡◌, IfOk};
 ghost use Rattle.vr_types.specs.Refusal.{feedback_code};
 
@@ -8,8 +9,8 @@ use crate::unit::{Mode, PartNo, Unit};
 use crate::values::{Bytes, Place};
 use std::alloc::Global;
 
-/// Why a request was refused. Lengths are in bytes, needs and free space in areas of a volume, and the
-/// log's numbers in bytes.
+/// Why a request was refused. Lengths are in bytes, needs and free space in areas of a volume, and
+/// the log's numbers in bytes.
 #[derive(Debug, Drop, PartialEq, Eq)]
 pub enum Refusal {
     /// No record is left for a sequential GET.
@@ -70,7 +71,8 @@ pub enum Refusal {
 }
 
 impl Refusal {
-    /// The feedback number that the listing shows: that of Using Data Sets up to 192, this project's own from 901 on.
+    /// The feedback number that the listing shows: that of Using Data Sets up to 192, this
+    /// project's own from 901 on.
     pub fn code(&self) -> u16
         ensures { result ≡ feedback_code self.now }
     {
@@ -97,7 +99,7 @@ impl Refusal {
         }
     }
 
-    /// An equal value. Want of memory is its one error.
+    /// Copies the value; fails only if memory runs out.
     pub fn copy(&self, alloc: Global) -> Result<Refusal, OutOfMemory>
         ensures { IfOk result (λ copy. copy ≡ self.now) }
     {
@@ -136,8 +138,8 @@ impl Refusal {
     }
 }
 
-/// The answer to a request. `feedback` is 0, or 8 where another record has the same alternate key. `place` is the
-/// base record's.
+/// The answer to a request. `feedback` is 0, or 8 where another record has the same alternate key.
+/// `place` is the base record's.
 #[derive(Debug, Drop, PartialEq, Eq)]
 pub enum Reply {
     Done {
@@ -149,7 +151,7 @@ pub enum Reply {
 }
 
 impl Reply {
-    /// An equal value. Want of memory is its one error.
+    /// Copies the value; fails only if memory runs out.
     pub fn copy(&self, alloc: Global) -> Result<Reply, OutOfMemory>
         ensures { IfOk result (λ copy. copy ≡ self.now) }
     {

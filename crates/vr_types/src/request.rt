@@ -1,3 +1,4 @@
+//! What a deck asks for.
 ghost use Rattle.std.specs.Prelude.{◌≡◌, IfOk};
 
 use crate::memory::OutOfMemory;
@@ -5,9 +6,9 @@ use crate::unit::{Integrity, Kind, PartNo};
 use crate::values::{Bytes, Place};
 use std::alloc::Global;
 
-/// A file of a deck. `slot` numbers the deck's files from 0, so two files on one cluster have positions of
-/// their own. `path` is there where the file is opened by a path over an alternate index. `known` is false
-/// where no catalog has the name; `kind` is the base's, and `Keyed` there.
+/// A file of a deck. `slot` numbers the deck's files from 0, so two files on one cluster have
+/// positions of their own. `path` is there where the file is opened by a path over an alternate
+/// index. `known` is false where no catalog has the name; `kind` is the base's, and `Keyed` there.
 #[derive(Clone, Copy, Debug, PartialEq, Eq, Hash)]
 pub struct FileRef {
     pub volume: u32,
@@ -18,7 +19,8 @@ pub struct FileRef {
     pub known: bool,
 }
 
-/// Which record a request asks for: the next one, the one at a place, or the first at or past a place.
+/// Which record a request asks for: the next one, the one at a place, or the first at or past a
+/// place.
 #[derive(Debug, Drop, PartialEq, Eq)]
 pub enum Find {
     Next,
@@ -27,7 +29,7 @@ pub enum Find {
 }
 
 impl Find {
-    /// An equal value. Want of memory is its one error.
+    /// Copies the value; fails only if memory runs out.
     pub fn copy(&self, alloc: Global) -> Result<Find, OutOfMemory>
         ensures { IfOk result (λ copy. copy ≡ self.now) }
     {
@@ -39,8 +41,9 @@ impl Find {
     }
 }
 
-/// One request of a deck, as Using Data Sets names them: GET, POINT, PUT add, PUT update, ERASE, ENDREQ, and
-/// the two that end a unit of recovery. The place of an `Add` is there in a relative data set alone.
+/// One request of a deck, as Using Data Sets names them: GET, POINT, PUT add, PUT update, ERASE,
+/// ENDREQ, and the two that end a unit of recovery. The place of an `Add` is there in a relative
+/// data set alone.
 #[derive(Debug, Drop, PartialEq, Eq)]
 pub enum Request {
     Get {
@@ -73,7 +76,7 @@ pub enum Request {
 }
 
 impl Request {
-    /// An equal value. Want of memory is its one error.
+    /// Copies the value; fails only if memory runs out.
     pub fn copy(&self, alloc: Global) -> Result<Request, OutOfMemory>
         ensures { IfOk result (λ copy. copy ≡ self.now) }
     {

@@ -4,8 +4,8 @@ ghost use Rattle.vr_types.specs.Calls.{fails_next, uncalled, counted, stopped};
 
 use std::marker::Model;
 
-/// The calls of a device, source or sink in memory: it counts them, and says which of them fail. The first call has
-/// number 0, and those from 2^64 - 1 on share that number.
+/// The calls of a device, source or sink in memory: it counts them, and says which of them fail.
+/// The first call has number 0, and those from 2^64 - 1 on share that number.
 #[derive(Drop)]
 pub struct Script {
     calls: u64,

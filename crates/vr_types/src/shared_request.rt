@@ -23,7 +23,7 @@ impl Model for SharedRequest {
 }
 
 impl SharedRequest {
-    /// A request with one owner. Out of memory is its one error.
+    /// A request with one owner; fails only if memory runs out.
     pub fn new(alloc: Global, request: Request) -> Result<SharedRequest, OutOfMemory>
         ensures { IfOk result (λ shared. shared ≡ request) }
     {

@@ -1,12 +1,15 @@
-/// A unit of recovery: the number-th of a deck on one volume. Numbers begin at 1 and rise after each
-/// COMMIT or BACKOUT that was answered 0. Deck 0 is that of the utilities.
+//! Units of recovery, and the small words of requests, locks and stages.
+
+/// A unit of recovery: the number-th of a deck on one volume. Numbers begin at 1 and rise after
+/// each COMMIT or BACKOUT that was answered 0. Deck 0 is that of the utilities.
 #[derive(Clone, Copy, Debug, PartialEq, Eq, Hash)]
 pub struct Unit {
     pub deck: u32,
     pub number: u32,
 }
 
-/// The number of a part of a volume: a cluster, an alternate index or a path. Part 0 is the catalog.
+/// The number of a part of a volume: a cluster, an alternate index or a path. Part 0 is the
+/// catalog.
 #[derive(Clone, Copy, Debug, PartialEq, Eq, PartialOrd, Ord, Hash)]
 pub struct PartNo(pub u32);
 
@@ -21,7 +24,8 @@ pub enum Mode {
     Exclusive,
 }
 
-/// The read integrity of a request: no read integrity, consistent read, or consistent read explicit.
+/// The read integrity of a request: no read integrity, consistent read, or consistent read
+/// explicit.
 #[derive(Clone, Copy, Debug, PartialEq, Eq, Hash)]
 pub enum Integrity {
     Nri,
@@ -37,8 +41,8 @@ pub enum Kind {
     Relative,
 }
 
-/// A stage of a request that takes several events: those of a split of a control interval, of a split of
-/// a control area, the extension of a data set, an undo, and a force.
+/// A stage of a request that takes several events: those of a split of a control interval, of a
+/// split of a control area, the extension of a data set, an undo, and a force.
 #[derive(Clone, Copy, Debug, PartialEq, Eq, Hash)]
 pub enum StageKind {
     CiCopy,

@@ -1,11 +1,14 @@
-ghost use Rattle.std.specs.Prelude.{◌≡◌, ◌↔◌, ℕ, List, [], ◌∷◌, ◌++◌, length, take, IsTrue, IfOk, OnOk, OnErr};
+//! Places and bytes.
+ghost use Rattle.std.specs.Prelude.{◌≡◌, ◌↔◌, ℕ, List, [], ◌∷◌, ◌++◌, length, take, IsTrue, IfOk};
+ghost use Rattle.std.specs.Prelude.{OnOk, OnErr};
 
 use crate::memory::OutOfMemory;
 use std::alloc::Global;
 use std::marker::Model;
 
-/// The place of a record in its data set, a list of bytes ordered byte by byte: the key of a key-sequenced
-/// record, else four bytes, high byte first, of the relative byte address or the slot number.
+/// The place of a record in its data set, a list of bytes ordered byte by byte: the key of a
+/// key-sequenced record, else four bytes, high byte first, of the relative byte address or the slot
+/// number.
 #[derive(Debug, Drop)]
 pub struct Place {
     bytes: Vec<u8>,
@@ -18,7 +21,7 @@ impl Model for Place {
 }
 
 impl Place {
-    /// A place of these bytes, which takes no memory.
+    /// Wraps the vector without copying.
     pub fn from_vec(bytes: Vec<u8>) -> Place
         ensures { result ≡ bytes.items }
     {
@@ -32,7 +35,7 @@ impl Place {
         self.bytes.as_slice()
     }
 
-    /// An equal value. Want of memory is its one error.
+    /// Copies the value; fails only if memory runs out.
     pub fn copy(&self, alloc: Global) -> Result<Place, OutOfMemory>
         ensures { IfOk result (λ copy. copy ≡ self.now) }
     {
@@ -41,7 +44,7 @@ impl Place {
     }
 }
 
-/// The bytes of a record, or of a piece of text.
+/// The bytes of a record, or of a text.
 #[derive(Debug, Drop)]
 pub struct Bytes {
     bytes: Vec<u8>,
@@ -54,7 +57,7 @@ impl Model for Bytes {
 }
 
 impl Bytes {
-    /// No byte, which takes no memory.
+    /// Creates an empty value without allocating.
     pub fn new(alloc: Global) -> Bytes
         ensures { result ≡ [] }
     {
@@ -63,7 +66,7 @@ impl Bytes {
         }
     }
 
-    /// These bytes, which takes no memory.
+    /// Wraps the vector without copying.
     pub fn from_vec(bytes: Vec<u8>) -> Bytes
         ensures { result ≡ bytes.items }
     {
@@ -85,7 +88,7 @@ impl Bytes {
         bytes
     }
 
-    /// An equal value. Want of memory is its one error.
+    /// Copies the value; fails only if memory runs out.
     pub fn copy(&self, alloc: Global) -> Result<Bytes, OutOfMemory>
         ensures { IfOk result (λ copy. copy ≡ self.now) }
     {
@@ -100,19 +103,19 @@ impl Bytes {
         self.bytes.len()
     }
 
-    /// Whether there is no byte.
+    /// Whether it is empty.
     pub fn is_empty(&self) -> bool
         ensures { IsTrue result ↔ (self.now ≡ []) }
     {
         self.bytes.is_empty()
     }
 
-    /// Adds a piece at the end. Where memory runs out, nothing changes.
-    pub fn extend(&mut self, piece: &[u8]) -> Result<(), OutOfMemory>
-        ensures ok { OnOk result (self.new ≡ self.old ++ piece.now) }
+    /// Adds these bytes at the end. Where memory runs out, nothing changes.
+    pub fn extend(&mut self, more: &[u8]) -> Result<(), OutOfMemory>
+        ensures ok { OnOk result (self.new ≡ self.old ++ more.now) }
         ensures err { OnErr result (self.new ≡ self.old) }
     {
-        self.bytes.extend_from_slice(piece)?;
+        self.bytes.extend_from_slice(more)?;
         Ok(())
     }
 

@@ -1,4 +1,6 @@
-ghost use Rattle.std.specs.Prelude.{◌≡◌, ℕ, List, [], ◌∷◌, ◌++◌, length, map, string_bytes, vec_len, OnOk, OnErr, slice_get, Some, ◌<◌};
+//! The words that the program was called with.
+ghost use Rattle.std.specs.Prelude.{◌≡◌, ℕ, List, [], ◌∷◌, ◌++◌, length, map, string_bytes};
+ghost use Rattle.std.specs.Prelude.{vec_len, OnOk, OnErr, slice_get, Some, ◌<◌};
 
 use crate::memory::OutOfMemory;
 use std::alloc::Global;
@@ -17,7 +19,7 @@ impl Model for Words {
 }
 
 impl Words {
-    /// No word.
+    /// Creates an empty list without allocating.
     pub fn new(alloc: Global) -> Words
         ensures { result ≡ [] }
     {
@@ -33,7 +35,7 @@ impl Words {
         self.words.len()
     }
 
-    /// The word at a place.
+    /// The word of a number from 0 on.
     pub fn word(&self, at: usize) -> &str
         requires { at < length self.now }
         ensures { slice_get self.now at ≡ Some result.now }

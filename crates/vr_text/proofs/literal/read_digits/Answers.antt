@@ -1,6 +1,6 @@
-use Rattle.vr_text.specs.Literal.{CauseInDigits}
+use Rattle.vr_text.specs.LiteralParts.{CauseInDigits}
 use Rattle.vr_text.proofs.Digits.{spelled}
-use Rattle.vr_text.proofs.Laws.{IfErr-memory}
+use Rattle.vr_text.proofs.CallerLemmas.{IfErr-memory}
 use Rattle.vr_text.proofs.literal.read_digits.Goals as goal
 
 pub returns-in_err-paired-clause-fault : goal.returns-in_err-paired-clause-fault

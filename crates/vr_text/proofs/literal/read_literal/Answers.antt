@@ -1,5 +1,5 @@
 use Rattle.std.proofs.Common.{sym, ◌∙◌}
-use Rattle.vr_text.proofs.Laws.{IfErr-cause_of_digits}
+use Rattle.vr_text.proofs.CallerLemmas.{IfErr-cause_of_digits}
 use Rattle.vr_text.proofs.literal.read_literal.Goals as goal
 
 pub returns-in-Some-between-clause-fault : goal.returns-in-Some-between-clause-fault

@@ -1,0 +1,11 @@
+pub mod RdfLemmas
+pub mod MarkLemmas
+pub mod LayoutLemmas
+pub mod ChainLemmas
+pub mod CompareLemmas
+pub mod ComparedLemmas
+pub mod JudgedLemmas
+pub mod TallyLemmas
+pub mod WalkLemmas
+pub mod EndLemmas
+pub mod CallerLemmas
