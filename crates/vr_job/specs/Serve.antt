@@ -14,24 +14,31 @@ use Rattle.vr_types.specs.Position.{first_position}
 use Rattle.vr_job.specs.State.{State}
 use Rattle.vr_job.specs.Step.{MayReply, answer_of, after_what}
 
--- What a request on VRM.FIRST does, by the content alone.
+-- What a request on VRM.FIRST does, by the content alone: for the private functions that answer it.
 
--- The reply is one that the request may have in each state with the old content, and the new content is that of the state after it.
+-- The reply is one that the request may have in each state with the old content, and the new
+-- content is that of the state after it.
 abbrev pub Serves : Request → Reply → Content → Content → Type 0
-Serves request reply old new = (state : State) (deck : ℕ) → state.contents 1 ≡ old → MayReply state request reply × ((after_what deck (Asked request reply) state).contents 1 ≡ new)
+Serves request reply old new =
+    (state : State) (deck : ℕ) → state.contents 1 ≡ old
+    → MayReply state request reply
+    × ((after_what deck (Asked request reply) state).contents 1 ≡ new)
 
 -- a state with a content
 abbrev pub state_with : Content → State
-state_with content = record { contents = λ _. content; positions = λ _ _. first_position; numbers = λ _. 1 }
+state_with content =
+    record { contents = λ _. content; positions = λ _ _. first_position; numbers = λ _. 1 }
 
--- the reply to a request where the file has a content and memory is ample, and the content after a reply
+-- the reply to a request where the file has a content and memory is ample, and the content after a
+-- reply
 abbrev pub reply_to : Content → Request → Reply
 reply_to content request = answer_of (state_with content) request
 
 abbrev pub content_after : Content → Request → Reply → Content
-content_after content request reply = (after_what 1 (Asked request reply) (state_with content)).contents 1
+content_after content request reply =
+    (after_what 1 (Asked request reply) (state_with content)).contents 1
 
--- the reply, or the refusal for want of memory
+-- the reply, or the refusal where memory ran out
 abbrev pub or_refused : Result Reply OutOfMemory → Reply
 or_refused (Ok reply) = reply
 or_refused (Err memory) = Refused Memory

@@ -17,8 +17,8 @@ use vr_types::{Bound, OutOfMemory, Reply, Request, Unit};
 /// The number of the one deck.
 const DECK: u32 = 1;
 
-/// Runs the requests of deck 1 over an empty VRM.FIRST, in order, and enters each with its reply. Where memory runs out,
-/// the entries are those of the requests so far.
+/// Runs the requests of deck 1 over an empty VRM.FIRST, in order, and enters each with its reply.
+/// Where memory runs out, the entries are those of the requests so far.
 pub fn run_deck(
     alloc: Global,
     requests: &DeckRequests,
@@ -41,8 +41,8 @@ pub fn run_deck(
     Ok(())
 }
 
-/// Answers a request and enters it, and gives the number of the deck's next unit. Where memory runs out, nothing
-/// changes.
+/// Answers a request and enters it, and gives the number of the deck's next unit. Where memory runs
+/// out, nothing changes.
 fn run_one(
     alloc: Global,
     file: &mut RecordFile,
