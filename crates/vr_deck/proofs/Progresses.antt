@@ -1,7 +1,7 @@
-use Rattle.std.proofs.Common.{◌≡◌, ℕ, ◌+◌, ◌-◌, ◌<◌, ◌≤◌, List, [], ◌∷◌, length, take, map, Option}
-use Rattle.std.proofs.Common.{None, refl, lit≤, ◌∙◌, ap, subst, inl, inr, suc, arith}
+use Rattle.std.proofs.Common.{◌≡◌, ℕ, ◌+◌, ◌-◌, ◌<◌, ◌≤◌, List, [], ◌∷◌, length, take, Option}
+use Rattle.std.proofs.Common.{None, refl, lit≤, subst, inl, inr, suc, arith}
 use Rattle.std.specs.Prelude.{slice_index_or}
-use Rattle.std.proofs.lemmas.List.{length-append, length-map}
+use Rattle.std.proofs.lemmas.List.{length-append}
 use Rattle.vr_deck.specs.declared.text.Order.{Order}
 use Rattle.vr_deck.specs.declared.text.JobFault.{JobFault}
 use Rattle.vr_deck.specs.declared.text.JobFault.TheVariants.{Form, Memory}
@@ -87,7 +87,8 @@ first_stop n from (line ∷ lines) m (inl stops) =
       within = omega arith;
       reached = from;
       before = rw none refl;
-      stuck = λ within to leads. stops.1 to (subst (λ (k : ℕ). Leads k from line to) stops.0 (rw none at leads));
+      stuck = λ within to leads. stops.1 to
+          (subst (λ (k : ℕ). Leads k from line to) stops.0 (rw none at leads));
       missing = λ within. absurd (omega arith);
     }
 first_stop n from (line ∷ lines) m (inr stops) =
@@ -132,8 +133,10 @@ one_order : (n : ℕ) (meaning : Meaning) (file file' : Option (List ℕ)) (orde
     → Adds n meaning file orders file' orders' → length orders' ≤ length orders + 1
 one_order n Nothing file file' orders orders' stops = rw stops.1 (omega arith)
 one_order n (FileOf name) file file' orders orders' stops = rw stops.2 (omega arith)
-one_order n (PutOf name bytes) file file' orders orders' stops = simp (stops.2, length-append) (omega arith)
-one_order n (GetOf name key) file file' orders orders' stops = simp (stops.2, length-append) (omega arith)
+one_order n (PutOf name bytes) file file' orders orders' stops =
+    simp (stops.2, length-append) (omega arith)
+one_order n (GetOf name key) file file' orders orders' stops =
+    simp (stops.2, length-append) (omega arith)
 
 one_order_more : (n : ℕ) (from : Progress) (line : List ℕ) (to : Progress) → Leads n from line to
     → length (orders_at to) ≤ length (orders_at from) + 1
@@ -150,7 +153,12 @@ orders_added : (n : ℕ) (from : Progress) (lines : List (List ℕ)) (to : Progr
     → Reads n from lines to → length (orders_at to) ≤ length (orders_at from) + length lines
 orders_added n from [] to stops = rw stops (omega arith)
 orders_added n from (line ∷ lines) to stops =
-    omega (arith, one_order_more n from line stops.0 stops.1, orders_added (n + 1) stops.0 lines to stops.2)
+    omega (
+      arith,
+      one_order_more n from line stops.0 stops.1,
+      orders_added
+          (n + 1) stops.0 lines to stops.2,
+    )
 
 pub few_orders : (n : ℕ) (step : List ℕ) (lines : List (List ℕ)) (file : Option (List ℕ))
     (orders : List Order) → Reads n (InDeck step None []) lines (InDeck step file orders)

@@ -42,7 +42,7 @@ IsDeckLine line (FileOf name) =
     (operand : List ℕ) × IsOrderLine (codes "FILE") line name operand × IsFirstFile operand
 IsDeckLine line (PutOf name bytes) =
     (operand : List ℕ) × IsOrderLine (codes "PUT") line name operand
-        × IsKeyword (codes "DATA=") operand bytes
+    × IsKeyword (codes "DATA=") operand bytes
 IsDeckLine line (GetOf name key) =
     (operand : List ℕ) × IsOrderLine (codes "GET") line name operand
-        × IsKeyword (codes "KEY=") operand key
+    × IsKeyword (codes "KEY=") operand key

@@ -40,13 +40,13 @@ Leads n (StepRead step) line NoCard = ⊥
 Leads n (StepRead step) line (StepRead step') = ⊥
 Leads n (StepRead step) line (InDeck step' file orders) =
     IsPrintable (without_end line) × IsDeckCard (without_end line) × (step' ≡ step) × (file ≡ None)
-        × (orders ≡ [])
+    × (orders ≡ [])
 Leads n (InDeck step file orders) line NoCard = ⊥
 Leads n (InDeck step file orders) line (StepRead step') = ⊥
 Leads n (InDeck step file orders) line (InDeck step' file' orders') =
     IsRightLine (without_end line) × (step' ≡ step) × (meaning : Meaning)
-        × IsDeckLine (without_end line) meaning
-        × Adds n meaning file orders file' orders'
+    × IsDeckLine (without_end line) meaning
+    × Adds n meaning file orders file' orders'
 
 -- lines numbered from n on lead from one point to another
 abbrev pub Reads : ℕ → Progress → List (List ℕ) → Progress → Type 0

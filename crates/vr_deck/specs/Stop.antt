@@ -13,7 +13,7 @@ abbrev pub StopsAt : ℕ → Progress → List (List ℕ) → ℕ → Type 0
 StopsAt n from [] m = (m ≡ n) × LacksCard from
 StopsAt n from (line ∷ lines) m =
     ((m ≡ n) × ((to : Progress) → Leads n from line to → ⊥))
-        ⊎ ((mid : Progress) × Leads n from line mid × StopsAt (n + 1) mid lines m)
+    ⊎ ((mid : Progress) × Leads n from line mid × StopsAt (n + 1) mid lines m)
 
 -- the same of a fault; memory may run out at any time
 abbrev pub FaultFrom : ℕ → Progress → List (List ℕ) → JobFault → Type 0
@@ -29,8 +29,8 @@ FaultAt n from line Memory = Unit {0}
 abbrev pub CannotAdd : ℕ → Meaning → Option (List ℕ) → List Order → JobFault → Type 0
 CannotAdd n meaning file orders (Form fault) =
     (fault.line ≡ n)
-        × ((file' : Option (List ℕ)) (orders' : List Order)
-        → Adds n meaning file orders file' orders' → ⊥)
+    × ((file' : Option (List ℕ)) (orders' : List Order)
+    → Adds n meaning file orders file' orders' → ⊥)
 CannotAdd n meaning file orders Memory = Unit {0}
 
 -- the file of an order on line n isn't the deck's

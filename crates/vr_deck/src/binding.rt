@@ -48,11 +48,7 @@ fn bind_orders(alloc: Global, orders: Orders) -> Result<DeckRequests, OutOfMemor
 }
 
 /// The request of an order. `empty` is that of an empty key.
-fn bound_order(
-    alloc: Global,
-    order: Order,
-    empty: &SharedRequest,
-) -> Result<Bound, OutOfMemory>
+fn bound_order(alloc: Global, order: Order, empty: &SharedRequest) -> Result<Bound, OutOfMemory>
     requires { empty.now ≡ key_request [] }
     ensures { IfOk result (λ bound. bound ≡ bound_order order) }
 {

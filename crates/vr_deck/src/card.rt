@@ -28,10 +28,8 @@ pub(crate) fn is_name(name: &[u8]) -> bool
 
 /// The name on a card that begins a deck step.
 pub(crate) fn step_card<'a>(line: &'a [u8]) -> Option<&'a [u8]>
-    ensures {
-        MatchOption result ((step : List ℕ) → IsStepCard line.now step → ⊥)
-            (λ step. IsStepCard line.now step.now)
-    }
+    ensures { MatchOption result ((step : List ℕ) → IsStepCard line.now step → ⊥)
+        (λ step. IsStepCard line.now step.now) }
 {
     let step = after_prefix(word(line), b"//")?;
     let rest = after_word(line);

@@ -36,11 +36,9 @@ pub(crate) fn read_line<'a>(
     line: &'a [u8],
 ) -> Result<Option<DeckLine<'a>>, OutOfMemory>
     requires { IsRightLine line.now }
-    ensures {
-        IfOk result (λ found.
-            MatchOption found ((meaning : Meaning) → IsDeckLine line.now meaning → ⊥)
-                (λ read. IsDeckLine line.now (meaning_of read)))
-    }
+    ensures { IfOk result (λ found.
+        MatchOption found ((meaning : Meaning) → IsDeckLine line.now meaning → ⊥)
+        (λ read. IsDeckLine line.now (meaning_of read))) }
 {
     if says_nothing(line) {
         return Ok(Some(DeckLine::Nothing));
@@ -86,10 +84,9 @@ fn says_nothing(line: &[u8]) -> bool
 
 /// The words of a line, where the second is a name.
 fn order_words<'a>(line: &'a [u8]) -> Option<OrderWords<'a>>
-    ensures {
-        MatchOption result ((verb name operand : List ℕ) → IsOrderLine verb line.now name operand → ⊥)
-            (λ words. IsOrderLine words.verb.now line.now words.name.now words.operand.now)
-    }
+    ensures { MatchOption result
+        ((verb name operand : List ℕ) → IsOrderLine verb line.now name operand → ⊥)
+        (λ words. IsOrderLine words.verb.now line.now words.name.now words.operand.now) }
 {
     let line = unindented(line);
     let rest = after_word(line);
@@ -112,11 +109,9 @@ fn keyword_literal(
     keyword: &[u8],
 ) -> Result<Option<Bytes>, OutOfMemory>
     requires { IsPrintable operand.now }
-    ensures {
-        IfOk result (λ found. MatchOption found
-            ((bytes : List ℕ) → IsKeyword keyword.now operand.now bytes → ⊥)
-            (IsKeyword keyword.now operand.now))
-    }
+    ensures { IfOk result (λ found. MatchOption found
+        ((bytes : List ℕ) → IsKeyword keyword.now operand.now bytes → ⊥)
+        (IsKeyword keyword.now operand.now)) }
 {
     let Some(literal) = after_prefix(operand, keyword) else {
         return Ok(None);

@@ -57,10 +57,8 @@ pub(crate) fn after_word(line: &[u8]) -> &[u8]
 
 /// The line without the blanks at its end, where it may be a card.
 pub(crate) fn card_line(line: &[u8]) -> Option<&[u8]>
-    ensures {
-        MatchOption result (IsPrintable (without_end line.now) → ⊥)
-            (λ card. (card.now ≡ without_end line.now) × IsPrintable card.now)
-    }
+    ensures { MatchOption result (IsPrintable (without_end line.now) → ⊥)
+        (λ card. (card.now ≡ without_end line.now) × IsPrintable card.now) }
 {
     let line = without_end(line);
     if is_printable(line) { Some(line) } else { None }
@@ -68,10 +66,8 @@ pub(crate) fn card_line(line: &[u8]) -> Option<&[u8]>
 
 /// The line without the blanks at its end, where it may be a line of a deck.
 pub(crate) fn right_line(line: &[u8]) -> Option<&[u8]>
-    ensures {
-        MatchOption result (IsRightLine (without_end line.now) → ⊥)
-            (λ right. (right.now ≡ without_end line.now) × IsRightLine right.now)
-    }
+    ensures { MatchOption result (IsRightLine (without_end line.now) → ⊥)
+        (λ right. (right.now ≡ without_end line.now) × IsRightLine right.now) }
 {
     let line = without_end(line);
     if line.len() <= LINE_LIMIT && is_printable(line) {
@@ -90,10 +86,8 @@ fn is_printable(line: &[u8]) -> bool
 
 /// What follows this prefix of a text.
 pub(crate) fn after_prefix<'a>(text: &'a [u8], prefix: &[u8]) -> Option<&'a [u8]>
-    ensures {
-        MatchOption result ((rest : List ℕ) → text.now ≢ prefix.now ++ rest)
-            (λ rest. text.now ≡ prefix.now ++ rest.now)
-    }
+    ensures { MatchOption result ((rest : List ℕ) → text.now ≢ prefix.now ++ rest)
+        (λ rest. text.now ≡ prefix.now ++ rest.now) }
 {
     text.strip_prefix(prefix)
 }

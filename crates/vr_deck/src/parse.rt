@@ -41,23 +41,19 @@ pub fn parse_job(alloc: Global, text: &[u8]) -> Result<JobText, JobFault>
 
 /// The step's name on the first line that is left.
 fn first_card<'a>(lines: &mut Lines<'a>) -> Option<&'a [u8]>
-    ensures {
-        MatchOption result (StopsAt 1 NoCard lines.old 1)
-            (λ step. (line : List ℕ) × (lines.old ≡ line ∷ lines.new)
-                × Leads 1 NoCard line (StepRead step.now))
-    }
+    ensures { MatchOption result (StopsAt 1 NoCard lines.old 1)
+        (λ step. (line : List ℕ) × (lines.old ≡ line ∷ lines.new)
+        × Leads 1 NoCard line (StepRead step.now)) }
 {
     step_card(card_line(lines.next()?)?)
 }
 
 /// Whether the first line that is left is the card of deck 1.
 fn deck_card_follows(lines: &mut Lines) -> bool
-    ensures {
-        (step : List ℕ) → MatchBool result
-            ((line : List ℕ) × (lines.old ≡ line ∷ lines.new)
-                × Leads 2 (StepRead step) line (InDeck step None []))
-            (StopsAt 2 (StepRead step) lines.old 2)
-    }
+    ensures { (step : List ℕ) → MatchBool result
+        ((line : List ℕ) × (lines.old ≡ line ∷ lines.new)
+        × Leads 2 (StepRead step) line (InDeck step None []))
+        (StopsAt 2 (StepRead step) lines.old 2) }
 {
     let Some(line) = lines.next() else {
         return false;
@@ -71,14 +67,10 @@ fn deck_card_follows(lines: &mut Lines) -> bool
 /// The deck of the lines that are left.
 fn read_deck(alloc: Global, lines: Lines) -> Result<DeckText, JobFault>
     requires { length lines ≤ 2 ^ 26 }
-    ensures deck {
-        IfOk result (λ deck. (step : List ℕ)
-            → Reads 3 (InDeck step None []) lines.entry (InDeck step deck.file deck.orders))
-    }
-    ensures fault {
-        IfErr result (λ fault. (step : List ℕ)
-            → FaultFrom 3 (InDeck step None []) lines.entry fault)
-    }
+    ensures deck { IfOk result (λ deck. (step : List ℕ)
+        → Reads 3 (InDeck step None []) lines.entry (InDeck step deck.file deck.orders)) }
+    ensures fault { IfErr result (λ fault. (step : List ℕ)
+        → FaultFrom 3 (InDeck step None []) lines.entry fault) }
 {
     let mut deck = DeckText {
         file: None,
@@ -94,15 +86,11 @@ fn read_deck(alloc: Global, lines: Lines) -> Result<DeckText, JobFault>
 
 /// Takes a line into the deck so far.
 fn add_line(alloc: Global, deck: &mut DeckText, number: u32, line: &[u8]) -> Result<(), JobFault>
-    ensures ok {
-        OnOk result ((step : List ℕ)
-            → Leads number (InDeck step deck.old.file deck.old.orders) line.now
-                (InDeck step deck.new.file deck.new.orders))
-    }
-    ensures fault {
-        IfErr result (λ fault. (step : List ℕ)
-            → FaultAt number (InDeck step deck.old.file deck.old.orders) line.now fault)
-    }
+    ensures ok { OnOk result ((step : List ℕ)
+        → Leads number (InDeck step deck.old.file deck.old.orders) line.now
+        (InDeck step deck.new.file deck.new.orders)) }
+    ensures fault { IfErr result (λ fault. (step : List ℕ)
+        → FaultAt number (InDeck step deck.old.file deck.old.orders) line.now fault) }
 {
     let Some(line) = right_line(line) else {
         return Err(JobFault::Form(TextFault { line: number }));
@@ -115,13 +103,10 @@ fn add_line(alloc: Global, deck: &mut DeckText, number: u32, line: &[u8]) -> Res
 
 /// Adds what a line says to the deck so far. A file is declared once, and before it is used.
 fn add(alloc: Global, deck: &mut DeckText, number: u32, read: DeckLine) -> Result<(), JobFault>
-    ensures ok {
-        OnOk result (Adds number (meaning_of read.entry) deck.old.file deck.old.orders deck.new.file
-            deck.new.orders)
-    }
-    ensures fault {
-        IfErr result (CannotAdd number (meaning_of read.entry) deck.old.file deck.old.orders)
-    }
+    ensures ok { OnOk result (Adds number (meaning_of read.entry) deck.old.file deck.old.orders
+        deck.new.file deck.new.orders) }
+    ensures fault { IfErr result
+        (CannotAdd number (meaning_of read.entry) deck.old.file deck.old.orders) }
 {
     match read {
         DeckLine::Nothing => Ok(()),

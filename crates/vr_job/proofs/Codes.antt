@@ -16,5 +16,5 @@ pub step_code-take : (entries : List Entry) (i : ℕ) (entry : Entry) → i < le
     → max (step_code (take i entries)) (severity entry.what) ≡ step_code (take (i + 1) entries)
 step_code-take entries i entry inside at =
     let prefix : take (i + 1) entries ≡ take i entries ++ entry ∷ [] =
-        take_more entries i entry inside ∙ ap (λ e. take i entries ++ e ∷ []) (sym at) in
+    take_more entries i entry inside ∙ ap (λ e. take i entries ++ e ∷ []) (sym at) in
     sym (ap step_code prefix ∙ step_code-append (take i entries) entry)

@@ -30,7 +30,7 @@ keeps_nothing trace no_fault none =
 pub early_end : (left left' : Option (List ℕ)) (faults faults' n status : ℕ) (trace : Trace)
     → status ≡ n → KeepsNothing trace
     → IsOfText (ending_of n None) left left' trace → Asks (ending_of n None) trace
-        → IsStatusOf (ending_of n None) trace n → (ending_of n None ≡ Ran → IsWhole n)
+    → IsStatusOf (ending_of n None) trace n → (ending_of n None ≡ Ran → IsWhole n)
     → Contains input_statuses n → 4 < n → (n ≡ 24 → faults < faults') → (n ≢ 24 → faults' ≡ faults)
     → IsInputEnd left left' faults faults' status trace
 early_end left left' faults faults' n status trace is nothing text asks ending whole known large
@@ -85,19 +85,19 @@ after_printing P faults faults' before after trace weaker (inr (inl want)) holds
     let Q : ℕ → Type 0 = λ s. P (ending_of s trace.fault) in subst Q (sym want.0) (weaker _ holds)
 after_printing P faults faults' before after trace weaker (inr (inr failed)) holds =
     let Q : ℕ → Type 0 =
-        λ s. P (ending_of s trace.fault) in subst Q (sym failed.0)
-        (subst P (unfixed_ending before trace.fault failed.1) holds)
+    λ s. P (ending_of s trace.fault) in subst Q (sym failed.0)
+    (subst P (unfixed_ending before trace.fault failed.1) holds)
 
 -- the status goes with the end
 pub status_after : (faults faults' before after : ℕ) (trace : Trace)
     → PrintsAs faults faults' trace before after
     → IsStatusOf (ending_of before trace.fault) trace before
-        → IsStatusOf (ending_of after trace.fault) trace after
+    → IsStatusOf (ending_of after trace.fault) trace after
 status_after faults faults' before after trace (inl same) is =
     let Q : ℕ → Type 0 = λ s. IsStatusOf (ending_of s trace.fault) trace s in subst Q (sym same) is
 status_after faults faults' before after trace (inr (inl want)) is =
     let Q : ℕ → Type 0 =
-        λ s. IsStatusOf (ending_of s trace.fault) trace s in subst Q (sym want.0) refl
+    λ s. IsStatusOf (ending_of s trace.fault) trace s in subst Q (sym want.0) refl
 status_after faults faults' before after trace (inr (inr failed)) is =
     let Q : ℕ → Type 0 = λ s. IsStatusOf (ending_of s trace.fault) trace s in
     let F : Option TextFault → Type 0 = λ fault. IsStatusOf (ending_of 28 fault) trace 28 in
@@ -227,7 +227,7 @@ from_length (Some text) status long = λ job is_job short. absurd (omega (arith,
 complete_of : (ending : Ending) (left left' : Option (List ℕ)) (faults faults' status : ℕ)
     (trace : Trace) → NoValueAtAFault → IsOfText ending left left' trace
     → IsStatusOf ending trace status → (ending ≡ Ran → IsWhole status) → status ≢ 20
-        → (status ≡ 24 → faults < faults') → faults' ≡ faults → Complete left status
+    → (status ≡ 24 → faults < faults') → faults' ≡ faults → Complete left status
 complete_of NoCommand left left' faults faults' status trace law text is whole other source steady =
     absurd (other is)
 complete_of ReadFailed left _ faults faults' status trace law text is whole other source steady =
@@ -248,8 +248,8 @@ completes left left' faults faults' kf kf' before after trace law end (inl same)
     let C : ℕ → Type 0 = Complete left in
     let other : before ≢ 20 = not_20_at before end.known.0 end.known.1 end.known.2 in
     subst C (sym same)
-        (complete_of (ending_of before trace.fault) left left' faults faults' before trace law
-        end.text end.ending end.whole other end.source steady)
+    (complete_of (ending_of before trace.fault) left left' faults faults' before trace law
+    end.text end.ending end.whole other end.source steady)
 completes left left' faults faults' kf kf' before after trace law end (inr (inl want)) steady sink =
     always left after (inr want.0)
 completes left _ faults faults' kf kf' before after trace law end (inr (inr failed)) steady sink =

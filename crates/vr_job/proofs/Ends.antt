@@ -31,47 +31,50 @@ pub deck_ends : (text : List ℕ) (job : JobText) (status : ℕ) (trace : Trace)
     → IsDeckRun status job trace → EndsAs text trace status trace.fault
 deck_ends text job status trace is_job run =
     subst (EndsAs text trace status) (sym run.no_fault) (ends run.part) where
-  kept : trace.job ≡ Some job
-  kept = run.kept
-  keeps : KeepsJob text trace
-  keeps = record { job = job; kept = kept; is_job = is_job; no_fault = run.no_fault }
+      kept : trace.job ≡ Some job
+      kept = run.kept
 
-  E : ℕ → Type 0
-  E status = EndsAs text trace status None
+      keeps : KeepsJob text trace
+      keeps = record { job = job; kept = kept; is_job = is_job; no_fault = run.no_fault }
 
-  at_code : AreParts 1 (bound_requests job.deck) trace.history.entries → Coded trace.history.entries
-      → status ≡ step_code trace.history.entries → EndsAs text trace status None
-  at_code parts (inl none) is =
-      subst E (sym (is ∙ none.0)) (record {
-        run = keeps;
-        asks = record { job = job; kept = kept; parts = parts };
-        ending = inr (sym none.0);
-        code = (λ e. absurd (omega (arith, e)), λ _. none.1);
-        whole = λ _. inl refl;
-        known = (0, omega arith, refl);
-      })
-  at_code parts (inr some) is =
-      subst E (sym (is ∙ some.0)) (record {
-        run = keeps;
-        asks = record { job = job; kept = kept; parts = parts };
-        ending = inr (sym some.0);
-        code = (λ _. some.1, λ e. absurd (omega (arith, e)));
-        whole = λ _. inr refl;
-        known = (1, omega arith, refl);
-      })
+      E : ℕ → Type 0
+      E status = EndsAs text trace status None
 
-  ends : IsDeckPart status job.deck trace.history.entries → EndsAs text trace status None
-  ends (inl short) =
-      subst E (sym short.0) (record {
-        run = inr keeps;
-        asks = inr (record { job = job; kept = kept; prefixes = short.1 });
-        ending = refl;
-        code = (λ e. absurd (omega (arith, e)), λ e. absurd (omega (arith, e)));
-        whole = λ ran. cc;
-        known = (3, omega arith, refl);
-      })
-  ends (inr whole) =
-      at_code whole.1 (coded opening_state job.deck trace.history.entries whole.1 run.legal) whole.0
+      at_code : AreParts 1 (bound_requests job.deck) trace.history.entries
+          → Coded trace.history.entries
+          → status ≡ step_code trace.history.entries → EndsAs text trace status None
+      at_code parts (inl none) is =
+          subst E (sym (is ∙ none.0)) (record {
+            run = keeps;
+            asks = record { job = job; kept = kept; parts = parts };
+            ending = inr (sym none.0);
+            code = (λ e. absurd (omega (arith, e)), λ _. none.1);
+            whole = λ _. inl refl;
+            known = (0, omega arith, refl);
+          })
+      at_code parts (inr some) is =
+          subst E (sym (is ∙ some.0)) (record {
+            run = keeps;
+            asks = record { job = job; kept = kept; parts = parts };
+            ending = inr (sym some.0);
+            code = (λ _. some.1, λ e. absurd (omega (arith, e)));
+            whole = λ _. inr refl;
+            known = (1, omega arith, refl);
+          })
+
+      ends : IsDeckPart status job.deck trace.history.entries → EndsAs text trace status None
+      ends (inl short) =
+          subst E (sym short.0) (record {
+            run = inr keeps;
+            asks = inr (record { job = job; kept = kept; prefixes = short.1 });
+            ending = refl;
+            code = (λ e. absurd (omega (arith, e)), λ e. absurd (omega (arith, e)));
+            whole = λ ran. cc;
+            known = (3, omega arith, refl);
+          })
+      ends (inr whole) =
+          at_code whole.1
+          (coded opening_state job.deck trace.history.entries whole.1 run.legal) whole.0
 
 -- an end at which nothing is kept
 pub nothing_ends : (text : List ℕ) (status : ℕ) (trace : Trace) → KeepsNothing trace → status ≡ 36
@@ -109,8 +112,12 @@ text_of_run Ran left left' text trace all run = record { text = text; all = all;
 -- where memory runs out after a job has ended, the requests that it asked are the first of its deck
 all_are_first : (trace : Trace) → AsksAll trace → Asks NoMemory trace
 all_are_first trace asks =
-    inr (record { job = asks.job; kept = asks.kept; prefixes = λ deck.
-    ([], append-nil _ ∙ asks.parts deck) })
+    inr (record {
+      job = asks.job;
+      kept = asks.kept;
+      prefixes = λ deck.
+          ([], append-nil _ ∙ asks.parts deck);
+    })
 
 pub asks_without_memory : (ending : Ending) (trace : Trace) → Asks ending trace
     → Asks NoMemory trace

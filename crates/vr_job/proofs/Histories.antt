@@ -71,7 +71,9 @@ of_deck-append own first more deck = either (own == deck) where
 pub parts_are_prefixes : (own i : ℕ) (requests : List Bound) (entries : List Entry)
     → AreParts own (take i requests) entries → ArePrefixes own requests entries
 parts_are_prefixes own i requests entries parts deck =
-    let rest = of_deck own (drop i requests) deck in
-    (rest, ap (λ part. part ++ rest) (parts deck)
-        ∙ of_deck-append own (take i requests) (drop i requests) deck
-        ∙ ap (λ all. of_deck own all deck) (take-append-drop i requests))
+    let rest = of_deck own (drop i requests) deck in (
+      rest,
+      ap (λ part. part ++ rest) (parts deck)
+          ∙ of_deck-append own (take i requests) (drop i requests) deck
+          ∙ ap (λ all. of_deck own all deck) (take-append-drop i requests),
+    )

@@ -50,8 +50,12 @@ none_before_tail x l deck slot n none j lt = none (suc j) (omega arith)
 is_at_tail : (x : FilePosition) (l : List FilePosition) (deck slot i : ℕ)
     → IsAt (x ∷ l) deck slot (suc i) → IsAt l deck slot i
 is_at_tail x l deck slot i is_at =
-    record { in_range = omega
-    (arith, is_at.in_range); same_deck = is_at.same_deck; same_slot = is_at.same_slot }
+    record {
+      in_range = omega
+          (arith, is_at.in_range);
+      same_deck = is_at.same_deck;
+      same_slot = is_at.same_slot;
+    }
 
 -- a file that no place has is not found
 absent : (l : List FilePosition) (deck slot : ℕ) → NoneBefore l deck slot (length l)
@@ -67,8 +71,12 @@ present [] deck slot i is_at none = absurd (omega (arith, is_at.in_range))
 present (x ∷ l) deck slot zero is_at none =
     grind (arith, nat_tests, is_at.same_deck, is_at.same_slot)
 present (x ∷ l) deck slot (suc i) is_at none =
-    grind (arith, none 0 (omega arith), present l deck slot i (is_at_tail x l deck slot i is_at)
-        (none_before_tail x l deck slot i none))
+    grind (
+      arith,
+      none 0 (omega arith),
+      present l deck slot i (is_at_tail x l deck slot i is_at)
+          (none_before_tail x l deck slot i none),
+    )
 
 -- writing over it sets its position
 answers_set : (l : List FilePosition) (deck slot i : ℕ) (to : Position) → IsAt l deck slot i
@@ -78,8 +86,13 @@ answers_set [] deck slot i to is_at none d s = absurd (omega (arith, is_at.in_ra
 answers_set (x ∷ l) deck slot zero to is_at none d s =
     grind (arith, nat_tests, is_at.same_deck, is_at.same_slot)
 answers_set (x ∷ l) deck slot (suc i) to is_at none d s =
-    grind (arith, nat_tests, none 0 (omega arith), answers_set l deck slot i to
-        (is_at_tail x l deck slot i is_at) (none_before_tail x l deck slot i none) d s)
+    grind (
+      arith,
+      nat_tests,
+      none 0 (omega arith),
+      answers_set l deck slot i to
+          (is_at_tail x l deck slot i is_at) (none_before_tail x l deck slot i none) d s,
+    )
 
 -- so does a new file before any place that has it
 answers_insert : (l : List FilePosition) (deck slot i : ℕ) (to : Position)
@@ -89,8 +102,13 @@ answers_insert : (l : List FilePosition) (deck slot i : ℕ) (to : Position)
 answers_insert l deck slot zero to none d s = refl
 answers_insert [] deck slot (suc i) to none d s = refl
 answers_insert (x ∷ l) deck slot (suc i) to none d s =
-    grind (arith, nat_tests, none 0 (omega arith), answers_insert l deck slot i to
-        (none_before_tail x l deck slot i none) d s)
+    grind (
+      arith,
+      nat_tests,
+      none 0 (omega arith),
+      answers_insert l deck slot i to
+          (none_before_tail x l deck slot i none) d s,
+    )
 
 -- one equation for every file gives the contract's two facts
 sets_only_from_answers : (old new : List FilePosition) (deck slot : ℕ) (to : Position)
@@ -111,9 +129,12 @@ pub ordered_deck : (l : List FilePosition) → AreInOrder l → (deck : ℕ)
     → AreInOrder (without_deck deck l)
 ordered_deck l ordered deck =
     same_order l _ (length-map l _)
-    (λ i lt. grind
-    (arith, nat_tests, get_or-map
-    (λ file. dropped_by (eqb file.deck deck) file) l i no_file no_file lt)) ordered
+    (λ i lt. grind (
+      arith,
+      nat_tests,
+      get_or-map
+          (λ file. dropped_by (eqb file.deck deck) file) l i no_file no_file lt,
+    )) ordered
 
 -- what a comparison with a file answers, and that it rises with the files
 ranked_file : (d s deck slot : ℕ) (o : Ordering)
@@ -134,7 +155,7 @@ module _ (l : List FilePosition) (ordered : AreInOrder l) (deck slot : ℕ) wher
       (λ file. ordering_index (ordering_then (nat_cmp file.deck deck) (nat_cmp file.slot slot))) l
       no_file (λ i j le in_range.
       rises (deck_at l i) (slot_at l i) (deck_at l j) (slot_at l j) deck slot
-          (grind (arith, ordered i j, λ (same : i ≡ j). ap (file_at l) same)))
+      (grind (arith, ordered i j, λ (same : i ≡ j). ap (file_at l) same)))
 
   -- a binary search ends at the file, or at the gap for it
   pub searched : (r : Result ℕ ℕ) → IsSearchInRange r (length l)
@@ -143,7 +164,7 @@ module _ (l : List FilePosition) (ordered : AreInOrder l) (deck slot : ℕ) wher
       → MatchResult r (IsAt l deck slot) (IsGapFor l deck slot)
   searched (Ok at) in_range equal =
       let same : (deck_at l at ≡ deck) × (slot_at l at ≡ slot) =
-          ranked_file (deck_at l at) (slot_at l at) deck slot _ (sym (equal no_file)) in
+      ranked_file (deck_at l at) (slot_at l at) deck slot _ (sym (equal no_file)) in
       record { in_range = in_range; same_deck = same.0; same_slot = same.1 }
   searched (Err at) in_range separated = record {
     in_range = in_range;
@@ -180,9 +201,19 @@ module _ (l : List FilePosition) (ordered : AreInOrder l) (deck slot at : ℕ)
   pub without_there : set l at (dropped_by true (file_at l at)) ≡ without_held deck slot l
   without_there = ext_get_or no_file _ _ (length-set l at _ ∙ sym (length-map l _)) (λ j lt.
       let told = get_or-map (λ file. dropped_by (is_file deck slot file) file) l j no_file no_file
-          (omega (arith, length-set l at (dropped_by true (file_at l at)))) in
-      grind (arith, nat_tests, common_steps, told, ordered j at, ordered at
-          j, is_at.in_range, is_at.same_deck, is_at.same_slot))
+      (omega (arith, length-set l at (dropped_by true (file_at l at)))) in
+      grind (
+        arith,
+        nat_tests,
+        common_steps,
+        told,
+        ordered j at,
+        ordered at
+            j,
+        is_at.in_range,
+        is_at.same_deck,
+        is_at.same_slot,
+      ))
 
 -- what a closure's partition point parts by a test
 abbrev IsPointOf : {F : Type 0} → Mut F (Bor FilePosition × Unit {0}) Bool → F → List FilePosition
@@ -229,8 +260,13 @@ module _ (l : List FilePosition) (deck first end : ℕ) (first_in_range : first 
   pub first_le_end : first ≤ end
   first_le_end = elim (cases_lt end first) [
     | inl lt ↦ absurd
-        (grind (arith, nat_tests, below.0 end no_file (omega arith) lt, upto.1 end no_file
-        (omega arith) (omega arith)))
+        (grind (
+          arith,
+          nat_tests,
+          below.0 end no_file (omega arith) lt,
+          upto.1 end no_file
+              (omega arith) (omega arith),
+        ))
     | inr le ↦ le
   ]
 
@@ -239,13 +275,25 @@ module _ (l : List FilePosition) (deck first end : ℕ) (first_in_range : first 
   without_part =
       let mid = mid_of first (end - first) l in
       let same_length : length (put_mid first (end - first) l (map (dropped_by true) mid))
-          ≡ length l = grind (arith, places, length-map) in
+      ≡ length l = grind (arith, places, length-map) in
       same_lists _ _ (same_length ∙ sym (length-map l _)) (λ j d lt.
       let in_range : j < length l = omega arith in
       let told = get_or-map (λ file. dropped_by (eqb file.deck deck) file) l j d d in_range in
       let own = get_or-map (dropped_by true) mid (j - first) d d in
-      grind (arith, nat_tests, places, length-map, told, own, first_le_end, below.0 j d
-          (omega arith), below.1 j d, upto.0 j d (omega arith), upto.1 j d))
+      grind (
+        arith,
+        nat_tests,
+        places,
+        length-map,
+        told,
+        own,
+        first_le_end,
+        below.0 j d
+            (omega arith),
+        below.1 j d,
+        upto.0 j d (omega arith),
+        upto.1 j d,
+      ))
 
 module _ (l : List FilePosition) (deck slot at : ℕ) (gap : IsGapFor l deck slot at) where
   none_is : NoneBefore l deck slot (length l)
@@ -257,8 +305,12 @@ module _ (l : List FilePosition) (deck slot at : ℕ) (gap : IsGapFor l deck slo
 
   pub without_gap : l ≡ without_held deck slot l
   without_gap = ext_get_or no_file l _ (sym (length-map l _)) (λ j lt.
-      grind (arith, none_is j lt, get_or-map
-          (λ file. dropped_by (is_file deck slot file) file) l j no_file no_file lt))
+      grind (
+        arith,
+        none_is j lt,
+        get_or-map
+            (λ file. dropped_by (is_file deck slot file) file) l j no_file no_file lt,
+      ))
 
   -- a new file in the gap sets that file's position alone
   pub sets_only_insert : (to : Position)
@@ -276,11 +328,24 @@ module _ (l : List FilePosition) (deck slot at : ℕ) (gap : IsGapFor l deck slo
       let new = insert l at file in
       let length_new = length-insert l at file gap.in_range in
       let below : (i : ℕ) → i < at → file_at new i ≡ file_at l i =
-          λ i lower. get_or-insert_below l at file no_file i lower gap.in_range in
+      λ i lower. get_or-insert_below l at file no_file i lower gap.in_range in
       let here : (i : ℕ) → i ≡ at → file_at new i ≡ file =
-          λ i same. rw same (get_or-insert_at l at file no_file gap.in_range) in
+      λ i same. rw same (get_or-insert_at l at file no_file gap.in_range) in
       let above : (i : ℕ) → at < i → file_at new i ≡ file_at l (i - 1) =
-          λ i higher. subst (λ q. file_at new q ≡ file_at l (i - 1)) {x = i - 1 + 1} (omega arith)
-          (get_or-insert_above l at file no_file (i - 1) (omega arith) gap.in_range) in
-      grind (arith, below i, here i, above i, below j, here j, above j, ordered i j, ordered i
-          (j - 1), ordered (i - 1) (j - 1), gap.lower_before i, gap.higher_after (j - 1))
+      λ i higher. subst (λ q. file_at new q ≡ file_at l (i - 1)) {x = i - 1 + 1} (omega arith)
+      (get_or-insert_above l at file no_file (i - 1) (omega arith) gap.in_range) in
+      grind (
+        arith,
+        below i,
+        here i,
+        above i,
+        below j,
+        here j,
+        above j,
+        ordered i j,
+        ordered i
+            (j - 1),
+        ordered (i - 1) (j - 1),
+        gap.lower_before i,
+        gap.higher_after (j - 1),
+      )

@@ -26,7 +26,7 @@ printed_prefix before after faults faults' piece part rose =
 pub printed_either : {A E : Type 0} (before after : Option (List ℕ)) (faults faults' : ℕ)
     (piece : List ℕ) (r : Result A E)
     → OnOk r (Takes before after piece) → OnErr r (TakesPart before after piece)
-        → OnErr r (faults < faults') → IsPrinted before after faults faults' piece
+    → OnErr r (faults < faults') → IsPrinted before after faults faults' piece
 printed_either before after faults faults' piece (Ok x) takes part rose =
     printed_whole before after faults faults' piece takes
 printed_either before after faults faults' piece (Err e) takes part rose =

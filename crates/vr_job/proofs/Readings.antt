@@ -13,15 +13,18 @@ take-put_mid-prefix : (a k : ℕ) (xs ys : List ℕ) (n : ℕ) → a ≤ length 
 take-put_mid-prefix a k xs ys n inside within =
     let long : length (take a xs) ≡ a = length-take-le a xs inside in
     ap (λ m. take (m + n) (take a xs ++ (ys ++ post_of a k xs))) (sym long)
-        ∙ take-append-add (take a xs) (ys ++ post_of a k xs) n
+    ∙ take-append-add (take a xs) (ys ++ post_of a k xs) n
     ∙ ap (λ l. take a xs ++ l) (take-append-le n ys (post_of a k xs) within)
 
 pub reads_after : {E : Type 0} (left left' : Option (List ℕ)) (filled : ℕ) (buffer piece : List ℕ)
     (r : Result ℕ E) → filled ≤ length buffer
     → IfOk r (λ n. n ≤ length piece) → IfOk r (λ n. Reads left left' (take n piece))
     → IfOk r (λ n. ReadsAfter left left' (take filled buffer)
-        (take (filled + n) (put_mid filled (length buffer - filled) buffer piece)))
-reads_after left left' filled buffer piece (Ok n) inside within reads =
-    (take n piece, take-put_mid-prefix filled
-        (length buffer - filled) buffer piece n inside within, reads)
+    (take (filled + n) (put_mid filled (length buffer - filled) buffer piece)))
+reads_after left left' filled buffer piece (Ok n) inside within reads = (
+  take n piece,
+  take-put_mid-prefix filled
+      (length buffer - filled) buffer piece n inside within,
+  reads,
+)
 reads_after left left' filled buffer piece (Err e) inside within reads = tt

@@ -114,19 +114,27 @@ pub Running-start : (requests : List Bound) (entries : List Entry) (content : Co
 Running-start requests entries content none empty files unset =
     let P : List Entry → Type 0 = λ es. Running requests 0 es content files 1 in
     let unset_positions : IsPositioned opening_state files =
-        λ d s. ap (λ fs. position_of fs d s) (sym unset) in
+    λ d s. ap (λ fs. position_of fs d s) (sym unset) in
     subst P (sym none)
-        (record { legal = tt; content_is = sym
-        empty; positions_are = unset_positions; number_is = refl; few = omega arith; parts = λ deck.
-        of_deck-nil 1 deck; stamps = refl })
+    (record {
+      legal = tt;
+      content_is = sym
+          empty;
+      positions_are = unset_positions;
+      number_is = refl;
+      few = omega arith;
+      parts = λ deck.
+          of_deck-nil 1 deck;
+      stamps = refl;
+    })
 
 -- one request more
 pub Running-step : (requests : List Bound) (i : ℕ) (bound : Bound) (entries entries' : List Entry)
     (content content' : Content) (files files' : List FilePosition) (number next : ℕ)
     → i < length requests → bound ≡ get_or requests i bound → IsHere bound
     → Running requests i entries content files number
-        → Enters bound number next entries entries' content content' files files'
-        → Running requests (i + 1) entries' content' files' next
+    → Enters bound number next entries entries' content content' files files'
+    → Running requests (i + 1) entries' content' files' next
 Running-step requests i bound entries entries' content content' files files' number next inside at
     here running enters =
     let entry = entry_of (last_stamp 0 entries + 1) number bound enters.reply in
@@ -134,16 +142,16 @@ Running-step requests i bound entries entries' content content' files files' num
     let served = enters.served state 1 running.content_is in
     let asked : Bound = record { volume = 0; line = bound.line; request = bound.request } in
     let same : asked ≡ bound =
-        ap (λ (v : ℕ). record { volume = v; line = bound.line; request = bound.request })
-        (sym here.first_volume) in
+    ap (λ (v : ℕ). record { volume = v; line = bound.line; request = bound.request })
+    (sym here.first_volume) in
     let longer : take i requests ++ asked ∷ [] ≡ take (i + 1) requests =
-        ap (λ b. take i requests ++ b ∷ []) (same ∙ at) ∙ sym (take_more requests i bound inside) in
+    ap (λ b. take i requests ++ b ∷ []) (same ∙ at) ∙ sym (take_more requests i bound inside) in
     let P : List Entry → Type 0 = λ es. Running requests (i + 1) es content' files' next in
     let moved : IsPositioned (state_after state entry) files' =
-        subst (IsPositioned (state_after state entry)) (sym enters.positioned)
-        (positioned-after bound.request enters.reply state files running.positions_are) in
+    subst (IsPositioned (state_after state entry)) (sym enters.positioned)
+    (positioned-after bound.request enters.reply state files running.positions_are) in
     let after : state_of opening_state (entries ++ entry ∷ []) ≡ state_after state entry =
-        state_of-append opening_state entries entry in
+    state_of-append opening_state entries entry in
     subst P (sym enters.entered) (record {
       legal = IsLegal-append opening_state entries entry running.legal
           (sym running.number_is, here.offered, served.0);

@@ -41,9 +41,15 @@ here_orders : (orders : List Order) → AllByRecursion IsHere (map bound_order o
 here_orders [] = tt
 here_orders (PutOrder line bytes ∷ orders) =
     (record { offered = (refl, refl); first_volume = refl; placed = λ _. refl }, here_orders orders)
-here_orders (GetOrder line key ∷ orders) =
-    (record { offered =
-    (refl, refl, refl); first_volume = refl; placed = λ _. some_key key }, here_orders orders)
+here_orders (GetOrder line key ∷ orders) = (
+  record {
+    offered =
+        (refl, refl, refl);
+    first_volume = refl;
+    placed = λ _. some_key key;
+  },
+  here_orders orders,
+)
 
 here_append : (xs ys : List Bound) → AllByRecursion IsHere xs → AllByRecursion IsHere ys
     → AllByRecursion IsHere (xs ++ ys)
@@ -135,12 +141,12 @@ mild_refusal : (state : State) (request : Request) → not_allowed state request
     → Mild (first_refusal state request)
 mild_refusal state request placed =
     let M : Option Refusal → Type 0 =
-        λ first. Mild
-        (first_of (first ∷ bad_length state request ∷ not_found state request ∷ duplicate state
-        request ∷ [])) in
+    λ first. Mild
+    (first_of (first ∷ bad_length state request ∷ not_found state request ∷ duplicate state
+    request ∷ [])) in
     subst M (sym placed)
-        (mild_first _ _ _ (mild_bad_length state request) (mild_not_found state request)
-        (mild_duplicate state request))
+    (mild_first _ _ _ (mild_bad_length state request) (mild_not_found state request)
+    (mild_duplicate state request))
 
 -- where memory is ample, a reply leaves the step's code as it is
 mild_reply : (refusal : Option Refusal) (done : Reply) → Mild refusal → reply_severity done ≡ 0
@@ -184,7 +190,7 @@ coded_reply : (state : State) (request : Request) (reply : Reply) → not_allowe
     ⊎ ((reply_severity reply ≡ 4) × (reply ≡ Refused Memory))
 coded_reply state request reply placed (inl same) =
     let mild = answer_mild state request placed in inl
-        (ap reply_severity same ∙ mild.0, λ want. mild.1 (sym same ∙ want))
+    (ap reply_severity same ∙ mild.0, λ want. mild.1 (sym same ∙ want))
 coded_reply state request reply placed (inr want) = inr (ap reply_severity want.0, want.0)
 
 -- the requests that were asked have a property
@@ -255,7 +261,7 @@ coded_entries : (state : State) (entries : List Entry) → AskedAre IsHere entri
 coded_entries state [] here legal = inl (refl, λ want. want)
 coded_entries state (entry ∷ entries) here legal =
     coded_more entry entries (coded_what state entry.unit entry.line entry.what here.0 legal.0)
-        (coded_entries (state_after state entry) entries here.1 legal.1)
+    (coded_entries (state_after state entry) entries here.1 legal.1)
 
 -- the code of a deck's run
 pub coded : (state : State) (deck : DeckText) (entries : List Entry)
@@ -264,6 +270,6 @@ coded state deck entries parts legal =
     let here : AllByRecursion IsHere (bound_requests deck) = here_requests deck in
     let A : List Bound → Type 0 = AllByRecursion IsHere in
     coded_entries state entries
-        (asked_are IsHere entries
-        (λ number. subst A (sym (parts number))
-        (of_deck_are IsHere 1 (bound_requests deck) number here))) legal
+    (asked_are IsHere entries
+    (λ number. subst A (sym (parts number))
+    (of_deck_are IsHere 1 (bound_requests deck) number here))) legal

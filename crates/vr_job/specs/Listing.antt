@@ -56,7 +56,7 @@ asked_line name entry request reply =
     codes "DECK " ++ decimal entry.unit.deck ++ codes " LINE " ++ decimal entry.line
     ++ codes " VOL 0 " ++ verb_of request
     ++ file_of request name ++ codes " RC=" ++ decimal (return_code reply) ++ codes " FB="
-        ++ decimal (feedback_of reply) ++ values_of reply ++ 10 ∷ []
+    ++ decimal (feedback_of reply) ++ values_of reply ++ 10 ∷ []
 
 abbrev pub what_line : List ℕ → Entry → What → List ℕ
 what_line name entry (Asked request reply) = asked_line name entry request reply
@@ -82,7 +82,7 @@ step_listing job entries =
     codes "STEP " ++ job.step ++ codes " DECKS" ++ 10 ∷ []
     ++ entry_lines (name_of job.deck.file) entries
     ++ codes "STEP " ++ job.step ++ codes " CODE " ++ decimal (step_code entries) ++ 10 ∷ []
-        ++ codes "JOB CODE " ++ decimal (step_code entries) ++ 10 ∷ []
+    ++ codes "JOB CODE " ++ decimal (step_code entries) ++ 10 ∷ []
 
 -- the line of a job that is refused
 abbrev pub fault_line : TextFault → List ℕ

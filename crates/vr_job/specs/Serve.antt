@@ -1,14 +1,10 @@
-use Rattle.std.specs.Prelude.{◌≡◌, ℕ, List, None, false, Result, Ok, Err}
+use Rattle.std.specs.Prelude.{◌≡◌, ℕ, Result, Ok, Err}
 use Rattle.vr_types.specs.declared.memory.OutOfMemory.{OutOfMemory}
-use Rattle.vr_types.specs.declared.request.Find.TheVariants.{Equal}
 use Rattle.vr_types.specs.declared.request.Request.{Request}
-use Rattle.vr_types.specs.declared.request.Request.TheVariants.{Get, Add}
-use Rattle.vr_types.specs.declared.unit.Integrity.TheVariants.{Nri}
 use Rattle.vr_types.specs.declared.reply.Refusal.TheVariants.{Memory}
 use Rattle.vr_types.specs.declared.reply.Reply.{Reply}
 use Rattle.vr_types.specs.declared.reply.Reply.TheVariants.{Refused}
 use Rattle.vr_types.specs.Content.{Content}
-use Rattle.vr_deck.specs.Bound.{first_file}
 use Rattle.vr_job.specs.declared.entry.What.TheVariants.{Asked}
 use Rattle.vr_types.specs.Position.{first_position}
 use Rattle.vr_job.specs.State.{State}

@@ -36,10 +36,20 @@ pub enum What {
         request: SharedRequest,
         reply: Reply,
     },
-    Undone { part: PartNo, place: Place },
-    Claimed { part: PartNo, area: AreaNo },
-    Split { part: PartNo },
-    Faulted { fault: DeviceFault },
+    Undone {
+        part: PartNo,
+        place: Place,
+    },
+    Claimed {
+        part: PartNo,
+        area: AreaNo,
+    },
+    Split {
+        part: PartNo,
+    },
+    Faulted {
+        fault: DeviceFault,
+    },
 }
 
 impl What {

@@ -73,7 +73,7 @@ pub fn run_job<S: Source, K: Sink>(
         → S.faults input.new ≡ S.faults input.old
         → K.faults output.new ≡ K.faults output.old
         → IfSome (S.left input.old) (λ text. (job : JobText) → IsJobText text job
-            → length text ≤ 2 ^ 26 → IsWhole result.status ⊎ (result.status ≡ 36)) }
+        → length text ≤ 2 ^ 26 → IsWhole result.status ⊎ (result.status ≡ 36)) }
 
     // What other words, and other statuses than 24, leave alone.
     ensures untouched { result.status ≡ 20 → input.new ≡ input.old }

@@ -54,10 +54,8 @@ fn run_one(
     requires here { IsHere bound.now }
     requires number { number < 2 ^ 32 - 1 }
     requires stamp { last_stamp 0 history.old.entries < 2 ^ 64 - 1 }
-    ensures ok {
-        IfOk result (λ next. Enters bound.now number next history.old.entries history.new.entries
-            file.old file.new positions.old.files positions.new.files)
-    }
+    ensures ok { IfOk result (λ next. Enters bound.now number next history.old.entries
+        history.new.entries file.old file.new positions.old.files positions.new.files) }
     ensures err { OnErr result (history.new.entries ≡ history.old.entries) }
 {
     history.reserve(1)?;

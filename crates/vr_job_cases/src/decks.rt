@@ -104,7 +104,13 @@ pub fn long(alloc: Global, rest: &str, out: &mut String) -> Answer {
         }
         "card" => {
             let count = length.checked_sub(19).ok_or(Stop::Line)?;
-            grow(&mut text, b"//S", count, b' ', b"EXEC PGM=VRMDECK  \n//DECK1 DD *\n")?;
+            grow(
+                &mut text,
+                b"//S",
+                count,
+                b' ',
+                b"EXEC PGM=VRMDECK  \n//DECK1 DD *\n",
+            )?;
         }
         _ => return Err(Stop::Line),
     }

@@ -6,11 +6,7 @@ use std::rt::Files;
 use std::{fs, io};
 
 /// Whether the job `NAME.job` ends with 0 and prints `NAME.listing`: `example NAME`.
-pub fn example<R: Files + AllocGlobal>(
-    rt: &R,
-    name: &str,
-    out: &mut String,
-) -> io::Result<Answer> {
+pub fn example<R: Files + AllocGlobal>(rt: &R, name: &str, out: &mut String) -> io::Result<Answer> {
     let job = format!(in rt.alloc(); "{name}.job")?;
     let listing = format!(in rt.alloc(); "{name}.listing")?;
     let text = fs::read(rt, job.as_str())?;

@@ -34,8 +34,14 @@ fn lines() -> [Line; 16] {
         saying("*PUT F", Means::Nothing),
         saying("FILE F VRM.FIRST", Means::File("F")),
         saying(" FILE  f vrm.First  ", Means::File("f")),
-        saying("PUT F DATA=C'00000001HELLO'", Means::Order("PUT", "F", "00000001HELLO")),
-        saying("GET F KEY=C'00000001'", Means::Order("GET", "F", "00000001")),
+        saying(
+            "PUT F DATA=C'00000001HELLO'",
+            Means::Order("PUT", "F", "00000001HELLO"),
+        ),
+        saying(
+            "GET F KEY=C'00000001'",
+            Means::Order("GET", "F", "00000001"),
+        ),
         saying("GET F KEY=X'42'  ", Means::Order("GET", "F", "B")),
         saying("  GET   f   KEY=C''", Means::Order("GET", "f", "")),
         saying(" *", Means::Wrong),
@@ -81,7 +87,11 @@ fn is_right(alloc: Global, deck: [Line; 3]) -> Result<bool, Stop> {
     let mut wanted = String::from_str(alloc, "S")?;
     read_plainly(deck, &mut wanted)?;
     let mut got = String::new(alloc);
-    read(alloc, with_cards(alloc, text.as_bytes())?.as_slice(), &mut got)?;
+    read(
+        alloc,
+        with_cards(alloc, text.as_bytes())?.as_slice(),
+        &mut got,
+    )?;
     Ok(got.as_str() == wanted.as_str())
 }
 

@@ -86,7 +86,11 @@ pub fn entry(alloc: Global, out: &mut String) -> Answer {
         },
     };
     let copy = entry.copy(alloc)?;
-    write!(out, "{} {}.{} {} ", copy.stamp, copy.unit.deck, copy.unit.number, copy.line)?;
+    write!(
+        out,
+        "{} {}.{} {} ",
+        copy.stamp, copy.unit.deck, copy.unit.number, copy.line
+    )?;
     match &copy.what {
         What::Undone { part, place } => {
             write!(out, "undone {} ", part.0)?;

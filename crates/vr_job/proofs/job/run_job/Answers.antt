@@ -21,8 +21,8 @@ returns-in-Some-Run-clause-text g c =
     let end = c.run_input-end.result.trace in
     subst Q (sym c.print_end.ensures.trace)
     (after_printing (P end) _ _ _ _ end
-        (λ ending. text_without_memory ending left left' end) c.print_end.ensures.status
-        c.run_input-end.ensures.text)
+    (λ ending. text_without_memory ending left left' end) c.print_end.ensures.status
+    c.run_input-end.ensures.text)
 
 pub returns-in-Some-Run-clause-requests : goal.returns-in-Some-Run-clause-requests
 returns-in-Some-Run-clause-requests g c =
@@ -31,17 +31,17 @@ returns-in-Some-Run-clause-requests g c =
     let end = c.run_input-end.result.trace in
     subst Q (sym c.print_end.ensures.trace)
     (after_printing (P end) _ _ _ _ end
-        (λ ending. asks_without_memory ending end) c.print_end.ensures.status
-        c.run_input-end.ensures.asks)
+    (λ ending. asks_without_memory ending end) c.print_end.ensures.status
+    c.run_input-end.ensures.asks)
 
 pub returns-in-Some-Run-clause-ending : goal.returns-in-Some-Run-clause-ending
 returns-in-Some-Run-clause-ending g c =
     let Q : Trace → Type 0 =
-        λ trace. IsStatusOf
-        (ending_of c.print_end.result.status trace.fault) trace c.print_end.result.status in
+    λ trace. IsStatusOf
+    (ending_of c.print_end.result.status trace.fault) trace c.print_end.result.status in
     subst Q (sym c.print_end.ensures.trace)
-        (status_after _ _ _ _ c.run_input-end.result.trace c.print_end.ensures.status
-        c.run_input-end.ensures.ending)
+    (status_after _ _ _ _ c.run_input-end.result.trace c.print_end.ensures.status
+    c.run_input-end.ensures.ending)
 
 pub returns-in-Some-Run-clause-status : goal.returns-in-Some-Run-clause-status
 returns-in-Some-Run-clause-status g c =
@@ -66,5 +66,5 @@ pub returns-in-None-clause-status : goal.returns-in-None-clause-status
 returns-in-None-clause-status g c =
     let C : ℕ → Type 0 = Contains statuses in
     let is = command_status _ _ _ _ c.ended-end.result.trace c.ended-end.ensures.status
-        c.print_end-in-None.ensures.status in
+    c.print_end-in-None.ensures.status in
     subst C (sym is) (3, omega arith, refl)

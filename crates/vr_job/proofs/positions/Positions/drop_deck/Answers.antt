@@ -8,6 +8,6 @@ pub invariant_of-self : goal.invariant_of-self
 invariant_of-self c =
     let new = c.drop_part.new.files in
     let whole = take_at new (drop (length new) c.self.inside.files.items) c.self.inside.files.len
-        (omega arith) in
+    (omega arith) in
     rw (whole, c.drop_part.ensures, c.deref_mut.ensures.value)
-        (ordered_deck _ c.self.invariant c.args.deck)
+    (ordered_deck _ c.self.invariant c.args.deck)
