@@ -24,7 +24,7 @@ use Rattle.vr_ci_match.proofs.CallerLemmas.{singles}
 use Rattle.vr_ci.proofs.ItemLemmas.{room_is, records_room, first_len}
 use Rattle.vr_ci.proofs.IntervalLemmas.{Laid}
 
--- items at the front of bytes are what their marks describe
+-- items at the left end of bytes are what their marks describe
 pub masked-items : (items : List Item) (rest : List ℕ) → AllByRecursion IsItem items
     → masked_marks (map mark_of items) (flat_map bytes_of items ++ rest) ≡ flat_map bytes_of items
 masked-items [] rest items_fit = refl

@@ -24,7 +24,8 @@ use Rattle.vr_ci_match.proofs.CallerLemmas.{size_bounds, chain-front, rdfs_room-
 use Rattle.vr_ci.proofs.IntervalLemmas.{Laid, laid_says, free_end_is, not_zero, zero_block}
 use Rattle.vr_ci.proofs.DescribedLemmas.{described_is, room_in}
 
--- the flags of an RDF that stands before an end: a pair's right half has X'40', and no other RDF has
+-- the flags of an RDF that stands before an end: a pair's right half has X'40', and no other RDF
+-- has
 flags_single : (live : Bool) → bit_and (withdrawn_bit live) 64 ≡ 0
 flags_single true = refl
 flags_single false = refl

@@ -31,7 +31,7 @@ pub room_is : (items : List Item) → room items ≡ total (map mark_of items) +
 room_is [] = refl
 room_is (i ∷ items) = omega (arith, room_is items)
 
--- Items that stand at the front of bytes are found again.
+-- Items that stand at the left end of bytes are found again.
 pub items_at-bytes : (items : List Item) (rest : List ℕ)
     → items_at (map mark_of items) (flat_map bytes_of items ++ rest) ≡ items
 items_at-bytes [] rest = refl

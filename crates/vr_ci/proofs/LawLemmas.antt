@@ -25,12 +25,14 @@ use Rattle.vr_ci_match.proofs.CallerLemmas.{zeros, length-zeros, length-padded, 
 use Rattle.vr_ci.proofs.SpellingLemmas.{one_spelling, mark, single, join, spelled, Apart}
 use Rattle.vr_ci.proofs.SpellingLemmas.{join-apart, join-same, join-more}
 
+-- RDFs are never those of an end of file
 pub no_end : (rs : List Rdf) → shape_of rs ≡ shapes.EndOfFile → ⊥
 no_end [] shape = cc
 no_end (Single live n ∷ rs) shape = cc
 no_end (Run n k ∷ rs) shape = cc
 no_end (Segment piece live number n ∷ rs) shape = cc
 
+-- Each value has at most one block of a size.
 pub one_block : (form : Form) (size : ℕ) (value : Interval) (one other : List ℕ)
     → IsInterval form one value → IsInterval form other value
     → length one ≡ size → length other ≡ size → one ≡ other
@@ -257,6 +259,7 @@ made_block form size value size_fits fitting rs chained shape_is same =
       },
     )
 
+-- Each value that fits a size has a block of it.
 pub some_block : (form : Form) (size : ℕ) (value : Interval) → IsBlockSize size
     → Fits form size value → (block : List ℕ) × (length block ≡ size) × IsInterval form block value
 some_block form size value size_fits fitting = by_shape value.shape refl

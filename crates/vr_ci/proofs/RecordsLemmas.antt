@@ -397,7 +397,8 @@ walked_laid form block walk size walked end first clear small =
     (cidf (spans rdfs) (at - spans rdfs) (is_busy block)) at top None
     (length-padded at (masked rdfs block)) (omega arith) sums front control_bytes field
 
--- A block whose walk ends where its free space does, with as many bytes as the CIDF says, is a control interval of records.
+-- A block whose walk ends where its free space does, with as many bytes as the CIDF says, is a
+-- control interval of records.
 pub records_are : (form : Form) (block : List ℕ) (walk : Walk) (found : Found)
     → IsBlockSize (length block) → IsWalked form block walk
     → walk.end ≡ free_end block → walk.span ≡ displacement block → HasRoom form (length block) walk

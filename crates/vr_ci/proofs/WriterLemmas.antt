@@ -441,7 +441,7 @@ interval_of form block value rs size chain shape said fits place parts =
       });
     }
 
--- the free space filled, and the CIDF behind it
+-- the free space filled, and the CIDF after it
 filled_block : (block out : List ℕ) (f b k : ℕ) (c tail : List ℕ) → length c ≡ 4 → 4 ≤ length block
     → f + k ≡ b → b + 4 ≤ length block → drop b (take (length block - 4) block) ≡ tail
     → out ≡ with_bytes (with_bytes block f (zeros k)) (length block - 4) c
@@ -657,7 +657,7 @@ segment_block form piece number live busy bytes old new size low high some short
     fills_block Inner long long_too given = omega (arith, long, long_too, given some, short)
     fills_block Last long long_too given = omega (arith, long, long_too, short)
 
--- the parts of a segment's block, one behind the other
+-- the parts of a segment's block, one after the other
 pub four_placed : (block x z r c : List ℕ) (i j k : ℕ) → i ≡ length x → j ≡ i + length z
     → k ≡ j + length r → k + length c ≡ length block
     → with_bytes (with_bytes (with_bytes (with_bytes block 0 x) i z) j r) k c ≡ ((x ++ z) ++ r) ++ c
@@ -686,7 +686,7 @@ four_placed block x z r c i j k same equal alike matching =
     ∙ ap (λ (y : List ℕ). with_bytes y k c) two ∙ all
     ∙ ap (λ (y : List ℕ). (((x ++ z) ++ r) ++ c) ++ y) none ∙ append-nil (((x ++ z) ++ r) ++ c)
 
--- the RDF or pair of a run still stands when a record's bytes are put in front of it
+-- the RDF or pair of a run still stands when a record's bytes are put to its left
 pub run_stands : (w : CiWriter) (items : List Item) (x : List ℕ) → Holds w items → 0 < w.run_count
     → w.front + length x ≤ w.back
     → take (length (rdf_bytes (run_rdf w.run_length w.run_count)))

@@ -1,6 +1,6 @@
--- The grammar of control intervals, as the relation between a block and its value.
--- What lies where in a block is DFSMS Using Data Sets, "Control interval format". The one spelling of each
--- value and the room of records are this project's own rules.
+-- The grammar of control intervals, as the relation between a block and its value. What lies where
+-- in a block is DFSMS Using Data Sets, "Control interval format". The one spelling of each value
+-- and the room of records are this project's own rules.
 use Rattle.std.specs.Prelude.{◌≡◌, ℕ, ◌+◌, ◌-◌, ◌<◌, ◌≤◌, ◌⊎◌, Bool, false, List, [], ◌∷◌, length}
 use Rattle.std.specs.Prelude.{map, replicate}
 use Rattle.std.specs.List.{flat_map, AllByRecursion}
@@ -66,7 +66,8 @@ pub record Fits (form : Form) (size : ℕ) (value : Interval) : Type 0 where
   pub block : FitsBlock form size value.shape value.items
   pub idle : value.shape ≡ EndOfFile → value.busy ≡ false
 
--- The RDFs say the marks of the items in order, and the block is laid out from the items' bytes and the RDFs.
+-- The RDFs say the marks of the items in order, and the block is laid out from the items' bytes and
+-- the RDFs.
 pub record IsLaidOut (form : Form) (block : List ℕ) (value : Interval) : Type 0 where
   pub rdfs : List Rdf
   pub chain : IsChain form rdfs

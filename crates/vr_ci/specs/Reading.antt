@@ -14,7 +14,7 @@ use Rattle.vr_ci.specs.declared.records.Batch.{Batch}
 use Rattle.vr_ci_match.specs.Rdf.{Mark, marks, spans, rdf_bytes, control, IsRdf}
 use Rattle.vr_ci.specs.Interval.{Item, Interval}
 
--- the items with these marks, one behind the other from the front of the bytes
+-- the items with these marks, one after the other from the left end of the bytes
 abbrev pub items_at : List Mark → List ℕ → List Item
 items_at [] bytes = []
 items_at (mark ∷ more) bytes =
@@ -36,7 +36,7 @@ rdf_back bytes =
     else Segment (piece_of flags) (flags == 80 || flags == 112 || flags == 96) (number_back bytes 3)
     (number_back bytes 0))
 
--- the RDFs of bytes from right to left, at most so many
+-- the RDFs of bytes from right to left, at most n
 abbrev pub rdfs_back : ℕ → List ℕ → List Rdf
 rdfs_back zero bytes = []
 rdfs_back (suc n) [] = []

@@ -11,9 +11,11 @@ use Rattle.vr_types.specs.BlockSize.{IsBlockSize}
 use Rattle.vr_ci_match.specs.Rdf.{IsRdf, IsOfRecords, MayFollow, IsChainFrom, IsChain, last_from}
 use Rattle.vr_ci_match.specs.Rdf.{shape_of, shape_by}
 
+-- a block that is allowed has 512 to 32,768 bytes
 pub size_bounds : (n : ℕ) → IsBlockSize n → (512 ≤ n) × (n ≤ 32768)
 size_bounds n size = (omega (arith, size.some, size.small), size.most)
 
+-- each RDF of a chain is one
 pub chain_rdfs : (form : Form) (before : Option Rdf) (rs : List Rdf) → IsChainFrom form before rs
     → AllByRecursion IsRdf rs
 chain_rdfs form before [] chain = tt
@@ -27,17 +29,20 @@ chain-push form before [] r chain valid follows = (valid, follows, tt)
 chain-push form before (s ∷ rs) r chain valid follows =
     (chain.0, chain.1, chain-push form (Some s) rs r chain.2 valid follows)
 
+-- the last of a chain is an RDF that may stand there
 pub chain-last : (form : Form) (before : Option Rdf) (rs : List Rdf) (r : Rdf)
     → IsChainFrom form before (rs ++ r ∷ []) → IsRdf r × MayFollow form (last_from before rs) r
 chain-last form before [] r chain = (chain.0, chain.1)
 chain-last form before (s ∷ rs) r chain = chain-last form (Some s) rs r chain.2
 
+-- the beginning of a chain is a chain
 pub chain-front : (form : Form) (before : Option Rdf) (rs ss : List Rdf)
     → IsChainFrom form before (rs ++ ss) → IsChainFrom form before rs
 chain-front form before [] ss chain = tt
 chain-front form before (r ∷ rs) ss chain =
     (chain.0, chain.1, chain-front form (Some r) rs ss chain.2)
 
+-- the RDF farthest to the left, once one is put there
 pub last_from-push : (before : Option Rdf) (rs : List Rdf) (r : Rdf)
     → last_from before (rs ++ r ∷ []) ≡ Some r
 last_from-push before [] r = refl

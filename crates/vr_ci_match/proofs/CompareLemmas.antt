@@ -18,6 +18,7 @@ use Rattle.vr_ci_match.proofs.MarkLemmas.{total, total-all, take-add, masked_mar
 use Rattle.vr_ci_match.proofs.MarkLemmas.{length-masked_marks}
 use Rattle.vr_ci_match.proofs.LayoutLemmas.{zeros, length-zeros, padded_fits, byte, at_drop}
 
+-- the first elements of two lists, beyond those of the first
 pub take-past : (n k : ℕ) (xs ys : List ℕ) → length xs ≡ n
     → take (n + k) (xs ++ ys) ≡ xs ++ take k ys
 take-past n k xs ys long =
@@ -51,7 +52,7 @@ differ-left x1 x2 y1 y2 j long differs =
           ∙ get_or_append_left y1 y2 0 j low);
     }
 
--- they differ behind parts that are the same
+-- they differ after parts that are the same
 pub differ-right : (n : ℕ) (x1 x2 y1 y2 : List ℕ) (j : ℕ) → length x1 ≡ n → x1 ≡ y1
     → DifferFirst x2 y2 j → DifferFirst (x1 ++ x2) (y1 ++ y2) (n + j)
 differ-right n x1 x2 y1 y2 j long same differs =
@@ -114,6 +115,7 @@ in_control block a b c f top at long_too within lb same difference =
     subst (λ (x : List ℕ). Compares 0 x ((a ++ b) ++ c) (Some at)) (take-append-drop top block)
     three
 
+-- a block that is right before its CIDF compares as its CIDF does
 pub in_cidf : (block a b c : List ℕ) (f top : ℕ) (r : Option ℕ) → length a ≡ f → top ≤ length block
     → f + length b ≡ top → take f block ≡ a
     → drop f (take top block) ≡ b → Compares top (drop top block) c r
@@ -175,7 +177,7 @@ length-masked rs bytes within = ap length (masked_is rs bytes)
     ∙ length-masked_marks (flat_map marks rs) bytes (omega (arith, total-all rs, within))
     ∙ total-all rs
 
--- the place of the data is the records' bytes, as far as they go, and zeros behind them
+-- the place of the data is the records' bytes, as far as they go, and zeros after them
 pub data_parts : (rs : List Rdf) (block : List ℕ) (f : ℕ) → f ≤ length block
     → padded f (masked rs block) ≡ take (min (spans rs) f) (masked rs block)
     ++ zeros (f - min (spans rs) f)

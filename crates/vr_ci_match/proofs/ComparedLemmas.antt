@@ -1,4 +1,4 @@
--- A block beside what its RDFs describe: one RDF more, and what is behind them all.
+-- A block beside what its RDFs describe: one RDF more, and what is after them all.
 use Rattle.std.proofs.Common.{◌≡◌, ℕ, zero, suc, ◌+◌, ◌-◌, ◌*◌, ◌<◌, ◌≤◌, inl, inr, Bool, true}
 use Rattle.std.proofs.Common.{false, List, [], ◌∷◌, ◌++◌, length, take, drop, Option, Some, None}
 use Rattle.std.proofs.Common.{refl, sym, ap, ◌∙◌, subst, arith, append_assoc, length-append}
@@ -28,9 +28,11 @@ pub spans-append : (rs ss : List Rdf) → spans (rs ++ ss) ≡ spans rs + spans 
 spans-append [] ss = omega arith
 spans-append (r ∷ rs) ss = omega (arith, spans-append rs ss)
 
+-- the bytes of one RDF more
 pub spans-push : (rs : List Rdf) (r : Rdf) → spans (rs ++ r ∷ []) ≡ spans rs + span r
 spans-push rs r = omega (arith, spans-append rs (r ∷ []))
 
+-- the bytes of the records of one RDF or pair, with zeros for those that are withdrawn
 abbrev pub mask : Rdf → List ℕ → List ℕ
 mask r bytes = if is_live r then take (span r) bytes else zeros (span r)
 
@@ -44,6 +46,7 @@ masked-append (r ∷ rs) ss bytes =
     ∙ ap (λ (x : List ℕ). mask r bytes ++ masked rs (drop (span r) bytes) ++ masked ss x)
     (drop-drop (spans rs) (span r) bytes)
 
+-- the masked bytes of one RDF more
 pub masked-push : (rs : List Rdf) (r : Rdf) (bytes : List ℕ)
     → masked (rs ++ r ∷ []) bytes ≡ masked rs bytes ++ mask r (drop (spans rs) bytes)
 masked-push rs r bytes = masked-append rs (r ∷ []) bytes
@@ -310,7 +313,7 @@ compared_more block limit at rs wanted r len old new d within least compares byt
     both None difference = second_part at (length (rdf_bytes r)) (rdf_bytes r) (control rs)
         (rdf_bytes m) (control wanted) old.wrong_rdf refl difference old_rdf
 
--- ---- what is behind the records, and between the free space and the CIDF
+-- ---- what is after the records, and between the free space and the CIDF
 
 pub data_before : (block : List ℕ) (limit at : ℕ) (rs : List Rdf) (c : Compared)
     → limit ≤ length block → IsCompared block limit rs c → c.wrong ≡ Some at

@@ -27,6 +27,7 @@ use Rattle.vr_ci_match.proofs.ComparedLemmas.{spans-append, empties, control-emp
 use Rattle.vr_ci_match.proofs.ComparedLemmas.{masked-empties, masked-append}
 use Rattle.vr_ci_match.proofs.JudgedLemmas.{Ends, ends}
 
+-- RDFs that are all that the CIDF leaves place for end at the CIDF
 pub whole_end : (form : Form) (block : List ℕ) (rs : List Rdf) → 512 ≤ length block
     → IsWhole form block rs → length (control rs) + control_at (length block) rs ≡ cidf_at block
 whole_end form block rs least whole =
@@ -93,7 +94,7 @@ at_zero : (xs ys : List ℕ) (at : ℕ) → Compares 0 xs ys (Some at) → Diffe
 at_zero xs ys at difference = let same : at - 0 ≡ at = omega arith in
     subst (λ (k : ℕ). DifferFirst xs ys k) same difference.1
 
--- zeros behind the bytes change nothing, since zeros follow
+-- zeros after the bytes change nothing, since zeros follow
 padded-zeros : (f k : ℕ) (xs : List ℕ) → padded f (xs ++ zeros k) ≡ padded f xs
 padded-zeros f k xs =
     ap (λ (x : List ℕ). take f x) (append_assoc xs (zeros k) (zeros f)

@@ -38,7 +38,7 @@ record_shape (Single live n) ss of_records = refl
 record_shape (Run n k) ss of_records = refl
 record_shape (Segment piece live number n) ss of_records = absurd of_records
 
--- what is added to RDFs in front of it
+-- what is added to RDFs to its left
 pub shape-push : (form : Form) (rs : List Rdf) (r : Rdf) → IsChain form (rs ++ r ∷ [])
     → shape_of (rs ++ r ∷ []) ≡ shape_by (Some r)
 shape-push form rs r chain =
@@ -166,7 +166,8 @@ control-singles (Single live n ∷ rs) singles_only =
 control-singles (Run n k ∷ rs) singles_only = absurd singles_only
 control-singles (Segment piece live number n ∷ rs) singles_only = absurd singles_only
 
--- what one RDF or pair more is to say, and that those before it have as many bytes as they are to have
+-- what one RDF or pair more is to say, and that those before it have as many bytes as they are to
+-- have
 pub record Grows (form : Form) (size : ℕ) (rs : List Rdf) (r : Rdf) (len : ℕ) : Type 0 where
   pub more : judged form size (rs ++ r ∷ []) ≡ judged form size rs ++ with_length r len ∷ []
   pub width : length (control (judged form size rs)) ≡ length (control rs)
@@ -290,9 +291,10 @@ limit_moves form block (Run n j ∷ rs) r c chain compares = compares
 limit_moves form block (Segment piece live number n ∷ rs) r c chain compares =
     absurd (some_records form (Segment piece live number n) rs r chain)
 
--- ---- behind all RDFs
+-- ---- after all RDFs
 
--- the RDFs that are meant are those that are judged, and the empty slots' that the block has none of
+-- the RDFs that are meant are those that are judged, and the empty slots' that the block has none
+-- of
 pub record Ends (form : Form) (block : List ℕ) (rs : List Rdf) (limit empty : ℕ) : Type 0 where
   pub all : meant form (length block) rs ≡ judged form (length block) rs
       ++ empties empty (slot_length form)

@@ -10,13 +10,16 @@ use Rattle.vr_ci_match.specs.Rdf.{two_bytes, control}
 use Rattle.vr_ci_match.specs.Laid.{padded, cidf, control_at}
 use Rattle.vr_ci_match.specs.Fault.{displacement, free_field}
 
+-- bytes that are zero
 abbrev pub zeros : ℕ → List ℕ
 zeros n = replicate n 0
 
+-- they are that many
 pub length-zeros : (n : ℕ) → length (zeros n) ≡ n
 length-zeros zero = refl
 length-zeros (suc n) = ap (λ (k : ℕ). suc k) (length-zeros n)
 
+-- padded bytes have the length that they are padded to
 pub length-padded : (n : ℕ) (bytes : List ℕ) → length (padded n bytes) ≡ n
 length-padded n bytes = omega (
   arith,
@@ -25,7 +28,7 @@ length-padded n bytes = omega (
   length-zeros n,
 )
 
--- bytes that fit are there whole, with zeros behind
+-- bytes that fit are there whole, with zeros after them
 pub padded_fits : (n : ℕ) (bytes : List ℕ) → length bytes ≤ n
     → padded n bytes ≡ bytes ++ zeros (n - length bytes)
 padded_fits n bytes within =
@@ -47,6 +50,7 @@ padded_fits n bytes within =
         ap (λ (j : ℕ). take j (b ∷ (bs ++ zeros m))) same
         ∙ ap (λ (t : List ℕ). b ∷ t) (take_past bs k m within)
 
+-- the byte at a place, or 0 past the end
 abbrev pub byte : List ℕ → ℕ → ℕ
 byte block i = get_or block i 0
 

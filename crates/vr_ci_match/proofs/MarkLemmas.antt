@@ -1,4 +1,5 @@
--- The records that RDFs are of: their marks, and their bytes with zeros for those that are withdrawn.
+-- The records that RDFs are of: their marks, and their bytes with zeros for those that are
+-- withdrawn.
 use Rattle.std.proofs.Common.{◌≡◌, ℕ, zero, suc, ◌+◌, ◌*◌, ◌≤◌, List, [], ◌∷◌, ◌++◌, length, take}
 use Rattle.std.proofs.Common.{drop, refl, sym, ap, ◌∙◌, arith, append_assoc, length-append}
 use Rattle.std.proofs.Common.{length-take, length-drop, ◌-◌, Bool, true, false, Option, Some, None}
@@ -30,6 +31,7 @@ total-marks (Single live n) = omega arith
 total-marks (Run n k) = total-replicate k _
 total-marks (Segment piece live number n) = omega arith
 
+-- those of all records of RDFs
 pub total-all : (rs : List Rdf) → total (flat_map marks rs) ≡ spans rs
 total-all [] = refl
 total-all (r ∷ rs) = omega (
@@ -39,6 +41,7 @@ total-all (r ∷ rs) = omega (
   total-all rs,
 )
 
+-- the first elements of a list in two steps
 pub take-add : (m n : ℕ) (bytes : List ℕ)
     → take (m + n) bytes ≡ take m bytes ++ take n (drop m bytes)
 take-add zero n bytes = let same : 0 + n ≡ n = omega arith in ap (λ (k : ℕ). take k bytes) same
@@ -76,6 +79,7 @@ masked_run n (suc k) ms bytes =
     ∙ ap (λ (x : List ℕ). take (n + n * k) bytes ++ masked_marks ms x) back
     ∙ ap (λ (j : ℕ). take j bytes ++ masked_marks ms (drop j bytes)) same
 
+-- masked bytes by the marks of the records
 pub masked_is : (rs : List Rdf) (bytes : List ℕ)
     → masked rs bytes ≡ masked_marks (flat_map marks rs) bytes
 masked_is [] bytes = refl
@@ -87,6 +91,7 @@ masked_is (Run n k ∷ rs) bytes =
 masked_is (Segment piece live number n ∷ rs) bytes =
     ap (λ (x : List ℕ). (if live then take n bytes else zeros n) ++ x) (masked_is rs (drop n bytes))
 
+-- masked bytes are as many as the records have
 pub length-masked_marks : (ms : List Mark) (bytes : List ℕ) → total ms ≤ length bytes
     → length (masked_marks ms bytes) ≡ total ms
 length-masked_marks [] bytes within = refl
@@ -110,6 +115,7 @@ length-masked_marks (m ∷ ms) bytes within =
       long,
     )
 
+-- the room of records by their bytes and their number
 pub room_of_rdfs : (rs : List Rdf) → rdfs_room rs ≡ spans rs + 3 * length (flat_map marks rs)
 room_of_rdfs [] = omega arith
 room_of_rdfs (Single live n ∷ rs) = omega (arith, room_of_rdfs rs)
@@ -122,16 +128,19 @@ room_of_rdfs (Run n k ∷ rs) =
     )
 room_of_rdfs (Segment piece live number n ∷ rs) = omega (arith, room_of_rdfs rs)
 
+-- the room of RDFs beside each other
 pub rdfs_room-append : (rs ss : List Rdf) → rdfs_room (rs ++ ss) ≡ rdfs_room rs + rdfs_room ss
 rdfs_room-append [] ss = omega arith
 rdfs_room-append (r ∷ rs) ss = omega (arith, rdfs_room-append rs ss)
 
+-- no two RDFs are paired
 abbrev pub AreSingles : List Rdf → Type 0
 AreSingles [] = Unit {0}
 AreSingles (Single live n ∷ rs) = AreSingles rs
 AreSingles (Run n k ∷ rs) = ⊥
 AreSingles (Segment piece live number n ∷ rs) = ⊥
 
+-- in form Slots no two RDFs of records are paired
 pub singles : (len : ℕ) (before : Option Rdf) (rs : List Rdf)
     → Rattle.vr_ci_match.specs.Rdf.IsChainFrom (Slots len) before rs → AllByRecursion IsOfRecords rs
     → AreSingles rs

@@ -24,45 +24,43 @@ same_ends p a q b long same =
 pub two_bytes-inj : (m n : ℕ) → m / 256 ≡ n / 256 → m % 256 ≡ n % 256 → m ≡ n
 two_bytes-inj m n same equal = omega arith
 
--- the bits of a segment tell its piece and its mark
+-- the bits of a segment name its piece and its mark
+bits_tens : (p : Piece) → (k : ℕ) × (segment_bits p ≡ 16 * k)
+bits_tens First = (1, refl)
+bits_tens Last = (2, refl)
+bits_tens Inner = (3, refl)
+
+mark_small : (a : Bool) → withdrawn_bit a ≤ 4
+mark_small true = omega arith
+mark_small false = omega arith
+
+piece-inj : (p q : Piece) → segment_bits p ≡ segment_bits q → p ≡ q
+piece-inj First First same = refl
+piece-inj Inner Inner same = refl
+piece-inj Last Last same = refl
+piece-inj First Inner same = absurd (omega arith)
+piece-inj First Last same = absurd (omega arith)
+piece-inj Inner First same = absurd (omega arith)
+piece-inj Inner Last same = absurd (omega arith)
+piece-inj Last First same = absurd (omega arith)
+piece-inj Last Inner same = absurd (omega arith)
+
+mark-inj : (a b : Bool) → withdrawn_bit a ≡ withdrawn_bit b → a ≡ b
+mark-inj true true same = refl
+mark-inj false false same = refl
+mark-inj true false same = absurd (omega arith)
+mark-inj false true same = absurd (omega arith)
+
 pub bits-inj : (p q : Piece) (a b : Bool)
     → segment_bits p + withdrawn_bit a ≡ segment_bits q + withdrawn_bit b → (p ≡ q) × (a ≡ b)
-bits-inj First First true true withdrawn_bit_is = (refl, refl)
-bits-inj First First false false withdrawn_bit_is = (refl, refl)
-bits-inj Inner Inner true true withdrawn_bit_is = (refl, refl)
-bits-inj Inner Inner false false withdrawn_bit_is = (refl, refl)
-bits-inj Last Last true true withdrawn_bit_is = (refl, refl)
-bits-inj Last Last false false withdrawn_bit_is = (refl, refl)
-bits-inj First First true false withdrawn_bit_is = absurd (omega arith)
-bits-inj First First false true withdrawn_bit_is = absurd (omega arith)
-bits-inj Inner Inner true false withdrawn_bit_is = absurd (omega arith)
-bits-inj Inner Inner false true withdrawn_bit_is = absurd (omega arith)
-bits-inj Last Last true false withdrawn_bit_is = absurd (omega arith)
-bits-inj Last Last false true withdrawn_bit_is = absurd (omega arith)
-bits-inj First Inner true true withdrawn_bit_is = absurd (omega arith)
-bits-inj First Inner true false withdrawn_bit_is = absurd (omega arith)
-bits-inj First Inner false true withdrawn_bit_is = absurd (omega arith)
-bits-inj First Inner false false withdrawn_bit_is = absurd (omega arith)
-bits-inj First Last true true withdrawn_bit_is = absurd (omega arith)
-bits-inj First Last true false withdrawn_bit_is = absurd (omega arith)
-bits-inj First Last false true withdrawn_bit_is = absurd (omega arith)
-bits-inj First Last false false withdrawn_bit_is = absurd (omega arith)
-bits-inj Inner First true true withdrawn_bit_is = absurd (omega arith)
-bits-inj Inner First true false withdrawn_bit_is = absurd (omega arith)
-bits-inj Inner First false true withdrawn_bit_is = absurd (omega arith)
-bits-inj Inner First false false withdrawn_bit_is = absurd (omega arith)
-bits-inj Inner Last true true withdrawn_bit_is = absurd (omega arith)
-bits-inj Inner Last true false withdrawn_bit_is = absurd (omega arith)
-bits-inj Inner Last false true withdrawn_bit_is = absurd (omega arith)
-bits-inj Inner Last false false withdrawn_bit_is = absurd (omega arith)
-bits-inj Last First true true withdrawn_bit_is = absurd (omega arith)
-bits-inj Last First true false withdrawn_bit_is = absurd (omega arith)
-bits-inj Last First false true withdrawn_bit_is = absurd (omega arith)
-bits-inj Last First false false withdrawn_bit_is = absurd (omega arith)
-bits-inj Last Inner true true withdrawn_bit_is = absurd (omega arith)
-bits-inj Last Inner true false withdrawn_bit_is = absurd (omega arith)
-bits-inj Last Inner false true withdrawn_bit_is = absurd (omega arith)
-bits-inj Last Inner false false withdrawn_bit_is = absurd (omega arith)
+bits-inj p q a b same =
+    let one = bits_tens p in
+    let other = bits_tens q in
+    let small = mark_small a in
+    let small_too = mark_small b in
+    let pieces : segment_bits p ≡ segment_bits q =
+    omega (arith, same, one.1, other.1, small, small_too) in
+    (piece-inj p q pieces, mark-inj a b (omega (arith, same, pieces)))
 
 -- the number that three bytes end in, and what stands before it
 three : (a b c a' b' c' : ℕ) (p q : List ℕ) → p ++ a ∷ b ∷ c ∷ [] ≡ q ++ a' ∷ b' ∷ c' ∷ [] → (p ≡ q)
@@ -175,6 +173,7 @@ rdf_size (Single live n) = inl refl
 rdf_size (Run n k) = inr refl
 rdf_size (Segment piece live number n) = inr refl
 
+-- an RDF has three bytes or more
 pub some_bytes : (r : Rdf) → 3 ≤ length (rdf_bytes r)
 some_bytes r = elim (rdf_size r)
     [ inl branch ↦ omega (arith, branch) | inr branch ↦ omega (arith, branch) ]
@@ -184,9 +183,11 @@ control-append [] ss = sym (append-nil (control ss))
 control-append (r ∷ rs) ss = ap (λ (x : List ℕ). x ++ rdf_bytes r) (control-append rs ss)
     ∙ append_assoc (control ss) (control rs) (rdf_bytes r)
 
+-- the bytes of RDFs with one more at the left
 pub control-push : (rs : List Rdf) (r : Rdf) → control (rs ++ r ∷ []) ≡ rdf_bytes r ++ control rs
 control-push rs r = control-append rs (r ∷ [])
 
+-- RDFs have a multiple of three bytes
 pub control_thirds : (rs : List Rdf) → (k : ℕ) × (length (control rs) ≡ 3 * k)
 control_thirds [] = (0, refl)
 control_thirds (r ∷ rs) =

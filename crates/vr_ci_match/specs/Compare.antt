@@ -8,8 +8,8 @@ pub record DifferFirst (xs ys : List ℕ) (at : ℕ) : Type 0 where
   pub within : at < length xs
   pub here : slice_index xs at ≢ slice_index ys at
 
--- A part of a block that begins at this place, and what it should be: nothing where they are equal, else
--- the place in the block of the first byte that differs.
+-- A part of a block that begins at this place, and what it should be: nothing where they are equal,
+-- else the place in the block of the first byte that differs.
 abbrev pub Compares : ℕ → List ℕ → List ℕ → Option ℕ → Type 0
 Compares start xs ys None = xs ≡ ys
 Compares start xs ys (Some at) = (start ≤ at) × DifferFirst xs ys (at - start)

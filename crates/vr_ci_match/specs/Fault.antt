@@ -1,4 +1,5 @@
--- Why a block is no control interval: the first cause, and where it stands. These rules are this project's own.
+-- Why a block is not a control interval: the first cause, and where it is. These rules are this
+-- project's own.
 use Rattle.std.specs.Prelude.{◌≡◌, ◌≢◌, ℕ, ◌+◌, ◌-◌, ◌*◌, ◌%◌, ◌<◌, ◌≤◌, ◌⊎◌, Bool, true, false}
 use Rattle.std.specs.Prelude.{if◌then◌else◌, nat_le, List, [], ◌∷◌, ◌++◌, length, take, drop, map}
 use Rattle.std.specs.Prelude.{replicate, slice_index, bit_and}
@@ -54,7 +55,8 @@ pub record StandFrom (form : Form) (block : List ℕ) (rdfs : List Rdf) (at : �
   pub high : at ≤ cidf_at block
   pub bytes : drop at (take (cidf_at block) block) ≡ control rdfs
 
--- The leftmost byte of what ends there: an RDF with X'40' is paired with the one to its left, if there is one.
+-- The leftmost byte of what ends there: an RDF with X'40' is paired with the one to its left, if
+-- there is one.
 abbrev pub IsUnit : ℕ → List ℕ → ℕ → ℕ → Type 0
 IsUnit low block end at =
     ((at + 6 ≡ end) × (low ≤ at) × (bit_and (slice_index block (end - 3)) 64 ≢ 0))
@@ -156,7 +158,7 @@ HasWrongLengths form block rdfs at =
     DifferFirst block (described form block rdfs) at
     ⊎ ((block ≡ described form block rdfs) × IsRoomPassed form (length block) rdfs at)
 
--- the size and the CIDF are right, and the block is no end of file
+-- the size and the CIDF are right, and the block is not an end of file
 pub record HasControl (block : List ℕ) : Type 0 where
   pub size : IsBlockSize (length block)
   pub sound : IsCidfSound block

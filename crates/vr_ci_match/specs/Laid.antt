@@ -1,5 +1,6 @@
--- How a block is laid out: records from its left end, zeros after them, RDFs from right to left and the CIDF in
--- the last four bytes (DFSMS Using Data Sets, "Control interval format"). Zero free space is this project's own.
+-- How a block is laid out: records from its left end, zeros after them, RDFs from right to left and
+-- the CIDF in the last four bytes (DFSMS Using Data Sets, "Control interval format"). Zero free
+-- space is this project's own.
 use Rattle.std.specs.Prelude.{ℕ, ◌+◌, ◌-◌, ◌/◌, Bool, if◌then◌else◌, List, ◌++◌, length, take}
 use Rattle.std.specs.Prelude.{replicate}
 use Rattle.vr_ci_match.specs.declared.rdf.Rdf.{Rdf}

@@ -21,7 +21,8 @@ with_length (Single live n) len = Single live len
 with_length (Run n count) len = Run len count
 with_length (Segment piece live number n) len = Segment piece live number len
 
--- What the RDFs that were read are to say: those that are meant, without the slots that have no RDF.
+-- What the RDFs that were read are to say: those that are meant, without the slots that have no
+-- RDF.
 abbrev pub judged : Form → ℕ → List Rdf → List Rdf
 judged form size (Segment piece live number n ∷ rdfs) =
     filled size (Segment piece live number n) ∷ []

@@ -24,9 +24,15 @@ pub const CALLS: u32 = 33;
 #[derive(Clone, Copy, Debug, PartialEq, Eq)]
 pub enum Call {
     /// A unit asks for names, of which 0 to 4 says which.
-    Ask { unit: u8, names: u32, exclusive: bool },
+    Ask {
+        unit: u8,
+        names: u32,
+        exclusive: bool,
+    },
     /// A unit ends.
-    End { unit: u8 },
+    End {
+        unit: u8,
+    },
 }
 
 /// The call with a number below `CALLS`.

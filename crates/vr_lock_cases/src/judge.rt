@@ -1,7 +1,9 @@
 //! The lock table beside the plain program, over all sequences of calls of a length.
 
 use crate::answers::{Answer, Stop, say_number};
-use crate::calls::{CALLS, Call, call_of, is_same, mode_of, name_of, names_of, plain_names, unit_of};
+use crate::calls::{
+    CALLS, Call, call_of, is_same, mode_of, name_of, names_of, plain_names, unit_of,
+};
 use crate::plain::PlainLocks;
 use std::alloc::Global;
 use vr_locks::{LockNo, LockTable, lock_table};
@@ -22,7 +24,8 @@ pub fn judge(alloc: Global, length: u32, out: &mut String) -> Answer {
     say_number(out, " differ of ", u64::from(sequences))
 }
 
-/// Whether the table and the plain program answer the calls of a sequence alike, and test alike at its end.
+/// Whether the table and the plain program answer the calls of a sequence alike, and test alike at
+/// its end.
 fn agree(alloc: Global, sequence: u32, length: u32) -> Result<bool, Stop> {
     let mut table = lock_table(alloc);
     let mut plain = PlainLocks::new(alloc);
