@@ -1,4 +1,5 @@
-use Rattle.std.specs.Prelude.{ℕ, ◌++◌, ◌==◌, List, [], ◌∷◌, length, map, replicate, Option, Some, None, true, false, if◌then◌else◌}
+use Rattle.std.specs.Prelude.{ℕ, ◌++◌, ◌==◌, List, [], ◌∷◌, length, map, replicate, Option, Some}
+use Rattle.std.specs.Prelude.{None, true, false, if◌then◌else◌}
 use Rattle.vr_types.specs.declared.request.FileRef.{FileRef}
 use Rattle.vr_types.specs.declared.request.Find.TheVariants.{Equal}
 use Rattle.vr_types.specs.declared.request.Request.{Request}
@@ -14,7 +15,8 @@ use Rattle.vr_types.specs.declared.bound.Bound.{Bound}
 
 -- the file of a deck: VRM.FIRST, which is part 1 of volume 0
 abbrev pub first_file : FileRef
-first_file = record { volume = 0; slot = 0; base = record { 0 = 1 }; path = None; kind = Keyed; known = true }
+first_file = record
+    { volume = 0; slot = 0; base = record { 0 = 1 }; path = None; kind = Keyed; known = true }
 
 -- the key that a request names: an empty literal stands for 256 zero bytes, too long for every key
 abbrev pub key_asked : List ℕ → List ℕ

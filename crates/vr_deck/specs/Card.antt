@@ -1,4 +1,5 @@
-use Rattle.std.specs.Prelude.{◌≡◌, ℕ, ◌<◌, ◌≤◌, ◌==◌, ◌||◌, Bool, true, List, ◌++◌, length, codes, slice_index, All}
+use Rattle.std.specs.Prelude.{◌≡◌, ℕ, ◌<◌, ◌≤◌, ◌==◌, ◌||◌, Bool, true, List, ◌++◌, length, codes}
+use Rattle.std.specs.Prelude.{slice_index, All}
 use Rattle.std.specs.Char.{is_ascii_alphabetic, is_ascii_digit}
 use Rattle.vr_deck.specs.Line.{word, after_word}
 
@@ -8,8 +9,8 @@ use Rattle.vr_deck.specs.Line.{word, after_word}
 abbrev pub is_letter : ℕ → Bool
 is_letter b = is_ascii_alphabetic b || b == 64 || b == 35 || b == 36
 
--- A name on a card or of a file: 1 to 8 letters and digits, the first not a digit. It is kept as it is written, and two names
--- that differ in case are two.
+-- A name on a card or of a file: 1 to 8 letters and digits, the first not a digit. It is kept as it
+-- is written, and two names that differ in case are two.
 pub record IsName (name : List ℕ) : Type 0 where
   pub some : 0 < length name
   pub short : length name ≤ 8

@@ -4,7 +4,8 @@ use Rattle.vr_text.specs.Literal.{IsLiteral}
 use Rattle.vr_deck.specs.Line.{unindented, word, after_word}
 use Rattle.vr_deck.specs.Card.{IsName}
 
--- The lines of a request deck. Their form is this project's own; the requests are those of Using Data Sets.
+-- The lines of a request deck. Their form is this project's own; the requests are those of Using
+-- Data Sets.
 
 -- what a line of a deck says
 pub data Meaning : Type 0 where
@@ -18,7 +19,7 @@ pub data Meaning : Type 0 where
   GetOf : List ℕ → List ℕ → Meaning
 
 -- the line begins with a verb and the name of a file, and this follows
-pub record Orders (verb line name operand : List ℕ) : Type 0 where
+pub record IsOrderLine (verb line name operand : List ℕ) : Type 0 where
   pub verb_is : word (unindented line) ≡ verb
   pub name_is : word (after_word (unindented line)) ≡ name
   pub named : IsName name
@@ -38,8 +39,10 @@ IsFirstFile operand = map to_ascii_lowercase operand ≡ codes "vrm.first"
 abbrev pub IsDeckLine : List ℕ → Meaning → Type 0
 IsDeckLine line Nothing = (unindented line ≡ []) ⊎ (slice_get line 0 ≡ Some 42)
 IsDeckLine line (FileOf name) =
-    (operand : List ℕ) × Orders (codes "FILE") line name operand × IsFirstFile operand
+    (operand : List ℕ) × IsOrderLine (codes "FILE") line name operand × IsFirstFile operand
 IsDeckLine line (PutOf name bytes) =
-    (operand : List ℕ) × Orders (codes "PUT") line name operand × IsKeyword (codes "DATA=") operand bytes
+    (operand : List ℕ) × IsOrderLine (codes "PUT") line name operand
+    × IsKeyword (codes "DATA=") operand bytes
 IsDeckLine line (GetOf name key) =
-    (operand : List ℕ) × Orders (codes "GET") line name operand × IsKeyword (codes "KEY=") operand key
+    (operand : List ℕ) × IsOrderLine (codes "GET") line name operand
+    × IsKeyword (codes "KEY=") operand key

@@ -1,5 +1,6 @@
 use Rattle.vr_deck.specs.declared.deck_line.DeckLine.{DeckLine}
-use Rattle.vr_deck.specs.declared.deck_line.DeckLine.TheVariants.{Nothing as NothingRead, File, Put, Get}
+use Rattle.vr_deck.specs.declared.deck_line.DeckLine.TheVariants.{Nothing as NothingRead, File, Put}
+use Rattle.vr_deck.specs.declared.deck_line.DeckLine.TheVariants.{Get}
 use Rattle.vr_deck.specs.DeckLine.{Meaning, Nothing, FileOf, PutOf, GetOf}
 
 -- the meaning of a line that was read

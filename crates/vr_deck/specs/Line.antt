@@ -4,8 +4,8 @@ use Rattle.bstr.specs.Text.{lines_of, without_terminator}
 
 -- The lines of a job text and the words of a line. The rules are this project's own, after JCL's.
 
--- the lines of an input: each is ended by a line feed, the last one perhaps by none; a carriage return before the line feed is
--- dropped
+-- the lines of an input: each is ended by a line feed, the last one perhaps by none; a carriage
+-- return before the line feed is dropped
 abbrev pub job_lines : List ℕ → List (List ℕ)
 job_lines text = map without_terminator (lines_of text)
 

@@ -5,13 +5,15 @@ use Rattle.vr_deck.specs.declared.text.JobFault.TheVariants.{Form, Memory}
 use Rattle.vr_deck.specs.DeckLine.{Meaning}
 use Rattle.vr_deck.specs.JobText.{Progress, Adds, Leads, LacksCard}
 
--- Where a job text stops being one, from a point on: for the private functions that each read a part of it.
+-- Where a job text stops being one, from a point on: for the private functions that each read a
+-- part of it.
 
 -- lines numbered from n on lead from a point to line m, and no further
 abbrev pub StopsAt : ℕ → Progress → List (List ℕ) → ℕ → Type 0
 StopsAt n from [] m = (m ≡ n) × LacksCard from
 StopsAt n from (line ∷ lines) m =
-    ((m ≡ n) × ((to : Progress) → Leads n from line to → ⊥)) ⊎ ((mid : Progress) × Leads n from line mid × StopsAt (n + 1) mid lines m)
+    ((m ≡ n) × ((to : Progress) → Leads n from line to → ⊥))
+    ⊎ ((mid : Progress) × Leads n from line mid × StopsAt (n + 1) mid lines m)
 
 -- the same of a fault; memory may run out at any time
 abbrev pub FaultFrom : ℕ → Progress → List (List ℕ) → JobFault → Type 0
@@ -26,7 +28,9 @@ FaultAt n from line Memory = Unit {0}
 -- a line of this meaning can't be line n of the deck
 abbrev pub CannotAdd : ℕ → Meaning → Option (List ℕ) → List Order → JobFault → Type 0
 CannotAdd n meaning file orders (Form fault) =
-    (fault.line ≡ n) × ((file' : Option (List ℕ)) (orders' : List Order) → Adds n meaning file orders file' orders' → ⊥)
+    (fault.line ≡ n)
+    × ((file' : Option (List ℕ)) (orders' : List Order)
+    → Adds n meaning file orders file' orders' → ⊥)
 CannotAdd n meaning file orders Memory = Unit {0}
 
 -- the file of an order on line n isn't the deck's

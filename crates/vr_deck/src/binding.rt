@@ -11,12 +11,13 @@ use vr_types::{
     SharedRequest, place,
 };
 
-/// How many zero bytes an empty literal stands for where a key is asked for: too many for every key.
+/// How many zero bytes an empty literal stands for where a key is asked for: too many for every
+/// key.
 const EMPTY_KEY: usize = 256;
 
-/// The requests of a deck, in order: one for each order, and a COMMIT at line 0 where the deck has a file. The bytes
-/// of each order move into its request, and the orders that ask for an empty key share one request. Out of memory is
-/// the one error.
+/// The requests of a deck, in order: one for each order, and a COMMIT at line 0 where the deck has
+/// a file. The bytes of each order move into its request, and the orders that ask for an empty key
+/// share one request. Out of memory is the one error.
 pub fn bind(alloc: Global, deck: DeckText) -> Result<DeckRequests, OutOfMemory>
     ensures { IfOk result (λ requests. requests ≡ bound_requests deck) }
 {

@@ -1,7 +1,7 @@
 //! The lines of a request deck.
 ghost use Rattle.std.specs.Prelude.{◌≡◌, ◌↔◌, ℕ, List, IsTrue, IfOk, MatchOption};
 ghost use Rattle.vr_deck.specs.Line.{IsPrintable, IsRightLine};
-ghost use Rattle.vr_deck.specs.DeckLine.{Meaning, IsDeckLine, Nothing, Orders, IsKeyword};
+ghost use Rattle.vr_deck.specs.DeckLine.{Meaning, IsDeckLine, Nothing, IsOrderLine, IsKeyword};
 ghost use Rattle.vr_deck.specs.DeckLine.{IsFirstFile};
 ghost use Rattle.vr_deck.specs.DeckLineRead.{meaning_of};
 
@@ -11,7 +11,8 @@ use std::alloc::Global;
 use vr_text::{LiteralFault, read_literal};
 use vr_types::{Bytes, OutOfMemory};
 
-/// What a line of a deck says. A name is a part of the text; the bytes of a literal are read out of it.
+/// What a line of a deck says. A name is a part of the text; the bytes of a literal are read out of
+/// it.
 #[derive(Drop)]
 pub(crate) enum DeckLine<'a> {
     /// A comment or a blank line.
@@ -35,7 +36,8 @@ pub(crate) fn read_line<'a>(
     line: &'a [u8],
 ) -> Result<Option<DeckLine<'a>>, OutOfMemory>
     requires { IsRightLine line.now }
-    ensures { IfOk result (λ found. MatchOption found ((meaning : Meaning) → IsDeckLine line.now meaning → ⊥)
+    ensures { IfOk result (λ found.
+        MatchOption found ((meaning : Meaning) → IsDeckLine line.now meaning → ⊥)
         (λ read. IsDeckLine line.now (meaning_of read))) }
 {
     if says_nothing(line) {
@@ -82,8 +84,9 @@ fn says_nothing(line: &[u8]) -> bool
 
 /// The words of a line, where the second is a name.
 fn order_words<'a>(line: &'a [u8]) -> Option<OrderWords<'a>>
-    ensures { MatchOption result ((verb name operand : List ℕ) → Orders verb line.now name operand → ⊥)
-        (λ words. Orders words.verb.now line.now words.name.now words.operand.now) }
+    ensures { MatchOption result
+        ((verb name operand : List ℕ) → IsOrderLine verb line.now name operand → ⊥)
+        (λ words. IsOrderLine words.verb.now line.now words.name.now words.operand.now) }
 {
     let line = unindented(line);
     let rest = after_word(line);

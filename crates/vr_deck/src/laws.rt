@@ -9,7 +9,8 @@ pub fn one_value()
 
 /// A text with a first fault is no job.
 pub fn no_value_at_a_fault()
-    ensures { (text : List ℕ) (n : ℕ) (job : JobText) → IsFirstFault text n → IsJobText text job → ⊥ }
+    ensures { (text : List ℕ) (n : ℕ) (job : JobText) → IsFirstFault text n → IsJobText text job
+        → ⊥ }
 {}
 
 /// A text has one first fault at most.

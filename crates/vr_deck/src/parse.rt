@@ -2,7 +2,8 @@
 ghost use Rattle.std.specs.Prelude.{◌≡◌, ◌↔◌, ℕ, ◌++◌, ◌^◌, ◌≤◌, List, [], ◌∷◌, length, Some, None};
 ghost use Rattle.std.specs.Prelude.{IsTrue, IfOk, IfErr, OnOk, MatchOption, MatchBool};
 ghost use Rattle.vr_deck.specs.DeckLineRead.{meaning_of};
-ghost use Rattle.vr_deck.specs.JobText.{NoCard, StepRead, InDeck, Adds, Leads, Reads, IsJobText, CauseOf};
+ghost use Rattle.vr_deck.specs.JobText.{NoCard, StepRead, InDeck, Adds, Leads, Reads, IsJobText};
+ghost use Rattle.vr_deck.specs.JobText.{CauseOf};
 ghost use Rattle.vr_deck.specs.Stop.{StopsAt, FaultFrom, FaultAt, CannotAdd, IsUndeclared};
 
 use crate::card::{is_deck_card, step_card};
@@ -13,11 +14,13 @@ use bstr::{ByteSlice, Lines};
 use std::alloc::Global;
 use vr_types::{Bytes, bytes};
 
-/// The job of a text of at most 64 MiB: a card `//step EXEC PGM=VRMDECK`, a card `//DECK1 DD *`, and the lines of
-/// the deck. Cards are those of MVS JCL, requests those of Using Data Sets; the form of a deck is this project's own.
+/// The job of a text of at most 64 MiB: a card `//step EXEC PGM=VRMDECK`, a card `//DECK1 DD *`,
+/// and the lines of the deck. Cards are those of MVS JCL, requests those of Using Data Sets; the
+/// form of a deck is this project's own.
 ///
-/// `Form` names the first line that no job text has there, one past the last line where a card is missing. `Memory`
-/// may come at any text. Each line is looked at once, and the bytes of a literal are copied once, out of the text.
+/// `Form` names the first line that no job text has there, one past the last line where a card is
+/// missing. `Memory` may come at any text. Each line is looked at once, and the bytes of a literal
+/// are copied once, out of the text.
 pub fn parse_job(alloc: Global, text: &[u8]) -> Result<JobText, JobFault>
     requires { length text.now ≤ 2 ^ 26 }
     ensures job { IfOk result (IsJobText text.now) }
@@ -39,7 +42,8 @@ pub fn parse_job(alloc: Global, text: &[u8]) -> Result<JobText, JobFault>
 /// The step's name on the first line that is left.
 fn first_card<'a>(lines: &mut Lines<'a>) -> Option<&'a [u8]>
     ensures { MatchOption result (StopsAt 1 NoCard lines.old 1)
-        (λ step. (line : List ℕ) × (lines.old ≡ line ∷ lines.new) × Leads 1 NoCard line (StepRead step.now)) }
+        (λ step. (line : List ℕ) × (lines.old ≡ line ∷ lines.new)
+        × Leads 1 NoCard line (StepRead step.now)) }
 {
     step_card(card_line(lines.next()?)?)
 }
@@ -47,7 +51,8 @@ fn first_card<'a>(lines: &mut Lines<'a>) -> Option<&'a [u8]>
 /// Whether the first line that is left is the card of deck 1.
 fn deck_card_follows(lines: &mut Lines) -> bool
     ensures { (step : List ℕ) → MatchBool result
-        ((line : List ℕ) × (lines.old ≡ line ∷ lines.new) × Leads 2 (StepRead step) line (InDeck step None []))
+        ((line : List ℕ) × (lines.old ≡ line ∷ lines.new)
+        × Leads 2 (StepRead step) line (InDeck step None []))
         (StopsAt 2 (StepRead step) lines.old 2) }
 {
     let Some(line) = lines.next() else {
@@ -64,7 +69,8 @@ fn read_deck(alloc: Global, lines: Lines) -> Result<DeckText, JobFault>
     requires { length lines ≤ 2 ^ 26 }
     ensures deck { IfOk result (λ deck. (step : List ℕ)
         → Reads 3 (InDeck step None []) lines.entry (InDeck step deck.file deck.orders)) }
-    ensures fault { IfErr result (λ fault. (step : List ℕ) → FaultFrom 3 (InDeck step None []) lines.entry fault) }
+    ensures fault { IfErr result (λ fault. (step : List ℕ)
+        → FaultFrom 3 (InDeck step None []) lines.entry fault) }
 {
     let mut deck = DeckText {
         file: None,
@@ -80,7 +86,8 @@ fn read_deck(alloc: Global, lines: Lines) -> Result<DeckText, JobFault>
 
 /// Takes a line into the deck so far.
 fn add_line(alloc: Global, deck: &mut DeckText, number: u32, line: &[u8]) -> Result<(), JobFault>
-    ensures ok { OnOk result ((step : List ℕ) → Leads number (InDeck step deck.old.file deck.old.orders) line.now
+    ensures ok { OnOk result ((step : List ℕ)
+        → Leads number (InDeck step deck.old.file deck.old.orders) line.now
         (InDeck step deck.new.file deck.new.orders)) }
     ensures fault { IfErr result (λ fault. (step : List ℕ)
         → FaultAt number (InDeck step deck.old.file deck.old.orders) line.now fault) }
@@ -96,9 +103,10 @@ fn add_line(alloc: Global, deck: &mut DeckText, number: u32, line: &[u8]) -> Res
 
 /// Adds what a line says to the deck so far. A file is declared once, and before it is used.
 fn add(alloc: Global, deck: &mut DeckText, number: u32, read: DeckLine) -> Result<(), JobFault>
-    ensures ok { OnOk result (Adds number (meaning_of read.entry) deck.old.file deck.old.orders deck.new.file
-        deck.new.orders) }
-    ensures fault { IfErr result (CannotAdd number (meaning_of read.entry) deck.old.file deck.old.orders) }
+    ensures ok { OnOk result (Adds number (meaning_of read.entry) deck.old.file deck.old.orders
+        deck.new.file deck.new.orders) }
+    ensures fault { IfErr result
+        (CannotAdd number (meaning_of read.entry) deck.old.file deck.old.orders) }
 {
     match read {
         DeckLine::Nothing => Ok(()),

@@ -79,8 +79,8 @@ impl Orders {
     }
 }
 
-/// Where a text departs from the form of a job: the first line that no job text has there, one past the last line where a
-/// card is missing. Lines are numbered from 1.
+/// Where a text departs from the form of a job: the first line that no job text has there, one past
+/// the last line where a card is missing. Lines are numbered from 1.
 #[derive(Clone, Copy, Debug, PartialEq, Eq, Hash)]
 pub struct TextFault {
     pub line: u32,

@@ -1,21 +1,30 @@
--- Bytes that are read behind others.
-use Rattle.std.proofs.Common.{◌≡◌, ℕ, ◌+◌, ◌-◌, ◌≤◌, List, ◌++◌, length, take, Result, Ok, Err, IfOk, sym, ap, ◌∙◌, Option}
+-- Bytes that are read after others.
+use Rattle.std.proofs.Common.{◌≡◌, ℕ, ◌+◌, ◌-◌, ◌≤◌, List, ◌++◌, length, take, Result, Ok, Err}
+use Rattle.std.proofs.Common.{IfOk, sym, ap, ◌∙◌, Option}
 use Rattle.std.proofs.Math.Seq.{take-append-add}
 use Rattle.std.proofs.lemmas.List.{take-append-le, length-take-le}
 use borrow.Rule.Slice.PartMut.{put_mid, post_of}
 use Rattle.vr_outside.specs.Told.{Reads}
-use Rattle.vr_job.specs.Input.{ReadsBehind}
+use Rattle.vr_job.specs.Input.{ReadsAfter}
 
--- the front of a list of which a part was written
-take-put_mid-front : (a k : ℕ) (xs ys : List ℕ) (n : ℕ) → a ≤ length xs → n ≤ length ys → take (a + n) (put_mid a k xs ys) ≡ take a xs ++ take n ys
-take-put_mid-front a k xs ys n inside within =
+-- the prefix of a list of which a part was written
+take-put_mid-prefix : (a k : ℕ) (xs ys : List ℕ) (n : ℕ) → a ≤ length xs → n ≤ length ys
+    → take (a + n) (put_mid a k xs ys) ≡ take a xs ++ take n ys
+take-put_mid-prefix a k xs ys n inside within =
     let long : length (take a xs) ≡ a = length-take-le a xs inside in
-    ap (λ m. take (m + n) (take a xs ++ (ys ++ post_of a k xs))) (sym long) ∙ take-append-add (take a xs) (ys ++ post_of a k xs) n
+    ap (λ m. take (m + n) (take a xs ++ (ys ++ post_of a k xs))) (sym long)
+    ∙ take-append-add (take a xs) (ys ++ post_of a k xs) n
     ∙ ap (λ l. take a xs ++ l) (take-append-le n ys (post_of a k xs) within)
 
-pub reads_behind : {E : Type 0} (left left' : Option (List ℕ)) (filled : ℕ) (buffer piece : List ℕ) (r : Result ℕ E) → filled ≤ length buffer
+pub reads_after : {E : Type 0} (left left' : Option (List ℕ)) (filled : ℕ) (buffer piece : List ℕ)
+    (r : Result ℕ E) → filled ≤ length buffer
     → IfOk r (λ n. n ≤ length piece) → IfOk r (λ n. Reads left left' (take n piece))
-    → IfOk r (λ n. ReadsBehind left left' (take filled buffer) (take (filled + n) (put_mid filled (length buffer - filled) buffer piece)))
-reads_behind left left' filled buffer piece (Ok n) inside within reads =
-    (take n piece, take-put_mid-front filled (length buffer - filled) buffer piece n inside within, reads)
-reads_behind left left' filled buffer piece (Err e) inside within reads = tt
+    → IfOk r (λ n. ReadsAfter left left' (take filled buffer)
+    (take (filled + n) (put_mid filled (length buffer - filled) buffer piece)))
+reads_after left left' filled buffer piece (Ok n) inside within reads = (
+  take n piece,
+  take-put_mid-prefix filled
+      (length buffer - filled) buffer piece n inside within,
+  reads,
+)
+reads_after left left' filled buffer piece (Err e) inside within reads = tt

@@ -1,6 +1,11 @@
 use Rattle.std.specs.Prelude.{ℕ, max, List, [], ◌∷◌}
 use Rattle.vr_types.specs.declared.reply.Refusal.{Refusal}
-use Rattle.vr_types.specs.declared.reply.Refusal.TheVariants.{EndOfData, Duplicate, NotFound, NoAddress, NoSpace, NoPosition, NoGet, KeyChanged, LengthChanged, BadLength, BadSlot, Held, LogFull, Stopped, ReadFault, WriteFault, Memory, NotAllowed, NoFile}
+use Rattle.vr_types.specs.declared.reply.Refusal.TheVariants.{EndOfData, Duplicate, NotFound}
+use Rattle.vr_types.specs.declared.reply.Refusal.TheVariants.{NoAddress, NoSpace, NoPosition, NoGet}
+use Rattle.vr_types.specs.declared.reply.Refusal.TheVariants.{KeyChanged, LengthChanged, BadLength}
+use Rattle.vr_types.specs.declared.reply.Refusal.TheVariants.{BadSlot, Held, LogFull, Stopped}
+use Rattle.vr_types.specs.declared.reply.Refusal.TheVariants.{ReadFault, WriteFault, Memory}
+use Rattle.vr_types.specs.declared.reply.Refusal.TheVariants.{NotAllowed, NoFile}
 use Rattle.vr_types.specs.declared.reply.Reply.{Reply}
 use Rattle.vr_types.specs.declared.reply.Reply.TheVariants.{Done, Refused}
 use Rattle.vr_types.specs.Refusal.{feedback_code}
@@ -8,8 +13,8 @@ use Rattle.vr_job.specs.declared.entry.Entry.{Entry}
 use Rattle.vr_job.specs.declared.entry.What.{What}
 use Rattle.vr_job.specs.declared.entry.What.TheVariants.{Asked, Undone, Claimed, Split, Faulted}
 
--- Return and condition codes. The return codes are those of Using Data Sets; the condition codes of deck steps are this
--- project's own.
+-- Return and condition codes. The return codes are those of Using Data Sets; the condition codes of
+-- deck steps are this project's own.
 
 -- 12 for a fault of the device, 8 for a request that was refused for another cause
 abbrev pub refused_code : Refusal → ℕ
@@ -41,7 +46,8 @@ abbrev pub feedback_of : Reply → ℕ
 feedback_of (Done feedback place bytes) = feedback
 feedback_of (Refused refusal) = feedback_code refusal
 
--- what a refusal makes of its step's condition code: 8 where the volume is at fault, 4 where something was in the way
+-- what a refusal makes of its step's condition code: 8 where the volume is at fault, 4 where
+-- something was in the way
 abbrev pub severity_of : Refusal → ℕ
 severity_of EndOfData = 0
 severity_of (Duplicate part) = 0

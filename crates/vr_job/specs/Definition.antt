@@ -18,4 +18,6 @@ key_of definition bytes = take definition.key_length (drop definition.key_offset
 
 -- a record reaches to the end of its key, and isn't longer than the maximum
 abbrev pub is_valid_record : Definition → List ℕ → Bool
-is_valid_record definition bytes = nat_le (definition.key_offset + definition.key_length) (length bytes) && nat_le (length bytes) definition.maximum
+is_valid_record definition bytes =
+    nat_le (definition.key_offset + definition.key_length) (length bytes) && nat_le
+    (length bytes) definition.maximum

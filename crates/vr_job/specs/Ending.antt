@@ -22,11 +22,12 @@ abbrev pub ending_of_text : Option TextFault → Ending
 ending_of_text (Some fault) = NotAJob fault
 ending_of_text None = Ran
 
--- How a job ended, by its status and the fault that its trace keeps. A status alone doesn't tell a run from a refusal.
+-- How a job ended, by its status and the fault that its trace keeps. A status alone doesn't tell a
+-- run from a refusal.
 abbrev pub ending_of : ℕ → Option TextFault → Ending
 ending_of status fault =
-    if status == 20 then NoCommand else if status == 24 then ReadFailed else if status == 26 then TooLong
-    else if status == 36 then NoMemory else ending_of_text fault
+    if status == 20 then NoCommand else if status == 24 then ReadFailed
+    else if status == 26 then TooLong else if status == 36 then NoMemory else ending_of_text fault
 
 -- the statuses whose line doesn't rest on the trace
 abbrev pub HasFixedLine : ℕ → Type 0

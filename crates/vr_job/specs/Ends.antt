@@ -7,8 +7,10 @@ use Rattle.vr_job.specs.declared.job_end.Trace.{Trace}
 use Rattle.vr_job.specs.State.{opening_state}
 use Rattle.vr_job.specs.History.{IsLegal, AreParts, ArePrefixes}
 use Rattle.vr_job.specs.Code.{step_code}
-use Rattle.vr_job.specs.Ending.{Ending, NoCommand, ReadFailed, TooLong, NoMemory, NotAJob, Ran, ending_of, HasFixedLine}
-use Rattle.vr_job.specs.JobEnd.{KeepsNothing, KeepsJob, KeepsFault, IsOfText, Asks, HasCode, IsStatusOf, IsWhole}
+use Rattle.vr_job.specs.Ending.{Ending, NoCommand, ReadFailed, TooLong, NoMemory, NotAJob, Ran}
+use Rattle.vr_job.specs.Ending.{ending_of, HasFixedLine}
+use Rattle.vr_job.specs.JobEnd.{KeepsNothing, KeepsJob, KeepsFault, IsOfText, Asks, HasCode}
+use Rattle.vr_job.specs.JobEnd.{IsStatusOf, IsWhole}
 
 -- What the parts of the top call know of a job's end, for the private functions that they are.
 
@@ -34,7 +36,8 @@ pub record IsDeckRun (status : ℕ) (job : JobText) (trace : Trace) : Type 0 whe
   pub part : IsDeckPart status job.deck trace.history.entries
 
 -- What is known of a job's end before anything is printed.
-pub record IsInputEnd (left left' : Option (List ℕ)) (faults faults' status : ℕ) (trace : Trace) : Type 0 where
+pub record IsInputEnd (left left' : Option (List ℕ)) (faults faults' status : ℕ)
+    (trace : Trace) : Type 0 where
   pub text : IsOfText (ending_of status trace.fault) left left' trace
   pub asks : Asks (ending_of status trace.fault) trace
   pub ending : IsStatusOf (ending_of status trace.fault) trace status
@@ -45,7 +48,9 @@ pub record IsInputEnd (left left' : Option (List ℕ)) (faults faults' status : 
   pub source : status ≡ 24 → faults < faults'
   pub steady : status ≢ 24 → faults' ≡ faults
 
--- How printing changes a status: not, or to 36 where memory ran out, or from that of a run to 28 where the sink failed.
+-- How printing changes a status: not, or to 36 where memory ran out, or from that of a run to 28
+-- where the sink failed.
 abbrev pub PrintsAs : ℕ → ℕ → Trace → ℕ → ℕ → Type 0
-PrintsAs faults faults' trace before after = (after ≡ before) ⊎ ((after ≡ 36) × (¬ (HasFixedLine before)))
+PrintsAs faults faults' trace before after =
+    (after ≡ before) ⊎ ((after ≡ 36) × (¬ (HasFixedLine before)))
     ⊎ ((after ≡ 28) × (¬ (HasFixedLine before)) × (trace.fault ≡ None) × (faults < faults'))

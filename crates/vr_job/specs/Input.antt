@@ -18,6 +18,7 @@ CauseOf left faults faults' Read = faults < faults'
 CauseOf left faults faults' TooLong = IfSome left (λ all. 2 ^ 26 < length all) × (faults' ≡ faults)
 CauseOf left faults faults' Memory = faults' ≡ faults
 
--- the source handed out the bytes that stand behind those that were there
-abbrev pub ReadsBehind : Option (List ℕ) → Option (List ℕ) → List ℕ → List ℕ → Type 0
-ReadsBehind left left' before now = (bytes : List ℕ) × (now ≡ before ++ bytes) × Reads left left' bytes
+-- the source handed out the bytes that come after those that were there
+abbrev pub ReadsAfter : Option (List ℕ) → Option (List ℕ) → List ℕ → List ℕ → Type 0
+ReadsAfter left left' before now =
+    (bytes : List ℕ) × (now ≡ before ++ bytes) × Reads left left' bytes

@@ -1,4 +1,5 @@
-use Rattle.std.specs.Prelude.{◌≡◌, ◌⊎◌, ℕ, ◌^◌, ◌<◌, List, [], ◌∷◌, codes, length, Option, None, Some, IfSome}
+use Rattle.std.specs.Prelude.{◌≡◌, ◌⊎◌, ℕ, ◌^◌, ◌<◌, List, [], ◌∷◌, codes, length, Option, None}
+use Rattle.std.specs.Prelude.{Some, IfSome}
 use Rattle.vr_types.specs.declared.reply.Refusal.TheVariants.{Memory as NoMemoryLeft}
 use Rattle.vr_types.specs.declared.reply.Reply.TheVariants.{Refused}
 use Rattle.vr_outside.specs.Told.{Takes, TakesPart}
@@ -43,7 +44,8 @@ pub record KeepsFault (text : List ℕ) (trace : Trace) : Type 0 where
   pub no_job : trace.job ≡ None
   pub no_entry : trace.history.entries ≡ []
 
--- The text of a job that ran: all that the source had left, and nothing is left of it. Where the source doesn't tell, it is some text.
+-- The text of a job that ran: all that the source had left, and nothing is left of it. Where the
+-- source doesn't tell, it is some text.
 pub record RanText (left left' : Option (List ℕ)) (trace : Trace) : Type 0 where
   pub text : List ℕ
   pub all : IsAll left left' text
@@ -55,13 +57,14 @@ pub record RefusedText (left left' : Option (List ℕ)) (trace : Trace) : Type 0
   pub all : IsAll left left' text
   pub keeps : KeepsFault text trace
 
--- What the trace keeps of the text, by the way in which the job ended. Where memory ran out, it keeps nothing, or the
--- text's fault, or the text's job.
+-- What the trace keeps of the text, by the way in which the job ended. Where memory ran out, it
+-- keeps nothing, or the text's fault, or the text's job.
 abbrev pub IsOfText : Ending → Option (List ℕ) → Option (List ℕ) → Trace → Type 0
 IsOfText NoCommand left left' trace = KeepsNothing trace
 IsOfText ReadFailed left left' trace = KeepsNothing trace
 IsOfText TooLong left left' trace = KeepsNothing trace × IfSome left (λ all. 2 ^ 26 < length all)
-IsOfText NoMemory left left' trace = KeepsNothing trace ⊎ RefusedText left left' trace ⊎ RanText left left' trace
+IsOfText NoMemory left left' trace =
+    KeepsNothing trace ⊎ RefusedText left left' trace ⊎ RanText left left' trace
 IsOfText (NotAJob fault) left left' trace = RefusedText left left' trace
 IsOfText Ran left left' trace = RanText left left' trace
 
@@ -79,7 +82,8 @@ pub record AsksAll (trace : Trace) : Type 0 where
 pub record AsksFirst (trace : Trace) : Type 0 where
   pub job : JobText
   pub kept : trace.job ≡ Some job
-  pub prefixes : (deck : ℕ) → IsPrefixOf (part_of_deck 0 deck trace.history.entries) (bound_of job deck)
+  pub prefixes : (deck : ℕ)
+      → IsPrefixOf (part_of_deck 0 deck trace.history.entries) (bound_of job deck)
 
 -- which requests were asked, by the way in which the job ended
 abbrev pub Asks : Ending → Trace → Type 0
@@ -90,7 +94,8 @@ Asks NoMemory trace = (trace.history.entries ≡ []) ⊎ AsksFirst trace
 Asks (NotAJob fault) trace = trace.history.entries ≡ []
 Asks Ran trace = AsksAll trace
 
--- the statuses of a job that ended in a way: that of a run is the code of its step, or 28 where the sink failed
+-- the statuses of a job that ended in a way: that of a run is the code of its step, or 28 where the
+-- sink failed
 abbrev pub IsStatusOf : Ending → Trace → ℕ → Type 0
 IsStatusOf NoCommand trace status = status ≡ 20
 IsStatusOf ReadFailed trace status = status ≡ 24
@@ -99,7 +104,7 @@ IsStatusOf NoMemory trace status = status ≡ 36
 IsStatusOf (NotAJob fault) trace status = status ≡ 16
 IsStatusOf Ran trace status = (status ≡ 28) ⊎ (status ≡ step_code trace.history.entries)
 
--- a reply for want of memory
+-- a reply that memory ran out
 abbrev pub IsWant : What → Type 0
 IsWant (Asked request reply) = reply ≡ Refused NoMemoryLeft
 IsWant (Undone part place) = ⊥
@@ -111,17 +116,21 @@ abbrev pub WantsMemory : List Entry → Type 0
 WantsMemory [] = ⊥
 WantsMemory (entry ∷ entries) = IsWant entry.what ⊎ WantsMemory entries
 
--- between 0 and 4, 4 comes exactly where a reply was for want of memory
+-- between 0 and 4, 4 comes exactly where a reply was out of memory
 abbrev pub HasCode : ℕ → Trace → Type 0
-HasCode status trace = (status ≡ 4 → WantsMemory trace.history.entries) × (status ≡ 0 → ¬ WantsMemory trace.history.entries)
+HasCode status trace =
+    (status ≡ 4 → WantsMemory trace.history.entries)
+    × (status ≡ 0 → ¬ WantsMemory trace.history.entries)
 
 -- the listing went to the sink: all of it where the sink didn't fail, else a prefix of it
-pub record IsPrinted (taken taken' : Option (List ℕ)) (faults faults' : ℕ) (listing : List ℕ) : Type 0 where
+pub record IsPrinted (taken taken' : Option (List ℕ)) (faults faults' : ℕ)
+    (listing : List ℕ) : Type 0 where
   pub part : TakesPart taken taken' listing
   pub whole : faults' ≡ faults → Takes taken taken' listing
 
--- the statuses that there are: those of a run, of a text that is no job, of words that are no command, of a source that failed,
--- of an input that is too long, of a sink that failed, and of want of memory
+-- the statuses that there are: those of a run, of a text that is no job, of words that are no
+-- command, of a source that failed, of an input that is too long, of a sink that failed, and where
+-- memory ran out
 abbrev pub statuses : List ℕ
 statuses = 0 ∷ 4 ∷ 16 ∷ 20 ∷ 24 ∷ 26 ∷ 28 ∷ 36 ∷ []
 

@@ -2,7 +2,8 @@ use Rattle.std.specs.Prelude.{ℕ, List, [], ◌∷◌, ◌++◌, codes, Option,
 use Rattle.std.specs.List.{flat_map}
 use Rattle.std.specs.Fmt.{decimal}
 use Rattle.vr_types.specs.declared.request.Request.{Request}
-use Rattle.vr_types.specs.declared.request.Request.TheVariants.{Get, Point, Add, Update, Erase, EndReq, Commit, Backout}
+use Rattle.vr_types.specs.declared.request.Request.TheVariants.{Get, Point, Add, Update, Erase}
+use Rattle.vr_types.specs.declared.request.Request.TheVariants.{EndReq, Commit, Backout}
 use Rattle.vr_types.specs.declared.reply.Reply.{Reply}
 use Rattle.vr_types.specs.declared.reply.Reply.TheVariants.{Done, Refused}
 use Rattle.vr_text.specs.Literal.{literal_of}
@@ -13,7 +14,8 @@ use Rattle.vr_job.specs.declared.entry.What.{What}
 use Rattle.vr_job.specs.declared.entry.What.TheVariants.{Asked, Undone, Claimed, Split, Faulted}
 use Rattle.vr_job.specs.declared.job_end.Trace.{Trace}
 use Rattle.vr_job.specs.Code.{return_code, feedback_of, step_code}
-use Rattle.vr_job.specs.Ending.{Ending, NoCommand, ReadFailed, TooLong, NoMemory, NotAJob, Ran, ending_of}
+use Rattle.vr_job.specs.Ending.{Ending, NoCommand, ReadFailed, TooLong, NoMemory, NotAJob, Ran}
+use Rattle.vr_job.specs.Ending.{ending_of}
 
 -- The listing. Its lines are this project's own.
 
@@ -50,8 +52,11 @@ values_of (Done feedback place bytes) = shown (codes " AT=") place ++ shown (cod
 values_of (Refused refusal) = []
 
 abbrev pub asked_line : List ℕ → Entry → Request → Reply → List ℕ
-asked_line name entry request reply = codes "DECK " ++ decimal entry.unit.deck ++ codes " LINE " ++ decimal entry.line ++ codes " VOL 0 " ++ verb_of request
-    ++ file_of request name ++ codes " RC=" ++ decimal (return_code reply) ++ codes " FB=" ++ decimal (feedback_of reply) ++ values_of reply ++ 10 ∷ []
+asked_line name entry request reply =
+    codes "DECK " ++ decimal entry.unit.deck ++ codes " LINE " ++ decimal entry.line
+    ++ codes " VOL 0 " ++ verb_of request
+    ++ file_of request name ++ codes " RC=" ++ decimal (return_code reply) ++ codes " FB="
+    ++ decimal (feedback_of reply) ++ values_of reply ++ 10 ∷ []
 
 abbrev pub what_line : List ℕ → Entry → What → List ℕ
 what_line name entry (Asked request reply) = asked_line name entry request reply
@@ -73,12 +78,16 @@ name_of (Some name) = name
 
 -- the listing of a deck step that is the whole job
 abbrev pub step_listing : JobText → List Entry → List ℕ
-step_listing job entries = codes "STEP " ++ job.step ++ codes " DECKS" ++ 10 ∷ [] ++ entry_lines (name_of job.deck.file) entries
-    ++ codes "STEP " ++ job.step ++ codes " CODE " ++ decimal (step_code entries) ++ 10 ∷ [] ++ codes "JOB CODE " ++ decimal (step_code entries) ++ 10 ∷ []
+step_listing job entries =
+    codes "STEP " ++ job.step ++ codes " DECKS" ++ 10 ∷ []
+    ++ entry_lines (name_of job.deck.file) entries
+    ++ codes "STEP " ++ job.step ++ codes " CODE " ++ decimal (step_code entries) ++ 10 ∷ []
+    ++ codes "JOB CODE " ++ decimal (step_code entries) ++ 10 ∷ []
 
 -- the line of a job that is refused
 abbrev pub fault_line : TextFault → List ℕ
-fault_line fault = codes "JOB REFUSED FORM 0 LINE " ++ decimal fault.line ++ codes " COLUMN 1" ++ 10 ∷ []
+fault_line fault =
+    codes "JOB REFUSED FORM 0 LINE " ++ decimal fault.line ++ codes " COLUMN 1" ++ 10 ∷ []
 
 abbrev pub run_listing : Option JobText → List Entry → List ℕ
 run_listing None entries = []

@@ -1,16 +1,19 @@
-use Rattle.std.specs.Prelude.{ℕ, ◌^◌, ◌-◌, min, ◌==◌, if◌then◌else◌, List, [], ◌∷◌, length, Option, Some, None}
+use Rattle.std.specs.Prelude.{ℕ, ◌^◌, ◌-◌, min, ◌==◌, if◌then◌else◌, List, [], ◌∷◌, length, Option}
+use Rattle.std.specs.Prelude.{Some, None}
 use Rattle.vr_types.specs.declared.request.Find.{Find}
 use Rattle.vr_types.specs.declared.request.Find.TheVariants.{Next, Equal, AtLeast}
 use Rattle.vr_types.specs.declared.request.Request.{Request}
-use Rattle.vr_types.specs.declared.request.Request.TheVariants.{Get, Point, Add, Update, Erase, EndReq, Commit, Backout}
+use Rattle.vr_types.specs.declared.request.Request.TheVariants.{Get, Point, Add, Update, Erase}
+use Rattle.vr_types.specs.declared.request.Request.TheVariants.{EndReq, Commit, Backout}
 use Rattle.vr_types.specs.declared.reply.Refusal.{Refusal}
-use Rattle.vr_types.specs.declared.reply.Refusal.TheVariants.{NotAllowed, BadLength, NotFound, Duplicate}
+use Rattle.vr_types.specs.declared.reply.Refusal.TheVariants.{NotAllowed, BadLength, NotFound}
+use Rattle.vr_types.specs.declared.reply.Refusal.TheVariants.{Duplicate}
 use Rattle.vr_types.specs.Content.{record_at}
 use Rattle.vr_job.specs.Definition.{first_definition, key_of, is_valid_record}
 use Rattle.vr_job.specs.State.{State}
 
--- The refusals of a request, one word for each, with the causes that Using Data Sets gives for their feedback codes.
--- Each answers the refusal where its cause is there.
+-- The refusals of a request, one word for each, with the causes that Using Data Sets gives for
+-- their feedback codes. Each answers the refusal where its cause is there.
 
 -- the place that a request names, if it names one
 abbrev pub place_of : Find → Option (List ℕ)
@@ -40,10 +43,14 @@ not_allowed state request = if_empty (place_named request) NotAllowed
 abbrev pub shown_length : List ℕ → ℕ
 shown_length bytes = min (length bytes) (2 ^ 32 - 1)
 
--- a record whose length isn't valid, or (this project's own rule) a key of another length than the file's
+-- a record whose length isn't valid, or (this project's own rule) a key of another length than the
+-- file's
 abbrev pub bad_length : State → Request → Option Refusal
-bad_length state (Get file (Equal place) update integrity) = if length place == first_definition.key_length then None else Some (BadLength (shown_length place))
-bad_length state (Add file place bytes) = if is_valid_record first_definition bytes then None else Some (BadLength (shown_length bytes))
+bad_length state (Get file (Equal place) update integrity) =
+    if length place == first_definition.key_length then None else Some
+    (BadLength (shown_length place))
+bad_length state (Add file place bytes) =
+    if is_valid_record first_definition bytes then None else Some (BadLength (shown_length bytes))
 bad_length state (Get file Next update integrity) = None
 bad_length state (Get file (AtLeast place) update integrity) = None
 bad_length state (Point file find) = None
@@ -63,7 +70,8 @@ if_present (Some bytes) refusal = Some refusal
 
 -- no record has the key that a direct GET asks for
 abbrev pub not_found : State → Request → Option Refusal
-not_found state (Get file (Equal place) update integrity) = if_absent (record_at (state.contents file.base.0) place) NotFound
+not_found state (Get file (Equal place) update integrity) =
+    if_absent (record_at (state.contents file.base.0) place) NotFound
 not_found state (Get file Next update integrity) = None
 not_found state (Get file (AtLeast place) update integrity) = None
 not_found state (Point file find) = None
@@ -76,7 +84,9 @@ not_found state Backout = None
 
 -- a record has the key of the one to be added
 abbrev pub duplicate : State → Request → Option Refusal
-duplicate state (Add file place bytes) = if_present (record_at (state.contents file.base.0) (key_of first_definition bytes)) (Duplicate file.base)
+duplicate state (Add file place bytes) =
+    if_present (record_at (state.contents file.base.0) (key_of first_definition bytes))
+    (Duplicate file.base)
 duplicate state (Get file Next update integrity) = None
 duplicate state (Get file (Equal place) update integrity) = None
 duplicate state (Get file (AtLeast place) update integrity) = None
@@ -95,4 +105,6 @@ first_of (Some refusal ∷ refusals) = Some refusal
 
 -- the refusals in the order in which they are tried
 abbrev pub first_refusal : State → Request → Option Refusal
-first_refusal state request = first_of (not_allowed state request ∷ bad_length state request ∷ not_found state request ∷ duplicate state request ∷ [])
+first_refusal state request =
+    first_of (not_allowed state request ∷ bad_length state request ∷ not_found state request ∷
+    duplicate state request ∷ [])

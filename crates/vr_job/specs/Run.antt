@@ -1,6 +1,7 @@
 use Rattle.std.specs.Prelude.{◌≡◌, ℕ, ◌+◌, ◌≤◌, List, [], ◌∷◌, ◌++◌, take, Option, Some, None}
 use Rattle.vr_types.specs.declared.request.Request.{Request}
-use Rattle.vr_types.specs.declared.request.Request.TheVariants.{Get, Point, Add, Update, Erase, EndReq, Commit, Backout}
+use Rattle.vr_types.specs.declared.request.Request.TheVariants.{Get, Point, Add, Update, Erase}
+use Rattle.vr_types.specs.declared.request.Request.TheVariants.{EndReq, Commit, Backout}
 use Rattle.vr_types.specs.declared.reply.Reply.{Reply}
 use Rattle.vr_types.specs.declared.reply.Reply.TheVariants.{Done, Refused}
 use Rattle.vr_types.specs.Content.{Content}
@@ -15,7 +16,7 @@ use Rattle.vr_job.specs.Step.{IsOffered, slot_of}
 use Rattle.vr_job.specs.History.{IsLegal, AreParts, state_of, last_stamp}
 use Rattle.vr_job.specs.Serve.{Serves}
 
--- The run of deck 1 on volume 0, request by request.
+-- The run of deck 1 on volume 0, request by request: what its private functions know on the way.
 
 -- a request that there is, of volume 0, and the place that it names isn't empty
 pub record IsHere (bound : Bound) : Type 0 where
@@ -57,18 +58,27 @@ files_ended Backout reply files = files
 
 -- the entry of a request that was answered
 abbrev pub entry_of : ℕ → ℕ → Bound → Reply → Entry
-entry_of stamp number bound reply = record { stamp = stamp; unit = record { deck = 1; number = number }; line = bound.line; what = Asked bound.request reply }
+entry_of stamp number bound reply =
+    record {
+      stamp = stamp;
+      unit = record { deck = 1; number = number };
+      line = bound.line;
+      what = Asked bound.request reply;
+    }
 
 -- one request was answered and entered
-pub record Enters (bound : Bound) (number next : ℕ) (old new : List Entry) (content content' : Content) (files files' : List FilePosition) : Type 0 where
+pub record Enters (bound : Bound) (number next : ℕ) (old new : List Entry)
+    (content content' : Content) (files files' : List FilePosition) : Type 0 where
   pub reply : Reply
   pub entered : new ≡ old ++ entry_of (last_stamp 0 old + 1) number bound reply ∷ []
   pub served : Serves bound.request reply content content'
   pub counted : next ≡ next_number bound.request reply number
-  pub positioned : files' ≡ files_ended bound.request reply (files_begun (slot_of bound.request) files)
+  pub positioned : files'
+      ≡ files_ended bound.request reply (files_begun (slot_of bound.request) files)
 
 -- the first i requests were answered and entered, from the opening state on
-pub record Running (requests : List Bound) (i : ℕ) (entries : List Entry) (content : Content) (files : List FilePosition) (number : ℕ) : Type 0 where
+pub record Running (requests : List Bound) (i : ℕ) (entries : List Entry) (content : Content)
+    (files : List FilePosition) (number : ℕ) : Type 0 where
   pub legal : IsLegal opening_state entries
   pub content_is : (state_of opening_state entries).contents 1 ≡ content
   pub positions_are : IsPositioned (state_of opening_state entries) files

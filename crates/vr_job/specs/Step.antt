@@ -1,9 +1,11 @@
-use Rattle.std.specs.Prelude.{◌≡◌, ◌≢◌, ◌⊎◌, ℕ, ◌+◌, false, ◌==◌, ◌&&◌, if◌then◌else◌, List, Option, Some, None}
+use Rattle.std.specs.Prelude.{◌≡◌, ◌≢◌, ◌⊎◌, ℕ, ◌+◌, false, ◌==◌, ◌&&◌, if◌then◌else◌, List, Option}
+use Rattle.std.specs.Prelude.{Some, None}
 use Rattle.vr_types.specs.declared.unit.Unit.{Unit as UnitOfRecovery}
 use Rattle.vr_types.specs.declared.unit.Integrity.TheVariants.{Nri}
 use Rattle.vr_types.specs.declared.request.Find.TheVariants.{Next, Equal, AtLeast}
 use Rattle.vr_types.specs.declared.request.Request.{Request}
-use Rattle.vr_types.specs.declared.request.Request.TheVariants.{Get, Point, Add, Update, Erase, EndReq, Commit, Backout}
+use Rattle.vr_types.specs.declared.request.Request.TheVariants.{Get, Point, Add, Update, Erase}
+use Rattle.vr_types.specs.declared.request.Request.TheVariants.{EndReq, Commit, Backout}
 use Rattle.vr_types.specs.declared.reply.Refusal.{Refusal}
 use Rattle.vr_types.specs.declared.reply.Refusal.TheVariants.{Memory}
 use Rattle.vr_types.specs.declared.reply.Reply.{Reply}
@@ -22,7 +24,8 @@ use Rattle.vr_job.specs.Refusals.{first_refusal}
 
 -- the requests that there are: direct GET without integrity, PUT add, and COMMIT
 abbrev pub IsOffered : Request → Type 0
-IsOffered (Get file (Equal place) update integrity) = (file ≡ first_file) × (update ≡ false) × (integrity ≡ Nri)
+IsOffered (Get file (Equal place) update integrity) =
+    (file ≡ first_file) × (update ≡ false) × (integrity ≡ Nri)
 IsOffered (Add file place bytes) = (file ≡ first_file) × (place ≡ None)
 IsOffered Commit = Unit {0}
 IsOffered (Get file Next update integrity) = ⊥
@@ -35,7 +38,8 @@ IsOffered Backout = ⊥
 
 -- the reply to a request that isn't refused: a GET's with the record, a PUT's with its key
 abbrev pub done_reply : State → Request → Reply
-done_reply state (Get file (Equal place) update integrity) = Done 0 (Some place) (record_at (state.contents file.base.0) place)
+done_reply state (Get file (Equal place) update integrity) =
+    Done 0 (Some place) (record_at (state.contents file.base.0) place)
 done_reply state (Add file place bytes) = Done 0 (Some (key_of first_definition bytes)) None
 done_reply state (Get file Next update integrity) = Done 0 None None
 done_reply state (Get file (AtLeast place) update integrity) = Done 0 None None
@@ -54,13 +58,20 @@ refused_or (Some refusal) done = Refused refusal
 abbrev pub answer_of : State → Request → Reply
 answer_of state request = refused_or (first_refusal state request) (done_reply state request)
 
--- want of memory may take the place of any reply but that to a COMMIT
+-- out of memory may take the place of any reply but that to a COMMIT
 abbrev pub MayReply : State → Request → Reply → Type 0
-MayReply state request reply = (reply ≡ answer_of state request) ⊎ ((reply ≡ Refused Memory) × (request ≢ Commit))
+MayReply state request reply =
+    (reply ≡ answer_of state request) ⊎ ((reply ≡ Refused Memory) × (request ≢ Commit))
 
 -- the record added, in the content of its part
 abbrev pub adds_record : ℕ → List ℕ → State → State
-adds_record part bytes state = record state { contents = λ q. if q == part then with_item (state.contents q) (key_of first_definition bytes) (Standing bytes) else state.contents q }
+adds_record part bytes state =
+    record state {
+      contents = λ q.
+          if q == part
+          then with_item (state.contents q) (key_of first_definition bytes) (Standing bytes)
+          else state.contents q;
+    }
 
 -- the deck's next unit of recovery begun, and what the deck's files held dropped
 abbrev pub ends_unit : ℕ → State → State
@@ -98,12 +109,17 @@ slot_of Backout = None
 
 -- what the deck's file of this slot holds for update is dropped
 abbrev pub drops_held : ℕ → Option ℕ → State → State
-drops_held deck (Some slot) state = record state { positions = λ d s. if d == deck && s == slot then unheld (state.positions d s) else state.positions d s }
+drops_held deck (Some slot) state =
+    record state {
+      positions = λ d s.
+          if d == deck && s == slot then unheld (state.positions d s) else state.positions d s;
+    }
 drops_held deck None state = state
 
 -- a request on a file first drops what the file holds, also where it is refused then
 abbrev pub after_what : ℕ → What → State → State
-after_what deck (Asked request reply) state = after_reply deck request reply (drops_held deck (slot_of request) state)
+after_what deck (Asked request reply) state =
+    after_reply deck request reply (drops_held deck (slot_of request) state)
 after_what deck (Undone part place) state = state
 after_what deck (Claimed part area) state = state
 after_what deck (Split part) state = state
@@ -115,7 +131,8 @@ state_after state entry = after_what entry.unit.deck entry.what state
 
 -- a request of its deck's unit, with a reply that it may have; nothing else is entered yet
 abbrev pub MayEnter : State → UnitOfRecovery → What → Type 0
-MayEnter state unit (Asked request reply) = (unit.number ≡ state.numbers unit.deck) × IsOffered request × MayReply state request reply
+MayEnter state unit (Asked request reply) =
+    (unit.number ≡ state.numbers unit.deck) × IsOffered request × MayReply state request reply
 MayEnter state unit (Undone part place) = ⊥
 MayEnter state unit (Claimed part area) = ⊥
 MayEnter state unit (Split part) = ⊥

@@ -14,8 +14,8 @@ pub const RECORD_LIMIT: usize = 80;
 /// The part that VRM.FIRST is.
 pub const FIRST_PART: PartNo = PartNo(1);
 
-/// Answers a request on VRM.FIRST and does it. A refused request changes nothing. `Refused(Memory)` takes the place of any
-/// reply but that to a COMMIT, which takes no memory.
+/// Answers a request on VRM.FIRST and does it. A refused request changes nothing. `Refused(Memory)`
+/// takes the place of any reply but that to a COMMIT, which takes no memory.
 pub fn answer(alloc: Global, file: &mut RecordFile, request: &Request) -> Reply
     requires { IsOffered request.now }
     ensures { Serves request.now result file.old file.new }
@@ -34,7 +34,7 @@ pub fn answer(alloc: Global, file: &mut RecordFile, request: &Request) -> Reply
     }
 }
 
-/// The reply, or the refusal for want of memory.
+/// The reply, or the refusal where memory ran out.
 fn or_memory(reply: Result<Reply, OutOfMemory>) -> Reply
     ensures { result ≡ or_refused reply }
 {
@@ -66,7 +66,8 @@ fn reply_to_get(alloc: Global, file: &RecordFile, sought: &[u8]) -> Result<Reply
 
 /// Adds a record, and answers. Where memory runs out, nothing changes.
 fn reply_to_add(alloc: Global, file: &mut RecordFile, added: &Bytes) -> Result<Reply, OutOfMemory>
-    ensures ok { IfOk result (λ reply. (reply ≡ reply_to file.old (add_request added.now)) × (file.new ≡ content_after file.old (add_request added.now) reply)) }
+    ensures ok { IfOk result (λ reply. (reply ≡ reply_to file.old (add_request added.now))
+        × (file.new ≡ content_after file.old (add_request added.now) reply)) }
     ensures err { OnErr result (file.new ≡ file.old) }
 {
     if added.len() < KEY_LENGTH || added.len() > RECORD_LIMIT {

@@ -1,8 +1,9 @@
 //! The reading of an input to its end.
-ghost use Rattle.std.specs.Prelude.{◌≡◌, ◌+◌, ◌^◌, ◌<◌, ◌≤◌, length, take, vec_len, IfOk, IfErr, OnOk};
+ghost use Rattle.std.specs.Prelude.{◌≡◌, ◌+◌, ◌^◌, ◌<◌, ◌≤◌, length, take, vec_len, IfOk, IfErr};
+ghost use Rattle.std.specs.Prelude.{OnOk};
 ghost use Rattle.std.specs.Io.KnownBytes.{IsAtEnd};
 ghost use Rattle.vr_types.specs.Faults.{CountsFault};
-ghost use Rattle.vr_job.specs.Input.{IsAll, CauseOf, ReadsBehind};
+ghost use Rattle.vr_job.specs.Input.{IsAll, CauseOf, ReadsAfter};
 
 use std::alloc::{AllocError, Global};
 use vr_outside::Source;
@@ -39,7 +40,8 @@ impl From<AllocError> for InputFault {
 /// Reads a source to its end, straight into the text's own buffer.
 pub fn read_text<S: Source>(alloc: Global, source: &mut S) -> Result<Vec<u8>, InputFault>
     ensures text { IfOk result (λ text. IsAll (S.left source.old) (S.left source.new) text.items) }
-    ensures fault { IfErr result (CauseOf (S.left source.old) (S.faults source.old) (S.faults source.new)) }
+    ensures fault { IfErr result
+        (CauseOf (S.left source.old) (S.faults source.old) (S.faults source.new)) }
     ensures steady { OnOk result (S.faults source.new ≡ S.faults source.old) }
     ensures never_falls { S.faults source.old ≤ S.faults source.new }
 {
@@ -51,7 +53,7 @@ pub fn read_text<S: Source>(alloc: Global, source: &mut S) -> Result<Vec<u8>, In
         if filled == text.len() {
             grow(&mut text)?;
         }
-        match read_behind(source, text.as_mut_slice(), filled) {
+        match read_after(source, text.as_mut_slice(), filled) {
             Err(_) => return Err(InputFault::Read),
             Ok(0) => {
                 text.truncate(filled);
@@ -63,12 +65,15 @@ pub fn read_text<S: Source>(alloc: Global, source: &mut S) -> Result<Vec<u8>, In
     Err(InputFault::TooLong)
 }
 
-/// Reads more of the text behind the bytes that it has.
-fn read_behind<S: Source>(source: &mut S, buffer: &mut [u8], filled: usize) -> Result<usize, Failed>
+/// Reads more of the text after the bytes that it has.
+fn read_after<S: Source>(source: &mut S, buffer: &mut [u8], filled: usize) -> Result<usize, Failed>
     requires { filled ≤ length buffer.old }
     ensures within { IfOk result (λ n. filled + n ≤ length buffer.old) }
-    ensures bytes { IfOk result (λ n. ReadsBehind (S.left source.old) (S.left source.new) (take filled buffer.old) (take (filled + n) buffer.new)) }
-    ensures end { IfOk result (λ n. n ≡ 0 → filled < length buffer.old → IsAtEnd (S.left source.old)) }
+    ensures bytes { IfOk result
+        (λ n. ReadsAfter (S.left source.old) (S.left source.new) (take filled buffer.old)
+        (take (filled + n) buffer.new)) }
+    ensures end { IfOk result
+        (λ n. n ≡ 0 → filled < length buffer.old → IsAtEnd (S.left source.old)) }
     ensures cause { CountsFault (S.faults source.old) (S.faults source.new) result }
 {
     source.read(&mut buffer[filled..])

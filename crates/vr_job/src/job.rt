@@ -1,5 +1,6 @@
 //! The top call.
-ghost use Rattle.std.specs.Prelude.{◌≡◌, ◌≢◌, ◌↔◌, ◌<◌, ◌≤◌, ◌⊎◌, ◌^◌, length, Contains, [], ◌∷◌, OnOk, IfOk, IfErr, IfSome, Some, None};
+ghost use Rattle.std.specs.Prelude.{◌≡◌, ◌≢◌, ◌↔◌, ◌<◌, ◌≤◌, ◌⊎◌, ◌^◌, length, Contains, [], ◌∷◌};
+ghost use Rattle.std.specs.Prelude.{OnOk, IfOk, IfErr, IfSome, Some, None};
 ghost use Rattle.vr_outside.specs.Told.{Takes};
 ghost use Rattle.vr_deck.specs.Bound.{bound_requests};
 ghost use Rattle.vr_deck.specs.JobText.{IsJobText, CauseOf};
@@ -8,7 +9,8 @@ ghost use Rattle.vr_job.specs.State.{opening_state};
 ghost use Rattle.vr_job.specs.History.{IsLegal, IsStamped, AreParts, ArePrefixes};
 ghost use Rattle.vr_job.specs.Ending.{Ran, ending_of, HasFixedLine};
 ghost use Rattle.vr_job.specs.Listing.{listing_of};
-ghost use Rattle.vr_job.specs.JobEnd.{run_words, KeepsNothing, IsOfText, Asks, IsStatusOf, HasCode, IsPrinted, IsWhole, statuses};
+ghost use Rattle.vr_job.specs.JobEnd.{run_words, KeepsNothing, IsOfText, Asks, IsStatusOf, HasCode};
+ghost use Rattle.vr_job.specs.JobEnd.{IsPrinted, IsWhole, statuses};
 ghost use Rattle.vr_job.specs.Ends.{IsRunOf, IsDeckPart, IsDeckRun, IsInputEnd, PrintsAs};
 
 use crate::code::step_code;
@@ -23,15 +25,16 @@ use vr_deck::{DeckText, JobFault, JobText, TextFault, bind, parse_job};
 use vr_outside::{Sink, Source, write_whole};
 use vr_types::{Bytes, OutOfMemory, Words};
 
-/// Runs the job that the words ask for: reads its text, runs its deck over an empty VRM.FIRST, and prints the listing.
+/// Runs the job that the words ask for: reads its text, runs its deck over an empty VRM.FIRST, and
+/// prints the listing.
 ///
 /// | Status | Where |
 /// |---|---|
-/// | 0, 4 | the deck was run and all printed; between the two, 4 exactly where a reply was for want of memory |
+/// | 0, 4 | the deck was run and all printed; 4 exactly where a reply was out of memory |
 /// | 16 | only where the text is no job: the trace keeps the first line that no job has there |
 /// | 20 | exactly where the words are no command; the source is then untouched |
-/// | 24 | only where the source failed in this call, which no other status leaves unsaid |
-/// | 26 | only where more than 64 MiB came, if the source tells its bytes |
+/// | 24 | exactly where the source's fault count rose in this call |
+/// | 26 | only where more than 64 MiB came, if the source reports its content |
 /// | 28 | only where the sink failed in this call; it took a prefix of the listing |
 /// | 36 | out of memory, which may come in place of each but 20 and 24; nothing was printed |
 pub fn run_job<S: Source, K: Sink>(
@@ -41,13 +44,15 @@ pub fn run_job<S: Source, K: Sink>(
     output: &mut K,
 ) -> JobEnd
     // What was printed: the listing, whole unless the sink failed.
-    ensures listing { IsPrinted (K.taken output.old) (K.taken output.new) (K.faults output.old) (K.faults output.new)
-        (listing_of result.status result.trace) }
+    ensures listing { IsPrinted (K.taken output.old) (K.taken output.new) (K.faults output.old)
+        (K.faults output.new) (listing_of result.status result.trace) }
     ensures printed { IsWhole result.status
         → Takes (K.taken output.old) (K.taken output.new) (listing_of result.status result.trace) }
 
-    // What the trace keeps: the job or the fault of the text that is all the source had left, or nothing.
-    ensures text { IsOfText (ending_of result.status result.trace.fault) (S.left input.old) (S.left input.new) result.trace }
+    // What the trace keeps: the job or the fault of the text that is all the source had left, or
+    // nothing.
+    ensures text { IsOfText (ending_of result.status result.trace.fault) (S.left input.old)
+        (S.left input.new) result.trace }
 
     // One legal history, whose stamps rise, with every request of every deck in order, each once.
     ensures legal { IsLegal opening_state result.trace.history.entries }
@@ -56,7 +61,8 @@ pub fn run_job<S: Source, K: Sink>(
 
     // When each status comes.
     ensures status { Contains statuses result.status }
-    ensures ending { IsStatusOf (ending_of result.status result.trace.fault) result.trace result.status }
+    ensures ending { IsStatusOf (ending_of result.status result.trace.fault) result.trace
+        result.status }
     ensures code { HasCode result.status result.trace }
     ensures command { (result.status ≡ 20) ↔ (words.now ≢ run_words) }
     ensures refused { result.status ≡ 16
@@ -66,8 +72,8 @@ pub fn run_job<S: Source, K: Sink>(
     ensures complete { words.now ≡ run_words
         → S.faults input.new ≡ S.faults input.old
         → K.faults output.new ≡ K.faults output.old
-        → IfSome (S.left input.old) (λ text. (job : JobText) → IsJobText text job → length text ≤ 2 ^ 26
-        → IsWhole result.status ⊎ (result.status ≡ 36)) }
+        → IfSome (S.left input.old) (λ text. (job : JobText) → IsJobText text job
+        → length text ≤ 2 ^ 26 → IsWhole result.status ⊎ (result.status ≡ 36)) }
 
     // What other words, and other statuses than 24, leave alone.
     ensures untouched { result.status ≡ 20 → input.new ≡ input.old }
@@ -87,8 +93,8 @@ pub fn run_job<S: Source, K: Sink>(
 
 /// Reads a job text and runs its deck. It prints nothing.
 fn run_input<S: Source>(alloc: Global, input: &mut S) -> JobEnd
-    ensures { IsInputEnd (S.left input.old) (S.left input.new) (S.faults input.old) (S.faults input.new)
-        result.status result.trace }
+    ensures { IsInputEnd (S.left input.old) (S.left input.new) (S.faults input.old)
+        (S.faults input.new) result.status result.trace }
 {
     match read_text(alloc, input) {
         Ok(text) => run_text(alloc, text),
@@ -103,7 +109,8 @@ fn run_text(alloc: Global, text: Vec<u8>) -> JobEnd
     requires { length text.items ≤ 2 ^ 26 }
     ensures run { IsRunOf (ending_of result.status result.trace.fault) text.items result.trace }
     ensures requests { Asks (ending_of result.status result.trace.fault) result.trace }
-    ensures ending { IsStatusOf (ending_of result.status result.trace.fault) result.trace result.status }
+    ensures ending { IsStatusOf (ending_of result.status result.trace.fault) result.trace
+        result.status }
     ensures legal { IsLegal opening_state result.trace.history.entries }
     ensures code { HasCode result.status result.trace }
     ensures whole { ending_of result.status result.trace.fault ≡ Ran → IsWhole result.status }
@@ -129,7 +136,8 @@ fn parse_text(alloc: Global, text: Vec<u8>) -> Result<JobText, JobFault>
 /// Keeps what the trace keeps of a job, and runs its deck.
 fn run_parsed(alloc: Global, job: JobText) -> JobEnd
     requires { length job.deck.orders ≤ 2 ^ 26 }
-    ensures { (KeepsNothing result.trace × (result.status ≡ 36)) ⊎ IsDeckRun result.status job result.trace }
+    ensures { (KeepsNothing result.trace × (result.status ≡ 36))
+        ⊎ IsDeckRun result.status job result.trace }
 {
     match KeptJob::of(alloc, &job) {
         Ok(kept) => run_deck_text(alloc, kept, job.deck),
@@ -188,14 +196,15 @@ fn ended(alloc: Global, status: u8, fault: Option<TextFault>) -> JobEnd
     }
 }
 
-/// Prints what a job with this end prints. Where memory runs out before, the status is 36; where the sink fails, that of a
-/// run is 28.
+/// Prints what a job with this end prints. Where memory runs out before, the status is 36; where
+/// the sink fails, that of a run is 28.
 fn print_end<K: Sink>(alloc: Global, end: JobEnd, output: &mut K) -> JobEnd
     requires whole { IsWhole end.status → end.trace.fault ≡ None }
     ensures trace { result.trace ≡ end.trace }
-    ensures status { PrintsAs (K.faults output.old) (K.faults output.new) end.trace end.status result.status }
-    ensures listing { IsPrinted (K.taken output.old) (K.taken output.new) (K.faults output.old) (K.faults output.new)
-        (listing_of result.status end.trace) }
+    ensures status { PrintsAs (K.faults output.old)
+        (K.faults output.new) end.trace end.status result.status }
+    ensures listing { IsPrinted (K.taken output.old) (K.taken output.new) (K.faults output.old)
+        (K.faults output.new) (listing_of result.status end.trace) }
     ensures printed { IsWhole result.status
         → Takes (K.taken output.old) (K.taken output.new) (listing_of result.status end.trace) }
 {
@@ -218,9 +227,10 @@ fn print_listing<K: Sink>(end: JobEnd, text: Bytes, output: &mut K) -> JobEnd
     requires fixed { ¬ HasFixedLine end.status }
     requires whole { IsWhole end.status → end.trace.fault ≡ None }
     ensures trace { result.trace ≡ end.trace }
-    ensures status { PrintsAs (K.faults output.old) (K.faults output.new) end.trace end.status result.status }
-    ensures listing { IsPrinted (K.taken output.old) (K.taken output.new) (K.faults output.old) (K.faults output.new)
-        (listing_of result.status end.trace) }
+    ensures status { PrintsAs (K.faults output.old)
+        (K.faults output.new) end.trace end.status result.status }
+    ensures listing { IsPrinted (K.taken output.old) (K.taken output.new) (K.faults output.old)
+        (K.faults output.new) (listing_of result.status end.trace) }
     ensures printed { IsWhole result.status
         → Takes (K.taken output.old) (K.taken output.new) (listing_of result.status end.trace) }
 {
@@ -233,7 +243,8 @@ fn print_listing<K: Sink>(end: JobEnd, text: Bytes, output: &mut K) -> JobEnd
     }
 }
 
-/// The status where the listing's sink failed: 28 in place of that of a run. A refused text keeps its own.
+/// The status where the listing's sink failed: 28 in place of that of a run. A refused text keeps
+/// its own.
 fn failed_status(status: u8, fault: &Option<TextFault>) -> u8
     requires fixed { ¬ HasFixedLine status }
     requires whole { IsWhole status → fault.now ≡ None }

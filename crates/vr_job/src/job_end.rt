@@ -15,8 +15,9 @@ pub enum Plan {
     Run,
 }
 
-/// The job that a text is, as a trace keeps it. Clauses see the whole job. In memory it has the names of the step and of
-/// the deck's file, which the listing shows: the operands of the orders stand once, in the history.
+/// The job that a text is, as a trace keeps it. Clauses see the whole job. In memory it has the
+/// names of the step and of the deck's file, which the listing shows: the operands of the orders
+/// stand once, in the history.
 #[derive(Drop)]
 pub struct KeptJob {
     step: Bytes,
@@ -32,7 +33,8 @@ impl Model for KeptJob {
 
     ghost view = { λ kept. kept.job.value };
 
-    ghost invariant = { λ kept. (kept.step ≡ kept.job.value.step) × (kept.file ≡ kept.job.value.deck.file) };
+    ghost invariant = { λ kept. (kept.step ≡ kept.job.value.step)
+        × (kept.file ≡ kept.job.value.deck.file) };
 }
 
 impl KeptJob {
@@ -66,8 +68,8 @@ impl KeptJob {
     }
 }
 
-/// What a job did: its text where it is in the grammar, the fault where it isn't, and the history of volume 0 with every
-/// reply.
+/// What a job did: its text where it is in the grammar, the fault where it isn't, and the history
+/// of volume 0 with every reply.
 #[derive(Drop)]
 pub struct Trace {
     pub job: Option<KeptJob>,

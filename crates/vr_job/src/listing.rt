@@ -3,7 +3,9 @@ ghost use Rattle.std.specs.Prelude.{◌≡◌, ℕ, List, [], ◌∷◌, ◌++�
 ghost use Rattle.std.specs.Fmt.{decimal};
 ghost use Rattle.vr_job.specs.Code.{step_code};
 ghost use Rattle.vr_job.specs.Ending.{HasFixedLine};
-ghost use Rattle.vr_job.specs.Listing.{verb_of, file_of, shown, values_of, asked_line, entry_line, entry_lines, name_of, step_listing, fault_line, run_listing, listing_of};
+ghost use Rattle.vr_job.specs.Listing.{verb_of, file_of, shown, values_of, asked_line, entry_line};
+ghost use Rattle.vr_job.specs.Listing.{entry_lines, name_of, step_listing, fault_line, run_listing};
+ghost use Rattle.vr_job.specs.Listing.{listing_of};
 ghost use Rattle.vr_job.specs.declared.job_end.Trace.{Trace};
 
 use crate::code::{feedback, return_code, step_code};
@@ -138,7 +140,8 @@ fn write_asked(
     request: &Request,
     reply: &Reply,
 ) -> Result<(), OutOfMemory>
-    ensures { OnOk result (out.new ≡ out.old ++ asked_line name.now entry.now request.now reply.now) }
+    ensures { OnOk result (out.new
+        ≡ out.old ++ asked_line name.now entry.now request.now reply.now) }
 {
     out.extend(b"DECK ")?;
     write_number(alloc, out, u64::from(entry.unit.deck))?;

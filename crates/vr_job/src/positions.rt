@@ -1,12 +1,14 @@
 //! Where the files of decks are, and what they hold for update.
-ghost use Rattle.std.specs.Prelude.{◌≡◌, ◌<◌, ◌≤◌, ◌+◌, ◌⊎◌, [], None, IsSome, OnOk, MatchResult, option_copied, map, true};
-ghost use Rattle.vr_job.specs.Positions.{position_at, SetsOnly, AreInOrder, IsAt, IsGapFor, dropped_by, without_held, without_deck};
+ghost use Rattle.std.specs.Prelude.{◌≡◌, ◌<◌, ◌≤◌, ◌+◌, ◌⊎◌, [], None, IsSome, OnOk, MatchResult};
+ghost use Rattle.std.specs.Prelude.{option_copied, map, true};
+ghost use Rattle.vr_job.specs.Positions.{position_at, SetsOnly, AreInOrder, IsAt, IsGapFor};
+ghost use Rattle.vr_job.specs.Positions.{dropped_by, without_held, without_deck};
 
 use std::alloc::Global;
 use std::marker::Model;
 use vr_types::{OutOfMemory, Position};
 
-// The position of a file of a deck. The slot numbers the deck's files from 0.
+/// The position of a file of a deck. The slot numbers the deck's files from 0.
 #[derive(Debug, Drop)]
 struct FilePosition {
     deck: u32,
@@ -14,8 +16,8 @@ struct FilePosition {
     position: Position,
 }
 
-/// The positions of the files of all decks on a volume, by deck and slot. A file that was never set counts as one that
-/// stands at its start and holds nothing.
+/// The positions of the files of all decks on a volume, by deck and slot. A file that was never set
+/// counts as one that stands at its start and holds nothing.
 #[derive(Debug, Drop)]
 pub struct Positions {
     files: Vec<FilePosition>,
@@ -51,7 +53,8 @@ impl Positions {
         }
     }
 
-    /// Makes room for one more file. Want of memory is its one error. The positions stay, whatever the answer.
+    /// Makes room for one more file. It fails only if memory runs out. The positions stay, whatever
+    /// the answer.
     pub fn reserve(&mut self) -> Result<(), OutOfMemory>
         ensures files { self.new.files ≡ self.old.files }
         ensures room { OnOk result (0 < self.new.room) }
@@ -61,12 +64,15 @@ impl Positions {
         Ok(())
     }
 
-    /// Sets the position of a file, in room that was reserved if it was never set before. It takes no memory.
+    /// Sets the position of a file, in room that was reserved if it was never set before. It takes
+    /// no memory.
     pub fn set(&mut self, deck: u32, slot: u32, to: Position)
         requires { IsSome (position_at self.old.files deck slot) ⊎ (0 < self.old.room) }
         ensures set { SetsOnly self.old.files self.new.files deck slot to }
-        ensures again { IsSome (position_at self.old.files deck slot) → self.new.room ≡ self.old.room }
-        ensures first { position_at self.old.files deck slot ≡ None → self.new.room + 1 ≡ self.old.room }
+        ensures again { IsSome (position_at self.old.files deck slot)
+            → self.new.room ≡ self.old.room }
+        ensures first { position_at self.old.files deck slot ≡ None
+            → self.new.room + 1 ≡ self.old.room }
     {
         let file = FilePosition {
             deck,
@@ -101,16 +107,17 @@ impl Positions {
         drop_part(&mut self.files, deck);
     }
 
-    // Where a file is, or where it would go.
+    /// Where a file is, or where it would go.
     fn search(&self, deck: u32, slot: u32) -> Result<usize, usize>
-        ensures { MatchResult result (IsAt self.now.files deck slot) (IsGapFor self.now.files deck slot) }
+        ensures { MatchResult result (IsAt self.now.files deck slot)
+            (IsGapFor self.now.files deck slot) }
     {
         self.files
             .binary_search_by_key(&(deck, slot), |file| (file.deck, file.slot))
     }
 }
 
-// Drops what the files of a deck hold, which stand one after the other.
+/// Drops what the files of a deck hold, which stand one after the other.
 fn drop_part(files: &mut [FilePosition], deck: u32)
     requires { AreInOrder files.old }
     ensures { files.new ≡ without_deck deck files.old }
@@ -120,7 +127,7 @@ fn drop_part(files: &mut [FilePosition], deck: u32)
     drop_each(&mut files[first..end]);
 }
 
-// Drops what each of these files holds.
+/// Drops what each of these files holds.
 fn drop_each(files: &mut [FilePosition])
     ensures { files.new ≡ map (dropped_by true) files.old }
 {

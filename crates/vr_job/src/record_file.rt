@@ -1,8 +1,10 @@
 //! The records of VRM.FIRST in memory.
-ghost use Rattle.std.specs.Prelude.{◌≡◌, ◌<◌, ◌≤◌, ℕ, List, [], length, Some, None, OnOk, OnErr, IfOk, IfErr, slice_index_or};
+ghost use Rattle.std.specs.Prelude.{◌≡◌, ◌<◌, ◌≤◌, ℕ, List, [], length, Some, None, OnOk, OnErr};
+ghost use Rattle.std.specs.Prelude.{IfOk, IfErr, slice_index_or};
 ghost use Rattle.std.specs.Option.{option_copied};
 ghost use Rattle.std.specs.Ordering.{is_lt};
-ghost use Rattle.vr_types.specs.Content.{Content, Standing, Ascends, place_cmp, record_at, with_item};
+ghost use Rattle.vr_types.specs.Content.{Content, Standing, Ascends, place_cmp, record_at};
+ghost use Rattle.vr_types.specs.Content.{with_item};
 ghost use Rattle.vr_job.specs.Definition.{first_definition, key_of};
 ghost use Rattle.vr_job.specs.RecordFile.{content_of, IsGap};
 
@@ -53,7 +55,8 @@ impl RecordFile {
     /// Adds a record whose key no record has. Where memory runs out, nothing changes.
     pub fn add(&mut self, bytes: Bytes) -> Result<(), OutOfMemory>
         requires { record_at self.old (key_of first_definition bytes) ≡ None }
-        ensures ok { OnOk result (self.new ≡ with_item self.old (key_of first_definition bytes) (Standing bytes)) }
+        ensures ok { OnOk result (self.new
+            ≡ with_item self.old (key_of first_definition bytes) (Standing bytes)) }
         ensures err { OnErr result (self.new ≡ self.old) }
     {
         let at = match search(&self.records, key(&bytes)) {
@@ -80,7 +83,10 @@ pub fn key(of: &Bytes) -> &[u8]
 /// Where the record of a key is, or where it would go.
 fn search(records: &[Bytes], key_sought: &[u8]) -> Result<usize, usize>
     requires { Ascends (content_of records.now) }
-    ensures found { IfOk result (λ at. (at < length records.now) × ((d : List ℕ) → record_at (content_of records.now) key_sought.now ≡ Some (slice_index_or records.now at d))) }
+    ensures found { IfOk result
+        (λ at. (at < length records.now)
+        × ((d : List ℕ) → record_at (content_of records.now) key_sought.now
+        ≡ Some (slice_index_or records.now at d))) }
     ensures gap { IfErr result (λ at. IsGap records.now key_sought.now at) }
 {
     let at = records.partition_point(|record| is_below(record, key_sought));

@@ -17,8 +17,8 @@ use vr_types::{Bound, OutOfMemory, Reply, Request, Unit};
 /// The number of the one deck.
 const DECK: u32 = 1;
 
-/// Runs the requests of deck 1 over an empty VRM.FIRST, in order, and enters each with its reply. Where memory runs out,
-/// the entries are those of the requests so far.
+/// Runs the requests of deck 1 over an empty VRM.FIRST, in order, and enters each with its reply.
+/// Where memory runs out, the entries are those of the requests so far.
 pub fn run_deck(
     alloc: Global,
     requests: &DeckRequests,
@@ -41,8 +41,8 @@ pub fn run_deck(
     Ok(())
 }
 
-/// Answers a request and enters it, and gives the number of the deck's next unit. Where memory runs out, nothing
-/// changes.
+/// Answers a request and enters it, and gives the number of the deck's next unit. Where memory runs
+/// out, nothing changes.
 fn run_one(
     alloc: Global,
     file: &mut RecordFile,
@@ -54,8 +54,8 @@ fn run_one(
     requires here { IsHere bound.now }
     requires number { number < 2 ^ 32 - 1 }
     requires stamp { last_stamp 0 history.old.entries < 2 ^ 64 - 1 }
-    ensures ok { IfOk result (λ next. Enters bound.now number next history.old.entries history.new.entries
-        file.old file.new positions.old.files positions.new.files) }
+    ensures ok { IfOk result (λ next. Enters bound.now number next history.old.entries
+        history.new.entries file.old file.new positions.old.files positions.new.files) }
     ensures err { OnErr result (history.new.entries ≡ history.old.entries) }
 {
     history.reserve(1)?;

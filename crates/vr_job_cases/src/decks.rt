@@ -29,7 +29,8 @@ pub fn with_cards(alloc: Global, lines: &[u8]) -> Result<Vec<u8>, Stop> {
     Ok(text)
 }
 
-/// Writes what the job of a text is: the step's name, then the file's, then each order with its line and its bytes.
+/// Writes what the job of a text is: the step's name, then the file's, then each order with its
+/// line and its bytes.
 pub fn read(alloc: Global, text: &[u8], out: &mut String) -> Answer {
     if text.len() > 1 << 26 {
         return Err(Stop::Line);
@@ -90,7 +91,8 @@ fn verb_of(request: &Request) -> (&'static str, usize) {
     }
 }
 
-/// A job with a comment, or with a step card, of that many bytes, then blanks: `long comment N`, `long card N`.
+/// A job with a comment, or with a step card, of that many bytes, then blanks: `long comment N`,
+/// `long card N`.
 pub fn long(alloc: Global, rest: &str, out: &mut String) -> Answer {
     let (line, length) = rest.split_once(' ').ok_or(Stop::Line)?;
     let length = length.parse::<usize>().ok().ok_or(Stop::Line)?;

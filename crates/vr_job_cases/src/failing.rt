@@ -25,8 +25,8 @@ pub fn reads(alloc: Global, rest: &str, out: &mut String) -> Answer {
     say_right(out, right, CALLS)
 }
 
-/// How many of a job's writes end it, where they fail, with 28 or the status of its one line, and the bytes before:
-/// `writes TEXT`.
+/// How many of a job's writes end it, where they fail, with 28 or the status of its one line, and
+/// the bytes before: `writes TEXT`.
 pub fn writes(alloc: Global, rest: &str, out: &mut String) -> Answer {
     let text = bytes_of(alloc, rest)?;
     let whole = print_job(alloc, "run - -", text.as_slice(), &[], &[])?;

@@ -27,7 +27,8 @@ pub fn job(alloc: Global, rest: &str, out: &mut String) -> Answer {
     show(out, printed.text.as_slice())
 }
 
-/// The status of words, what they print, and how much of a text of three bytes is left: `words WORD..`.
+/// The status of words, what they print, and how much of a text of three bytes is left: `words
+/// WORD..`.
 pub fn words(alloc: Global, rest: &str, out: &mut String) -> Answer {
     let printed = print_job(alloc, rest, b"abc", &[], &[])?;
     say_number(out, "", u64::from(printed.status))?;

@@ -1,8 +1,9 @@
-//! Cases of job texts, decks and the top call from a text table, and from the worked examples. It stands on `vr_deck`
-//! and `vr_job`, and on the sources and sinks of `vr_outside`. Each line of its input has a question, ` -> ` and the
-//! answer that is wanted. It asks the public calls, prints each line whose answer differs, and at the end how many
-//! lines there were and how many differ; the status is 1 where one differs. What it promises is that it is safe and
-//! ends: what the answers show is tested, and its whole output is compared.
+//! Cases of job texts, decks and the top call from a text table, and from the worked examples. It
+//! stands on `vr_deck` and `vr_job`, and on the sources and sinks of `vr_outside`. Each line of its
+//! input has a question, ` -> ` and the answer that is wanted. It asks the public calls, prints
+//! each line whose answer differs, and at the end how many lines there were and how many differ;
+//! the status is 1 where one differs. What it promises is that it is safe and ends: what the
+//! answers show is tested, and its whole output is compared.
 #![tactic(auto)]
 
 mod answers;

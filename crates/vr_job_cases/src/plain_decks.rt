@@ -1,5 +1,5 @@
-//! Decks, plainly and slowly: a table says what each of some lines means alone, and a deck is read from its first line
-//! on. Every deck of three such lines has to be read so by `parse_job` too.
+//! Decks, plainly and slowly: a table says what each of some lines means alone, and a deck is read
+//! from its first line on. Every deck of three such lines has to be read so by `parse_job` too.
 
 use crate::answers::{Answer, Stop, say_right};
 use crate::decks::{read, with_cards};

@@ -1,5 +1,6 @@
-//! The record file by its rules, plainly and slowly: a list of records in no order, gone through from its first record
-//! at each request. Every small deck is run through it and through `run_job`, which has to print the same.
+//! The record file by its rules, plainly and slowly: a list of records in no order, gone through
+//! from its first record at each request. Every small deck is run through it and through `run_job`,
+//! which has to print the same.
 
 use crate::answers::{Answer, Stop, say_right};
 use crate::jobs::print_job;
@@ -13,16 +14,19 @@ enum Asked {
     Get(&'static str),
 }
 
-/// Records and keys: two keys, one of them twice, a record and keys that are too short, and a record that is too long.
+/// A record of 81 bytes.
+const TOO_LONG: &str =
+    "00000002901234567890123456789012345678901234567890123456789012345678901234567890X";
+
+/// Records and keys: two keys, one of them twice, a record and keys that are too short, and a
+/// record that is too long.
 fn all_asked() -> [Asked; 9] {
     [
         Asked::Put("00000001A"),
         Asked::Put("00000001"),
         Asked::Put("00000000B"),
         Asked::Put("0000001"),
-        Asked::Put(
-            "00000002901234567890123456789012345678901234567890123456789012345678901234567890X",
-        ),
+        Asked::Put(TOO_LONG),
         Asked::Get("00000001"),
         Asked::Get("00000000"),
         Asked::Get("000000001"),
@@ -40,7 +44,8 @@ fn record_of(records: &[&'static str], key: &str) -> Option<&'static str> {
     None
 }
 
-/// Writes the end of the reply's line, after its verb and the file's name. A record that is added joins the list.
+/// Writes the end of the reply's line, after its verb and the file's name. A record that is added
+/// joins the list.
 fn reply(records: &mut Vec<&'static str>, asked: Asked, out: &mut String) -> Answer {
     match asked {
         Asked::Put(record) if record.len() < 8 || record.len() > 80 => write!(out, "RC=8 FB=108")?,

@@ -6,9 +6,9 @@ use std::fmt::Write;
 use vr_job::{Entry, Positions, What};
 use vr_types::{PartNo, Place, Position, Stand, Unit, place};
 
-/// Runs steps over an empty table and shows the files asked for: `positions STEP..`. A step is `set:D.S=B` (the file
-/// stands at the byte B and holds it), `drop:D.S`, `drop:D`, or `D.S`, which shows the byte that the file stands at and
-/// the byte that it holds.
+/// Runs steps over an empty table and shows the files asked for: `positions STEP..`. A step is
+/// `set:D.S=B` (the file stands at the byte B and holds it), `drop:D.S`, `drop:D`, or `D.S`, which
+/// shows the byte that the file stands at and the byte that it holds.
 pub fn positions(alloc: Global, rest: &str, out: &mut String) -> Answer {
     let mut positions = Positions::new(alloc);
     for step in rest.split(' ') {

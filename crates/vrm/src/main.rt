@@ -1,5 +1,6 @@
-// The program: it hands its words, its standard input and its standard output to the top call (vr_job), and ends with that
-// call's status. It stands on vr_job, and on vr_outside for the two ends.
+//! The program: it hands its words, its standard input and its standard output to the top call
+//! (vr_job), and ends with that call's status. It stands on vr_job, and on vr_outside for the two
+//! ends.
 #![tactic(auto)]
 
 use std::alloc::AllocError;
@@ -23,7 +24,7 @@ fn main(rt: HostRuntime) -> ExitCode {
     ExitCode::from(end.status)
 }
 
-/// The words behind the program's name. Where one isn't UTF-8 there is none, which is no command.
+/// The words after the program's name. Where one isn't UTF-8 there is none, which is no command.
 fn words_of<R: Env + AllocGlobal>(rt: &R) -> Result<Words, OutOfMemory> {
     let mut words = Words::new(rt.alloc());
     let arguments = match env::args(rt) {

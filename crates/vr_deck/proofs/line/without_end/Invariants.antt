@@ -6,7 +6,8 @@ use Rattle.vr_deck.proofs.line.without_end.Given as goal
 abbrev pub invariant-loop-end : goal.invariant-loop-end
 invariant-loop-end l = record {
   within : l.end ≤ length l.line;
-  taken : l.end + suffix_len is_blank l.line ≡ length l.line + suffix_len is_blank (take l.end l.line);
+  taken : l.end + suffix_len is_blank l.line
+      ≡ length l.line + suffix_len is_blank (take l.end l.line);
 }
 
 abbrev pub decreases-loop-end : goal.decreases-loop-end

@@ -11,4 +11,5 @@ returns-then-has_fixed_line-clause-listing g c =
     let faults' = g.K.Sink.faults c.write_whole.new.sink in
     let P : List ℕ → Type 0 = λ piece. IsPrinted taken taken' faults faults' piece in
     subst P (c.fixed_line.ensures c.args.end.trace)
-    (printed_either taken taken' faults faults' c.fixed_line.result.now c.write_whole.result c.write_whole.ensures.taken c.write_whole.ensures.prefix c.write_whole.ensures.cause)
+    (printed_either taken taken' faults faults' c.fixed_line.result.now c.write_whole.result
+    c.write_whole.ensures.taken c.write_whole.ensures.prefix c.write_whole.ensures.cause)

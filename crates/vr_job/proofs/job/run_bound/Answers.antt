@@ -11,7 +11,8 @@ use Rattle.vr_job.proofs.job.run_bound.Goals as goal
 pub returns-in_err-requests-clause-prefix : goal.returns-in_err-requests-clause-prefix
 returns-in_err-requests-clause-prefix c =
     let P : List Entry → Type 0 = ArePrefixes 1 (bound_requests c.args.deck) in
-    subst P (sym c.requires.fresh) (parts_are_prefixes 1 0 (bound_requests c.args.deck) [] (of_deck-nil 1))
+    subst P (sym c.requires.fresh)
+    (parts_are_prefixes 1 0 (bound_requests c.args.deck) [] (of_deck-nil 1))
 
 pub run_deck-requires-clause-here : goal.run_deck-requires-clause-here
 run_deck-requires-clause-here c =
@@ -20,5 +21,6 @@ run_deck-requires-clause-here c =
 
 pub returns-clause-prefix : goal.returns-clause-prefix
 returns-clause-prefix c =
-    let P : List Bound → Type 0 = λ requests. ArePrefixes 1 requests c.run_deck.new.history.entries in
+    let P : List Bound → Type 0 =
+    λ requests. ArePrefixes 1 requests c.run_deck.new.history.entries in
     subst P c.in_ok-requests.ensures c.run_deck.ensures.prefix

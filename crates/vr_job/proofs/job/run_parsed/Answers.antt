@@ -1,4 +1,4 @@
-use Rattle.std.proofs.Common.{◌≡◌, ◌∙◌, Option, Some, inr, ap}
+use Rattle.std.proofs.Common.{◌∙◌, Some, inr, ap}
 use Rattle.vr_deck.specs.declared.text.JobText.{JobText}
 use Rattle.vr_job.proofs.job.run_parsed.Goals as goal
 

@@ -7,13 +7,17 @@ use Rattle.vr_job.proofs.listing.write_asked.Goals as goal
 
 pub returns : goal.returns
 returns c =
-    let last : OnOk c.push.result (c.push.new.self ≡ c.write_values.new.out ++ 10 ∷ []) = c.push.ensures.ok in
+    let last : OnOk c.push.result (c.push.new.self ≡ c.write_values.new.out ++ 10 ∷ []) =
+    c.push.ensures.ok in
     let deck : c.from.result ≡ c.args.entry.now.unit.deck = c.from.ensures in
     let line : c.from-2.result ≡ c.args.entry.now.line = c.from-2.ensures in
     let verb : c.verb.result.now ≡ verb_of c.args.request.now = c.verb.ensures in
-    let code : c.from-3.result ≡ return_code c.args.reply.now = c.from-3.ensures ∙ c.return_code.ensures in
-    let number : c.from-4.result ≡ feedback_of c.args.reply.now = c.from-4.ensures ∙ c.feedback.ensures in
-    on_ok_weaker c.push.result (λ (added : c.push.new.self ≡ c.write_values.new.out ++ 10 ∷ []). rw (
+    let code : c.from-3.result ≡ return_code c.args.reply.now =
+    c.from-3.ensures ∙ c.return_code.ensures in
+    let number : c.from-4.result ≡ feedback_of c.args.reply.now =
+    c.from-4.ensures ∙ c.feedback.ensures in
+    on_ok_weaker c.push.result
+    (λ (added : c.push.new.self ≡ c.write_values.new.out ++ 10 ∷ []). rw (
       added,
       c.in_ok-write_values.ensures,
       c.in_ok-write_number-4.ensures,

@@ -5,7 +5,8 @@ use Rattle.vr_job.proofs.listing.write_fault.Goals as goal
 
 pub returns : goal.returns
 returns c =
-    let last : OnOk c.push.result (c.push.new.self ≡ c.extend-2.new.self ++ 10 ∷ []) = c.push.ensures.ok in
+    let last : OnOk c.push.result (c.push.new.self ≡ c.extend-2.new.self ++ 10 ∷ []) =
+    c.push.ensures.ok in
     let line : c.from.result ≡ c.args.fault.now.line = c.from.ensures in
     on_ok_weaker c.push.result (λ (added : c.push.new.self ≡ c.extend-2.new.self ++ 10 ∷ []). rw (
       added,

@@ -8,7 +8,9 @@ use Rattle.vr_job.proofs.Runs.{Running-start, Running-step}
 use Rattle.vr_job.proofs.run.run_deck.Goals as goal
 
 pub loop-bound-init : goal.loop-bound-init
-loop-bound-init c = Running-start _ _ _ (c.reserve.ensures.entries ∙ c.requires.fresh) c.new-file.ensures _ c.new-positions.ensures
+loop-bound-init c =
+    Running-start _ _ _
+    (c.reserve.ensures.entries ∙ c.requires.fresh) c.new-file.ensures _ c.new-positions.ensures
 
 pub loop-bound-preserved : goal.loop-bound-preserved
 loop-bound-preserved c =
@@ -17,17 +19,23 @@ loop-bound-preserved c =
     let bound = c.bound-item.result in
     let L : List Bound → Type 0 = λ l. i < length l in
     let G : List Bound → Type 0 = λ l. bound ≡ get_or l i bound in
-    let inside : i < length requests = subst L c.as_slice-bound-items.ensures c.loop-bound-test.true in
-    let at : bound ≡ get_or requests i bound = subst G c.as_slice-bound-items.ensures c.bound-item.is in
+    let inside : i < length requests =
+    subst L c.as_slice-bound-items.ensures c.loop-bound-test.true in
+    let at : bound ≡ get_or requests i bound =
+    subst G c.as_slice-bound-items.ensures c.bound-item.is in
     let here : IsHere bound = subst IsHere (sym at) (c.requires.here i bound inside) in
-    Running-step requests i bound _ _ _ _ _ _ _ _ inside at here c.loop-bound.invariant c.in_ok-number.ensures.ok
+    Running-step requests i bound _ _ _ _ _ _ _ _ inside at here c.loop-bound.invariant
+    c.in_ok-number.ensures.ok
 
 pub returns-in_err-number-clause-prefix : goal.returns-in_err-number-clause-prefix
 returns-in_err-number-clause-prefix c =
     let P : List Entry → Type 0 = ArePrefixes 1 c.args.requests.now in
-    subst P (sym c.in_err-number.ensures.err) (parts_are_prefixes 1 c.loop-bound.bound-index c.args.requests.now _ c.loop-bound.invariant.parts)
+    subst P (sym c.in_err-number.ensures.err)
+    (parts_are_prefixes 1 c.loop-bound.bound-index c.args.requests.now _
+    c.loop-bound.invariant.parts)
 
 pub returns-in_err-reserve-clause-prefix : goal.returns-in_err-reserve-clause-prefix
 returns-in_err-reserve-clause-prefix c =
     let P : List Entry → Type 0 = ArePrefixes 1 c.args.requests.now in
-    subst P (sym (c.reserve.ensures.entries ∙ c.requires.fresh)) (parts_are_prefixes 1 0 c.args.requests.now [] (of_deck-nil 1))
+    subst P (sym (c.reserve.ensures.entries ∙ c.requires.fresh))
+    (parts_are_prefixes 1 0 c.args.requests.now [] (of_deck-nil 1))

@@ -9,8 +9,11 @@ use Rattle.vr_job.proofs.positions.Positions.drop_held.Goals as goal
 pub returns-in-Ok-clause-files : goal.returns-in-Ok-clause-files
 returns-in-Ok-clause-files c =
     let files_are = ap (λ (kept : KeptPositions). kept.files) c.self.view_is in
-    let there = without_there _ (subst AreInOrder files_are c.self.invariant) _ _ _ c.in-Ok.ensures in
-    let read = c.index_mut.ensures.value ∙ ap (λ (l : List FilePosition). get_or l c.in-Ok.at c.index_mut.result.now) files_are ∙ get_or_default _ _ c.index_mut.result.now no_file c.in-Ok.ensures.in_range in
+    let there = without_there _
+    (subst AreInOrder files_are c.self.invariant) _ _ _ c.in-Ok.ensures in
+    let read = c.index_mut.ensures.value
+    ∙ ap (λ (l : List FilePosition). get_or l c.in-Ok.at c.index_mut.result.now) files_are
+    ∙ get_or_default _ _ c.index_mut.result.now no_file c.in-Ok.ensures.in_range in
     cc
 
 -- the file was never set

@@ -9,7 +9,12 @@ use Rattle.vr_job.proofs.positions.Positions.search.Goals as goal
 pub returns : goal.returns
 returns c =
     let facts = c.binary_search_by_key.ensures in
-    let by_key = facts.position (λ file. (file.deck, file.slot)) (answers_always _ _ _ (λ f a r g called. search rules)) in
-    let found = searched c.deref.result.now (subst AreInOrder (sym c.deref.ensures.value) c.self.invariant) c.args.deck c.args.slot _ facts.bound by_key in
-    let P : List FilePosition → Type 0 = λ l. MatchResult c.binary_search_by_key.result (IsAt l c.args.deck c.args.slot) (IsGapFor l c.args.deck c.args.slot) in
+    let by_key = facts.position (λ file. (file.deck, file.slot))
+    (answers_always _ _ _ (λ f a r g called. search rules)) in
+    let found = searched c.deref.result.now
+    (subst AreInOrder (sym c.deref.ensures.value) c.self.invariant) c.args.deck c.args.slot _
+    facts.bound by_key in
+    let P : List FilePosition → Type 0 =
+    λ l. MatchResult c.binary_search_by_key.result (IsAt l c.args.deck c.args.slot)
+    (IsGapFor l c.args.deck c.args.slot) in
     subst P (c.deref.ensures.value ∙ ap (λ (kept : KeptPositions). kept.files) c.self.view_is) found
