@@ -1,7 +1,7 @@
 -- Bytes that are put into a block, part by part.
 use Rattle.std.proofs.Common.{◌≡◌, ℕ, zero, suc, ◌+◌, ◌-◌, ◌<◌, ◌≤◌, Bool, true, List, [], ◌∷◌}
 use Rattle.std.proofs.Common.{◌++◌, length, take, drop, set, get_or, refl, sym, ap, ◌∙◌, subst}
-use Rattle.std.proofs.Common.{arith, append_assoc, length-append, length-take, length-drop}
+use Rattle.std.proofs.Common.{arith, append_assoc, length-append, length-take}
 use Rattle.std.specs.Prelude.{if◌then◌else◌}
 use Rattle.std.proofs.lemmas.Bool.{ne_eqb}
 use Rattle.std.proofs.lemmas.List.{take_at, drop_at, take-append-drop, take-take, drop-drop}

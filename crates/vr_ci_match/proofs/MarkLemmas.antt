@@ -2,7 +2,7 @@
 -- withdrawn.
 use Rattle.std.proofs.Common.{◌≡◌, ℕ, zero, suc, ◌+◌, ◌*◌, ◌≤◌, List, [], ◌∷◌, ◌++◌, length, take}
 use Rattle.std.proofs.Common.{drop, refl, sym, ap, ◌∙◌, arith, append_assoc, length-append}
-use Rattle.std.proofs.Common.{length-take, length-drop, ◌-◌, Bool, true, false, Option, Some, None}
+use Rattle.std.proofs.Common.{length-take, length-drop, Bool, true, false, Option, Some, None}
 use Rattle.std.specs.Prelude.{replicate, if◌then◌else◌}
 use Rattle.std.specs.List.{flat_map, AllByRecursion}
 use Rattle.vr_ci_match.specs.declared.rdf.Rdf.{Rdf}

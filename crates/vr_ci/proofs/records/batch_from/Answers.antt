@@ -1,8 +1,8 @@
-use Rattle.std.proofs.Common.{◌≡◌, ℕ, ◌+◌, ◌-◌, ◌*◌, ◌∙◌, ◌≤◌, ◌<◌, nat_eq, List, length, ap, arith}
+use Rattle.std.proofs.Common.{◌≡◌, ℕ, ◌-◌, ◌∙◌, nat_eq, List, ap, arith}
 use Rattle.std.specs.Prelude.{bit_and}
 use Rattle.vr_ci.specs.declared.records.Batch.{Batch}
 use Rattle.vr_ci_match.proofs.CallerLemmas.{byte}
-use Rattle.vr_ci.proofs.LendLemmas.{none_lent, none_left, next_single, next_segment, next_run}
+use Rattle.vr_ci.proofs.LendLemmas.{next_single, next_segment, next_run}
 use Rattle.vr_ci.proofs.LendLemmas.{pair_wide}
 use Rattle.vr_ci.proofs.records.batch_from.Goals as goal
 

@@ -1,7 +1,6 @@
-use Rattle.std.proofs.Common.{◌≡◌, ℕ, ◌+◌, ◌-◌, ◌*◌, ◌≤◌, ◌<◌, List, length, drop, take, replicate}
+use Rattle.std.proofs.Common.{◌≡◌, ℕ, ◌+◌, ◌-◌, List, drop, take, replicate}
 use Rattle.std.proofs.Common.{subst, arith}
 use Rattle.vr_ci_match.specs.Fault.{free_end}
-use Rattle.vr_ci.specs.Walk.{IsWalked}
 use Rattle.vr_ci.proofs.RecordsLemmas.{records_are}
 use Rattle.vr_ci.proofs.walk.records_found.Goals as goal
 

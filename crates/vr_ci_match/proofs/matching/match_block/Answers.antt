@@ -1,7 +1,6 @@
-use Rattle.std.proofs.Common.{◌≡◌, ◌+◌, ◌∙◌, inl, List, length, arith, rules}
+use Rattle.std.proofs.Common.{◌∙◌, inl, length, arith, rules}
 use Rattle.vr_types.specs.BlockSize.{IsBlockSize}
-use Rattle.vr_ci_match.specs.Fault.{free_end, HasControl}
-use Rattle.vr_ci_match.specs.Matched.{IsMatched}
+use Rattle.vr_ci_match.specs.Fault.{HasControl}
 use Rattle.vr_ci_match.proofs.ChainLemmas.{shape_by_last}
 use Rattle.vr_ci_match.proofs.matching.match_block.Goals as goal
 

@@ -1,4 +1,4 @@
-use Rattle.std.proofs.Common.{◌≡◌, ℕ, ◌+◌, ◌-◌, ◌*◌, ◌≤◌, ◌<◌, length, arith}
+use Rattle.std.proofs.Common.{arith}
 use Rattle.vr_ci.proofs.RecordsLemmas.{half_before}
 use Rattle.vr_ci.proofs.walk.Walk.further.Goals as goal
 

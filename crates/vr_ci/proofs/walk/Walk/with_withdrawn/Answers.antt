@@ -1,4 +1,4 @@
-use Rattle.std.proofs.Common.{◌≡◌, ℕ, ◌+◌, ◌-◌, List, length, drop, take, ap, subst, arith}
+use Rattle.std.proofs.Common.{◌≡◌, ℕ, ◌+◌, ◌-◌, List, drop, take, ap, subst, arith}
 use Rattle.std.specs.Prelude.{replicate}
 use Rattle.vr_ci.specs.declared.walk.Walk.{Walk}
 use Rattle.vr_ci.proofs.RecordsLemmas.{walk_withdrawn}
