@@ -11,15 +11,16 @@ use crate::past::Past;
 use std::alloc::Global;
 use vr_types::OutOfMemory;
 
-/// Makes a device of zero blocks of this size in bytes, whose calls of these numbers fail. Out of memory is its one
-/// error.
+/// Makes a device of zero blocks of this size in bytes, whose calls of these numbers fail. Out of
+/// memory is its one error.
 pub fn memory_device(
     alloc: Global,
     size: u32,
     blocks: u32,
     fails: &[u64],
 ) -> Result<MemoryDevice, OutOfMemory>
-    ensures past { IfOk result (λ d. past_in d ≡ unwritten size (replicate blocks (replicate size 0))) }
+    ensures past { IfOk result (λ d.
+        past_in d ≡ unwritten size (replicate blocks (replicate size 0))) }
     ensures calls { IfOk result (λ d. calls_in d ≡ uncalled fails.now) }
 {
     let start = zero_blocks(alloc, blocks, size)?;

@@ -24,7 +24,8 @@ pub fn judge(alloc: Global, length: u32, out: &mut String) -> Answer {
     say_number(out, " differ of ", u64::from(sequences))
 }
 
-/// Whether the table and the plain program answer the calls of a sequence alike, and test alike at its end.
+/// Whether the table and the plain program answer the calls of a sequence alike, and test alike at
+/// its end.
 fn agree(alloc: Global, sequence: u32, length: u32) -> Result<bool, Stop> {
     let mut table = lock_table(alloc);
     let mut plain = PlainLocks::new(alloc);

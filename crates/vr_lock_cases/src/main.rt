@@ -1,7 +1,7 @@
 //! Cases of the lock table from a text table: worked requests, tests and ends, and the table beside
 //! a plain program over all small sequences of calls. It stands on `vr_locks`. Each line of its
-//! input has a question, ` -> ` and the answer that is wanted. It asks the public calls, prints each
-//! line whose answer differs, and at the end how many lines there were and how many differ; the
+//! input has a question, ` -> ` and the answer that is wanted. It asks the public calls, prints
+//! each line whose answer differs, and at the end how many lines there were and how many differ; the
 //! status is 1 where one differs. What it promises is that it is safe and ends: what the answers
 //! show is tested, and its whole output is compared.
 #![tactic(auto)]

@@ -1,5 +1,6 @@
 //! Units, names and modes in a line: `2.1` is unit 1 of deck 2, `A` the record of part 1 at the
-//! place A, `3:A` that of part 3, `*A` a key of a unique alternate index, `S` shared, `X` exclusive.
+//! place A, `3:A` that of part 3, `*A` a key of a unique alternate index, `S` shared, `X`
+//! exclusive.
 
 use crate::answers::{Answer, Stop, say, say_number};
 use std::alloc::Global;

@@ -50,6 +50,16 @@ module _ {K : Type 0} {same : K → K → Bool} {key : Lock → K} {at : ℕ →
     rising = λ q. rw (same_lists q) (is.rising q);
   }
 
+  -- a number stays where another goes from under a key
+  pub number-kept : (new : K → List ℕ) (k n : ℕ) → (n ≡ k → ⊥)
+      → ((q : K) → (new q ≡ old q) ⊎ (new q ≡ filter (λ (j : ℕ). not (nat_eq j k)) (old q)))
+      → (q : K) → list_any (nat_eq n) (new q) ≡ list_any (nat_eq n) (old q)
+  number-kept new k n apart goes q =
+      ⊎_elim
+      (λ kept. ap (list_any (nat_eq n)) kept)
+      (λ cut. ap (list_any (nat_eq n)) cut ∙ any-without_apart n k (old q) apart)
+      (goes q)
+
   -- one lock less, whose number may go from under a key
   pub filed-less : (new : K → List ℕ) (other : ℕ → Option Lock) (k : ℕ) → ((n : ℕ) → other n ≡ cond (nat_eq k n) None (at n))
       → ((q : K) → (new q ≡ old q) ⊎ (new q ≡ filter (λ (n : ℕ). not (nat_eq n k)) (old q))) → IsFiled same key other bound new

@@ -181,7 +181,7 @@ module _ (unit : units.Unit) (mode : Mode) (name : LockName) where
           same ∙ listed-map change (lock_at old) (lock_at new) old.next changes ∙ rw held refl
 
       pub raised-grants : Grants unit mode name old new
-      raised-grants = record { locks = raised-locks; kept = raised-kept; filed = filed; owned = raised-owned; free = raised-free }
+      raised-grants = record { locks = raised-locks; kept = raised-kept; next = filed.next; owned = raised-owned; free = raised-free }
 
     module _ (k : ℕ) (within : k < old.next) (last : AreBelow (lock_at old) k) (alone : IsFiledFor old unit name k)
         (not_held : list_any (is_own unit name) (locks_in old) ≡ false) (filed : KeepsFiled old new)
@@ -264,4 +264,4 @@ module _ (unit : units.Unit) (mode : Mode) (name : LockName) where
           same ∙ listed-add (lock_at old) (lock_at new) k old.next taken within last locks ∙ rw not_held refl
 
       pub put-grants : Grants unit mode name old new
-      put-grants = record { locks = put-locks; kept = put-kept; filed = filed; owned = put-owned; free = put-free }
+      put-grants = record { locks = put-locks; kept = put-kept; next = filed.next; owned = put-owned; free = put-free }

@@ -1,5 +1,5 @@
 -- What is to be done for the names of a request, one after another.
-use Rattle.std.proofs.Common.{◌≡◌, ℕ, suc, ◌+◌, ◌<◌, ◌≤◌, nat_eq, List, [], ◌∷◌, ◌++◌, length, get_or, drop, sym, ap, subst, ◌∙◌, arith, ⊎_elim, length-append}
+use Rattle.std.proofs.Common.{◌≡◌, ◌≢◌, ℕ, suc, ◌+◌, ◌<◌, ◌≤◌, nat_eq, List, [], ◌∷◌, ◌++◌, length, get_or, drop, sym, ap, subst, ◌∙◌, arith, ⊎_elim, length-append}
 use Rattle.std.specs.HashMap.{get}
 use Rattle.std.specs.List.{list_any}
 use Rattle.std.proofs.Math.ListN.{get_or-append}
@@ -9,8 +9,8 @@ use Rattle.vr_types.specs.declared.lock_name.LockName.{LockName}
 use Rattle.vr_types.specs.declared.unit.Unit as units
 use Rattle.vr_types.specs.LockName.{lock_name_eq}
 use Rattle.vr_locks.specs.declared.maps.LockMaps.{LockMaps}
-use Rattle.vr_locks.specs.declared.taking.Step.{Step}
-use Rattle.vr_locks.specs.declared.taking.Step.TheVariants.{Raise, Take}
+use Rattle.vr_locks.specs.declared.planning.Step.{Step}
+use Rattle.vr_locks.specs.declared.planning.Step.TheVariants.{Raise, Take}
 use Rattle.vr_locks.specs.Conflict.{same_unit}
 use Rattle.vr_locks.specs.Filed.{numbers_in}
 use Rattle.vr_locks.specs.Maps.{KeepsFiled}
@@ -67,21 +67,24 @@ module _ (maps : LockMaps) (unit : units.Unit) (name : LockName) (names : List L
         rw here at (plans.each (suc m) other one (omega arith));
   }
 
-module _ (old new : LockMaps) (unit : units.Unit) (filed : KeepsFiled old new) (owned : (other : LockName) (n : ℕ) → IsOwnAt old unit other n → IsOwnAt new unit other n) where
-  step-carried : (name : LockName) (number : ℕ) (step : Step) → IsStepFor old unit name number step → IsStepFor new unit name number step
-  step-carried name number (Raise own) is = owned name own is
-  step-carried name number (Take n taken) is = (
-    is.0,
-    is.1,
-    record {
-      name_alone = λ q. ap (λ map. list_any (nat_eq n) (numbers_in (get lock_name_eq map q))) filed.names ∙ is.2.name_alone q;
-      unit_alone = λ q. ap (λ map. list_any (nat_eq n) (numbers_in (get same_unit map q))) filed.units ∙ is.2.unit_alone q;
-    },
-  )
+-- a number stays filed where the maps of names and units stay
+pub filed-kept : (old new : LockMaps) (unit : units.Unit) → KeepsFiled old new → (n : ℕ) (other : LockName) → IsFiledFor old unit other n → IsFiledFor new unit other n
+filed-kept old new unit filed n other is = record {
+  name_alone = λ q. ap (λ map. list_any (nat_eq n) (numbers_in (get lock_name_eq map q))) filed.names ∙ is.name_alone q;
+  unit_alone = λ q. ap (λ map. list_any (nat_eq n) (numbers_in (get same_unit map q))) filed.units ∙ is.unit_alone q;
+}
+
+module _ (old new : LockMaps) (unit : units.Unit) (number : ℕ)
+    (others : (n : ℕ) (other : LockName) → n ≢ number → IsFiledFor old unit other n → IsFiledFor new unit other n)
+    (owned : (other : LockName) (n : ℕ) → IsOwnAt old unit other n → IsOwnAt new unit other n) where
+  step-carried : (name : LockName) (later : ℕ) (step : Step) → number < later → IsStepFor old unit name later step → IsStepFor new unit name later step
+  step-carried name later (Raise own) above is = owned name own is
+  step-carried name later (Take n taken) above is = (is.0, is.1, others n name (λ same. omega (arith, is.0)) is.2)
 
   -- what is left to be done is so after a name was granted
-  pub plans-carried : (names : List LockName) (number : ℕ) (steps : List Step) → AreStepsFor old unit names number steps → AreStepsFor new unit names number steps
-  plans-carried names number steps plans = record {
+  pub plans-carried : (names : List LockName) (steps : List Step) → AreStepsFor old unit names (number + 1) steps → AreStepsFor new unit names (number + 1) steps
+  plans-carried names steps plans = record {
     long = plans.long;
-    each = λ m name step within. step-carried (get_or names m name) (number + m) (get_or steps m step) (plans.each m name step within);
+    each = λ m name step within.
+        step-carried (get_or names m name) (number + 1 + m) (get_or steps m step) (omega arith) (plans.each m name step within);
   }

@@ -7,10 +7,10 @@ use Rattle.vr_types.specs.declared.unit.Unit as units
 use Rattle.vr_types.specs.LockName.{lock_name_eq}
 use Rattle.vr_types.specs.Locks.{Lock}
 use Rattle.vr_locks.specs.declared.maps.LockMaps.{LockMaps}
-use Rattle.vr_locks.specs.declared.taking.Step.{Step}
-use Rattle.vr_locks.specs.declared.taking.Step.TheVariants.{Raise, Take}
+use Rattle.vr_locks.specs.declared.planning.Step.{Step}
+use Rattle.vr_locks.specs.declared.planning.Step.TheVariants.{Raise, Take}
 use Rattle.vr_locks.specs.Conflict.{conflicts, same_unit}
-use Rattle.vr_locks.specs.Maps.{IsConsistent, KeepsFiled, lock_at, locks_in, of_name, of_unit}
+use Rattle.vr_locks.specs.Maps.{IsConsistent, lock_at, locks_in, of_name, of_unit}
 use Rattle.vr_locks.specs.Locked.{is_own, with_lock}
 
 -- a number is filed under one name and one unit
@@ -40,7 +40,7 @@ NoneAgainst maps unit mode name = (n : ℕ) (lock : Lock) → lock_at maps n ≡
 pub record Grants (unit : units.Unit) (mode : Mode) (name : LockName) (old new : LockMaps) : Type 0 where
   pub locks : locks_in new ≡ with_lock unit mode (locks_in old) name
   pub kept : IsConsistent new new.next
-  pub filed : KeepsFiled old new
+  pub next : new.next ≡ old.next
   -- the unit keeps what it has
   pub owned : (other : LockName) (n : ℕ) → IsOwnAt old unit other n → IsOwnAt new unit other n
   -- and nothing new stands in its way

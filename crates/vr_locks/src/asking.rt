@@ -1,18 +1,6 @@
 //! A request, from its refusal to its locks.
-ghost use Rattle.std.specs.Prelude.{
-  ◌≡◌,
-  ◌<◌,
-  ◌≤◌,
-  ◌+◌,
-  ℕ,
-  length,
-  None,
-  IfErr,
-  IfOk,
-  OnErr,
-  OnOk,
-  slice_index_or,
-};
+ghost use Rattle.std.specs.Prelude.{◌≡◌, ◌<◌, ◌≤◌, ◌+◌, ℕ, length, None, slice_index_or};
+ghost use Rattle.std.specs.Prelude.{IfErr, IfOk, OnErr, OnOk};
 ghost use Rattle.std.specs.HashMap.{spare};
 ghost use Rattle.vr_locks.specs.Answer.{CauseOf};
 ghost use Rattle.vr_locks.specs.Conflict.{refusal};
@@ -21,13 +9,12 @@ ghost use Rattle.vr_locks.specs.Locked.{with_locks};
 ghost use Rattle.vr_locks.specs.Maps.{IsConsistent, lock_at, locks_in};
 ghost use Rattle.vr_locks.specs.Plan.{NoneAgainst};
 
-use crate::filed::drop_number;
 use crate::maps::LockMaps;
 use crate::no::LockNo;
 use vr_types::{LockName, Mode, OutOfMemory, Unit};
 
 impl LockMaps {
-    /// Makes room for so many locks more. No lock changes.
+    /// Makes room for that many locks more. No lock changes.
     fn reserve(&mut self, count: usize) -> Result<(), OutOfMemory>
         requires { IsConsistent self.old self.old.next }
         ensures kept { IsConsistent self.new self.new.next }
@@ -39,7 +26,8 @@ impl LockMaps {
         Ok(())
     }
 
-    /// Sets so many numbers aside, and gives the first. Where there aren't as many, it answers as where memory runs out.
+    /// Sets that many numbers aside, and gives the first. Where fewer are left, it answers as where
+    /// memory runs out.
     fn set_aside(&mut self, count: usize) -> Result<u64, OutOfMemory>
         requires { IsConsistent self.old self.old.next }
         ensures first { IfOk result (λ first. first ≡ self.old.next) }
@@ -58,18 +46,6 @@ impl LockMaps {
         }
     }
 
-    /// Takes a number that no lock has back from under a name and a unit.
-    fn forget_one(&mut self, unit: Unit, name: &LockName, number: u64)
-        requires kept { IsConsistent self.old self.old.next }
-        requires unused { lock_at self.old number ≡ None }
-        ensures kept { IsConsistent self.new self.new.next }
-        ensures locks { self.new.locks ≡ self.old.locks }
-        ensures next { self.new.next ≡ self.old.next }
-    {
-        drop_number(&mut self.names, name, number);
-        drop_number(&mut self.units, &unit, number);
-    }
-
     /// Takes the numbers of a request that came to nothing back from under its names and its unit.
     fn forget(&mut self, unit: Unit, names: &[LockName], first: u64)
         requires kept { IsConsistent self.old self.old.next }
@@ -84,12 +60,15 @@ impl LockMaps {
         }
     }
 
-    /// Gives a unit names that nothing stands in the way of. All memory is taken before a lock changes.
+    /// Gives a unit names that nothing stands in the way of. All memory is taken before a lock
+    /// changes.
     fn grant(&mut self, unit: Unit, mode: Mode, names: &[LockName]) -> Result<(), OutOfMemory>
         requires kept { IsConsistent self.old self.old.next }
-        requires free { (m : ℕ) (name : LockName) → m < length names.now → NoneAgainst self.old unit mode (slice_index_or names.now m name) }
+        requires free { (m : ℕ) (name : LockName) → m < length names.now
+            → NoneAgainst self.old unit mode (slice_index_or names.now m name) }
         ensures kept { IsConsistent self.new self.new.next }
-        ensures taken { OnOk result (locks_in self.new ≡ with_locks unit mode (locks_in self.old) names.now) }
+        ensures taken { OnOk result
+            (locks_in self.new ≡ with_locks unit mode (locks_in self.old) names.now) }
         ensures unchanged { OnErr result (locks_in self.new ≡ locks_in self.old) }
     {
         self.reserve(names.len())?;
@@ -112,7 +91,8 @@ impl LockMaps {
         ensures kept { IsConsistent self.new self.new.next }
         ensures granted { OnOk result (refusal (locks_in self.old) unit mode names.now ≡ None) }
         ensures refused { IfErr result (CauseOf (refusal (locks_in self.old) unit mode names.now)) }
-        ensures taken { OnOk result (locks_in self.new ≡ with_locks unit mode (locks_in self.old) names.now) }
+        ensures taken { OnOk result
+            (locks_in self.new ≡ with_locks unit mode (locks_in self.old) names.now) }
         ensures unchanged { OnErr result (locks_in self.new ≡ locks_in self.old) }
     {
         self.refuse(unit, mode, names)?;

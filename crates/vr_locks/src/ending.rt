@@ -14,7 +14,8 @@ use vr_types::{LockName, Unit};
 impl LockMaps {
     /// Takes away the lock with a number, if there is one, and the number from under its name.
     fn drop_lock(&mut self, number: u64)
-        ensures locks { (n : ℕ) → lock_at self.new n ≡ cond (nat_eq number n) None (lock_at self.old n) }
+        ensures locks { (n : ℕ) → lock_at self.new n
+            ≡ cond (nat_eq number n) None (lock_at self.old n) }
         ensures names { (q : LockName) → (of_name self.new q ≡ of_name self.old q)
             ⊎ (of_name self.new q ≡ filter (λ n. not (nat_eq n number)) (of_name self.old q)) }
         ensures units { self.new.units ≡ self.old.units }
@@ -27,9 +28,12 @@ impl LockMaps {
 
     /// Takes away the locks with these numbers.
     fn drop_locks(&mut self, numbers: &[u64])
-        requires names { IsFiled lock_name_eq (λ (lock : Lock). lock.name) (lock_at self.old) self.old.next (of_name self.old) }
-        ensures locks { (n : ℕ) → lock_at self.new n ≡ cond (list_any (nat_eq n) numbers.now) None (lock_at self.old n) }
-        ensures names { IsFiled lock_name_eq (λ (lock : Lock). lock.name) (lock_at self.new) self.new.next (of_name self.new) }
+        requires names { IsFiled lock_name_eq (λ (lock : Lock). lock.name)
+            (lock_at self.old) self.old.next (of_name self.old) }
+        ensures locks { (n : ℕ) → lock_at self.new n
+            ≡ cond (list_any (nat_eq n) numbers.now) None (lock_at self.old n) }
+        ensures names { IsFiled lock_name_eq (λ (lock : Lock). lock.name)
+            (lock_at self.new) self.new.next (of_name self.new) }
         ensures units { self.new.units ≡ self.old.units }
         ensures next { self.new.next ≡ self.old.next }
     {

@@ -19,16 +19,19 @@ pub(crate) fn numbers<'a, K: Eq + Hash>(map: &'a HashMap<K, Vec<u64>>, key: &K) 
     }
 }
 
-/// Adds a number under a key, as the last. Where memory runs out, no key has other numbers than before.
+/// Adds a number under a key, as the last. Where memory runs out, each key has the numbers that it
+/// had.
 pub(crate) fn file<K: Eq + Hash + Drop>(
     alloc: Global,
     map: &mut HashMap<K, Vec<u64>>,
     key: K,
     number: u64,
 ) -> Result<(), OutOfMemory>
-    ensures ok { OnOk result ((q : K) → numbers_in (get K.eq map.new q)
-        ≡ cond (K.eq key q) (numbers_in (get K.eq map.old q) ++ number ∷ []) (numbers_in (get K.eq map.old q))) }
-    ensures err { OnErr result ((q : K) → numbers_in (get K.eq map.new q) ≡ numbers_in (get K.eq map.old q)) }
+    ensures ok { OnOk result ((q : K) →
+        let old = numbers_in (get K.eq map.old q) in
+        numbers_in (get K.eq map.new q) ≡ cond (K.eq key q) (old ++ number ∷ []) old) }
+    ensures err { OnErr result ((q : K) →
+        numbers_in (get K.eq map.new q) ≡ numbers_in (get K.eq map.old q)) }
 {
     if let Some(numbers) = map.get_mut(&key) {
         numbers.push(number)?;
@@ -49,8 +52,10 @@ fn drop_from(numbers: &mut Vec<u64>, number: u64)
 
 /// Takes a number away from under a key, and the key too where it has no other.
 pub(crate) fn drop_number<K: Eq + Hash + Drop>(map: &mut HashMap<K, Vec<u64>>, key: &K, number: u64)
-    ensures { (q : K) → numbers_in (get K.eq map.new q)
-        ≡ cond (K.eq key.now q) (filter (λ n. not (nat_eq n number)) (numbers_in (get K.eq map.old q))) (numbers_in (get K.eq map.old q)) }
+    ensures { (q : K) →
+        let old = numbers_in (get K.eq map.old q) in
+        numbers_in (get K.eq map.new q)
+        ≡ cond (K.eq key.now q) (filter (λ n. not (nat_eq n number)) old) old }
 {
     let Some(numbers) = map.get_mut(key) else {
         return;
@@ -68,7 +73,8 @@ pub(crate) fn take_numbers<K: Eq + Hash + Drop>(
     key: &K,
 ) -> Vec<u64>
     ensures numbers { result.items ≡ numbers_in (get K.eq map.old key.now) }
-    ensures others { (q : K) → numbers_in (get K.eq map.new q) ≡ cond (K.eq key.now q) [] (numbers_in (get K.eq map.old q)) }
+    ensures others { (q : K) → numbers_in (get K.eq map.new q)
+        ≡ cond (K.eq key.now q) [] (numbers_in (get K.eq map.old q)) }
 {
     match map.remove(key) {
         Some(numbers) => numbers,

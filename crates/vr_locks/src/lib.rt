@@ -14,6 +14,7 @@ mod held;
 mod laws;
 mod maps;
 mod no;
+mod planning;
 mod table;
 mod taking;
 

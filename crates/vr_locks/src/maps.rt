@@ -16,8 +16,9 @@ use std::collections::HashMap;
 use vr_types::{LockName, Mode, Unit};
 
 /// The locks, each under a number that no other lock ever had, and the numbers that are filed under
-/// each name and each unit. A lock that was taken later has a higher number, so the numbers keep the
-/// order. A number may be filed that no lock has: it counts for nothing.
+/// each name and each unit. A lock that was taken later has a higher number, so the numbers keep
+/// the order. While a request is planned, numbers are filed that no lock has: they count for
+/// nothing.
 #[derive(Drop)]
 pub(crate) struct LockMaps {
     pub(crate) locks: HashMap<u64, HeldLock>,
@@ -31,7 +32,8 @@ impl LockMaps {
     /// The holder and the mode of the earliest lock that stands in the way of a name.
     pub(crate) fn conflict(&self, unit: Unit, mode: Mode, name: &LockName) -> Option<(Unit, Mode)>
         requires { IsConsistent self.now self.now.next }
-        ensures { result ≡ option_map holding (first_conflict (locks_in self.now) unit mode name.now) }
+        ensures { result
+            ≡ option_map holding (first_conflict (locks_in self.now) unit mode name.now) }
     {
         for number in numbers(&self.names, name) {
             if let Some(lock) = self.locks.get(number) {
@@ -46,8 +48,10 @@ impl LockMaps {
     /// The number of the unit's own lock on a name.
     pub(crate) fn own(&self, unit: Unit, name: &LockName) -> Option<u64>
         requires { IsConsistent self.now self.now.next }
-        ensures { MatchOption result (list_any (is_own unit name.now) (locks_in self.now) ≡ false)
-            (λ n. (lock : Lock) × (lock_at self.now n ≡ Some lock) × (is_own unit name.now lock ≡ true)) }
+        ensures { MatchOption result
+            (list_any (is_own unit name.now) (locks_in self.now) ≡ false)
+            (λ n. (lock : Lock) × (lock_at self.now n ≡ Some lock)
+            × (is_own unit name.now lock ≡ true)) }
     {
         for number in numbers(&self.names, name) {
             if let Some(lock) = self.locks.get(number) {

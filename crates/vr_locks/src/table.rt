@@ -12,8 +12,8 @@ use std::collections::HashMap;
 use std::marker::Model;
 use vr_types::{LockName, LockNames, Mode, Unit};
 
-/// Who holds which name in which mode, seen as the list of locks in the order in which they were taken
-/// (DFSMStvs Planning and Operating Guide, record locks).
+/// Who holds which name in which mode, seen as the list of locks in the order in which they were
+/// taken (DFSMStvs Planning and Operating Guide, record locks).
 #[derive(Drop)]
 pub struct LockTable {
     pub(crate) maps: LockMaps,
@@ -48,9 +48,11 @@ pub fn lock_table(alloc: Global) -> LockTable
 }
 
 impl LockTable {
-    /// Gives a unit all the names in a mode, or none. The unit's own locks are never in the way, and a shared one is
-    /// raised in its place. `Held` comes where a lock of another unit stands in the way of a name, as long as memory
-    /// lasts: it shows the first such name and the earliest such lock. All memory is taken before anything changes.
+    /// Gives a unit all the names in a mode, or none. The unit's own locks are never in the way,
+    /// and a shared one is raised in its place. A name that is given twice counts once. `Held` comes
+    /// exactly where a lock of another unit stands in the way of a name: it shows the first such
+    /// name and the earliest such lock. `Memory` comes where memory runs out, also for the name
+    /// that `Held` would show. All memory is taken before a lock changes, and an error changes none.
     pub fn ask(&mut self, unit: Unit, names: &LockNames, mode: Mode) -> Result<(), LockNo>
         ensures granted { OnOk result (refusal self.old unit mode names.now ≡ None) }
         ensures refused { IfErr result (CauseOf (refusal self.old unit mode names.now)) }
@@ -60,15 +62,16 @@ impl LockTable {
         self.maps.ask(unit, mode, names.as_slice())
     }
 
-    /// The holder and the mode of the earliest lock that stands in the way of a unit that would ask for a name. It takes
-    /// no memory.
+    /// The holder and the mode of the earliest lock that stands in the way of a unit that would ask
+    /// for a name. It takes no memory.
     pub fn test(&self, unit: Unit, name: &LockName, mode: Mode) -> Option<(Unit, Mode)>
         ensures { result ≡ option_map holding (first_conflict self.now unit mode name.now) }
     {
         self.maps.conflict(unit, mode, name)
     }
 
-    /// Takes a unit's locks away, and leaves those of the others in their order. It takes no memory.
+    /// Takes a unit's locks away, and leaves those of the others in their order. It takes no
+    /// memory.
     pub fn end(&mut self, unit: Unit)
         ensures { self.new ≡ without_unit unit self.old }
     {

@@ -1,46 +1,26 @@
-//! A request that is granted: first all of its memory, then its locks.
-ghost use Rattle.std.specs.Prelude.{
-  ◌≡◌,
-  ◌<◌,
-  ◌≤◌,
-  ◌+◌,
-  ℕ,
-  false,
-  cond,
-  nat_eq,
-  length,
-  Some,
-  IfOk,
-  OnOk,
-  slice_index_or,
-};
+//! The locks of a request, once all of its memory is there.
+ghost use Rattle.std.specs.Prelude.{◌≡◌, ◌≢◌, ◌<◌, ◌≤◌, ◌+◌, ℕ, false, cond, nat_eq, length, Some};
+ghost use Rattle.std.specs.Prelude.{slice_index_or};
 ghost use Rattle.std.specs.HashMap.{spare};
 ghost use Rattle.std.specs.List.{list_any};
 ghost use Rattle.std.specs.Option.{option_map};
+ghost use Rattle.vr_locks.specs.Listed.{AreBelow};
 ghost use Rattle.vr_locks.specs.Locked.{is_own, raise, with_locks};
 ghost use Rattle.vr_locks.specs.Maps.{IsConsistent, KeepsFiled, lock_at, locks_in};
-ghost use Rattle.vr_locks.specs.Listed.{AreBelow};
-ghost use Rattle.vr_locks.specs.Plan.{IsFiledFor, IsOwnAt, IsStepFor, AreStepsFor, Grants, NoneAgainst};
+ghost use Rattle.vr_locks.specs.Plan.{AreStepsFor, IsFiledFor, IsOwnAt, IsStepFor};
+ghost use Rattle.vr_locks.specs.Plan.{Grants, NoneAgainst};
 
-use crate::filed::{drop_number, file};
 use crate::held::HeldLock;
 use crate::maps::LockMaps;
-use std::alloc::Global;
-use vr_types::{LockName, Mode, OutOfMemory, Unit};
-
-/// What a request does for one of its names.
-#[derive(Drop)]
-pub(crate) enum Step {
-    /// The unit has a lock on the name already, with this number.
-    Raise { number: u64 },
-    /// A lock on the name is to stand under this number.
-    Take { number: u64, name: LockName },
-}
+use crate::planning::Step;
+use vr_types::{LockName, Mode, Unit};
 
 impl LockMaps {
     /// Makes the lock with a number exclusive, where the mode is.
     fn raise_at(&mut self, number: u64, mode: Mode)
-        ensures locks { (n : ℕ) → lock_at self.new n ≡ cond (nat_eq number n) (option_map (raise mode) (lock_at self.old n)) (lock_at self.old n) }
+        ensures locks { (n : ℕ) →
+            let old = lock_at self.old n in
+            lock_at self.new n ≡ cond (nat_eq number n) (option_map (raise mode) old) old }
         ensures filed { KeepsFiled self.old self.new }
         ensures room { spare self.new.locks ≡ spare self.old.locks }
     {
@@ -52,7 +32,8 @@ impl LockMaps {
     /// Puts a lock under a number, for which there is room.
     fn put_at(&mut self, number: u64, lock: HeldLock)
         requires { 0 < spare self.old.locks }
-        ensures locks { (n : ℕ) → lock_at self.new n ≡ cond (nat_eq number n) (Some lock) (lock_at self.old n) }
+        ensures locks { (n : ℕ) → lock_at self.new n
+            ≡ cond (nat_eq number n) (Some lock) (lock_at self.old n) }
         ensures filed { KeepsFiled self.old self.new }
         ensures room { spare self.old.locks ≤ spare self.new.locks + 1 }
     {
@@ -66,6 +47,7 @@ impl LockMaps {
         requires own { IsOwnAt self.old unit name.now own }
         requires free { NoneAgainst self.old unit mode name.now }
         ensures grants { Grants unit mode name.now self.old self.new }
+        ensures filed { KeepsFiled self.old self.new }
         ensures last { (n : ℕ) → AreBelow (lock_at self.old) n → AreBelow (lock_at self.new) n }
         ensures room { spare self.new.locks ≡ spare self.old.locks }
     {
@@ -82,69 +64,32 @@ impl LockMaps {
         requires free { NoneAgainst self.old unit mode name }
         requires room { 0 < spare self.old.locks }
         ensures grants { Grants unit mode name self.old self.new }
+        ensures filed { KeepsFiled self.old self.new }
         ensures last { AreBelow (lock_at self.new) (number + 1) }
         ensures room { spare self.old.locks ≤ spare self.new.locks + 1 }
     {
         self.put_at(number, HeldLock::new(name, unit, mode));
     }
 
-    /// Files a number that was never used under a unit and a name. Where memory runs out, the number stays unused.
-    fn file_under(&mut self, unit: Unit, name: LockName, number: u64) -> Result<(), OutOfMemory>
-        requires kept { IsConsistent self.old number }
-        requires room { number < self.old.next }
-        ensures locks { self.new.locks ≡ self.old.locks }
-        ensures next { self.new.next ≡ self.old.next }
-        ensures kept { IsConsistent self.new (number + 1) }
-        ensures others { (n : ℕ) (other : LockName) → n < number → IsFiledFor self.old unit other n → IsFiledFor self.new unit other n }
-        ensures filed { OnOk result (IsFiledFor self.new unit name number) }
+    /// Raises the unit's lock on a name that a request has twice, and takes back the number that
+    /// was filed for it the second time.
+    fn raise_again(&mut self, unit: Unit, mode: Mode, name: &LockName, own: u64, number: u64)
+        requires kept { IsConsistent self.old self.old.next }
+        requires last { AreBelow (lock_at self.old) number }
+        requires own { IsOwnAt self.old unit name.now own }
+        requires free { NoneAgainst self.old unit mode name.now }
+        ensures grants { Grants unit mode name.now self.old self.new }
+        ensures others { (n : ℕ) (other : LockName) → n ≢ number
+            → IsFiledFor self.old unit other n → IsFiledFor self.new unit other n }
+        ensures last { AreBelow (lock_at self.new) number }
+        ensures room { spare self.new.locks ≡ spare self.old.locks }
     {
-        file(self.alloc, &mut self.units, unit, number)?;
-        file(self.alloc, &mut self.names, name, number)?;
-        Ok(())
+        self.raise(unit, mode, name, own);
+        self.forget_one(unit, name, number);
     }
 
-    /// Takes the memory for one name, which may take a number that was never used. No lock changes.
-    fn plan(&mut self, unit: Unit, name: &LockName, number: u64) -> Result<Step, OutOfMemory>
-        requires kept { IsConsistent self.old number }
-        requires room { number < self.old.next }
-        ensures locks { self.new.locks ≡ self.old.locks }
-        ensures next { self.new.next ≡ self.old.next }
-        ensures kept { IsConsistent self.new (number + 1) }
-        ensures others { (n : ℕ) (other : LockName) → n < number → IsFiledFor self.old unit other n → IsFiledFor self.new unit other n }
-        ensures step { IfOk result (IsStepFor self.new unit name.now number) }
-    {
-        if let Some(own) = self.own(unit, name) {
-            return Ok(Step::Raise { number: own });
-        }
-        let key = name.copy(self.alloc)?;
-        let name = name.copy(self.alloc)?;
-        self.file_under(unit, key, number)?;
-        Ok(Step::Take { number, name })
-    }
-
-    /// Takes the memory for each name of a request, whose numbers begin with `first`. No lock changes.
-    pub(crate) fn plan_all(
-        &mut self,
-        unit: Unit,
-        names: &[LockName],
-        first: u64,
-    ) -> Result<Vec<Step>, OutOfMemory>
-        requires kept { IsConsistent self.old first }
-        requires room { first + length names.now ≤ self.old.next }
-        ensures locks { self.new.locks ≡ self.old.locks }
-        ensures next { self.new.next ≡ self.old.next }
-        ensures kept { IsConsistent self.new self.new.next }
-        ensures steps { IfOk result (λ steps. AreStepsFor self.new unit names.now first steps.items) }
-    {
-        let mut steps = Vec::new(self.alloc);
-        for (i, name) in names.iter().enumerate() {
-            let step = self.plan(unit, name, first + i as u64)?;
-            steps.push(step)?;
-        }
-        Ok(steps)
-    }
-
-    /// Does what is to be done for one name, which takes no memory: the unit's own lock on it is raised, or a new one comes last.
+    /// Does what is to be done for one name, which takes no memory: the unit's own lock on it is
+    /// raised, or a new one comes last.
     fn carry(&mut self, unit: Unit, mode: Mode, name: &LockName, number: u64, step: Step)
         requires kept { IsConsistent self.old self.old.next }
         requires within { number < self.old.next }
@@ -153,13 +98,15 @@ impl LockMaps {
         requires free { NoneAgainst self.old unit mode name.now }
         requires room { 0 < spare self.old.locks }
         ensures grants { Grants unit mode name.now self.old self.new }
+        ensures others { (n : ℕ) (other : LockName) → n ≢ number
+            → IsFiledFor self.old unit other n → IsFiledFor self.new unit other n }
         ensures last { AreBelow (lock_at self.new) (number + 1) }
         ensures room { spare self.old.locks ≤ spare self.new.locks + 1 }
     {
         match step {
             Step::Raise { number: own } => self.raise(unit, mode, name, own),
             Step::Take { number, name } => match self.own(unit, &name) {
-                Some(own) => self.raise(unit, mode, &name, own),
+                Some(own) => self.raise_again(unit, mode, &name, own, number),
                 None => self.put(unit, mode, name, number),
             },
         }
@@ -178,7 +125,8 @@ impl LockMaps {
         requires within { first + length names.now ≤ self.old.next }
         requires last { AreBelow (lock_at self.old) first }
         requires steps { AreStepsFor self.old unit names.now first steps.items }
-        requires free { (m : ℕ) (name : LockName) → m < length names.now → NoneAgainst self.old unit mode (slice_index_or names.now m name) }
+        requires free { (m : ℕ) (name : LockName) → m < length names.now
+            → NoneAgainst self.old unit mode (slice_index_or names.now m name) }
         requires room { length names.now ≤ spare self.old.locks }
         ensures locks { locks_in self.new ≡ with_locks unit mode (locks_in self.old) names.now }
         ensures kept { IsConsistent self.new self.new.next }

@@ -40,12 +40,12 @@ loop-step-preserved c =
     omega (arith, was.steps.long, ap length c.in-Some.ensures.steps.0, length-drop c.loop-step.place c.args.names.now) in
     let after : c.args.first + (c.loop-step.place + 1) ≡ c.args.first + c.loop-step.place + 1 = omega arith in
     record {
-      next = grants.filed.next ∙ was.next;
+      next = grants.next ∙ was.next;
       kept = grants.kept;
       last = λ n above. c.carry.ensures.last n (omega arith);
-      steps = rw after (plans-carried c.loop-step.self c.carry.new.self c.args.unit grants.filed grants.owned
-          (drop (c.loop-step.place + 1) c.args.names.now) (c.args.first + c.loop-step.place + 1) (into_iter_items c.next.new.self) left);
-      free = λ m name maps. grants.free _ (was.free m name maps);
+      steps = rw after (plans-carried c.loop-step.self c.carry.new.self c.args.unit (c.args.first + c.loop-step.place) c.carry.ensures.others grants.owned
+          (drop (c.loop-step.place + 1) c.args.names.now) (into_iter_items c.next.new.self) left);
+      free = λ m name within. grants.free _ (was.free m name within);
       room = omega (arith, c.carry.ensures.room);
       locks =
           grants.locks

@@ -1,4 +1,4 @@
-use Rattle.std.proofs.Common.{ℕ, nat_eq, not}
+use Rattle.std.proofs.Common.{ℕ, nat_eq, not, ◌∙◌}
 use Rattle.std.specs.HashMap.{get}
 use Rattle.std.specs.List.{filter}
 use Rattle.vr_types.specs.declared.lock_name.LockName.{LockName}
@@ -8,7 +8,7 @@ use Rattle.vr_locks.specs.Conflict.{same_unit}
 use Rattle.vr_locks.specs.Filed.{numbers_in}
 use Rattle.vr_locks.specs.Maps.{lock_at, of_name, of_unit}
 use Rattle.vr_locks.proofs.AskLemmas.{kept-or-cut, unused-less}
-use Rattle.vr_locks.proofs.FilingLemmas.{filed-less}
+use Rattle.vr_locks.proofs.FilingLemmas.{filed-less, number-kept}
 use Rattle.vr_locks.proofs.maps.LockMaps.forget_one.Goals as goal
 
 pub returns-clause-kept : goal.returns-clause-kept
@@ -26,4 +26,21 @@ returns-clause-kept c =
       below = c.requires.kept.below;
       sound = c.requires.kept.sound;
       room = c.requires.kept.room;
+    }
+
+pub returns-clause-others : goal.returns-clause-others
+returns-clause-others c = λ n other apart filed.
+    let names_new = λ (q : LockName). numbers_in (get lock_name_eq c.drop_number.new.map q) in
+    let units_new = λ (q : units.Unit). numbers_in (get same_unit c.drop_number-2.new.map q) in
+    record {
+      name_alone = λ q.
+          number-kept c.requires.kept.names names_new c.args.number n apart
+          (λ r. kept-or-cut (lock_name_eq c.args.name.now r) (filter (λ (j : ℕ). not (nat_eq j c.args.number)) (of_name c.args.self.now r))
+          (of_name c.args.self.now r) (names_new r) (c.drop_number.ensures r)) q
+          ∙ filed.name_alone q;
+      unit_alone = λ q.
+          number-kept c.requires.kept.units units_new c.args.number n apart
+          (λ r. kept-or-cut (same_unit c.args.unit r) (filter (λ (j : ℕ). not (nat_eq j c.args.number)) (of_unit c.args.self.now r))
+          (of_unit c.args.self.now r) (units_new r) (c.drop_number-2.ensures r)) q
+          ∙ filed.unit_alone q;
     }
