@@ -5,7 +5,7 @@ use crate::block::{bytes_of, first_word, small_of, word_of};
 use std::alloc::Global;
 use vr_types::{
     Bound, FaultCount, FileRef, Find, Integrity, Kind, LockName, Mode, PartNo, Position, Refusal,
-    Reply, Request, Stand, Unit, Words, bytes, empty_place, number_place, place,
+    Reply, Request, SharedRequest, Stand, Unit, Words, bytes, empty_place, number_place, place,
 };
 
 /// The file of all requests.
@@ -85,17 +85,18 @@ pub fn faults(word: &str, out: &mut String) -> Answer {
     say_number(out, "", faults.shown())
 }
 
-/// A copy of a request of a kind, with a place or record: `KIND HEX`.
+/// A request of a kind, with a place or record, copied and shared: `KIND HEX`.
 pub fn request(alloc: Global, rest: &str, out: &mut String) -> Answer {
     let (kind, digits) = first_word(rest);
     let from = bytes_of(alloc, digits)?;
+    let request = request_of(alloc, kind, from.as_slice())?;
     let bound = Bound {
         volume: 1,
         line: 4,
-        request: request_of(alloc, kind, from.as_slice())?,
+        request: SharedRequest::new(alloc, request.copy(alloc)?)?,
     };
-    let copy = bound.copy(alloc)?;
-    say_debug(out, &copy)
+    let shared = bound.share()?;
+    say_debug(out, shared.request.get())
 }
 
 fn request_of(alloc: Global, kind: &str, from: &[u8]) -> Result<Request, Stop> {
