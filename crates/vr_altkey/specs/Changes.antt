@@ -4,7 +4,7 @@ use Rattle.std.specs.Prelude.{ℕ, Bool, false, true, if◌then◌else◌, List,
 use Rattle.std.specs.List.{flat_map}
 use Rattle.std.specs.Option.{option_and_then, option_eq, option_map, option_to_list}
 use Rattle.vr_altkey.specs.declared.definition.AltDef.{AltDef}
-use Rattle.vr_altkey.specs.declared.lists.PairChange.{PairChange}
+use Rattle.vr_altkey.specs.declared.definition.PairChange.{PairChange}
 use Rattle.vr_altkey.specs.Pairs.{field_of, pair_place_of}
 
 -- the alternate field of a record, if there is a record that has it

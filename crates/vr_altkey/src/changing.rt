@@ -8,8 +8,7 @@ ghost use Rattle.vr_altkey.specs.Changes.{
   field_in,
 };
 
-use crate::definition::AltDef;
-use crate::lists::{AltList, PairChange, PairChanges};
+use crate::definition::{AltDef, AltList, PairChange, PairChanges};
 use crate::pairing::{field, pair};
 use std::alloc::Global;
 use vr_types::{OutOfMemory, Place};
@@ -97,5 +96,6 @@ fn add_change(
         part: def.part,
         place: pair,
         added,
-    })
+    })?;
+    Ok(())
 }

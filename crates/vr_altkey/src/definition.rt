@@ -1,6 +1,6 @@
-//! What an alternate index is, as far as its pairs go.
+//! Alternate indexes as far as their pairs go, and changes of these.
 
-use vr_types::PartNo;
+use vr_types::{Items, PartNo, Place};
 
 /// An alternate index: its part, KEYS(length offset) in bytes of the base record, and UNIQUEKEY.
 #[derive(Clone, Copy, Debug, PartialEq, Eq, Hash)]
@@ -10,3 +10,17 @@ pub struct AltDef {
     pub offset: u16,
     pub unique: bool,
 }
+
+/// Alternate indexes over one base, by their part numbers.
+pub type AltList = Items<AltDef>;
+
+/// A pair that an alternate index gets or loses: its part, and the place of the pair there.
+#[derive(Debug, Drop)]
+pub struct PairChange {
+    pub part: PartNo,
+    pub place: Place,
+    pub added: bool,
+}
+
+/// Changes of pairs, in order.
+pub type PairChanges = Items<PairChange>;

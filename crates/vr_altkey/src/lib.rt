@@ -6,10 +6,8 @@
 
 mod changing;
 mod definition;
-mod lists;
 mod pairing;
 
 pub use changing::changes;
-pub use definition::AltDef;
-pub use lists::{AltList, PairChange, PairChanges};
+pub use definition::{AltDef, AltList, PairChange, PairChanges};
 pub use pairing::pair;

@@ -3,18 +3,18 @@
 ghost use Rattle.std.specs.Prelude.{◌≡◌, IfOk};
 
 use crate::answers::{Answer, Stop, say, say_bytes, say_number};
-use crate::block::{bytes_of, edited, parted, size_of, small_of, word_of};
+use crate::block::{bytes_of, edited, first_word, size_of, small_of, word_of};
 use std::alloc::{AllocError, Global};
 use std::fmt::Write;
 use vr_seqset::{
     RosterView, SeqEntry, SeqFault, SeqHead, SeqView, SeqWriter, interval_limit, write_roster,
 };
 
-/// A record of the block: `INTERVALS PIECE..`.
+/// A record of the block: `INTERVALS EDIT..`.
 pub fn record(alloc: Global, block: &[u8], rest: &str, out: &mut String) -> Answer {
-    let (intervals, pieces) = parted(rest);
+    let (intervals, edits) = first_word(rest);
     let intervals = small_of(intervals)?;
-    let bytes = edited(alloc, block, pieces)?;
+    let bytes = edited(alloc, block, edits)?;
     match SeqView::read(bytes.as_slice(), intervals) {
         Ok(view) => {
             say_head(alloc, &view, out)?;
@@ -53,7 +53,7 @@ fn say_entry(alloc: Global, entry: &SeqEntry<'_>, out: &mut String) -> Answer {
 
 /// The entry of a number, as the calls that take a number show it: `INTERVALS ENTRY`.
 pub fn entry(alloc: Global, block: &[u8], rest: &str, out: &mut String) -> Answer {
-    let (intervals, at) = parted(rest);
+    let (intervals, at) = first_word(rest);
     let intervals = small_of(intervals)?;
     let at = size_of(at)?;
     match SeqView::read(block, intervals) {
@@ -74,7 +74,7 @@ fn say_numbered(alloc: Global, view: &SeqView<'_>, at: usize, out: &mut String) 
 
 /// The entry for a place: `INTERVALS PLACE`.
 pub fn find(alloc: Global, block: &[u8], rest: &str, out: &mut String) -> Answer {
-    let (intervals, place) = parted(rest);
+    let (intervals, place) = first_word(rest);
     let intervals = small_of(intervals)?;
     let place = bytes_of(alloc, place)?;
     match SeqView::read(block, intervals) {
@@ -89,11 +89,11 @@ pub fn find(alloc: Global, block: &[u8], rest: &str, out: &mut String) -> Answer
     }
 }
 
-/// A roster in the block: `INTERVALS PIECE..`.
+/// A roster in the block: `INTERVALS EDIT..`.
 pub fn roster(alloc: Global, block: &[u8], rest: &str, out: &mut String) -> Answer {
-    let (intervals, pieces) = parted(rest);
+    let (intervals, edits) = first_word(rest);
     let intervals = small_of(intervals)?;
-    let bytes = edited(alloc, block, pieces)?;
+    let bytes = edited(alloc, block, edits)?;
     match RosterView::read(bytes.as_slice(), intervals) {
         Ok(view) => {
             let used = view.used();
@@ -108,9 +108,9 @@ pub fn roster(alloc: Global, block: &[u8], rest: &str, out: &mut String) -> Answ
 
 /// Writes a roster into the block: `INTERVALS USED PART`, and the next area if there is one.
 pub fn write(block: &mut [u8], rest: &str, out: &mut String) -> Answer {
-    let (intervals, rest) = parted(rest);
-    let (used, rest) = parted(rest);
-    let (part, next) = parted(rest);
+    let (intervals, rest) = first_word(rest);
+    let (used, rest) = first_word(rest);
+    let (part, next) = first_word(rest);
     let intervals = small_of(intervals)?;
     let used = small_of(used)?;
     let part = word_of(part)?;
@@ -128,8 +128,8 @@ pub fn write(block: &mut [u8], rest: &str, out: &mut String) -> Answer {
 
 /// How many intervals of an area are used: `INTERVALS SIZE PLACE`.
 pub fn limit(rest: &str, out: &mut String) -> Answer {
-    let (intervals, rest) = parted(rest);
-    let (size, place) = parted(rest);
+    let (intervals, rest) = first_word(rest);
+    let (size, place) = first_word(rest);
     let intervals = small_of(intervals)?;
     let size = size_of(size)?;
     let place = small_of(place)?;
@@ -140,12 +140,12 @@ pub fn limit(rest: &str, out: &mut String) -> Answer {
     )
 }
 
-/// The record of the block, written again over other bytes: `INTERVALS PIECE..`. It has to be the
+/// The record of the block, written again over other bytes: `INTERVALS EDIT..`. It has to be the
 /// same block.
 pub fn copy(alloc: Global, block: &[u8], rest: &str, out: &mut String) -> Answer {
-    let (intervals, pieces) = parted(rest);
+    let (intervals, edits) = first_word(rest);
     let intervals = small_of(intervals)?;
-    let bytes = edited(alloc, block, pieces)?;
+    let bytes = edited(alloc, block, edits)?;
     let copy = copied(alloc, bytes.as_slice(), intervals)?;
     say(out, if copy == bytes { "same" } else { "other" })
 }

@@ -1,22 +1,22 @@
 //! Questions to the reader of `vr_ci`.
 
 use crate::answers::{Answer, say, say_bytes, say_number};
-use crate::block::{edited, parted, size_of, small_of};
+use crate::block::{edited, first_word, size_of, small_of};
 use std::alloc::Global;
 use std::fmt::Write;
 use vr_ci::{CiFault, CiView, Form, Shape};
 
-/// The block as a plain control interval: `PIECE..`.
-pub fn plain(alloc: Global, block: &[u8], pieces: &str, out: &mut String) -> Answer {
-    let bytes = edited(alloc, block, pieces)?;
+/// The block as a plain control interval: `EDIT..`.
+pub fn plain(alloc: Global, block: &[u8], edits: &str, out: &mut String) -> Answer {
+    let bytes = edited(alloc, block, edits)?;
     interval(alloc, Form::Plain, bytes.as_slice(), out)
 }
 
-/// The block as a control interval of slots: `LENGTH PIECE..`.
+/// The block as a control interval of slots: `LENGTH EDIT..`.
 pub fn slots(alloc: Global, block: &[u8], rest: &str, out: &mut String) -> Answer {
-    let (length, pieces) = parted(rest);
+    let (length, edits) = first_word(rest);
     let length = small_of(length)?;
-    let bytes = edited(alloc, block, pieces)?;
+    let bytes = edited(alloc, block, edits)?;
     interval(alloc, Form::Slots { length }, bytes.as_slice(), out)
 }
 

@@ -1,7 +1,7 @@
 //! The crates beside plain, slow programs, over all small inputs.
 
 use crate::answers::{Answer, Stop, say, say_number};
-use crate::block::{parted, small_of};
+use crate::block::{first_word, small_of};
 use crate::{plain_intervals, plain_literals, plain_names, plain_records};
 use std::alloc::{AllocError, Global};
 use vr_ci::Form;
@@ -66,7 +66,7 @@ impl Judged {
 /// Judges all small inputs of a kind, or all blocks close to the block: `names`, `literals`,
 /// `spellings`, `numbers`, `sizes`, `record INTERVALS`, `plain` or `slots LENGTH`.
 pub fn judge(alloc: Global, block: &[u8], rest: &str, out: &mut String) -> Answer {
-    let (kind, number) = parted(rest);
+    let (kind, number) = first_word(rest);
     let judged = match kind {
         "names" => plain_names::judge(alloc)?,
         "literals" => plain_literals::judge_literals(alloc)?,

@@ -171,7 +171,7 @@ fn plain_number(text: &str) -> Option<u64> {
     Some(number)
 }
 
-/// Judges each text of up to five pieces.
+/// Judges each text of up to five of these.
 pub fn judge_numbers(alloc: Global) -> Result<Judged, AllocError> {
     let mut judged = Judged::new(alloc);
     for at in 0..32_768usize {

@@ -11,7 +11,8 @@ fn two(bytes: &[u8], at: usize) -> usize {
     high as usize * 256 + low as usize
 }
 
-fn piece(bytes: &[u8], from: usize, to: usize) -> &[u8] {
+/// The bytes between two places, or none where the slice is shorter.
+fn range(bytes: &[u8], from: usize, to: usize) -> &[u8] {
     bytes.get(from..to).unwrap_or(&[])
 }
 
@@ -43,10 +44,10 @@ fn cut(alloc: Global, bytes: &[u8]) -> Result<Option<Entries<'_>>, AllocError> {
         if count == 0 || end > bytes.len() {
             return Ok(None);
         }
-        for pair in piece(bytes, numbers, high).chunks(2) {
+        for pair in range(bytes, numbers, high).chunks(2) {
             entries.numbers.push(two(pair, 0))?;
         }
-        entries.places.push(piece(bytes, high, end))?;
+        entries.places.push(range(bytes, high, end))?;
         entries.end = end;
     }
     Ok(Some(entries))
@@ -80,13 +81,13 @@ fn has_zeros(bytes: &[u8], low: &[u8], end: usize) -> bool {
     let in_chain = if bytes.get(1) == Some(&1) {
         low
     } else {
-        piece(bytes, 16, 24)
+        range(bytes, 16, 24)
     };
     bytes.get(1).is_some_and(|flag| *flag < 2)
-        && are_zeros(piece(bytes, 4, 6))
-        && are_zeros(piece(bytes, 24, 32))
+        && are_zeros(range(bytes, 4, 6))
+        && are_zeros(range(bytes, 24, 32))
         && are_zeros(in_chain)
-        && are_zeros(piece(bytes, end, bytes.len()))
+        && are_zeros(range(bytes, end, bytes.len()))
 }
 
 /// The first rule that a block of an allowed size breaks as a record of an area of `intervals`
@@ -118,7 +119,7 @@ fn later_fault(
 ) -> Option<SeqFault> {
     let after = length.saturating_add(32);
     let room = bytes.len().saturating_sub(after) / length.saturating_add(4);
-    let low = piece(bytes, 32, after);
+    let low = range(bytes, 32, after);
     let is_first = bytes.get(1) == Some(&1);
     if !are_once_below(entries.numbers.as_slice(), intervals.min(room)) {
         Some(SeqFault::Intervals)
@@ -155,8 +156,7 @@ pub fn judge_sizes(alloc: Global) -> Result<Judged, AllocError> {
         for count in 1..=16usize {
             is_size |= size == 512 * count || size == 2_048 * count;
         }
-        let same = vr_types::is_block_size(size) == is_size
-            && vr_ci::is_block_size(size) == is_size;
+        let same = vr_types::is_block_size(size) == is_size;
         judged.count(same, "")?;
     }
     Ok(judged)

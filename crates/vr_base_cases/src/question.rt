@@ -1,7 +1,7 @@
 //! Which call a question asks.
 
 use crate::answers::{Answer, Stop};
-use crate::block::{bytes_at, make_block, parted};
+use crate::block::{bytes_at, first_word, make_block};
 use crate::{heads, intervals, judge, texts, values, writers};
 use std::alloc::Global;
 
@@ -25,7 +25,7 @@ pub fn answer(alloc: Global, block: &mut Vec<u8>, line: &str, out: &mut String) 
 
 /// A question to `vr_types` about a value.
 fn value(alloc: Global, rest: &str, out: &mut String) -> Answer {
-    let (verb, rest) = parted(rest);
+    let (verb, rest) = first_word(rest);
     match verb {
         "place" => values::place_of(alloc, rest, out),
         "number-place" => values::numbered(alloc, rest, out),
@@ -34,6 +34,7 @@ fn value(alloc: Global, rest: &str, out: &mut String) -> Answer {
         "words" => values::words(alloc, rest, out),
         "faults" => values::faults(rest, out),
         "request" => values::request(alloc, rest, out),
+        "position" => values::position(alloc, rest, out),
         "refusal" => values::refusal(alloc, rest, out),
         "reply" => values::reply(alloc, rest, out),
         _ => Err(Stop::Line),
@@ -42,7 +43,7 @@ fn value(alloc: Global, rest: &str, out: &mut String) -> Answer {
 
 /// A question to `vr_seqset`.
 fn head(alloc: Global, block: &mut [u8], rest: &str, out: &mut String) -> Answer {
-    let (verb, rest) = parted(rest);
+    let (verb, rest) = first_word(rest);
     match verb {
         "record" => heads::record(alloc, block, rest, out),
         "entry" => heads::entry(alloc, block, rest, out),
@@ -57,7 +58,7 @@ fn head(alloc: Global, block: &mut [u8], rest: &str, out: &mut String) -> Answer
 
 /// A question to `vr_ci`.
 fn interval(alloc: Global, block: &mut [u8], rest: &str, out: &mut String) -> Answer {
-    let (verb, rest) = parted(rest);
+    let (verb, rest) = first_word(rest);
     match verb {
         "size" => writers::sized(alloc, rest, out),
         "slot-count" => writers::slot_count(rest, out),

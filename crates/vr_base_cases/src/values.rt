@@ -1,11 +1,11 @@
 //! Questions to `vr_types` about values. Each shows a copy of the value that it builds.
 
 use crate::answers::{Answer, Stop, say, say_bytes, say_debug, say_number};
-use crate::block::{bytes_of, parted, small_of, word_of};
+use crate::block::{bytes_of, first_word, small_of, word_of};
 use std::alloc::Global;
 use vr_types::{
-    FaultCount, FileRef, Find, Integrity, Kind, LockName, Mode, PartNo, Refusal, Reply, Request,
-    Unit, Words, bytes, empty_place, number_place, place,
+    Bound, FaultCount, FileRef, Find, Integrity, Kind, LockName, Mode, PartNo, Position, Refusal,
+    Reply, Request, Stand, Unit, Words, bytes, empty_place, number_place, place,
 };
 
 /// The file of all requests.
@@ -32,15 +32,24 @@ pub fn numbered(alloc: Global, word: &str, out: &mut String) -> Answer {
     say_bytes(alloc, out, "", place.as_slice())
 }
 
-/// A place of no byte, with room: `NUMBER`.
-pub fn roomy(alloc: Global, word: &str, out: &mut String) -> Answer {
-    let place = empty_place(alloc, word_of(word)?)?;
-    say_bytes(alloc, out, "empty", place.as_slice())
+/// A place in room that was taken for it: `NUMBER HEX`.
+pub fn roomy(alloc: Global, rest: &str, out: &mut String) -> Answer {
+    let (room, digits) = first_word(rest);
+    let room = word_of(room)?;
+    let from = bytes_of(alloc, digits)?;
+    if from.len() > room as usize {
+        return Err(Stop::Line);
+    }
+    let mut buffer = empty_place(alloc, room)?;
+    say_bytes(alloc, out, "empty", buffer.as_slice())?;
+    buffer.set(from.as_slice());
+    let place = buffer.into_place();
+    say_bytes(alloc, out, " then ", place.as_slice())
 }
 
 /// Bytes that are copied, grow by a list and by `45`, and lose that again: `HEX HEX`.
 pub fn grown(alloc: Global, rest: &str, out: &mut String) -> Answer {
-    let (first, second) = parted(rest);
+    let (first, second) = first_word(rest);
     let first = bytes_of(alloc, first)?;
     let second = bytes_of(alloc, second)?;
     let first = bytes(alloc, first.as_slice())?;
@@ -76,12 +85,16 @@ pub fn faults(word: &str, out: &mut String) -> Answer {
     say_number(out, "", faults.shown())
 }
 
-/// A request of a kind, with a place or record: `KIND HEX`.
+/// A copy of a request of a kind, with a place or record: `KIND HEX`.
 pub fn request(alloc: Global, rest: &str, out: &mut String) -> Answer {
-    let (kind, digits) = parted(rest);
+    let (kind, digits) = first_word(rest);
     let from = bytes_of(alloc, digits)?;
-    let request = request_of(alloc, kind, from.as_slice())?;
-    let copy = request.copy(alloc)?;
+    let bound = Bound {
+        volume: 1,
+        line: 4,
+        request: request_of(alloc, kind, from.as_slice())?,
+    };
+    let copy = bound.copy(alloc)?;
     say_debug(out, &copy)
 }
 
@@ -116,6 +129,29 @@ fn request_of(alloc: Global, kind: &str, from: &[u8]) -> Result<Request, Stop> {
     }
 }
 
+/// A copy of a position, with a place: `STAND HEX`.
+pub fn position(alloc: Global, rest: &str, out: &mut String) -> Answer {
+    let (stand, digits) = first_word(rest);
+    let from = bytes_of(alloc, digits)?;
+    let position = Position {
+        stand: stand_of(alloc, stand, from.as_slice())?,
+        held: Some(place(alloc, from.as_slice())?),
+    };
+    let copy = position.copy(alloc)?;
+    say_debug(out, &copy)
+}
+
+fn stand_of(alloc: Global, stand: &str, from: &[u8]) -> Result<Stand, Stop> {
+    match stand {
+        "start" => Ok(Stand::Start),
+        "at" => Ok(Stand::At(place(alloc, from)?)),
+        "after" => Ok(Stand::After(place(alloc, from)?)),
+        "end" => Ok(Stand::End),
+        "none" => Ok(Stand::None),
+        _ => Err(Stop::Line),
+    }
+}
+
 /// A GET for update, with consistent read.
 fn get(find: Find) -> Request {
     Request::Get {
@@ -137,7 +173,7 @@ pub fn refusal(alloc: Global, rest: &str, out: &mut String) -> Answer {
 
 /// A refusal that is to have that number.
 fn refusal_of(alloc: Global, rest: &str) -> Result<Refusal, Stop> {
-    let (code, name) = parted(rest);
+    let (code, name) = first_word(rest);
     let code = small_of(code)?;
     if code != 901 {
         return plain_refusal(code).ok_or(Stop::Line);
@@ -186,7 +222,7 @@ fn plain_refusal(code: u16) -> Option<Refusal> {
 
 /// A copy of a reply: `refused KIND`, or `done` with a place and a record or with none.
 pub fn reply(alloc: Global, rest: &str, out: &mut String) -> Answer {
-    let (kind, rest) = parted(rest);
+    let (kind, rest) = first_word(rest);
     let reply = reply_of(alloc, kind, rest)?;
     let copy = reply.copy(alloc)?;
     say_debug(out, &copy)

@@ -1,7 +1,7 @@
 //! Questions to the writers of `vr_ci`, which write into the block.
 
 use crate::answers::{Answer, Stop, say, say_number};
-use crate::block::{bytes_of, parted, size_of, small_of};
+use crate::block::{bytes_of, first_word, size_of, small_of};
 use crate::intervals;
 use std::alloc::Global;
 use vr_ci::{CiWriter, Form, NoRoom, Piece, slots, write_segment};
@@ -14,8 +14,8 @@ fn say_no_room(room: NoRoom, out: &mut String) -> Answer {
 /// Writes plain records: `BUSY RECORD..`, each `+HEX`, or `-HEX` if it is withdrawn. One that has
 /// no room ends it.
 pub fn records(alloc: Global, block: &mut [u8], rest: &str, out: &mut String) -> Answer {
-    let (busy, items) = parted(rest);
-    if !vr_ci::is_block_size(block.len()) {
+    let (busy, items) = first_word(rest);
+    if !vr_types::is_block_size(block.len()) {
         return Err(Stop::Line);
     }
     let mut writer = CiWriter::begin(Form::Plain, block);
@@ -36,7 +36,7 @@ pub fn records(alloc: Global, block: &mut [u8], rest: &str, out: &mut String) ->
 /// that has no room ends it.
 pub fn single_bytes(block: &mut [u8], rest: &str, out: &mut String) -> Answer {
     let count = small_of(rest)?;
-    if !vr_ci::is_block_size(block.len()) {
+    if !vr_types::is_block_size(block.len()) {
         return Err(Stop::Line);
     }
     let mut writer = CiWriter::begin(Form::Plain, block);
@@ -52,12 +52,12 @@ pub fn single_bytes(block: &mut [u8], rest: &str, out: &mut String) -> Answer {
 /// Writes slots of `5A` bytes: `LENGTH BUSY SIGN..`, where `-` is an empty slot. One that has no
 /// room ends it. A block that is not complete is no question.
 pub fn slots_of(alloc: Global, block: &mut [u8], rest: &str, out: &mut String) -> Answer {
-    let (length, rest) = parted(rest);
-    let (busy, signs) = parted(rest);
+    let (length, rest) = first_word(rest);
+    let (busy, signs) = first_word(rest);
     let length = small_of(length)?;
     let signs = signs.as_bytes();
     let size = block.len();
-    if !vr_ci::is_block_size(size) || length == 0 {
+    if !vr_types::is_block_size(size) || length == 0 {
         return Err(Stop::Line);
     }
     let slot = vec![in alloc; 0x5A; usize::from(length)]?;
@@ -77,10 +77,10 @@ pub fn slots_of(alloc: Global, block: &mut [u8], rest: &str, out: &mut String) -
 /// Writes a segment of `5A` bytes: `PIECE SIGN BUSY NUMBER LENGTH`, where `-` is a withdrawn
 /// record.
 pub fn segment(alloc: Global, block: &mut [u8], rest: &str, out: &mut String) -> Answer {
-    let (piece, rest) = parted(rest);
-    let (sign, rest) = parted(rest);
-    let (busy, rest) = parted(rest);
-    let (number, length) = parted(rest);
+    let (piece, rest) = first_word(rest);
+    let (sign, rest) = first_word(rest);
+    let (busy, rest) = first_word(rest);
+    let (number, length) = first_word(rest);
     let number = small_of(number)?;
     let length = usize::from(small_of(length)?);
     let size = block.len();
@@ -90,7 +90,7 @@ pub fn segment(alloc: Global, block: &mut [u8], rest: &str, out: &mut String) ->
         _ => Piece::Last,
     };
     let fills = piece == Piece::Last || length + 10 >= size;
-    if !vr_ci::is_block_size(size) || number == 0 || !fills {
+    if !vr_types::is_block_size(size) || number == 0 || !fills {
         return Err(Stop::Line);
     }
     let bytes = vec![in alloc; 0x5A; length]?;
@@ -109,7 +109,7 @@ pub fn segment(alloc: Global, block: &mut [u8], rest: &str, out: &mut String) ->
 
 /// How many slots of a length a block of a size has: `SIZE LENGTH`.
 pub fn slot_count(rest: &str, out: &mut String) -> Answer {
-    let (size, length) = parted(rest);
+    let (size, length) = first_word(rest);
     let size = size_of(size)?;
     let length = small_of(length)?;
     say_number(out, "", slots(size, length) as u64)
@@ -117,7 +117,7 @@ pub fn slot_count(rest: &str, out: &mut String) -> Answer {
 
 /// A record in a block of a size that held other bytes, written and read again: `SIZE RECORD`.
 pub fn sized(alloc: Global, rest: &str, out: &mut String) -> Answer {
-    let (size, record) = parted(rest);
+    let (size, record) = first_word(rest);
     let size = small_of(size)?;
     let mut block = vec![in alloc; 0xEE; usize::from(size)]?;
     records(alloc, block.as_mut_slice(), record, out)?;

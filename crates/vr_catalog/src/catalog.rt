@@ -2,6 +2,7 @@
 ghost use Rattle.std.specs.Prelude.{◌≡◌, ◌++◌, ◌∷◌, [], IfOk, OnOk, OnErr};
 ghost use Rattle.std.specs.Option.{option_copied};
 
+use crate::definition::{Definition, catalog_definition};
 use crate::entry::CatEntry;
 use std::alloc::Global;
 use std::marker::Model;
@@ -23,7 +24,11 @@ impl Model for Catalog {
 }
 
 impl Catalog {
-    ghost use Rattle.vr_catalog.specs.Catalog.{entry_named, entry_with_part};
+    ghost use Rattle.vr_catalog.specs.Catalog.{
+      entry_named,
+      entry_with_part,
+      definition_of as definition_in,
+    };
 
     /// No entry, which takes no memory.
     pub fn new(alloc: Global) -> Catalog
@@ -68,6 +73,19 @@ impl Catalog {
             .as_slice()
             .iter()
             .find(|entry| entry.part == part)
+    }
+
+    /// The definition of a part: the catalog's own of part 0, and that of a cluster.
+    pub fn definition_of(&self, part: PartNo) -> Option<Definition>
+        ensures { result ≡ definition_in self.now part.0 }
+    {
+        if part.0 == 0 {
+            return Some(catalog_definition());
+        }
+        match self.find_part(part) {
+            None => None,
+            Some(entry) => entry.cluster_definition(),
+        }
     }
 
     /// Copies the value; fails only if memory runs out.

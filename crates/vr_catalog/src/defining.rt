@@ -59,9 +59,16 @@ pub fn define(
     if let Some(fault) = first_fault(catalog, order, geometry) {
         return Err(fault);
     }
-    let entry = new_entry(alloc, catalog, order)?;
+    Ok(add_entry(alloc, catalog, order)?)
+}
+
+/// The one change of a DEFINE that isn't refused.
+fn add_entry(alloc: Global, catalog: &Catalog, order: &Define) -> Result<Changes, OutOfMemory>
+    requires { full catalog.now ≡ None }
+    ensures { IfOk result (λ changes. changes ≡ define_changes catalog.now order.now) }
+{
     let mut changes = Changes::new(alloc);
-    changes.push(Change::Add(entry))?;
+    changes.push(Change::Add(new_entry(alloc, catalog, order)?))?;
     Ok(changes)
 }
 

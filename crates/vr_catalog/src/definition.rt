@@ -2,8 +2,8 @@
 ghost use Rattle.std.specs.Prelude.{◌≡◌, ◌+◌, ◌≤◌, length};
 ghost use Rattle.vr_catalog.specs.Definition.{
   is_valid_record as is_valid,
-  is_valid_length,
   key_of as key,
+  catalog_definition as definition_of_catalog,
 };
 
 use vr_types::Kind;
@@ -17,6 +17,19 @@ pub struct Definition {
     pub key_length: u16,
     pub key_offset: u16,
     pub maximum: u32,
+}
+
+/// The catalog's own definition, which no entry states: records of 204 bytes that begin with a name of 44.
+pub fn catalog_definition() -> Definition
+    ensures { result ≡ definition_of_catalog }
+{
+    Definition {
+        kind: Kind::Keyed,
+        spanned: false,
+        key_length: 44,
+        key_offset: 0,
+        maximum: 204,
+    }
 }
 
 impl Definition {

@@ -13,11 +13,10 @@ ghost use Rattle.vr_catalog.specs.Delete.{
 };
 
 use crate::catalog::Catalog;
-use crate::changes::{Change, Changes};
+use crate::changes::{Change, Changes, NameList};
 use crate::defining::fault_if;
 use crate::entry::CatEntry;
 use crate::fault::CatFault;
-use crate::names::NameList;
 use std::alloc::Global;
 use vr_types::{Name, OutOfMemory, PartNo};
 

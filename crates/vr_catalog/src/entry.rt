@@ -1,6 +1,7 @@
 //! An entry of the catalog, with what DEFINE of Access Method Services Commands states of it.
 ghost use Rattle.std.specs.Prelude.{◌≡◌, IfOk};
 
+use crate::definition::Definition;
 use std::alloc::Global;
 use vr_types::{AreaNo, Kind, Name, OutOfMemory, PartNo};
 
@@ -74,6 +75,24 @@ pub struct CatEntry {
 }
 
 impl CatEntry {
+    ghost use Rattle.vr_catalog.specs.Catalog.{cluster_definition as definition_of};
+
+    /// What a cluster states of its records; None of an alternate index or a path.
+    pub fn cluster_definition(&self) -> Option<Definition>
+        ensures { result ≡ definition_of self.now.entry_kind self.now }
+    {
+        match self.entry_kind {
+            EntryKind::Cluster => Some(Definition {
+                kind: self.kind.unwrap_or(Kind::Keyed),
+                spanned: self.spanned,
+                key_length: self.key_length,
+                key_offset: self.key_offset,
+                maximum: self.maximum,
+            }),
+            EntryKind::Alternate | EntryKind::Path => None,
+        }
+    }
+
     /// Copies the value; fails only if memory runs out.
     pub fn copy(&self, alloc: Global) -> Result<CatEntry, OutOfMemory>
         ensures { IfOk result (λ copy. copy ≡ self.now) }

@@ -12,16 +12,15 @@ mod entry;
 mod fault;
 mod laws;
 mod limits;
-mod names;
 mod order;
 mod read;
 mod write;
 
 pub use altering::alter;
 pub use catalog::Catalog;
-pub use changes::{Change, Changes};
+pub use changes::{Change, Changes, NameList};
 pub use defining::define;
-pub use definition::Definition;
+pub use definition::{Definition, catalog_definition};
 pub use deleting::delete;
 pub use entry::{CatEntry, EntryKind, FreeSpace, ShareOptions, SpaceUnit};
 pub use fault::CatFault;
@@ -30,7 +29,6 @@ pub use limits::{
     are_bad_sizes, are_few_intervals, ends_past, intervals_used, is_bad_cluster, plain_limit,
     spanned_limit,
 };
-pub use names::NameList;
 pub use order::{Alter, DataOptions, Define, NewEntry};
 pub use read::{EntryNo, read_entry};
 pub use write::{RECORD_LENGTH, write_entry};

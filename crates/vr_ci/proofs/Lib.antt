@@ -1,3 +1,4 @@
+pub mod CallerLemmas
 pub mod ItemLemmas
 pub mod DescribedLemmas
 pub mod FaultLemmas

@@ -1,7 +1,8 @@
--- The grammar of control intervals, as the relation between a block and its value.
--- What lies where in a block is DFSMS Using Data Sets, "Control interval format". The one spelling of each
--- value and the room of records are this project's own rules.
-use Rattle.std.specs.Prelude.{◌≡◌, ℕ, ◌+◌, ◌-◌, ◌<◌, ◌≤◌, ◌⊎◌, Bool, false, List, [], ◌∷◌, length, map, replicate}
+-- The grammar of control intervals, as the relation between a block and its value. What lies where
+-- in a block is DFSMS Using Data Sets, "Control interval format". The one spelling of each value
+-- and the room of records are this project's own rules.
+use Rattle.std.specs.Prelude.{◌≡◌, ℕ, ◌+◌, ◌-◌, ◌<◌, ◌≤◌, ◌⊎◌, Bool, false, List, [], ◌∷◌, length}
+use Rattle.std.specs.Prelude.{map, replicate}
 use Rattle.std.specs.List.{flat_map, AllByRecursion}
 use Rattle.vr_ci_match.specs.declared.form.Form.{Form}
 use Rattle.vr_ci_match.specs.declared.form.Form.TheVariants.{Plain, Slots}
@@ -56,7 +57,8 @@ FitsBlock Plain size Records items = room items ≤ size - 4
 FitsBlock (Slots len) size Records items =
     AllByRecursion (λ item. length item.bytes ≡ len) items × (length items ≡ slots_in size len)
 FitsBlock form size (Segment piece number) items =
-    IsCount number × AllByRecursion (λ item. IsSegmentLength piece size (length item.bytes)) items × (length items ≡ 1)
+    IsCount number × AllByRecursion (λ item. IsSegmentLength piece size (length item.bytes)) items
+    × (length items ≡ 1)
 FitsBlock form size EndOfFile items = items ≡ []
 
 pub record Fits (form : Form) (size : ℕ) (value : Interval) : Type 0 where
@@ -64,7 +66,8 @@ pub record Fits (form : Form) (size : ℕ) (value : Interval) : Type 0 where
   pub block : FitsBlock form size value.shape value.items
   pub idle : value.shape ≡ EndOfFile → value.busy ≡ false
 
--- The RDFs say the marks of the items in order, and the block is laid out from the items' bytes and the RDFs.
+-- The RDFs say the marks of the items in order, and the block is laid out from the items' bytes and
+-- the RDFs.
 pub record IsLaidOut (form : Form) (block : List ℕ) (value : Interval) : Type 0 where
   pub rdfs : List Rdf
   pub chain : IsChain form rdfs

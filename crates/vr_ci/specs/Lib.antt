@@ -1,4 +1,8 @@
 pub use Rattle.vr_types.specs.BlockSize
+pub use Rattle.vr_ci_match.specs.declared.form.Form
+pub use Rattle.vr_ci_match.specs.declared.form.Piece
+pub use Rattle.vr_ci_match.specs.declared.form.Shape
+pub use Rattle.vr_ci_match.specs.declared.fault.CiFault
 pub use Rattle.vr_ci_match.specs.Rdf
 pub use Rattle.vr_ci_match.specs.Laid
 pub use Rattle.vr_ci_match.specs.Fault

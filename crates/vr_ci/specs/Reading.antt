@@ -1,5 +1,7 @@
 -- What a view lends, read out of its block.
-use Rattle.std.specs.Prelude.{ℕ, zero, suc, ◌+◌, ◌-◌, ◌*◌, Bool, if◌then◌else◌, nat_lt, ◌≡◌, ◌≤◌, ◌==◌, ◌||◌, ◌<◌, List, [], ◌∷◌, ◌++◌, length, take, drop, reverse, replicate, slice_index}
+use Rattle.std.specs.Prelude.{ℕ, zero, suc, ◌+◌, ◌-◌, ◌*◌, Bool, if◌then◌else◌, nat_lt, ◌≡◌, ◌≤◌}
+use Rattle.std.specs.Prelude.{◌==◌, ◌||◌, ◌<◌, List, [], ◌∷◌, ◌++◌, length, take, drop, reverse}
+use Rattle.std.specs.Prelude.{replicate, slice_index}
 use Rattle.std.specs.List.{flat_map, AllByRecursion}
 use Rattle.std.specs.Borrow.{Bor}
 use Rattle.vr_ci_match.specs.declared.form.Piece.{Piece}
@@ -12,7 +14,7 @@ use Rattle.vr_ci.specs.declared.records.Batch.{Batch}
 use Rattle.vr_ci_match.specs.Rdf.{Mark, marks, spans, rdf_bytes, control, IsRdf}
 use Rattle.vr_ci.specs.Interval.{Item, Interval}
 
--- the items with these marks, one behind the other from the front of the bytes
+-- the items with these marks, one after the other from the left end of the bytes
 abbrev pub items_at : List Mark → List ℕ → List Item
 items_at [] bytes = []
 items_at (mark ∷ more) bytes =
@@ -31,14 +33,16 @@ rdf_back bytes =
     let flags = slice_index bytes 2 in
     if nat_lt flags 64 then Single (flags == 0) (number_back bytes 0)
     else (if flags == 64 then Run (number_back bytes 0) (number_back bytes 3)
-    else Segment (piece_of flags) (flags == 80 || flags == 112 || flags == 96) (number_back bytes 3) (number_back bytes 0))
+    else Segment (piece_of flags) (flags == 80 || flags == 112 || flags == 96) (number_back bytes 3)
+    (number_back bytes 0))
 
--- the RDFs of bytes from right to left, at most so many
+-- the RDFs of bytes from right to left, at most n
 abbrev pub rdfs_back : ℕ → List ℕ → List Rdf
 rdfs_back zero bytes = []
 rdfs_back (suc n) [] = []
 rdfs_back (suc n) (b ∷ bytes) =
-    rdf_back (b ∷ bytes) ∷ rdfs_back n (drop (length (rdf_bytes (rdf_back (b ∷ bytes)))) (b ∷ bytes))
+    rdf_back (b ∷ bytes) ∷ rdfs_back n
+    (drop (length (rdf_bytes (rdf_back (b ∷ bytes)))) (b ∷ bytes))
 
 -- the RDFs between two places of a block, the rightmost first
 abbrev pub rdfs_between : ℕ → ℕ → List ℕ → List Rdf
@@ -52,7 +56,11 @@ rdfs_in block low = rdfs_between low (length block - 4) block
 -- the value that a view shows of its block
 abbrev pub value_in : List ℕ → ℕ → Shape → Bool → Interval
 value_in block low shape busy =
-    record { shape = shape; items = items_at (flat_map marks (rdfs_in block low)) block; busy = busy }
+    record {
+      shape = shape;
+      items = items_at (flat_map marks (rdfs_in block low)) block;
+      busy = busy;
+    }
 
 -- RDFs stand between two places of a block, and they can be read again
 pub record AreLent (block : List ℕ) (low end : ℕ) : Type 0 where
@@ -81,7 +89,8 @@ pub record IsView (block : List ℕ) (low : ℕ) (shape : Shape) (items : ℕ) :
 -- the marks of the records that are left: those of a run, and those of the RDFs up to its end
 abbrev pub marks_left : List ℕ → ℕ → Batch → List Mark
 marks_left block low batch =
-    replicate batch.left (record { live = batch.live; len = batch.length }) ++ flat_map marks (rdfs_between low batch.end block)
+    replicate batch.left (record { live = batch.live; len = batch.length })
+    ++ flat_map marks (rdfs_between low batch.end block)
 
 -- a batch with records left, with the same records to come as this one
 pub record IsNextBatch (block : List ℕ) (low : ℕ) (batch next : Batch) : Type 0 where
@@ -98,7 +107,8 @@ items_left block low batch offset = items_at (marks_left block low batch) (drop 
 -- the bytes of those items lie in the block
 pub record AreIn (block : List ℕ) (low : ℕ) (batch : Batch) (offset : ℕ) : Type 0 where
   pub lent : AreLent block low batch.end
-  pub bytes : offset + batch.left * batch.length + spans (rdfs_between low batch.end block) ≤ length block
+  pub bytes : offset + batch.left * batch.length + spans (rdfs_between low batch.end block) ≤ length
+      block
 
 -- a lent record with its live mark, as an item
 abbrev pub item_lent : Bor (List ℕ) × Bool → Item

@@ -1,5 +1,6 @@
 -- How far the RDFs of a block of records were walked, from the right.
-use Rattle.std.specs.Prelude.{◌≡◌, ◌≢◌, ℕ, ◌+◌, ◌*◌, ◌-◌, ◌≤◌, true, false, List, length, take, Option, Some, None}
+use Rattle.std.specs.Prelude.{◌≡◌, ◌≢◌, ℕ, ◌+◌, ◌*◌, ◌-◌, ◌≤◌, true, false, List, length, take}
+use Rattle.std.specs.Prelude.{Option, Some, None}
 use Rattle.std.specs.List.{flat_map, AllByRecursion}
 use Rattle.vr_ci_match.specs.declared.form.Form.{Form}
 use Rattle.vr_ci_match.specs.declared.form.Form.TheVariants.{Plain, Slots}
@@ -35,7 +36,8 @@ abbrev pub HasRoom : Form → ℕ → Walk → Type 0
 HasRoom Plain size walk = walk.span + 3 * walk.count ≤ size - 4
 HasRoom (Slots len) size walk = walk.count ≡ slots_in size len
 
--- RDFs of records that a block of the form may have stand from a place on, and their withdrawn records are zero.
+-- RDFs of records that a block of the form may have stand from a place on, and their withdrawn
+-- records are zero.
 pub record IsWalked (form : Form) (block : List ℕ) (walk : Walk) : Type 0 where
   pub rdfs : List Rdf
   pub right : StandFrom form block rdfs walk.end

@@ -1,5 +1,6 @@
 -- What a writer holds before its block is ended.
-use Rattle.std.specs.Prelude.{◌≡◌, ℕ, ◌+◌, ◌-◌, ◌<◌, ◌≤◌, Bool, true, false, ◌==◌, if◌then◌else◌, List, ◌++◌, length, take, drop, map, replicate, Option, Some, None}
+use Rattle.std.specs.Prelude.{◌≡◌, ℕ, ◌+◌, ◌-◌, ◌<◌, ◌≤◌, Bool, true, false, ◌==◌, if◌then◌else◌}
+use Rattle.std.specs.Prelude.{List, ◌++◌, length, take, drop, map, replicate, Option, Some, None}
 use Rattle.std.specs.List.{flat_map, AllByRecursion}
 use Rattle.vr_ci_match.specs.declared.form.Form.{Form}
 use Rattle.vr_ci_match.specs.declared.form.Form.TheVariants.{Plain, Slots}
@@ -49,7 +50,10 @@ IsComplete w = SlotsAdded w.form (length w.out.now) w.added
 
 -- A withdrawn record and an empty slot keep their length alone: their bytes are zero.
 abbrev pub written : List ℕ → Bool → Item
-written bytes live = record { bytes = if live then bytes else replicate (length bytes) 0; live = live }
+written bytes live = record {
+  bytes = if live then bytes else replicate (length bytes) 0;
+  live = live;
+}
 
 -- A segment that is not the last has as many bytes as fill its block, if it has any.
 abbrev pub Fills : Piece → ℕ → ℕ → Type 0
@@ -57,7 +61,8 @@ Fills First size n = 0 < n → size - 10 ≤ n
 Fills Inner size n = 0 < n → size - 10 ≤ n
 Fills Last size n = Unit {0}
 
--- The length and the number of the last records, where they are live and a run could go on with them.
+-- The length and the number of the last records, where they are live and a run could go on with
+-- them.
 abbrev pub IsLastRun : Form → Option Rdf → ℕ → ℕ → Type 0
 IsLastRun Plain None n count = count ≡ 0
 IsLastRun Plain (Some (Single true m)) n count = (count ≡ 1) × (n ≡ m)
@@ -72,15 +77,12 @@ run_started Plain true = 1
 run_started Plain false = 0
 run_started (Slots len) live = 0
 
--- the RDF or pair of so many live records
+-- the RDF or pair of `count` live records
 abbrev pub run_rdf : ℕ → ℕ → Rdf
 run_rdf n count = if count == 1 then Single true n else Run n count
 
--- a list with these bytes from a place on, and longer nowhere
-abbrev pub placed : List ℕ → ℕ → List ℕ → List ℕ
-placed block at bytes = take at block ++ bytes ++ drop (at + length bytes) block
-
--- What a writer holds: these items stand at the front of its block, and their RDFs at the right end.
+-- What a writer holds: these items are at the left end of its block, and their RDFs at the right
+-- end.
 pub record Holds (w : CiWriter) (held : List Item) : Type 0 where
   pub rdfs : List Rdf
   pub size : IsBlockSize (length w.out.now)
@@ -95,3 +97,12 @@ pub record Holds (w : CiWriter) (held : List Item) : Type 0 where
   pub lengths : AllByRecursion (λ item. IsItemLength w.form (length item.bytes)) held
   pub added : w.added ≡ length held
   pub run : IsLastRun w.form (last_from None rdfs) w.run_length w.run_count
+
+-- A writer of this form, for a buffer of this size, that holds these items: what a caller's loop
+-- keeps.
+pub record IsWriting (form : Form) (size buffer : ℕ) (items : List Item) (w : CiWriter) : Type 0 where
+  pub holds : Holds w items
+  pub same_form : form_of w ≡ form
+  pub same_size : size_of w ≡ size
+  pub same_buffer : buffer_of w ≡ buffer
+  pub count : added_of w ≡ length items

@@ -5,6 +5,7 @@
 pub struct NoRoom {
     /// Bytes that are needed: a record's length and 3, or a segment's length.
     pub need: usize,
-    /// Bytes that are free: for records what the earlier ones leave, for a segment the block's size less 10.
+    /// Bytes that are free: for records what the earlier ones leave, for a segment the block's size
+    /// less 10.
     pub free: usize,
 }

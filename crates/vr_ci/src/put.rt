@@ -1,16 +1,19 @@
 //! Writing the parts of a control interval into a block.
 
-ghost use Rattle.std.specs.Prelude.{◌≡◌, ◌+◌, ◌-◌, ◌<◌, ◌≤◌, ◌↔◌, ℕ, length, drop, take, replicate, IsTrue};
+ghost use Rattle.std.specs.Prelude.{◌≡◌, ◌+◌, ◌-◌, ◌<◌, ◌≤◌, ◌↔◌, ℕ, length, drop, take, replicate};
+ghost use Rattle.std.specs.Prelude.{IsTrue};
 ghost use Rattle.vr_ci_match.specs.Rdf.{two_bytes, rdf_bytes, segment_bits, withdrawn_bit};
 ghost use Rattle.vr_ci_match.specs.Laid.{cidf};
-ghost use Rattle.vr_ci.specs.Writer.{placed, written, run_rdf, run_started};
+ghost use Rattle.vr_ci.specs.Writer.{written, run_rdf, run_started};
+ghost use Rattle.vr_types.specs.Fields.{with_bytes};
 
 use vr_ci_match::{Form, Piece, Rdf};
+use vr_types::put_two;
 
 /// The bytes of an item, or zeros where it is not live.
-pub fn put_item(out: &mut [u8], at: usize, item: &[u8], live: bool)
+pub(crate) fn put_item(out: &mut [u8], at: usize, item: &[u8], live: bool)
     requires { at + length item.now ≤ length out.old }
-    ensures { out.new ≡ placed out.old at (written item.now live).bytes }
+    ensures { out.new ≡ with_bytes out.old at (written item.now live).bytes }
 {
     let end = at + item.len();
     if live {
@@ -21,26 +24,27 @@ pub fn put_item(out: &mut [u8], at: usize, item: &[u8], live: bool)
 }
 
 /// Zeros between two places.
-pub fn put_zeros(out: &mut [u8], from: usize, to: usize)
+pub(crate) fn put_zeros(out: &mut [u8], from: usize, to: usize)
     requires order { from ≤ to }
     requires within { to ≤ length out.old }
-    ensures { out.new ≡ placed out.old from (replicate (to - from) 0) }
+    ensures { out.new ≡ with_bytes out.old from (replicate (to - from) 0) }
 {
     out[from..to].fill(0);
 }
 
 /// A number in two bytes.
+#[tactic(auto, using(crate::proofs::PlaceLemmas::two_is))]
 fn put_number(out: &mut [u8], at: usize, number: u16)
     requires { at + 2 ≤ length out.old }
-    ensures { out.new ≡ placed out.old at (two_bytes number) }
+    ensures { out.new ≡ with_bytes out.old at (two_bytes number) }
 {
-    out[at..at + 2].copy_from_slice(&number.to_be_bytes());
+    put_two(out, at, number);
 }
 
 /// An RDF, or a pair.
-pub fn put_rdf(out: &mut [u8], at: usize, rdf: Rdf)
+pub(crate) fn put_rdf(out: &mut [u8], at: usize, rdf: Rdf)
     requires { at + length (rdf_bytes rdf) ≤ length out.old }
-    ensures { out.new ≡ placed out.old at (rdf_bytes rdf) }
+    ensures { out.new ≡ with_bytes out.old at (rdf_bytes rdf) }
 {
     match rdf {
         Rdf::Single { live, length } => {
@@ -80,17 +84,20 @@ fn segment_bits(piece: Piece, live: bool) -> u8
     if live { bits } else { bits + 0x04 }
 }
 
-/// Makes the RDF or pair at `at`, of `count` live records, one of one record more, and says where that begins.
-pub fn extend_run(out: &mut [u8], at: usize, count: usize) -> usize
+/// Makes the RDF or pair at `at`, of `count` live records, one of one record more, and says where
+/// that begins.
+pub(crate) fn extend_run(out: &mut [u8], at: usize, count: usize) -> usize
     requires some { 0 < count }
     requires few { count < 65535 }
     requires place { 3 ≤ at }
     requires within { at + 3 ≤ length out.old }
     ensures place { (result ≤ at) × (at ≤ result + 3) }
     ensures length { length out.new ≡ length out.old }
-    ensures run { (n : ℕ) → take (length (rdf_bytes (run_rdf n count))) (drop at out.old) ≡ rdf_bytes (run_rdf n count)
+    ensures run { (n : ℕ)
+        → take (length (rdf_bytes (run_rdf n count))) (drop at out.old) ≡ rdf_bytes
+        (run_rdf n count)
         → (result + 6 ≡ at + length (rdf_bytes (run_rdf n count)))
-        × (out.new ≡ placed out.old result (rdf_bytes (run_rdf n (count + 1)))) }
+        × (out.new ≡ with_bytes out.old result (rdf_bytes (run_rdf n (count + 1)))) }
 {
     if count == 1 {
         out[at] = 0x40;
@@ -104,11 +111,11 @@ pub fn extend_run(out: &mut [u8], at: usize, count: usize) -> usize
 }
 
 /// The CIDF.
-pub fn put_cidf(out: &mut [u8], displacement: usize, free: usize, busy: bool)
+pub(crate) fn put_cidf(out: &mut [u8], displacement: usize, free: usize, busy: bool)
     requires size { 4 ≤ length out.old }
     requires displacement { displacement < 65536 }
     requires free { free < 32768 }
-    ensures { out.new ≡ placed out.old (length out.old - 4) (cidf displacement free busy) }
+    ensures { out.new ≡ with_bytes out.old (length out.old - 4) (cidf displacement free busy) }
 {
     let at = out.len() - 4;
     let field = if busy { free + 32_768 } else { free };
@@ -117,14 +124,14 @@ pub fn put_cidf(out: &mut [u8], displacement: usize, free: usize, busy: bool)
 }
 
 /// Whether a record goes on with a run.
-pub fn goes_on(live: bool, length: u16, run_length: u16, run_count: usize) -> bool
+pub(crate) fn goes_on(live: bool, length: u16, run_length: u16, run_count: usize) -> bool
     ensures { IsTrue result ↔ (IsTrue live × (0 < run_count) × (run_length ≡ length)) }
 {
     live && run_count > 0 && run_length == length
 }
 
 /// How many records a run begins with, if a live one begins it.
-pub fn run_started(form: Form, live: bool) -> usize
+pub(crate) fn run_started(form: Form, live: bool) -> usize
     ensures { result ≡ run_started form live }
 {
     match (form, live) {

@@ -8,7 +8,7 @@ ghost use Rattle.vr_ci.specs.Reading.{AreLent, IsShown, IsNextBatch, value_in, m
 use std::marker::Model;
 
 /// The records that are left of an RDF or pair, and where it begins.
-#[derive(Clone, Copy, Debug, PartialEq, Eq)]
+#[derive(Clone, Copy, Debug)]
 struct Batch {
     end: usize,
     left: usize,
@@ -16,7 +16,8 @@ struct Batch {
     live: bool,
 }
 
-/// Records with their live marks, from the front of a block. Contracts see the items that are still to come.
+/// Records with their live marks, from the left end of a block. Contracts see the items that are still
+/// to come.
 #[derive(Debug, Drop)]
 pub struct Records<'a> {
     bytes: &'a [u8],
@@ -42,7 +43,8 @@ impl<'a> Records<'a> {
     /// The records of a block whose RDFs begin at `low`.
     pub(crate) fn of(bytes: &'a [u8], low: usize) -> Records<'a>
         requires { (count : ℕ) × IsShown bytes.now low count }
-        ensures { (shape : Shape) (busy : Bool) → result ≡ (value_in bytes.now low shape busy).items }
+        ensures { (shape : Shape) (busy : Bool)
+            → result ≡ (value_in bytes.now low shape busy).items }
     {
         Records {
             bytes,
@@ -82,7 +84,8 @@ impl<'a> Iterator for Records<'a> {
 /// The batch with records left that the next record is of.
 fn batch_from(bytes: &[u8], low: usize, batch: Batch) -> Option<Batch>
     requires { AreLent bytes.now low batch.end }
-    ensures { MatchOption result (marks_left bytes.now low batch ≡ []) (IsNextBatch bytes.now low batch) }
+    ensures { MatchOption result (marks_left bytes.now low batch ≡ [])
+        (IsNextBatch bytes.now low batch) }
 {
     if batch.left > 0 {
         return Some(batch);

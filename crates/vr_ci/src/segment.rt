@@ -1,6 +1,7 @@
 //! Writing a segment of a spanned record.
 
-ghost use Rattle.std.specs.Prelude.{◌≡◌, ◌+◌, ◌-◌, ◌<◌, ◌≤◌, ◌↔◌, ◌⊎◌, [], ◌∷◌, length, IsErr, OnOk, OnErr, IfErr};
+ghost use Rattle.std.specs.Prelude.{◌≡◌, ◌+◌, ◌-◌, ◌<◌, ◌≤◌, ◌↔◌, ◌⊎◌, [], ◌∷◌, length, IsErr};
+ghost use Rattle.std.specs.Prelude.{OnOk, OnErr, IfErr};
 ghost use Rattle.vr_ci_match.specs.declared.form.Shape.TheVariants as shapes;
 ghost use Rattle.vr_types.specs.BlockSize.{IsBlockSize};
 ghost use Rattle.vr_ci.specs.Interval.{IsInterval};
@@ -10,11 +11,11 @@ use crate::no_room::NoRoom;
 use crate::put::{put_cidf, put_item, put_rdf, put_zeros};
 use vr_ci_match::{Form, Piece, Rdf};
 
-/// Writes a segment of a spanned record, with the record's update number, into a block, whatever it held
-/// before. Of a withdrawn record the length alone is kept.
+/// Writes a segment of a spanned record, with the record's update number, into a block, whatever it
+/// held before. Of a withdrawn record the length alone is kept.
 ///
-/// `NoRoom` comes exactly where there are no bytes, or more than the block's size less 10. Nothing is
-/// changed then.
+/// `NoRoom` comes exactly where there are no bytes, or more than the block's size less 10. Nothing
+/// is changed then.
 pub fn write_segment(
     piece: Piece,
     number: u16,
@@ -28,9 +29,15 @@ pub fn write_segment(
     requires fills { Fills piece (length out.old) (length bytes.now) }
     // It is a segment in either form.
     ensures ok { (form : Form) → OnOk result (IsInterval form out.new
-        (record { shape = shapes.Segment piece number; items = written bytes.now live ∷ []; busy = busy })) }
-    ensures full { IsErr result ↔ ((length bytes.now ≡ 0) ⊎ (length out.old - 10 < length bytes.now)) }
-    ensures room { IfErr result (λ e. (e.need ≡ length bytes.now) × (e.free ≡ length out.old - 10)) }
+        (record {
+          shape = shapes.Segment piece number;
+          items = written bytes.now live ∷ [];
+          busy = busy;
+        })) }
+    ensures full { IsErr result ↔
+        ((length bytes.now ≡ 0) ⊎ (length out.old - 10 < length bytes.now)) }
+    ensures room { IfErr result
+        (λ e. (e.need ≡ length bytes.now) × (e.free ≡ length out.old - 10)) }
     ensures err { OnErr result (out.new ≡ out.old) }
 {
     let need = bytes.len();

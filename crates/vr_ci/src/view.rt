@@ -1,4 +1,4 @@
-//! A control interval that lends its records.
+//! A control interval whose records are borrowed from its block.
 
 ghost use Rattle.std.specs.Prelude.{◌≡◌, ◌≤◌, ◌<◌, length, map, slice_get, IfOk, IfErr, ℕ};
 
@@ -8,8 +8,8 @@ use std::marker::Model;
 use vr_ci_match::{CiFault, Form, Found, Shape, match_block};
 use vr_types::is_block_size;
 
-/// A block that is a control interval. Contracts see its value: shape, items and busy flag. A segment is
-/// one item, and an end of file has none.
+/// A block that is a control interval. Contracts see its value: shape, items and busy flag. A
+/// segment is one item, and an end of file has none.
 #[derive(Debug, Drop)]
 pub struct CiView<'a> {
     bytes: &'a [u8],
@@ -36,13 +36,15 @@ impl<'a> CiView<'a> {
     ghost use Rattle.vr_ci_match.specs.Fault.{IsFirstFault};
     ghost use Rattle.vr_ci.specs.Reading.{CountFits, IsView, value_in};
 
-    /// Reads a block in one pass. It answers Ok exactly for the control intervals of the form, and otherwise
-    /// the first fault. The form says how records are spelled; segments and an end of file are the same in both.
+    /// Reads a block in one pass. It answers Ok exactly for the control intervals of the form, and
+    /// otherwise the first fault. The form says how records are spelled; segments and an end of
+    /// file are the same in both.
     pub fn read(form: Form, bytes: &'a [u8]) -> Result<CiView<'a>, CiFault>
         // What is read is the block's value.
         ensures ok { IfOk result (IsInterval form bytes.now) }
         // A block that is refused has none.
-        ensures only { IfErr result (λ fault. (value : Interval) → IsInterval form bytes.now value → ⊥) }
+        ensures only { IfErr result
+            (λ fault. (value : Interval) → IsInterval form bytes.now value → ⊥) }
         // Which fault it is, and where.
         ensures fault { IfErr result (IsFirstFault form bytes.now) }
     {
@@ -91,7 +93,8 @@ impl<'a> CiView<'a> {
         self.count
     }
 
-    /// The bytes of item `i`, lent out of the block. Items before it are gone over; `iter` goes over all.
+    /// The bytes of item `i`, borrowed from the block. It walks over the items before it; `iter` visits
+    /// over all.
     pub fn item(&self, i: usize) -> &'a [u8]
         requires { i < length self.now.items }
         ensures { slice_get (map bytes_of self.now.items) i ≡ Some result.now }
@@ -113,7 +116,8 @@ impl<'a> CiView<'a> {
         }
     }
 
-    /// The items with their live marks, in order, at a constant cost for each: those that `item` and `live` give.
+    /// The items with their live marks, in order, at a constant cost for each: those that `item`
+    /// and `live` give.
     pub fn iter(&self) -> Records<'a>
         ensures { result ≡ self.now.items }
     {

@@ -1,8 +1,7 @@
 //! Control intervals of records, found without looking for the fault of a block that is none.
 
-ghost use Rattle.std.specs.Prelude.{
-    ◌≡◌, ◌+◌, ◌-◌, ◌*◌, ◌^◌, ◌<◌, ◌≤◌, ◌↔◌, ℕ, List, ◌∷◌, length, drop, take, replicate, true, false, IsTrue, IfSome
-};
+ghost use Rattle.std.specs.Prelude.{◌≡◌, ◌+◌, ◌-◌, ◌*◌, ◌^◌, ◌<◌, ◌≤◌, ◌↔◌, ℕ, List, ◌∷◌, length};
+ghost use Rattle.std.specs.Prelude.{drop, take, replicate, true, false, IsTrue, IfSome};
 ghost use Rattle.vr_ci_match.specs.declared.rdf.Rdf.TheVariants.{Single, Run};
 ghost use Rattle.vr_types.specs.BlockSize.{IsBlockSize};
 ghost use Rattle.vr_ci_match.specs.Rdf.{two_bytes, rdf_bytes};
@@ -13,8 +12,8 @@ ghost use Rattle.vr_ci.specs.Walk.{MayStand, HasRoom, IsWalked};
 use vr_ci_match::{Cidf, Form, Found, Shape, slots};
 
 /// How far the RDFs of a block were walked, from the right.
-#[derive(Clone, Copy, Debug, PartialEq, Eq)]
-pub struct Walk {
+#[derive(Clone, Copy)]
+pub(crate) struct Walk {
     /// Where the RDF or pair begins that was read last.
     pub end: usize,
     /// How many bytes the records have.
@@ -25,9 +24,9 @@ pub struct Walk {
     pub run: u16,
 }
 
-/// What the block holds, if it is a control interval of records. Where it is none, or one of another
-/// shape, there is no answer: then `match_block` looks at it more closely.
-pub fn records_found(form: Form, bytes: &[u8]) -> Option<Found>
+/// What the block holds, if it is a control interval of records. Where it is none, or one of
+/// another shape, there is no answer: then `match_block` looks at it more closely.
+pub(crate) fn records_found(form: Form, bytes: &[u8]) -> Option<Found>
     requires { IsBlockSize (length bytes.now) }
     ensures { IfSome result (IsFound form bytes.now) }
 {
@@ -52,8 +51,8 @@ pub fn records_found(form: Form, bytes: &[u8]) -> Option<Found>
     })
 }
 
-/// All RDFs from where the CIDF says that they begin, if they are of records that a block of the form may have.
-/// The walk is inlined for each form, so that its loop does not ask which one it is.
+/// All RDFs from where the CIDF says that they begin, if they are of records that a block of the
+/// form may have. The walk is inlined for each form, so that its loop does not ask which one it is.
 fn walk_of(form: Form, bytes: &[u8], low: usize) -> Option<Walk>
     requires size { IsBlockSize (length bytes.now) }
     requires low { low ≡ free_end bytes.now }

@@ -1,6 +1,7 @@
 //! Writing a control interval into a block.
 
-ghost use Rattle.std.specs.Prelude.{◌≡◌, ◌+◌, ◌-◌, ◌*◌, ◌<◌, ◌≤◌, ◌↔◌, Bool, ℕ, List, [], ◌∷◌, ◌++◌, length, IsErr, OnOk, OnErr, IfErr};
+ghost use Rattle.std.specs.Prelude.{◌≡◌, ◌+◌, ◌-◌, ◌*◌, ◌<◌, ◌≤◌, ◌↔◌, Bool, ℕ, List, [], ◌∷◌};
+ghost use Rattle.std.specs.Prelude.{◌++◌, length, IsErr, OnOk, OnErr, IfErr};
 ghost use Rattle.vr_ci_match.specs.declared.form.Shape.TheVariants as shapes;
 ghost use Rattle.vr_types.specs.BlockSize.{IsBlockSize};
 
@@ -8,7 +9,8 @@ use crate::no_room::NoRoom;
 use crate::put::{extend_run, goes_on, put_cidf, put_item, put_rdf, put_zeros, run_started};
 use vr_ci_match::{Form, Rdf};
 
-/// Writes records into a block, one behind the other. The block is a control interval once `end` is called.
+/// Writes records into a block, one after the other. The block is a control interval once `end` is
+/// called.
 #[derive(Drop)]
 pub struct CiWriter<'a> {
     out: &'a mut [u8],
@@ -28,7 +30,8 @@ pub struct CiWriter<'a> {
 
 impl<'a> CiWriter<'a> {
     ghost use Rattle.vr_ci.specs.Interval.{Item, IsInterval, room};
-    ghost use Rattle.vr_ci.specs.Writer.{Holds, IsSlotLength, IsItemLength, IsComplete, written, size_of, buffer_of, form_of, block_of, added_of};
+    ghost use Rattle.vr_ci.specs.Writer.{Holds, IsSlotLength, IsItemLength, IsComplete, written};
+    ghost use Rattle.vr_ci.specs.Writer.{size_of, buffer_of, form_of, block_of, added_of};
 
     /// Begins a control interval in a block, whatever it held before.
     pub fn begin(form: Form, out: &'a mut [u8]) -> CiWriter<'a>
@@ -52,10 +55,11 @@ impl<'a> CiWriter<'a> {
         }
     }
 
-    /// Adds a record, or the next slot. Of a withdrawn record and an empty slot the length alone is kept.
+    /// Adds a record, or the next slot. Of a withdrawn record and an empty slot the length alone is
+    /// kept.
     ///
-    /// `NoRoom` comes exactly where the records would need more room than the block has: three bytes for
-    /// each beside its own. Nothing is changed then.
+    /// `NoRoom` comes exactly where the records would need more room than the block has: three
+    /// bytes for each beside its own. Nothing is changed then.
     pub fn add(&mut self, item: &[u8], live: bool) -> Result<(), NoRoom>
         requires { IsItemLength (form_of self.old) (length item.now) }
         ensures ok { (items : List Item) → Holds self.old items
@@ -63,9 +67,12 @@ impl<'a> CiWriter<'a> {
         ensures full { (items : List Item) → Holds self.old items
             → (IsErr result ↔ (size_of self.old - 4 < room items + (length item.now + 3))) }
         ensures room { (items : List Item) → Holds self.old items
-            → IfErr result (λ e. (e.need ≡ length item.now + 3) × (e.free ≡ size_of self.old - 4 - room items)) }
-        ensures err { (items : List Item) → Holds self.old items → OnErr result (Holds self.new items) }
-        ensures untouched { OnErr result ((block_of self.new ≡ block_of self.old) × (added_of self.new ≡ added_of self.old)) }
+            → IfErr result (λ e. (e.need ≡ length item.now + 3)
+            × (e.free ≡ size_of self.old - 4 - room items)) }
+        ensures err { (items : List Item) → Holds self.old items
+            → OnErr result (Holds self.new items) }
+        ensures untouched { OnErr result
+            ((block_of self.new ≡ block_of self.old) × (added_of self.new ≡ added_of self.old)) }
         ensures count { OnOk result (added_of self.new ≡ added_of self.old + 1) }
         ensures form { form_of self.new ≡ form_of self.old }
         ensures size { size_of self.new ≡ size_of self.old }
@@ -93,12 +100,13 @@ impl<'a> CiWriter<'a> {
         Ok(())
     }
 
-    /// Ends the control interval: fills the free space with zeros and writes the CIDF. The block is then the
-    /// one of the items that were added.
+    /// Ends the control interval: fills the free space with zeros and writes the CIDF. The block is
+    /// then the one of the items that were added.
     pub fn end(self, busy: bool)
         requires { IsComplete self }
         ensures interval { (items : List Item) → Holds self.entry items
-            → IsInterval (form_of self.entry) self.exit.0.now (record { shape = shapes.Records; items = items; busy = busy }) }
+            → IsInterval (form_of self.entry) self.exit.0.now
+            (record { shape = shapes.Records; items = items; busy = busy }) }
         ensures size { length self.exit.0.now ≡ size_of self.entry }
     {
         let CiWriter {

@@ -1,5 +1,8 @@
--- Why a block is no control interval: the first cause, and where it stands. These rules are this project's own.
-use Rattle.std.specs.Prelude.{◌≡◌, ◌≢◌, ℕ, ◌+◌, ◌-◌, ◌*◌, ◌%◌, ◌<◌, ◌≤◌, ◌⊎◌, Bool, true, false, if◌then◌else◌, nat_le, List, [], ◌∷◌, ◌++◌, length, take, drop, map, replicate, slice_index, bit_and}
+-- Why a block is not a control interval: the first cause, and where it is. These rules are this
+-- project's own.
+use Rattle.std.specs.Prelude.{◌≡◌, ◌≢◌, ℕ, ◌+◌, ◌-◌, ◌*◌, ◌%◌, ◌<◌, ◌≤◌, ◌⊎◌, Bool, true, false}
+use Rattle.std.specs.Prelude.{if◌then◌else◌, nat_le, List, [], ◌∷◌, ◌++◌, length, take, drop, map}
+use Rattle.std.specs.Prelude.{replicate, slice_index, bit_and}
 use Rattle.vr_ci_match.specs.declared.form.Form.{Form}
 use Rattle.vr_ci_match.specs.declared.form.Form.TheVariants.{Plain, Slots}
 use Rattle.vr_ci_match.specs.declared.form.Piece.TheVariants.{First, Inner, Last}
@@ -52,7 +55,8 @@ pub record StandFrom (form : Form) (block : List ℕ) (rdfs : List Rdf) (at : �
   pub high : at ≤ cidf_at block
   pub bytes : drop at (take (cidf_at block) block) ≡ control rdfs
 
--- The leftmost byte of what ends there: an RDF with X'40' is paired with the one to its left, if there is one.
+-- The leftmost byte of what ends there: an RDF with X'40' is paired with the one to its left, if
+-- there is one.
 abbrev pub IsUnit : ℕ → List ℕ → ℕ → ℕ → Type 0
 IsUnit low block end at =
     ((at + 6 ≡ end) × (low ≤ at) × (bit_and (slice_index block (end - 3)) 64 ≢ 0))
@@ -86,11 +90,13 @@ slotted len (Run n count) = Run n count
 slotted len (Segment piece live number n) = Segment piece live number n
 
 abbrev pub slots_of : ℕ → ℕ → List Rdf → List Rdf
-slots_of size len rdfs = take (slots_in size len) (map (slotted len) rdfs ++ replicate (slots_in size len) (Single false len))
+slots_of size len rdfs = take (slots_in size len) (map (slotted len) rdfs
+    ++ replicate (slots_in size len) (Single false len))
 
 -- The RDFs of the block that is meant: a slot that has none is empty.
 abbrev pub meant : Form → ℕ → List Rdf → List Rdf
-meant form size (Segment piece live number n ∷ rdfs) = filled size (Segment piece live number n) ∷ []
+meant form size (Segment piece live number n ∷ rdfs) =
+    filled size (Segment piece live number n) ∷ []
 meant Plain size rdfs = rdfs
 meant (Slots len) size rdfs = slots_of size len rdfs
 
@@ -103,7 +109,8 @@ is_live (Segment piece live number n) = live
 abbrev pub masked : List Rdf → List ℕ → List ℕ
 masked [] bytes = []
 masked (r ∷ rdfs) bytes =
-    (if is_live r then take (span r) bytes else replicate (span r) 0) ++ masked rdfs (drop (span r) bytes)
+    (if is_live r then take (span r) bytes else replicate (span r) 0)
+    ++ masked rdfs (drop (span r) bytes)
 
 -- the block that the RDFs, the records' bytes and the busy flag describe
 abbrev pub described : Form → List ℕ → List Rdf → List ℕ
@@ -151,7 +158,7 @@ HasWrongLengths form block rdfs at =
     DifferFirst block (described form block rdfs) at
     ⊎ ((block ≡ described form block rdfs) × IsRoomPassed form (length block) rdfs at)
 
--- the size and the CIDF are right, and the block is no end of file
+-- the size and the CIDF are right, and the block is not an end of file
 pub record HasControl (block : List ℕ) : Type 0 where
   pub size : IsBlockSize (length block)
   pub sound : IsCidfSound block
@@ -164,4 +171,5 @@ IsFirstFault form block (Cidf at) =
     IsBlockSize (length block) × (IsCidfSound block → ⊥) × (at ≡ cidf_at block)
 IsFirstFault form block (Chain at) = HasControl block × IsBroken form block at
 IsFirstFault form block (Lengths at) =
-    HasControl block × ((rdfs : List Rdf) × IsWhole form block rdfs × HasWrongLengths form block rdfs at)
+    HasControl block × ((rdfs : List Rdf) × IsWhole form block rdfs
+    × HasWrongLengths form block rdfs at)

@@ -1,6 +1,8 @@
--- How a block is laid out: records from its left end, zeros after them, RDFs from right to left and the CIDF in
--- the last four bytes (DFSMS Using Data Sets, "Control interval format"). Zero free space is this project's own.
-use Rattle.std.specs.Prelude.{ℕ, ◌+◌, ◌-◌, ◌/◌, Bool, if◌then◌else◌, List, ◌++◌, length, take, replicate}
+-- How a block is laid out: records from its left end, zeros after them, RDFs from right to left and
+-- the CIDF in the last four bytes (DFSMS Using Data Sets, "Control interval format"). Zero free
+-- space is this project's own.
+use Rattle.std.specs.Prelude.{ℕ, ◌+◌, ◌-◌, ◌/◌, Bool, if◌then◌else◌, List, ◌++◌, length, take}
+use Rattle.std.specs.Prelude.{replicate}
 use Rattle.vr_ci_match.specs.declared.rdf.Rdf.{Rdf}
 use Rattle.vr_ci_match.specs.Rdf.{spans, two_bytes, control}
 
@@ -14,7 +16,8 @@ padded n bytes = take n (bytes ++ replicate n 0)
 
 -- displacement and length of the free space; the high bit is the busy flag
 abbrev pub cidf : ℕ → ℕ → Bool → List ℕ
-cidf displacement free busy = two_bytes displacement ++ two_bytes (free + (if busy then 32768 else 0))
+cidf displacement free busy =
+    two_bytes displacement ++ two_bytes (free + (if busy then 32768 else 0))
 
 -- where the RDFs begin, and the free space ends
 abbrev pub control_at : ℕ → List Rdf → ℕ

@@ -20,8 +20,8 @@ abbrev pub slot_length : Form → ℕ
 slot_length Plain = 0
 slot_length (Slots len) = len
 
--- Where the place of records and free space ends: plain records have the RDFs that the CIDF leaves place for,
--- and each slot has one.
+-- Where the place of records and free space ends: plain records have the RDFs that the CIDF leaves
+-- place for, and each slot has one.
 abbrev pub records_end : Form → ℕ → ℕ → ℕ
 records_end Plain size low = size - 4 - (size - 4 - low) / 3 * 3
 records_end (Slots len) size low = size - 4 - 3 * slots_in size len
@@ -32,11 +32,14 @@ data_end form size low (shapes.Segment piece number) = size - 10
 data_end form size low shapes.Records = records_end form size low
 data_end form size low shapes.EndOfFile = records_end form size low
 
--- The length that an RDF is to say with so many records to its right. One that is of no slot of the block has none.
+-- The length that an RDF is to say with that many records to its right. One that is of no slot of the
+-- block has none.
 abbrev pub length_meant : Form → ℕ → ℕ → Rdf → Option ℕ
-length_meant form size before (Segment piece live number n) = Some (record_length (filled size (Segment piece live number n)))
+length_meant form size before (Segment piece live number n) =
+    Some (record_length (filled size (Segment piece live number n)))
 length_meant Plain size before r = Some (record_length r)
-length_meant (Slots len) size before r = if nat_lt before (slots_in size len) then Some len else None
+length_meant (Slots len) size before r =
+    if nat_lt before (slots_in size len) then Some len else None
 
 -- the layout of a block of this form and size whose RDFs begin there
 pub record IsLayout (form : Form) (size start : ℕ) (layout : Layout) : Type 0 where

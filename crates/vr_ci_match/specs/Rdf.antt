@@ -1,7 +1,8 @@
 -- Record definition fields: what they say, how they are spelled, and which may stand side by side.
--- That a block has RDFs of three bytes, from right to left, is DFSMS Using Data Sets, "Control interval
--- format"; the bits, the pairing and the bytes of segments are this project's own profile.
-use Rattle.std.specs.Prelude.{◌≢◌, ℕ, ◌+◌, ◌*◌, ◌/◌, ◌%◌, ◌<◌, ◌≤◌, Bool, true, false, if◌then◌else◌, List, [], ◌∷◌, ◌++◌, Option, Some, None, replicate}
+-- That a block has RDFs of three bytes, from right to left, is DFSMS Using Data Sets, "Control
+-- interval format"; the bits, the pairing and the bytes of segments are this project's own profile.
+use Rattle.std.specs.Prelude.{◌≢◌, ℕ, ◌+◌, ◌*◌, ◌/◌, ◌%◌, ◌<◌, ◌≤◌, Bool, true, false}
+use Rattle.std.specs.Prelude.{if◌then◌else◌, List, [], ◌∷◌, ◌++◌, Option, Some, None, replicate}
 use Rattle.vr_ci_match.specs.declared.form.Form.{Form}
 use Rattle.vr_ci_match.specs.declared.form.Form.TheVariants.{Plain, Slots}
 use Rattle.vr_ci_match.specs.declared.form.Piece.{Piece}
@@ -52,7 +53,8 @@ segment_bits First = 16
 segment_bits Last = 32
 segment_bits Inner = 48
 
--- The spelling. X'40' pairs an RDF with the one to its left, and X'08' marks a count or an update number.
+-- The spelling. X'40' pairs an RDF with the one to its left, and X'08' marks a count or an update
+-- number.
 abbrev pub rdf_bytes : Rdf → List ℕ
 rdf_bytes (Single live n) = withdrawn_bit live ∷ two_bytes n
 rdf_bytes (Run n count) = 8 ∷ two_bytes count ++ 64 ∷ two_bytes n
@@ -83,7 +85,8 @@ run_length (Single false n) = None
 run_length (Run n count) = Some n
 run_length (Segment piece live number n) = None
 
--- Runs are maximal: live records of one length beside each other share one pair. Slots have no pairs.
+-- Runs are maximal: live records of one length beside each other share one pair. Slots have no
+-- pairs.
 abbrev pub AreApart : Form → Option ℕ → Option ℕ → Type 0
 AreApart Plain (Some n) (Some m) = n ≢ m
 AreApart Plain (Some n) None = Unit {0}
@@ -106,7 +109,8 @@ IsOfForm (Slots length) (Segment piece live number n) = Unit {0}
 abbrev pub MayFollow : Form → Option Rdf → Rdf → Type 0
 MayFollow form None r = IsOfForm form r
 MayFollow form (Some before) r =
-    IsOfForm form r × IsOfRecords before × IsOfRecords r × AreApart form (run_length before) (run_length r)
+    IsOfForm form r × IsOfRecords before × IsOfRecords r
+    × AreApart form (run_length before) (run_length r)
 
 -- The RDFs, from the right, of some block of the form, whatever its size and the slots' length.
 abbrev pub IsChainFrom : Form → Option Rdf → List Rdf → Type 0

@@ -1,14 +1,16 @@
-//! The CIDF: where the free space of a block lies, and whether it is busy.
+//! The CIDF: where the free space of a block is, and whether it is busy.
 
-ghost use Rattle.std.specs.Prelude.{◌≡◌, ◌+◌, ◌-◌, ◌*◌, ◌^◌, ◌<◌, ◌≤◌, ◌↔◌, Bool, IsTrue, MatchOption, length, drop, take, replicate};
+ghost use Rattle.std.specs.Prelude.{◌≡◌, ◌+◌, ◌-◌, ◌*◌, ◌^◌, ◌<◌, ◌≤◌, ◌↔◌, Bool, IsTrue};
+ghost use Rattle.std.specs.Prelude.{MatchOption, length, drop, take, replicate};
 ghost use Rattle.vr_ci_match.specs.Compare.{Compares};
 ghost use Rattle.vr_ci_match.specs.Laid.{cidf};
-ghost use Rattle.vr_ci_match.specs.Fault.{displacement, free_length, free_field, is_busy, cidf_at, HasZeroCidf};
+ghost use Rattle.vr_ci_match.specs.Fault.{displacement, free_length, free_field, is_busy, cidf_at};
+ghost use Rattle.vr_ci_match.specs.Fault.{HasZeroCidf};
 
 use crate::compare::number_apart;
 
 /// The control interval definition field.
-#[derive(Clone, Copy, Debug, PartialEq, Eq)]
+#[derive(Clone, Copy, Debug)]
 pub struct Cidf {
     /// Where the free space begins.
     pub displacement: usize,
@@ -35,19 +37,21 @@ impl Cidf {
     }
 
     /// Whether it is four zero bytes.
-    pub fn is_zero(self) -> bool
-        ensures { IsTrue result ↔ ((self.displacement ≡ 0) × (self.free ≡ 0) × (IsTrue self.busy → ⊥)) }
+    pub(crate) fn is_zero(self) -> bool
+        ensures { IsTrue result ↔
+            ((self.displacement ≡ 0) × (self.free ≡ 0) × (IsTrue self.busy → ⊥)) }
     {
         self.displacement == 0 && self.free == 0 && !self.busy
     }
 
-    /// The first byte in which it differs from the CIDF of this free space with its own busy flag, where it stands
-    /// at `at`.
-    pub fn difference(self, at: usize, displacement: usize, free: usize) -> Option<usize>
+    /// The first byte in which it differs from the CIDF of this free space with its own busy flag,
+    /// where it stands at `at`.
+    pub(crate) fn difference(self, at: usize, displacement: usize, free: usize) -> Option<usize>
         requires place { at + 3 < 2 ^ 64 }
         requires own { self.free < 2 ^ 32 }
         requires small { free < 2 ^ 32 }
-        ensures { Compares at (cidf self.displacement self.free self.busy) (cidf displacement free self.busy) result }
+        ensures { Compares at (cidf self.displacement self.free self.busy)
+            (cidf displacement free self.busy) result }
     {
         if let Some(at) = number_apart(at, self.displacement, displacement) {
             return Some(at);

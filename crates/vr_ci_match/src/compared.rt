@@ -1,6 +1,7 @@
 //! How a block compares with what its RDFs describe.
 
-ghost use Rattle.std.specs.Prelude.{◌≡◌, ◌+◌, ◌-◌, ◌*◌, ◌^◌, ◌<◌, ◌≤◌, ℕ, Bool, false, List, [], ◌∷◌, ◌++◌, length, take, drop, replicate, IsSome};
+ghost use Rattle.std.specs.Prelude.{◌≡◌, ◌+◌, ◌-◌, ◌*◌, ◌^◌, ◌<◌, ◌≤◌, ℕ, Bool, false, List, []};
+ghost use Rattle.std.specs.Prelude.{◌∷◌, ◌++◌, length, take, drop, replicate, IsSome};
 ghost use Rattle.vr_ci_match.specs.declared.rdf.Rdf.TheVariants.{Single};
 ghost use Rattle.vr_ci_match.specs.Rdf.{control};
 ghost use Rattle.vr_ci_match.specs.Compare.{Compares};
@@ -12,8 +13,8 @@ use crate::compare::{empty_difference, first_nonzero, wrong_byte};
 use crate::rdf::Rdf;
 
 /// What is wrong with the RDFs that were read, and with the bytes of their records.
-#[derive(Clone, Copy, Debug, PartialEq, Eq)]
-pub struct Compared {
+#[derive(Clone, Copy)]
+pub(crate) struct Compared {
     /// How many bytes the records have.
     pub span: usize,
     /// Where the RDFs begin.
@@ -26,9 +27,10 @@ pub struct Compared {
 
 impl Compared {
     /// Nothing is compared yet in a block of this size.
-    pub fn new(size: usize) -> Compared
+    pub(crate) fn new(size: usize) -> Compared
         requires { 4 ≤ size }
-        ensures compared { (block : List ℕ) (limit : ℕ) → length block ≡ size → IsCompared block limit [] result }
+        ensures compared { (block : List ℕ) (limit : ℕ) → length block ≡ size
+            → IsCompared block limit [] result }
         ensures span { result.span ≡ 0 }
     {
         Compared {
@@ -39,16 +41,24 @@ impl Compared {
         }
     }
 
-    /// Compares the RDF or pair whose leftmost byte is at `at`, which is to say this length, and its records
-    /// up to `limit`.
-    pub fn with(self, bytes: &[u8], limit: usize, at: usize, rdf: Rdf, wanted: usize) -> Compared
+    /// Compares the RDF or pair whose leftmost byte is at `at`, which is to say this length, and
+    /// its records up to `limit`.
+    pub(crate) fn with(
+        self,
+        bytes: &[u8],
+        limit: usize,
+        at: usize,
+        rdf: Rdf,
+        wanted: usize,
+    ) -> Compared
         requires limit { limit ≤ length bytes.now }
         requires size { 4 ≤ length bytes.now }
         requires place { at < 2 ^ 32 }
         requires span { self.span < 2 ^ 48 }
         requires small { wanted < 65536 }
         ensures compared { (rdfs meant : List Rdf) → IsCompared bytes.now limit meant self
-            → drop at (take (length bytes.now - 4) bytes.now) ≡ control (rdfs ++ rdf ∷ []) → at ≤ length bytes.now - 4
+            → drop at (take (length bytes.now - 4) bytes.now) ≡ control (rdfs ++ rdf ∷ [])
+            → at ≤ length bytes.now - 4
             → length (control meant) ≡ length (control rdfs)
             → IsCompared bytes.now limit (meant ++ with_length rdf wanted ∷ []) result }
         ensures span { result.span ≤ self.span + 2 ^ 32 }
@@ -68,8 +78,9 @@ impl Compared {
         }
     }
 
-    /// The first byte before `limit` that differs from the records' bytes and the zeros behind them.
-    pub fn data_difference(self, bytes: &[u8], limit: usize) -> Option<usize>
+    /// The first byte before `limit` that differs from the records' bytes and the zeros after
+    /// them.
+    pub(crate) fn data_difference(self, bytes: &[u8], limit: usize) -> Option<usize>
         requires { limit ≤ length bytes.now }
         ensures kept { IsSome self.wrong → result ≡ self.wrong }
         ensures data_wrong { (rdfs : List Rdf) → IsCompared bytes.now limit rdfs self
@@ -81,9 +92,9 @@ impl Compared {
         first_nonzero(bytes, self.span.min(limit), limit)
     }
 
-    /// The first byte from `limit` up to the CIDF that differs from the RDFs, with those of so many empty slots
-    /// to their left.
-    pub fn control_difference(
+    /// The first byte from `limit` up to the CIDF that differs from the RDFs, with those of that many
+    /// empty slots to their left.
+    pub(crate) fn control_difference(
         self,
         bytes: &[u8],
         limit: usize,
@@ -92,8 +103,10 @@ impl Compared {
     ) -> Option<usize>
         requires size { 4 ≤ length bytes.now }
         requires within { limit + 3 * empty ≤ length bytes.now }
-        ensures { (rdfs : List Rdf) → IsCompared bytes.now limit rdfs self → limit + 3 * empty ≡ control_at (length bytes.now) rdfs
-            → Compares limit (drop limit (take (length bytes.now - 4) bytes.now)) (control (rdfs ++ replicate empty (Single false slot_length))) result }
+        ensures { (rdfs : List Rdf) → IsCompared bytes.now limit rdfs self
+            → limit + 3 * empty ≡ control_at (length bytes.now) rdfs
+            → Compares limit (drop limit (take (length bytes.now - 4) bytes.now))
+            (control (rdfs ++ replicate empty (Single false slot_length))) result }
     {
         if let Some(at) = empty_difference(bytes, limit, empty, slot_length) {
             return Some(at);

@@ -8,8 +8,8 @@ use crate::form::{Form, Piece, slots};
 use crate::rdf::Rdf;
 
 /// What a block's form, size and CIDF say of its places.
-#[derive(Clone, Copy, Debug, PartialEq, Eq)]
-pub struct Layout {
+#[derive(Clone, Copy)]
+pub(crate) struct Layout {
     /// Where the free space ends, and the RDFs begin, by the CIDF.
     pub low: usize,
     /// How many slots there are; none in form `Plain`.
@@ -20,7 +20,7 @@ pub struct Layout {
 
 impl Layout {
     /// The layout of a block of this size whose RDFs begin at `low`.
-    pub fn of(form: Form, size: usize, low: usize) -> Layout
+    pub(crate) fn of(form: Form, size: usize, low: usize) -> Layout
         requires size { 4 ≤ size }
         requires low { low ≤ size - 4 }
         ensures { IsLayout form size low result }
@@ -43,9 +43,10 @@ impl Layout {
     }
 
     /// Where the place of records and free space ends in a block whose last RDF is this one.
-    pub fn data_end(self, size: usize, last: Option<Rdf>) -> usize
+    pub(crate) fn data_end(self, size: usize, last: Option<Rdf>) -> usize
         requires { 10 ≤ size }
-        ensures { (form : Form) (low : ℕ) → IsLayout form size low self → result ≡ data_end form size low (shape_by last) }
+        ensures { (form : Form) (low : ℕ) → IsLayout form size low self
+            → result ≡ data_end form size low (shape_by last) }
     {
         match last {
             Some(Rdf::Segment { .. }) => size - 10,
@@ -53,10 +54,18 @@ impl Layout {
         }
     }
 
-    /// The length that an RDF is to say with so many records to its right, unless it is of no slot of the block.
-    pub fn length_meant(self, form: Form, size: usize, before: usize, rdf: Rdf) -> Option<usize>
+    /// The length that an RDF is to say with that many records to its right, unless it is of no slot
+    /// of the block.
+    pub(crate) fn length_meant(
+        self,
+        form: Form,
+        size: usize,
+        before: usize,
+        rdf: Rdf,
+    ) -> Option<usize>
         requires size { (10 ≤ size) × (size ≤ 32768) }
-        ensures meant { (low : ℕ) → IsLayout form size low self → result ≡ length_meant form size before rdf }
+        ensures meant { (low : ℕ) → IsLayout form size low self
+            → result ≡ length_meant form size before rdf }
         ensures small { IfSome result (λ length. length < 65536) }
     {
         match (form, rdf) {

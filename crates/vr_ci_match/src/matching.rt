@@ -1,9 +1,12 @@
 //! What a block holds that its RDFs describe, or its first fault.
 
-ghost use Rattle.std.specs.Prelude.{◌≡◌, ◌≢◌, ◌+◌, ◌-◌, ◌*◌, ◌/◌, ◌^◌, ◌<◌, ◌≤◌, ℕ, List, length, Some, IfOk, IfErr, IfSome, IfNone, MatchOption};
+ghost use Rattle.std.specs.Prelude.{◌≡◌, ◌≢◌, ◌+◌, ◌-◌, ◌*◌, ◌/◌, ◌^◌, ◌<◌, ◌≤◌, ℕ, List, length};
+ghost use Rattle.std.specs.Prelude.{Some, IfOk, IfErr, IfSome, IfNone, MatchOption};
 ghost use Rattle.vr_types.specs.BlockSize.{IsBlockSize};
 ghost use Rattle.vr_ci_match.specs.Rdf.{MayFollow, shape_by};
-ghost use Rattle.vr_ci_match.specs.Fault.{displacement, free_length, free_end, cidf_at, is_busy, HasZeroCidf, IsBroken, IsWhole, IsFirstFault, HasRightLengths, HasWrongLengths};
+ghost use Rattle.vr_ci_match.specs.Fault.{displacement, free_length, free_end, cidf_at, is_busy};
+ghost use Rattle.vr_ci_match.specs.Fault.{HasZeroCidf, IsBroken, IsWhole, IsFirstFault};
+ghost use Rattle.vr_ci_match.specs.Fault.{HasRightLengths, HasWrongLengths};
 ghost use Rattle.vr_ci_match.specs.Layout.{IsLayout};
 ghost use Rattle.vr_ci_match.specs.Tally.{IsTally};
 ghost use Rattle.vr_ci_match.specs.Matched.{IsMatched};
@@ -18,7 +21,7 @@ use crate::tally::Tally;
 use vr_types::is_block_size;
 
 /// What a block was found to hold, and where its RDFs begin.
-#[derive(Clone, Copy, Debug, PartialEq, Eq)]
+#[derive(Clone, Copy, Debug)]
 pub struct Found {
     pub shape: Shape,
     pub count: usize,
@@ -87,14 +90,19 @@ fn end_of_file(form: Form, bytes: &[u8]) -> Result<Found, CiFault>
     }
 }
 
-/// All RDFs from where the CIDF says that they begin, or the first that no block of the form has there.
+/// All RDFs from where the CIDF says that they begin, or the first that no block of the form has
+/// there.
 fn chain_of(form: Form, layout: Layout, bytes: &[u8]) -> Result<Tally, CiFault>
     requires size { IsBlockSize (length bytes.now) }
     requires layout { IsLayout form (length bytes.now) (free_end bytes.now) layout }
     requires fits { free_end bytes.now ≤ cidf_at bytes.now }
-    ensures tally { IfOk result (λ tally. (rdfs : List Rdf) × IsWhole form bytes.now rdfs × IsTally form bytes.now rdfs tally) }
-    ensures bounds { IfOk result (λ tally. (tally.compared.span ≤ 2 ^ 47) × (tally.compared.from ≤ cidf_at bytes.now)) }
-    ensures fault { IfErr result (λ fault. (at : ℕ) × (fault ≡ CiFault.Chain at) × IsBroken form bytes.now at) }
+    ensures tally { IfOk result
+        (λ tally. (rdfs : List Rdf) × IsWhole form bytes.now rdfs
+        × IsTally form bytes.now rdfs tally) }
+    ensures bounds { IfOk result
+        (λ tally. (tally.compared.span ≤ 2 ^ 47) × (tally.compared.from ≤ cidf_at bytes.now)) }
+    ensures fault { IfErr result
+        (λ fault. (at : ℕ) × (fault ≡ CiFault.Chain at) × IsBroken form bytes.now at) }
 {
     let mut tally = Tally::new(bytes.len());
     let mut end = bytes.len() - 4;
@@ -122,8 +130,9 @@ fn rdf_behind(form: Form, before: Option<Rdf>, read: Option<Rdf>) -> Option<Rdf>
     }
 }
 
-/// What is wrong with the lengths: what the RDFs and their records were found to have wrong, and what is looked
-/// at now, which is the bytes and RDF places of slots without an RDF, the free space and the CIDF.
+/// What is wrong with the lengths: what the RDFs and their records were found to have wrong, and
+/// what is looked at now, which is the bytes and RDF places of slots without an RDF, the free space
+/// and the CIDF.
 fn lengths_fault(
     form: Form,
     layout: Layout,
@@ -139,7 +148,8 @@ fn lengths_fault(
     requires free { field.free ≡ free_length bytes.now }
     requires busy { field.busy ≡ is_busy bytes.now }
     ensures { (rdfs : List Rdf) → IsWhole form bytes.now rdfs → IsTally form bytes.now rdfs tally
-        → MatchOption result (HasRightLengths form bytes.now rdfs) (HasWrongLengths form bytes.now rdfs) }
+        → MatchOption result (HasRightLengths form bytes.now rdfs)
+        (HasWrongLengths form bytes.now rdfs) }
 {
     let limit = layout.data_end(bytes.len(), tally.last);
     if let Some(at) = tally.compared.data_difference(bytes, limit) {

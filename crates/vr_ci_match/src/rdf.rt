@@ -1,8 +1,10 @@
 //! Record definition fields: reading one, or two that are paired, and what they say.
 
-ghost use Rattle.std.specs.Prelude.{◌≡◌, ◌≢◌, ◌+◌, ◌^◌, ◌<◌, ◌≤◌, ◌↔◌, ◌-◌, ◌∷◌, ◌++◌, length, drop, take, IsTrue, IfSome, IfNone};
+ghost use Rattle.std.specs.Prelude.{◌≡◌, ◌≢◌, ◌+◌, ◌^◌, ◌<◌, ◌≤◌, ◌↔◌, ◌-◌, ◌∷◌, ◌++◌, length};
+ghost use Rattle.std.specs.Prelude.{drop, take, IsTrue, IfSome, IfNone};
 ghost use Rattle.vr_ci_match.specs.Compare.{Compares};
-ghost use Rattle.vr_ci_match.specs.Rdf.{marks, span, two_bytes, rdf_bytes, IsRdf, MayFollow, run_length, record_length};
+ghost use Rattle.vr_ci_match.specs.Rdf.{marks, span, two_bytes, rdf_bytes, IsRdf, MayFollow};
+ghost use Rattle.vr_ci_match.specs.Rdf.{run_length, record_length};
 ghost use Rattle.vr_ci_match.specs.Tally.{with_length};
 ghost use Rattle.vr_ci_match.specs.Fault.{IsUnit, is_live};
 
@@ -10,7 +12,7 @@ use crate::compare::number_apart;
 use crate::form::{Form, Piece};
 
 /// What one RDF says, or two that are paired.
-#[derive(Clone, Copy, Debug, PartialEq, Eq)]
+#[derive(Clone, Copy, Debug)]
 pub enum Rdf {
     /// One record of this length, live or withdrawn.
     Single {
@@ -33,7 +35,7 @@ pub enum Rdf {
 
 impl Rdf {
     /// How many records it is of.
-    pub fn count(self) -> usize
+    pub(crate) fn count(self) -> usize
         ensures count { result ≡ length (marks self) }
         ensures small { result < 65536 }
     {
@@ -44,7 +46,7 @@ impl Rdf {
     }
 
     /// The length of each of its records.
-    pub fn length(self) -> usize
+    pub(crate) fn length(self) -> usize
         ensures { result ≡ record_length self }
     {
         match self {
@@ -55,7 +57,7 @@ impl Rdf {
     }
 
     /// How many bytes its records have.
-    pub fn span(self) -> usize
+    pub(crate) fn span(self) -> usize
         ensures { result ≡ span self }
     {
         match self {
@@ -65,7 +67,7 @@ impl Rdf {
     }
 
     /// Whether its records are live.
-    pub fn is_live(self) -> bool
+    pub(crate) fn is_live(self) -> bool
         ensures { result ≡ is_live self }
     {
         match self {
@@ -74,9 +76,9 @@ impl Rdf {
         }
     }
 
-    /// The first byte in which it differs from the same RDF or pair with this length, where its leftmost byte is
-    /// at `at`.
-    pub fn length_difference(self, at: usize, wanted: usize) -> Option<usize>
+    /// The first byte in which it differs from the same RDF or pair with this length, where its
+    /// leftmost byte is at `at`.
+    pub(crate) fn length_difference(self, at: usize, wanted: usize) -> Option<usize>
         requires { at < 2 ^ 32 }
         ensures { Compares at (rdf_bytes self) (rdf_bytes (with_length self wanted)) result }
     {
@@ -97,7 +99,7 @@ impl Rdf {
     }
 
     /// Whether it may stand to the left of `before`, or at the right end where there is none.
-    pub fn may_follow(self, form: Form, before: Option<Rdf>) -> bool
+    pub(crate) fn may_follow(self, form: Form, before: Option<Rdf>) -> bool
         ensures { IsTrue result ↔ MayFollow form before self }
     {
         if form != Form::Plain && matches!(self, Rdf::Run { .. }) {
@@ -114,14 +116,16 @@ impl Rdf {
     }
 }
 
-/// Where what ends before `end` begins, and what it says, if some block has it: an RDF with X'40' is paired with
-/// the one to its left, if `low` leaves place for one.
-pub fn unit_before(bytes: &[u8], low: usize, end: usize) -> (usize, Option<Rdf>)
+/// Where what ends before `end` begins, and what it says, if some block has it: an RDF with X'40'
+/// is paired with the one to its left, if `low` leaves place for one.
+pub(crate) fn unit_before(bytes: &[u8], low: usize, end: usize) -> (usize, Option<Rdf>)
     requires place { low + 3 ≤ end }
     requires within { end ≤ length bytes.now }
     ensures place { IsUnit low bytes.now end result.0 }
-    ensures found { IfSome result.1 (λ r. IsRdf r × (take (end - result.0) (drop result.0 bytes.now) ≡ rdf_bytes r)) }
-    ensures none { IfNone result.1 ((r : Rdf) → IsRdf r → take (end - result.0) (drop result.0 bytes.now) ≢ rdf_bytes r) }
+    ensures found { IfSome result.1
+        (λ r. IsRdf r × (take (end - result.0) (drop result.0 bytes.now) ≡ rdf_bytes r)) }
+    ensures none { IfNone result.1
+        ((r : Rdf) → IsRdf r → take (end - result.0) (drop result.0 bytes.now) ≢ rdf_bytes r) }
 {
     let flags = bytes[end - 3];
     let length = u16::from_be_bytes([bytes[end - 2], bytes[end - 1]]);
@@ -151,8 +155,10 @@ fn single_of(flags: u8, length: u16) -> Option<Rdf>
 
 /// A pair: a count or an update number to the left of a length.
 fn pair_of(left: u8, number: u16, right: u8, length: u16) -> Option<Rdf>
-    ensures found { IfSome result (λ r. IsRdf r × (left ∷ two_bytes number ++ right ∷ two_bytes length ≡ rdf_bytes r)) }
-    ensures none { IfNone result ((r : Rdf) → IsRdf r → left ∷ two_bytes number ++ right ∷ two_bytes length ≢ rdf_bytes r) }
+    ensures found { IfSome result
+        (λ r. IsRdf r × (left ∷ two_bytes number ++ right ∷ two_bytes length ≡ rdf_bytes r)) }
+    ensures none { IfNone result
+        ((r : Rdf) → IsRdf r → left ∷ two_bytes number ++ right ∷ two_bytes length ≢ rdf_bytes r) }
 {
     if length == 0 || number == 0 {
         return None;

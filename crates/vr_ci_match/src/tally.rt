@@ -1,6 +1,7 @@
 //! What the reader has found in the RDFs so far.
 
-ghost use Rattle.std.specs.Prelude.{◌≡◌, ◌+◌, ◌-◌, ◌*◌, ◌^◌, ◌<◌, ◌≤◌, ℕ, List, [], ◌∷◌, ◌++◌, length, IsSome, IsNone};
+ghost use Rattle.std.specs.Prelude.{◌≡◌, ◌+◌, ◌-◌, ◌*◌, ◌^◌, ◌<◌, ◌≤◌, ℕ, List, [], ◌∷◌, ◌++◌};
+ghost use Rattle.std.specs.Prelude.{length, IsSome, IsNone};
 ghost use Rattle.vr_ci_match.specs.declared.form.Form.TheVariants.{Plain, Slots};
 ghost use Rattle.vr_ci_match.specs.Rdf.{shape_of};
 ghost use Rattle.vr_ci_match.specs.Fault.{free_end, StandFrom};
@@ -13,8 +14,8 @@ use crate::layout::Layout;
 use crate::rdf::Rdf;
 
 /// What the RDFs read so far say, and what is wrong with it.
-#[derive(Clone, Copy, Debug, PartialEq, Eq)]
-pub struct Tally {
+#[derive(Clone, Copy)]
+pub(crate) struct Tally {
     /// The RDF or pair that was read last.
     pub last: Option<Rdf>,
     /// How many records there are.
@@ -29,9 +30,10 @@ pub struct Tally {
 
 impl Tally {
     /// The tally of no RDF, in a block of this size.
-    pub fn new(size: usize) -> Tally
+    pub(crate) fn new(size: usize) -> Tally
         requires { 4 ≤ size }
-        ensures tally { (form : Form) (block : List ℕ) → length block ≡ size → IsTally form block [] result }
+        ensures tally { (form : Form) (block : List ℕ) → length block ≡ size
+            → IsTally form block [] result }
         ensures zero { (result.count ≡ 0) × (result.compared.span ≡ 0) × (result.room ≡ 0) }
     {
         Tally {
@@ -44,7 +46,7 @@ impl Tally {
     }
 
     /// The tally with one more RDF or pair, whose leftmost byte is at `at`.
-    pub fn with(self, form: Form, layout: Layout, bytes: &[u8], at: usize, rdf: Rdf) -> Tally
+    pub(crate) fn with(self, form: Form, layout: Layout, bytes: &[u8], at: usize, rdf: Rdf) -> Tally
         requires layout { IsLayout form (length bytes.now) (free_end bytes.now) layout }
         requires size { 10 ≤ length bytes.now }
         requires small { length bytes.now ≤ 32768 }
@@ -52,7 +54,8 @@ impl Tally {
         requires count { self.count < 2 ^ 48 }
         requires span { self.compared.span < 2 ^ 48 }
         requires room { self.room < 2 ^ 48 }
-        ensures tally { (rdfs : List Rdf) → StandFrom form bytes.now (rdfs ++ rdf ∷ []) at → IsTally form bytes.now rdfs self
+        ensures tally { (rdfs : List Rdf) → StandFrom form bytes.now (rdfs ++ rdf ∷ []) at
+            → IsTally form bytes.now rdfs self
             → IsTally form bytes.now (rdfs ++ rdf ∷ []) result }
         ensures count { result.count ≤ self.count + 2 ^ 16 }
         ensures span { result.compared.span ≤ self.compared.span + 2 ^ 32 }
@@ -68,8 +71,8 @@ impl Tally {
         }
     }
 
-    /// The comparison with one more RDF or pair. A slot that the block has no place for is not compared:
-    /// the block should not have its RDF.
+    /// The comparison with one more RDF or pair. A slot that the block has no place for is not
+    /// compared: the block should not have its RDF.
     fn compared_with(
         self,
         form: Form,
@@ -83,8 +86,11 @@ impl Tally {
         requires small { length bytes.now ≤ 32768 }
         requires place { at < 2 ^ 32 }
         requires span { self.compared.span < 2 ^ 48 }
-        ensures compared { (rdfs : List Rdf) → StandFrom form bytes.now (rdfs ++ rdf ∷ []) at → IsTally form bytes.now rdfs self
-            → IsCompared bytes.now (data_end form (length bytes.now) (free_end bytes.now) (shape_of (rdfs ++ rdf ∷ [])))
+        ensures compared { (rdfs : List Rdf) → StandFrom form bytes.now (rdfs ++ rdf ∷ []) at
+            → IsTally form bytes.now rdfs self
+            → IsCompared bytes.now
+            (data_end form (length bytes.now) (free_end bytes.now)
+            (shape_of (rdfs ++ rdf ∷ [])))
             (judged form (length bytes.now) (rdfs ++ rdf ∷ [])) result }
         ensures span { result.span ≤ self.compared.span + 2 ^ 32 }
     {
@@ -95,7 +101,8 @@ impl Tally {
         }
     }
 
-    /// The RDF or pair that passes the room, with one at `at`: only plain records have a room of their own.
+    /// The RDF or pair that passes the room, with one at `at`: only plain records have a room of
+    /// their own.
     fn passed_at(self, form: Form, size: usize, room: usize, at: usize) -> Option<usize>
         requires { 4 ≤ size }
         ensures slots { (len : ℕ) → form ≡ Slots len → result ≡ self.passed }

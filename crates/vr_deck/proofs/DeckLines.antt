@@ -9,8 +9,8 @@ use Rattle.vr_text.specs.declared.literal.LiteralFault.{LiteralFault}
 use Rattle.vr_text.specs.declared.literal.LiteralFault.TheVariants.{Memory}
 use Rattle.vr_text.specs.Literal.{IsLiteral, CauseOf}
 use Rattle.vr_text.proofs.CallerLemmas.{literal_has_no_cause}
-use Rattle.vr_deck.specs.Line.{unindented, word, behind_word}
-use Rattle.vr_deck.specs.DeckLine.{Meaning, Nothing, FileOf, PutOf, GetOf, IsDeckLine, Orders, IsKeyword}
+use Rattle.vr_deck.specs.Line.{unindented, word, after_word}
+use Rattle.vr_deck.specs.DeckLine.{Meaning, Nothing, FileOf, PutOf, GetOf, IsDeckLine, Orders, IsKeyword, IsFirstFile}
 
 -- The lines of a deck: what a line says is one thing.
 
@@ -18,25 +18,25 @@ use Rattle.vr_deck.specs.DeckLine.{Meaning, Nothing, FileOf, PutOf, GetOf, IsDec
 All-unindented : (P : ℕ → Type 0) (line : List ℕ) → All P line → All P (unindented line)
 All-unindented P line h = All-drop P _ line h
 
-All-behind_word : (P : ℕ → Type 0) (line : List ℕ) → All P line → All P (behind_word line)
-All-behind_word P line h = All-unindented P _ (All-drop P (length (word line)) line h)
+All-after_word : (P : ℕ → Type 0) (line : List ℕ) → All P line → All P (after_word line)
+All-after_word P line h = All-unindented P _ (All-drop P (length (word line)) line h)
 
 -- and of each character of the operand
 pub All-operand : (P : ℕ → Type 0) (verb line name operand : List ℕ) → Orders verb line name operand → All P line → All P operand
 All-operand P verb line name operand o h =
-    subst (λ (xs : List ℕ). All P xs) o.operand_is (All-behind_word P _ (All-behind_word P _ (All-unindented P line h)))
+    subst (λ (xs : List ℕ). All P xs) o.operand_is (All-after_word P _ (All-after_word P _ (All-unindented P line h)))
 
 -- a line without words says nothing at most
 pub no_meaning_without_words : (line : List ℕ) → ((verb name operand : List ℕ) → Orders verb line name operand → ⊥) → (IsDeckLine line Nothing → ⊥) → (meaning : Meaning) → IsDeckLine line meaning → ⊥
 no_meaning_without_words line none something Nothing h = something h
-no_meaning_without_words line none something (FileOf name) h = none _ _ _ h
+no_meaning_without_words line none something (FileOf name) h = none _ _ _ h.1
 no_meaning_without_words line none something (PutOf name bytes) h = none _ _ _ h.1
 no_meaning_without_words line none something (GetOf name key) h = none _ _ _ h.1
 
 -- a line with these words says what they say, or nothing
-pub no_meaning_of_words : (line verb name operand : List ℕ) → Orders verb line name operand → (IsDeckLine line Nothing → ⊥) → (verb ≡ codes "FILE" → operand ≡ codes "VRM.FIRST" → ⊥) → (verb ≡ codes "PUT" → (bytes : List ℕ) → IsKeyword (codes "DATA=") operand bytes → ⊥) → (verb ≡ codes "GET" → (key : List ℕ) → IsKeyword (codes "KEY=") operand key → ⊥) → (meaning : Meaning) → IsDeckLine line meaning → ⊥
+pub no_meaning_of_words : (line verb name operand : List ℕ) → Orders verb line name operand → (IsDeckLine line Nothing → ⊥) → (verb ≡ codes "FILE" → IsFirstFile operand → ⊥) → (verb ≡ codes "PUT" → (bytes : List ℕ) → IsKeyword (codes "DATA=") operand bytes → ⊥) → (verb ≡ codes "GET" → (key : List ℕ) → IsKeyword (codes "KEY=") operand key → ⊥) → (meaning : Meaning) → IsDeckLine line meaning → ⊥
 no_meaning_of_words line verb name operand o something file put get Nothing h = something h
-no_meaning_of_words line verb name operand o something file put get (FileOf other) h = file (sym o.verb_is ∙ h.verb_is) (sym o.operand_is ∙ h.operand_is)
+no_meaning_of_words line verb name operand o something file put get (FileOf other) h = file (sym o.verb_is ∙ h.1.verb_is) (subst IsFirstFile (sym h.1.operand_is ∙ o.operand_is) h.2)
 no_meaning_of_words line verb name operand o something file put get (PutOf other bytes) h =
     put (sym o.verb_is ∙ h.1.verb_is) bytes (subst (λ (xs : List ℕ). IsKeyword (codes "DATA=") xs bytes) (sym h.1.operand_is ∙ o.operand_is) h.2)
 no_meaning_of_words line verb name operand o something file put get (GetOf other key) h =

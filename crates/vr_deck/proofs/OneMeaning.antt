@@ -23,7 +23,7 @@ no_verb verb line name operand o (inl blank) = inl (sym o.verb_is ∙ ap word bl
 no_verb verb line name operand o (inr star) = let w = verb_of_star line star in inr (w.0, sym o.verb_is ∙ w.1)
 
 no_file : (line name : List ℕ) → IsDeckLine line Nothing → IsDeckLine line (FileOf name) → ⊥
-no_file line name a b = elim (no_verb _ _ _ _ b a) [ inl h ↦ cc | inr h ↦ let e = h.1 in cc ]
+no_file line name a b = elim (no_verb _ _ _ _ b.1 a) [ inl h ↦ cc | inr h ↦ let e = h.1 in cc ]
 
 no_put : (line name bytes : List ℕ) → IsDeckLine line Nothing → IsDeckLine line (PutOf name bytes) → ⊥
 no_put line name bytes a b = elim (no_verb _ _ _ _ b.1 a) [ inl h ↦ cc | inr h ↦ let e = h.1 in cc ]
@@ -56,18 +56,18 @@ one_meaning line Nothing (FileOf name) h k = absurd (no_file line name h k)
 one_meaning line Nothing (PutOf name bytes) h k = absurd (no_put line name bytes h k)
 one_meaning line Nothing (GetOf name key) h k = absurd (no_get line name key h k)
 one_meaning line (FileOf name) Nothing h k = absurd (no_file line name k h)
-one_meaning line (FileOf name) (FileOf other) h k = ap FileOf (sym h.name_is ∙ k.name_is)
-one_meaning line (FileOf name) (PutOf other bytes) h k = absurd (file_or_put _ h.verb_is k.1.verb_is)
-one_meaning line (FileOf name) (GetOf other key) h k = absurd (file_or_get _ h.verb_is k.1.verb_is)
+one_meaning line (FileOf name) (FileOf other) h k = ap FileOf (sym h.1.name_is ∙ k.1.name_is)
+one_meaning line (FileOf name) (PutOf other bytes) h k = absurd (file_or_put _ h.1.verb_is k.1.verb_is)
+one_meaning line (FileOf name) (GetOf other key) h k = absurd (file_or_get _ h.1.verb_is k.1.verb_is)
 one_meaning line (PutOf name bytes) Nothing h k = absurd (no_put line name bytes k h)
-one_meaning line (PutOf name bytes) (FileOf other) h k = absurd (file_or_put _ k.verb_is h.1.verb_is)
+one_meaning line (PutOf name bytes) (FileOf other) h k = absurd (file_or_put _ k.1.verb_is h.1.verb_is)
 one_meaning line (PutOf name bytes) (PutOf other more) h k =
     let names : name ≡ other = sym h.1.name_is ∙ k.1.name_is in
     let values : bytes ≡ more = one_keyword _ h.0 k.0 _ _ (sym h.1.operand_is ∙ k.1.operand_is) h.2 k.2 in
     cc
 one_meaning line (PutOf name bytes) (GetOf other key) h k = absurd (put_or_get _ h.1.verb_is k.1.verb_is)
 one_meaning line (GetOf name key) Nothing h k = absurd (no_get line name key k h)
-one_meaning line (GetOf name key) (FileOf other) h k = absurd (file_or_get _ k.verb_is h.1.verb_is)
+one_meaning line (GetOf name key) (FileOf other) h k = absurd (file_or_get _ k.1.verb_is h.1.verb_is)
 one_meaning line (GetOf name key) (PutOf other bytes) h k = absurd (put_or_get _ k.1.verb_is h.1.verb_is)
 one_meaning line (GetOf name key) (GetOf other more) h k =
     let names : name ≡ other = sym h.1.name_is ∙ k.1.name_is in

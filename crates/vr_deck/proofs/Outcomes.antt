@@ -3,7 +3,7 @@ use Rattle.std.proofs.lemmas.List.{drop_all, get_or-take, length-take, take-take
 use Rattle.std.proofs.lemmas.Bool.{cases_lt}
 use Rattle.vr_deck.specs.declared.text.Order.{Order}
 use Rattle.vr_deck.specs.declared.text.JobText.{JobText}
-use Rattle.vr_deck.specs.Line.{job_lines}
+use Rattle.vr_deck.specs.Line.{job_lines, without_end}
 use Rattle.vr_deck.specs.DeckLine.{Meaning, Nothing, FileOf, PutOf, GetOf}
 use Rattle.vr_deck.specs.JobText.{Progress, NoCard, StepRead, InDeck, Adds, Leads, Reads, LacksCard, IsFirstFault, IsJobText}
 use Rattle.vr_deck.proofs.OneMeaning.{one_meaning, one_step}
@@ -22,7 +22,7 @@ one_progress n NoCard line NoCard b h k = absurd h
 one_progress n NoCard line (InDeck step file orders) b h k = absurd h
 one_progress n NoCard line (StepRead step) NoCard h k = absurd k
 one_progress n NoCard line (StepRead step) (InDeck other file orders) h k = absurd k
-one_progress n NoCard line (StepRead step) (StepRead other) h k = ap StepRead (one_step line step other h.1 k.1)
+one_progress n NoCard line (StepRead step) (StepRead other) h k = ap StepRead (one_step (without_end line) step other h.1 k.1)
 one_progress n (StepRead step) line NoCard b h k = absurd h
 one_progress n (StepRead step) line (StepRead other) b h k = absurd h
 one_progress n (StepRead step) line (InDeck one file orders) NoCard h k = absurd k
@@ -37,7 +37,7 @@ one_progress n (InDeck step file orders) line (StepRead other) b h k = absurd h
 one_progress n (InDeck step file orders) line (InDeck s f o) NoCard h k = absurd k
 one_progress n (InDeck step file orders) line (InDeck s f o) (StepRead other) h k = absurd k
 one_progress n (InDeck step file orders) line (InDeck s f o) (InDeck t g p) h k =
-    let meanings : k.2 ≡ h.2 = one_meaning line k.2 h.2 k.3 h.3 in
+    let meanings : k.2 ≡ h.2 = one_meaning (without_end line) k.2 h.2 k.3 h.3 in
     let moved = subst (λ (m : Meaning). Adds n m file orders g p) meanings k.4 in
     let both = one_addition n h.2 file f g orders o p h.4 moved in
     let steps : s ≡ t = h.1 ∙ sym k.1 in

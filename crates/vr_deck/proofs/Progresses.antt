@@ -1,8 +1,6 @@
 use Rattle.std.proofs.Common.{◌≡◌, ℕ, ◌+◌, ◌-◌, ◌<◌, ◌≤◌, List, [], ◌∷◌, length, take, map, Option, None, refl, lit≤, ◌∙◌, ap, subst, inl, inr, suc, arith}
 use Rattle.std.specs.Prelude.{slice_index_or}
-use Rattle.std.proofs.lemmas.Simd.{map-map}
 use Rattle.std.proofs.lemmas.List.{length-append, length-map}
-use Rattle.bstr.specs.Text.{lines_of, without_terminator}
 use Rattle.vr_deck.specs.declared.text.Order.{Order}
 use Rattle.vr_deck.specs.declared.text.JobFault.{JobFault}
 use Rattle.vr_deck.specs.declared.text.JobFault.TheVariants.{Form, Memory}
@@ -15,35 +13,31 @@ use Rattle.vr_deck.proofs.OneMeaning.{one_meaning}
 -- Where reading leads, and where it stops.
 
 -- a line whose meaning can't be added leads nowhere
-leads_nowhere : (n : ℕ) (line : List ℕ) (meaning : Meaning) (file : Option (List ℕ)) (orders : List Order) → IsDeckLine line meaning → ((file' : Option (List ℕ)) (orders' : List Order) → Adds n meaning file orders file' orders' → ⊥) → (step : List ℕ) (to : Progress) → Leads n (InDeck step file orders) line to → ⊥
+leads_nowhere : (n : ℕ) (line : List ℕ) (meaning : Meaning) (file : Option (List ℕ)) (orders : List Order) → IsDeckLine (without_end line) meaning → ((file' : Option (List ℕ)) (orders' : List Order) → Adds n meaning file orders file' orders' → ⊥) → (step : List ℕ) (to : Progress) → Leads n (InDeck step file orders) line to → ⊥
 leads_nowhere n line meaning file orders says cannot step NoCard leads = leads
 leads_nowhere n line meaning file orders says cannot step (StepRead other) leads = leads
 leads_nowhere n line meaning file orders says cannot step (InDeck other file' orders') leads =
-    let same : leads.2 ≡ meaning = one_meaning line _ _ leads.3 says in
+    let same : leads.2 ≡ meaning = one_meaning (without_end line) _ _ leads.3 says in
     cannot file' orders' (subst (λ (m : Meaning). Adds n m file orders file' orders') same leads.4)
 
-pub fault_of_meaning : (n : ℕ) (line : List ℕ) (meaning : Meaning) (file : Option (List ℕ)) (orders : List Order) (fault : JobFault) → IsDeckLine line meaning → CannotAdd n meaning file orders fault → (step : List ℕ) → FaultAt n (InDeck step file orders) line fault
+pub fault_of_meaning : (n : ℕ) (line : List ℕ) (meaning : Meaning) (file : Option (List ℕ)) (orders : List Order) (fault : JobFault) → IsDeckLine (without_end line) meaning → CannotAdd n meaning file orders fault → (step : List ℕ) → FaultAt n (InDeck step file orders) line fault
 fault_of_meaning n line meaning file orders Memory says cannot step = tt
 fault_of_meaning n line meaning file orders (Form fault) says cannot step = (cannot.0, leads_nowhere n line meaning file orders says cannot.1 step)
 
 -- a line that leads nowhere is a fault of the lines from it on
-pub fault_from_here : (n : ℕ) (from : Progress) (line : List ℕ) (lines rest : List (List ℕ)) (fault : JobFault) → lines ≡ line ∷ rest → FaultAt n from (without_end line) fault → FaultFrom n from (map without_end lines) fault
+pub fault_from_here : (n : ℕ) (from : Progress) (line : List ℕ) (lines rest : List (List ℕ)) (fault : JobFault) → lines ≡ line ∷ rest → FaultAt n from line fault → FaultFrom n from lines fault
 fault_from_here n from line lines rest Memory told h = tt
 fault_from_here n from line lines rest (Form fault) told h = rw told (inl h)
 
--- the lines of a text, as they are read
-pub lines_read : (text : List ℕ) (lines : List (List ℕ)) → lines ≡ map without_terminator (lines_of text) → map without_end lines ≡ job_lines text
-lines_read text lines told = ap (λ (ls : List (List ℕ)). map without_end ls) told ∙ map-map without_end without_terminator (lines_of text)
-
 -- what the lines behind one do from where it leads, the lines from it on do from where it stands
-pub stops_behind : (n m : ℕ) (from mid : Progress) (line : List ℕ) (lines rest : List (List ℕ)) → lines ≡ line ∷ rest → Leads n from (without_end line) mid → StopsAt (n + 1) mid (map without_end rest) m → StopsAt n from (map without_end lines) m
+pub stops_behind : (n m : ℕ) (from mid : Progress) (line : List ℕ) (lines rest : List (List ℕ)) → lines ≡ line ∷ rest → Leads n from line mid → StopsAt (n + 1) mid rest m → StopsAt n from lines m
 stops_behind n m from mid line lines rest told leads stops = rw told (inr (mid, leads, stops))
 
-pub fault_behind : (n : ℕ) (from mid : Progress) (line : List ℕ) (lines rest : List (List ℕ)) (fault : JobFault) → lines ≡ line ∷ rest → Leads n from (without_end line) mid → FaultFrom (n + 1) mid (map without_end rest) fault → FaultFrom n from (map without_end lines) fault
+pub fault_behind : (n : ℕ) (from mid : Progress) (line : List ℕ) (lines rest : List (List ℕ)) (fault : JobFault) → lines ≡ line ∷ rest → Leads n from line mid → FaultFrom (n + 1) mid rest fault → FaultFrom n from lines fault
 fault_behind n from mid line lines rest (Form fault) told leads stops = stops_behind n fault.line from mid line lines rest told leads stops
 fault_behind n from mid line lines rest Memory told leads stops = tt
 
-pub reads_behind : (n : ℕ) (from mid to : Progress) (line : List ℕ) (lines rest : List (List ℕ)) → lines ≡ line ∷ rest → Leads n from (without_end line) mid → Reads (n + 1) mid (map without_end rest) to → Reads n from (map without_end lines) to
+pub reads_behind : (n : ℕ) (from mid to : Progress) (line : List ℕ) (lines rest : List (List ℕ)) → lines ≡ line ∷ rest → Leads n from line mid → Reads (n + 1) mid rest to → Reads n from lines to
 reads_behind n from mid to line lines rest told leads reads = rw told (mid, leads, reads)
 
 -- the first line that leads no further, by its number
@@ -132,6 +126,6 @@ orders_added n from [] to h = rw h (omega arith)
 orders_added n from (line ∷ lines) to h =
     omega (arith, one_order_more n from line h.0 h.1, orders_added (n + 1) h.0 lines to h.2)
 
-pub few_orders : (n : ℕ) (step : List ℕ) (lines : List (List ℕ)) (file : Option (List ℕ)) (orders : List Order) → Reads n (InDeck step None []) (map without_end lines) (InDeck step file orders) → length orders ≤ length lines
+pub few_orders : (n : ℕ) (step : List ℕ) (lines : List (List ℕ)) (file : Option (List ℕ)) (orders : List Order) → Reads n (InDeck step None []) lines (InDeck step file orders) → length orders ≤ length lines
 unfolding orders_at
-few_orders n step lines file orders h = omega (arith, orders_added n _ _ _ h, length-map lines without_end)
+few_orders n step lines file orders h = omega (arith, orders_added n _ _ _ h)

@@ -1,14 +1,15 @@
 use Rattle.std.specs.Prelude.{◌≡◌, ℕ, ◌<◌, ◌≤◌, ◌==◌, ◌||◌, Bool, true, List, ◌++◌, length, codes, slice_index, All}
-use Rattle.std.specs.Char.{is_ascii_uppercase, is_ascii_digit}
-use Rattle.vr_deck.specs.Line.{word, behind_word}
+use Rattle.std.specs.Char.{is_ascii_alphabetic, is_ascii_digit}
+use Rattle.vr_deck.specs.Line.{word, after_word}
 
 -- Job control cards, after MVS JCL: the cards that a deck step begins with.
 
--- a letter, or one of the three characters that count as letters: @ # $
+-- a letter of either case, or one of the three characters that count as letters: @ # $
 abbrev pub is_letter : ℕ → Bool
-is_letter b = is_ascii_uppercase b || b == 64 || b == 35 || b == 36
+is_letter b = is_ascii_alphabetic b || b == 64 || b == 35 || b == 36
 
--- a name on a card or of a file: 1 to 8 letters and digits, the first no digit
+-- A name on a card or of a file: 1 to 8 letters and digits, the first not a digit. It is kept as it is written, and two names
+-- that differ in case are two.
 pub record IsName (name : List ℕ) : Type 0 where
   pub some : 0 < length name
   pub short : length name ≤ 8
@@ -19,11 +20,11 @@ pub record IsName (name : List ℕ) : Type 0 where
 pub record IsStepCard (line step : List ℕ) : Type 0 where
   pub label : word line ≡ codes "//" ++ step
   pub name : IsName step
-  pub verb : word (behind_word line) ≡ codes "EXEC"
-  pub program : behind_word (behind_word line) ≡ codes "PGM=VRMDECK"
+  pub verb : word (after_word line) ≡ codes "EXEC"
+  pub program : after_word (after_word line) ≡ codes "PGM=VRMDECK"
 
--- the card behind which deck 1 stands
+-- the card after which deck 1 stands
 pub record IsDeckCard (line : List ℕ) : Type 0 where
   pub label : word line ≡ codes "//DECK1"
-  pub verb : word (behind_word line) ≡ codes "DD"
-  pub inline : behind_word (behind_word line) ≡ codes "*"
+  pub verb : word (after_word line) ≡ codes "DD"
+  pub inline : after_word (after_word line) ≡ codes "*"

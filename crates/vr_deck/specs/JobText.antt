@@ -4,7 +4,7 @@ use Rattle.vr_deck.specs.declared.text.Order.{Order}
 use Rattle.vr_deck.specs.declared.text.Order.TheVariants.{Put, Get}
 use Rattle.vr_deck.specs.declared.text.JobFault.{JobFault}
 use Rattle.vr_deck.specs.declared.text.JobFault.TheVariants.{Form, Memory}
-use Rattle.vr_deck.specs.Line.{job_lines, IsRightLine}
+use Rattle.vr_deck.specs.Line.{job_lines, without_end, IsPrintable, IsRightLine}
 use Rattle.vr_deck.specs.Card.{IsStepCard, IsDeckCard}
 use Rattle.vr_deck.specs.DeckLine.{Meaning, IsDeckLine, Nothing, FileOf, PutOf, GetOf}
 
@@ -25,18 +25,20 @@ Adds n (FileOf name) file orders file' orders' = (file ≡ None) × (file' ≡ S
 Adds n (PutOf name bytes) file orders file' orders' = (file ≡ Some name) × (file' ≡ file) × (orders' ≡ orders ++ Put n bytes ∷ [])
 Adds n (GetOf name key) file orders file' orders' = (file ≡ Some name) × (file' ≡ file) × (orders' ≡ orders ++ Get n key ∷ [])
 
--- line n of a text leads from one point to the next
+-- Line n of a text leads from one point to the next. Blanks at the end of a line don't count.
 abbrev pub Leads : ℕ → Progress → List ℕ → Progress → Type 0
 Leads n NoCard line NoCard = ⊥
-Leads n NoCard line (StepRead step) = IsRightLine line × IsStepCard line step
+Leads n NoCard line (StepRead step) = IsPrintable (without_end line) × IsStepCard (without_end line) step
 Leads n NoCard line (InDeck step file orders) = ⊥
 Leads n (StepRead step) line NoCard = ⊥
 Leads n (StepRead step) line (StepRead step') = ⊥
-Leads n (StepRead step) line (InDeck step' file orders) = IsRightLine line × IsDeckCard line × (step' ≡ step) × (file ≡ None) × (orders ≡ [])
+Leads n (StepRead step) line (InDeck step' file orders) =
+    IsPrintable (without_end line) × IsDeckCard (without_end line) × (step' ≡ step) × (file ≡ None) × (orders ≡ [])
 Leads n (InDeck step file orders) line NoCard = ⊥
 Leads n (InDeck step file orders) line (StepRead step') = ⊥
 Leads n (InDeck step file orders) line (InDeck step' file' orders') =
-    IsRightLine line × (step' ≡ step) × (meaning : Meaning) × IsDeckLine line meaning × Adds n meaning file orders file' orders'
+    IsRightLine (without_end line) × (step' ≡ step) × (meaning : Meaning) × IsDeckLine (without_end line) meaning
+    × Adds n meaning file orders file' orders'
 
 -- lines numbered from n on lead from one point to another
 abbrev pub Reads : ℕ → Progress → List (List ℕ) → Progress → Type 0

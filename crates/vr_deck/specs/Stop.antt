@@ -5,7 +5,7 @@ use Rattle.vr_deck.specs.declared.text.JobFault.TheVariants.{Form, Memory}
 use Rattle.vr_deck.specs.DeckLine.{Meaning}
 use Rattle.vr_deck.specs.JobText.{Progress, Adds, Leads, LacksCard}
 
--- Where a job text stops being one, told from a point on, for the functions that read it in pieces.
+-- Where a job text stops being one, from a point on: for the private functions that each read a part of it.
 
 -- lines numbered from n on lead from a point to line m, and no further
 abbrev pub StopsAt : ℕ → Progress → List (List ℕ) → ℕ → Type 0

@@ -1,60 +1,113 @@
-ghost use Rattle.std.specs.Prelude.{◌≡◌, List, IfOk};
-ghost use Rattle.vr_deck.specs.Bound.{first_file, key_asked, bound_order, bound_requests};
+//! The requests that the text of a deck stands for.
+ghost use Rattle.std.specs.Prelude.{◌≡◌, [], map, IfOk};
+ghost use Rattle.vr_deck.specs.Bound.{first_file, get_request, key_request, add_request};
+ghost use Rattle.vr_deck.specs.Bound.{bound_order, bound_requests};
 
 use crate::bound::DeckRequests;
-use crate::text::{DeckText, Order};
+use crate::text::{DeckText, Order, Orders};
 use std::alloc::Global;
 use vr_types::{
-    Bound, Bytes, FileRef, Find, Integrity, Kind, OutOfMemory, PartNo, Place, Request, place,
+    Bound, Bytes, FileRef, Find, Integrity, Kind, OutOfMemory, PartNo, Place, Request,
+    SharedRequest, place,
 };
 
 /// How many zero bytes an empty literal stands for where a key is asked for: too many for every key.
 const EMPTY_KEY: usize = 256;
 
-/// The requests of a deck, in order: one for each order, and a COMMIT at line 0 where the deck has a file.
-pub fn bind(alloc: Global, deck: &DeckText) -> Result<DeckRequests, OutOfMemory>
-    ensures { IfOk result (λ requests. requests ≡ bound_requests deck.now) }
+/// The requests of a deck, in order: one for each order, and a COMMIT at line 0 where the deck has a file. The bytes
+/// of each order move into its request, and the orders that ask for an empty key share one request. Out of memory is
+/// the one error.
+pub fn bind(alloc: Global, deck: DeckText) -> Result<DeckRequests, OutOfMemory>
+    ensures { IfOk result (λ requests. requests ≡ bound_requests deck) }
 {
-    let mut requests = DeckRequests::new(alloc);
-    for order in deck.orders.as_slice() {
-        requests.push(bound_order(alloc, order)?)?;
-    }
-    if deck.file.is_some() {
+    let DeckText { file, orders } = deck;
+    let mut requests = bind_orders(alloc, orders)?;
+    if file.is_some() {
         requests.push(Bound {
             volume: 0,
             line: 0,
-            request: Request::Commit,
+            request: SharedRequest::new(alloc, Request::Commit)?,
         })?;
     }
     Ok(requests)
 }
 
-/// The request of an order.
-fn bound_order(alloc: Global, order: &Order) -> Result<Bound, OutOfMemory>
-    ensures { IfOk result (λ bound. bound ≡ bound_order order.now) }
+/// The requests of some orders, in a list that has room for a COMMIT after them.
+fn bind_orders(alloc: Global, orders: Orders) -> Result<DeckRequests, OutOfMemory>
+    ensures { IfOk result (λ requests. requests ≡ map bound_order orders) }
 {
-    let file = first_file();
+    let orders = orders.into_vec();
+    let empty = get_request(alloc, place(alloc, &[0; EMPTY_KEY])?)?;
+    let mut requests = DeckRequests::new(alloc);
+    requests.reserve(orders.len().saturating_add(1))?;
+    for order in orders {
+        requests.push(bound_order(alloc, order, &empty)?)?;
+    }
+    Ok(requests)
+}
+
+/// The request of an order. `empty` is that of an empty key.
+fn bound_order(alloc: Global, order: Order, empty: &SharedRequest) -> Result<Bound, OutOfMemory>
+    requires { empty.now ≡ key_request [] }
+    ensures { IfOk result (λ bound. bound ≡ bound_order order) }
+{
     match order {
         Order::Put { line, bytes } => Ok(Bound {
             volume: 0,
-            line: *line,
-            request: Request::Add {
-                file,
-                place: None,
-                bytes: bytes.copy(alloc)?,
-            },
+            line,
+            request: add_request(alloc, bytes)?,
         }),
         Order::Get { line, key } => Ok(Bound {
             volume: 0,
-            line: *line,
-            request: Request::Get {
-                file,
-                find: Find::Equal(key_asked(alloc, key)?),
-                update: false,
-                integrity: Integrity::Nri,
-            },
+            line,
+            request: key_request(alloc, key, empty)?,
         }),
     }
+}
+
+/// The request that adds a record.
+fn add_request(alloc: Global, bytes: Bytes) -> Result<SharedRequest, OutOfMemory>
+    ensures { IfOk result (λ request. request ≡ add_request bytes) }
+{
+    SharedRequest::new(
+        alloc,
+        Request::Add {
+            file: first_file(),
+            place: None,
+            bytes,
+        },
+    )
+}
+
+/// The request that gets the record of a key. `empty` is that of an empty key.
+fn key_request(
+    alloc: Global,
+    key: Bytes,
+    empty: &SharedRequest,
+) -> Result<SharedRequest, OutOfMemory>
+    requires { empty.now ≡ key_request [] }
+    ensures { IfOk result (λ request. request ≡ key_request key) }
+{
+    if key.is_empty() {
+        empty.share()
+    } else {
+        get_request(alloc, Place::from_vec(key.into_vec()))
+    }
+}
+
+/// The request that gets the record at a place.
+fn get_request(alloc: Global, at: Place) -> Result<SharedRequest, OutOfMemory>
+    ensures { IfOk result (λ request. request ≡ get_request at) }
+{
+    SharedRequest::new(
+        alloc,
+        Request::Get {
+            file: first_file(),
+            find: Find::Equal(at),
+            update: false,
+            integrity: Integrity::Nri,
+        },
+    )
 }
 
 /// The file of a deck: VRM.FIRST, part 1 of volume 0.
@@ -68,16 +121,5 @@ fn first_file() -> FileRef
         path: None,
         kind: Kind::Keyed,
         known: true,
-    }
-}
-
-/// The key that an order names.
-fn key_asked(alloc: Global, key: &Bytes) -> Result<Place, OutOfMemory>
-    ensures { IfOk result (λ asked. asked ≡ key_asked key.now) }
-{
-    if key.is_empty() {
-        place(alloc, &[0; EMPTY_KEY])
-    } else {
-        place(alloc, key.as_slice())
     }
 }

@@ -1,3 +1,4 @@
+//! The list of the requests of a deck.
 ghost use Rattle.std.specs.Prelude.{◌≡◌, List, [], ◌∷◌, ◌++◌, OnOk, OnErr};
 
 use std::alloc::Global;
@@ -29,11 +30,19 @@ impl DeckRequests {
         }
     }
 
-    /// The requests, in order.
+    /// The requests, first to last.
     pub fn as_slice(&self) -> &[Bound]
         ensures { result.now ≡ self.now }
     {
         self.requests.as_slice()
+    }
+
+    /// Makes room for that many more requests, which stay as they are.
+    pub fn reserve(&mut self, more: usize) -> Result<(), OutOfMemory>
+        ensures { self.new ≡ self.old }
+    {
+        self.requests.reserve_exact(more)?;
+        Ok(())
     }
 
     /// Adds a request at the end. Where memory runs out, nothing changes.

@@ -1,7 +1,8 @@
+//! Job control cards.
 ghost use Rattle.std.specs.Prelude.{◌≡◌, ◌↔◌, ℕ, List, IsTrue, MatchOption};
 ghost use Rattle.vr_deck.specs.Card.{is_letter, IsName, IsStepCard, IsDeckCard};
 
-use crate::line::{behind_front, behind_word, word};
+use crate::line::{after_prefix, after_word, word};
 
 /// The longest name on a card, in bytes.
 const NAME_LIMIT: usize = 8;
@@ -10,7 +11,7 @@ const NAME_LIMIT: usize = 8;
 fn is_letter(byte: u8) -> bool
     ensures { result ≡ is_letter byte }
 {
-    byte.is_ascii_uppercase() || byte == b'@' || byte == b'#' || byte == b'$'
+    byte.is_ascii_alphabetic() || byte == b'@' || byte == b'#' || byte == b'$'
 }
 
 /// Whether these bytes are a name.
@@ -27,13 +28,14 @@ pub(crate) fn is_name(name: &[u8]) -> bool
 
 /// The name on a card that begins a deck step.
 pub(crate) fn step_card<'a>(line: &'a [u8]) -> Option<&'a [u8]>
-    ensures { MatchOption result ((step : List ℕ) → IsStepCard line.now step → ⊥) (λ step. IsStepCard line.now step.now) }
+    ensures { MatchOption result ((step : List ℕ) → IsStepCard line.now step → ⊥)
+        (λ step. IsStepCard line.now step.now) }
 {
-    let step = behind_front(word(line), b"//")?;
-    let behind = behind_word(line);
+    let step = after_prefix(word(line), b"//")?;
+    let rest = after_word(line);
     if is_name(step)
-        && word(behind) == b"EXEC".as_slice()
-        && behind_word(behind) == b"PGM=VRMDECK".as_slice()
+        && word(rest) == b"EXEC".as_slice()
+        && after_word(rest) == b"PGM=VRMDECK".as_slice()
     {
         Some(step)
     } else {
@@ -45,8 +47,8 @@ pub(crate) fn step_card<'a>(line: &'a [u8]) -> Option<&'a [u8]>
 pub(crate) fn is_deck_card(line: &[u8]) -> bool
     ensures { IsTrue result ↔ IsDeckCard line.now }
 {
-    let behind = behind_word(line);
+    let rest = after_word(line);
     word(line) == b"//DECK1".as_slice()
-        && word(behind) == b"DD".as_slice()
-        && behind_word(behind) == b"*".as_slice()
+        && word(rest) == b"DD".as_slice()
+        && after_word(rest) == b"*".as_slice()
 }

@@ -1,10 +1,12 @@
-ghost use Rattle.std.specs.Prelude.{◌≡◌, ◌↔◌, ℕ, ◌<◌, ◌≤◌, List, IsTrue, All, IfOk, MatchOption};
-ghost use Rattle.vr_deck.specs.Line.{IsRightLine};
+//! The lines of a request deck.
+ghost use Rattle.std.specs.Prelude.{◌≡◌, ◌↔◌, ℕ, List, IsTrue, IfOk, MatchOption};
+ghost use Rattle.vr_deck.specs.Line.{IsPrintable, IsRightLine};
 ghost use Rattle.vr_deck.specs.DeckLine.{Meaning, IsDeckLine, Nothing, Orders, IsKeyword};
+ghost use Rattle.vr_deck.specs.DeckLine.{IsFirstFile};
 ghost use Rattle.vr_deck.specs.DeckLineRead.{meaning_of};
 
 use crate::card::is_name;
-use crate::line::{behind_front, behind_word, unindented, word};
+use crate::line::{after_prefix, after_word, unindented, word};
 use std::alloc::Global;
 use vr_text::{LiteralFault, read_literal};
 use vr_types::{Bytes, OutOfMemory};
@@ -33,7 +35,8 @@ pub(crate) fn read_line<'a>(
     line: &'a [u8],
 ) -> Result<Option<DeckLine<'a>>, OutOfMemory>
     requires { IsRightLine line.now }
-    ensures { IfOk result (λ found. MatchOption found ((meaning : Meaning) → IsDeckLine line.now meaning → ⊥) (λ read. IsDeckLine line.now (meaning_of read))) }
+    ensures { IfOk result (λ found. MatchOption found ((meaning : Meaning) → IsDeckLine line.now meaning → ⊥)
+        (λ read. IsDeckLine line.now (meaning_of read))) }
 {
     if says_nothing(line) {
         return Ok(Some(DeckLine::Nothing));
@@ -43,7 +46,7 @@ pub(crate) fn read_line<'a>(
     };
     let name = words.name;
     if words.verb == b"FILE".as_slice() {
-        if words.operand == b"VRM.FIRST".as_slice() {
+        if is_first_file(words.operand) {
             Ok(Some(DeckLine::File { name }))
         } else {
             Ok(None)
@@ -63,6 +66,13 @@ pub(crate) fn read_line<'a>(
     }
 }
 
+/// Whether an operand names the cluster VRM.FIRST. Names of data sets are the same in either case.
+fn is_first_file(operand: &[u8]) -> bool
+    ensures { IsTrue result ↔ IsFirstFile operand.now }
+{
+    operand.eq_ignore_ascii_case(b"VRM.FIRST")
+}
+
 /// Whether the line is a comment or blank.
 fn says_nothing(line: &[u8]) -> bool
     ensures { IsTrue result ↔ IsDeckLine line.now Nothing }
@@ -72,16 +82,17 @@ fn says_nothing(line: &[u8]) -> bool
 
 /// The words of a line, where the second is a name.
 fn order_words<'a>(line: &'a [u8]) -> Option<OrderWords<'a>>
-    ensures { MatchOption result ((verb name operand : List ℕ) → Orders verb line.now name operand → ⊥) (λ words. Orders words.verb.now line.now words.name.now words.operand.now) }
+    ensures { MatchOption result ((verb name operand : List ℕ) → Orders verb line.now name operand → ⊥)
+        (λ words. Orders words.verb.now line.now words.name.now words.operand.now) }
 {
     let line = unindented(line);
-    let rest = behind_word(line);
+    let rest = after_word(line);
     let name = word(rest);
     if is_name(name) {
         Some(OrderWords {
             verb: word(line),
             name,
-            operand: behind_word(rest),
+            operand: after_word(rest),
         })
     } else {
         None
@@ -94,10 +105,12 @@ fn keyword_literal(
     operand: &[u8],
     keyword: &[u8],
 ) -> Result<Option<Bytes>, OutOfMemory>
-    requires { All (λ b. (32 ≤ b) × (b < 127)) operand.now }
-    ensures { IfOk result (λ found. MatchOption found ((bytes : List ℕ) → IsKeyword keyword.now operand.now bytes → ⊥) (IsKeyword keyword.now operand.now)) }
+    requires { IsPrintable operand.now }
+    ensures { IfOk result (λ found. MatchOption found
+        ((bytes : List ℕ) → IsKeyword keyword.now operand.now bytes → ⊥)
+        (IsKeyword keyword.now operand.now)) }
 {
-    let Some(literal) = behind_front(operand, keyword) else {
+    let Some(literal) = after_prefix(operand, keyword) else {
         return Ok(None);
     };
     let Ok(literal) = str::from_utf8(literal) else {

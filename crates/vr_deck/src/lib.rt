@@ -1,19 +1,18 @@
-// Job texts and request decks: the cards of a deck step, the lines of its deck, and the requests that they stand
-// for. It stands on the shared words (vr_types), on literals (vr_text), and on bstr for the lines of a text. It promises
-// that a text is taken exactly where it is in the grammar, with the grammar's value, else the first line that no job
-// text has there is named; and that the requests bound to a deck are those of its lines, in order, each once.
+//! Job texts and request decks: the cards of a deck step, the lines of its deck, and the requests that they
+//! stand for. It stands on the shared words (vr_types), on literals (vr_text), and on bstr for the lines of a
+//! text. It promises that a text that is answered is in the grammar, with the grammar's value; that a text which
+//! is refused is not in it, with the first line that no job text has there; and that the requests bound to a deck
+//! are those of its lines, in order, each once.
 #![tactic(auto)]
 
-pub mod binding;
-pub mod bound;
+mod binding;
+mod bound;
 mod card;
 mod deck_line;
-pub mod laws;
+mod laws;
 mod line;
-pub mod parse;
-#[cfg(test)]
-mod tests;
-pub mod text;
+mod parse;
+mod text;
 
 pub use binding::bind;
 pub use bound::DeckRequests;

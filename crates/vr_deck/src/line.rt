@@ -1,7 +1,9 @@
-ghost use Rattle.std.specs.Prelude.{◌≡◌, ◌≢◌, ◌++◌, ◌↔◌, ℕ, ◌<◌, ◌≤◌, ◌+◌, List, length, take, drop, IsTrue, All, MatchOption};
-ghost use Rattle.vr_deck.specs.Line.{is_blank, without_end, unindented, word, behind_word, IsRightLine};
+//! The words of a line.
+ghost use Rattle.std.specs.Prelude.{◌≡◌, ◌≢◌, ◌++◌, ◌↔◌, ℕ, List, IsTrue, MatchOption};
+ghost use Rattle.vr_deck.specs.Line.{is_blank, without_end, unindented, word, after_word};
+ghost use Rattle.vr_deck.specs.Line.{IsPrintable, IsRightLine};
 
-/// The longest line of a job text, in bytes.
+/// The longest line of a deck, in bytes.
 const LINE_LIMIT: usize = 80_000;
 
 /// Whether a byte is a blank.
@@ -12,7 +14,7 @@ fn is_blank(byte: u8) -> bool
 }
 
 /// The line without the blanks at its end.
-pub(crate) fn without_end(line: &[u8]) -> &[u8]
+fn without_end(line: &[u8]) -> &[u8]
     ensures { result.now ≡ without_end line.now }
 {
     let mut end = line.len();
@@ -22,7 +24,7 @@ pub(crate) fn without_end(line: &[u8]) -> &[u8]
     &line[..end]
 }
 
-/// The line from its first byte on that is no blank.
+/// The line from its first byte on that is not a blank.
 pub(crate) fn unindented(line: &[u8]) -> &[u8]
     ensures { result.now ≡ unindented line.now }
 {
@@ -34,7 +36,7 @@ pub(crate) fn unindented(line: &[u8]) -> &[u8]
     &line[line.len()..]
 }
 
-/// The word at the front of a line.
+/// The word that a line begins with: its bytes up to the first blank.
 pub(crate) fn word(line: &[u8]) -> &[u8]
     ensures { result.now ≡ word line.now }
 {
@@ -46,19 +48,29 @@ pub(crate) fn word(line: &[u8]) -> &[u8]
     line
 }
 
-/// What follows that word and the blanks behind it.
-pub(crate) fn behind_word(line: &[u8]) -> &[u8]
-    ensures { result.now ≡ behind_word line.now }
+/// What follows that word and the blanks after it.
+pub(crate) fn after_word(line: &[u8]) -> &[u8]
+    ensures { result.now ≡ after_word line.now }
 {
     unindented(&line[word(line).len()..])
 }
 
-/// The line without the blanks at its end, where its characters may stand in a job and it isn't too long.
-pub(crate) fn right_line(line: &[u8]) -> Option<&[u8]>
-    ensures { MatchOption result (IsRightLine (without_end line.now) → ⊥) (λ right. (right.now ≡ without_end line.now) × IsRightLine right.now) }
+/// The line without the blanks at its end, where it may be a card.
+pub(crate) fn card_line(line: &[u8]) -> Option<&[u8]>
+    ensures { MatchOption result (IsPrintable (without_end line.now) → ⊥)
+        (λ card. (card.now ≡ without_end line.now) × IsPrintable card.now) }
 {
     let line = without_end(line);
-    if line.len() <= LINE_LIMIT && has_right_characters(line) {
+    if is_printable(line) { Some(line) } else { None }
+}
+
+/// The line without the blanks at its end, where it may be a line of a deck.
+pub(crate) fn right_line(line: &[u8]) -> Option<&[u8]>
+    ensures { MatchOption result (IsRightLine (without_end line.now) → ⊥)
+        (λ right. (right.now ≡ without_end line.now) × IsRightLine right.now) }
+{
+    let line = without_end(line);
+    if line.len() <= LINE_LIMIT && is_printable(line) {
         Some(line)
     } else {
         None
@@ -66,15 +78,16 @@ pub(crate) fn right_line(line: &[u8]) -> Option<&[u8]>
 }
 
 /// Whether each byte is a printable character of ASCII.
-fn has_right_characters(line: &[u8]) -> bool
-    ensures { IsTrue result ↔ All (λ b. (32 ≤ b) × (b < 127)) line.now }
+fn is_printable(line: &[u8]) -> bool
+    ensures { IsTrue result ↔ IsPrintable line.now }
 {
     line.iter().all(|byte| *byte >= 32 && *byte < 127)
 }
 
-/// What stands behind this front of a text.
-pub(crate) fn behind_front<'a>(text: &'a [u8], front: &[u8]) -> Option<&'a [u8]>
-    ensures { MatchOption result ((rest : List ℕ) → text.now ≢ front.now ++ rest) (λ rest. text.now ≡ front.now ++ rest.now) }
+/// What follows this prefix of a text.
+pub(crate) fn after_prefix<'a>(text: &'a [u8], prefix: &[u8]) -> Option<&'a [u8]>
+    ensures { MatchOption result ((rest : List ℕ) → text.now ≢ prefix.now ++ rest)
+        (λ rest. text.now ≡ prefix.now ++ rest.now) }
 {
-    text.strip_prefix(front)
+    text.strip_prefix(prefix)
 }

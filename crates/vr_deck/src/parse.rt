@@ -1,21 +1,23 @@
-ghost use Rattle.std.specs.Prelude.{◌≡◌, ◌↔◌, ℕ, ◌++◌, ◌^◌, ◌<◌, ◌≤◌, List, [], ◌∷◌, length, map, Some, None, IsTrue, IfOk, IfErr, OnOk, MatchOption, MatchBool};
-ghost use Rattle.vr_deck.specs.Line.{without_end};
+//! The reading of a job text, line by line.
+ghost use Rattle.std.specs.Prelude.{◌≡◌, ◌↔◌, ℕ, ◌++◌, ◌^◌, ◌≤◌, List, [], ◌∷◌, length, Some, None};
+ghost use Rattle.std.specs.Prelude.{IsTrue, IfOk, IfErr, OnOk, MatchOption, MatchBool};
 ghost use Rattle.vr_deck.specs.DeckLineRead.{meaning_of};
 ghost use Rattle.vr_deck.specs.JobText.{NoCard, StepRead, InDeck, Adds, Leads, Reads, IsJobText, CauseOf};
 ghost use Rattle.vr_deck.specs.Stop.{StopsAt, FaultFrom, FaultAt, CannotAdd, IsUndeclared};
 
 use crate::card::{is_deck_card, step_card};
 use crate::deck_line::{DeckLine, read_line};
-use crate::line::right_line;
+use crate::line::{card_line, right_line};
 use crate::text::{DeckText, JobFault, JobText, Order, Orders, TextFault};
 use bstr::{ByteSlice, Lines};
 use std::alloc::Global;
 use vr_types::{Bytes, bytes};
 
-/// The job of a text of at most 64 MiB, in one pass over its lines: a card `//step EXEC PGM=VRMDECK`, a card
-/// `//DECK1 DD *`, and the lines of the deck. Cards are those of MVS JCL, requests those of Using Data Sets; the form
-/// of a deck is this project's own. `Form` names the first line that no job text has there, `Memory` says that memory
-/// ran out. The bytes of a literal are copied once, out of the text.
+/// The job of a text of at most 64 MiB: a card `//step EXEC PGM=VRMDECK`, a card `//DECK1 DD *`, and the lines of
+/// the deck. Cards are those of MVS JCL, requests those of Using Data Sets; the form of a deck is this project's own.
+///
+/// `Form` names the first line that no job text has there, one past the last line where a card is missing. `Memory`
+/// may come at any text. Each line is looked at once, and the bytes of a literal are copied once, out of the text.
 pub fn parse_job(alloc: Global, text: &[u8]) -> Result<JobText, JobFault>
     requires { length text.now ≤ 2 ^ 26 }
     ensures job { IfOk result (IsJobText text.now) }
@@ -36,19 +38,22 @@ pub fn parse_job(alloc: Global, text: &[u8]) -> Result<JobText, JobFault>
 
 /// The step's name on the first line that is left.
 fn first_card<'a>(lines: &mut Lines<'a>) -> Option<&'a [u8]>
-    ensures { MatchOption result (StopsAt 1 NoCard (map without_end lines.old) 1) (λ step. (line : List ℕ) × (lines.old ≡ line ∷ lines.new) × Leads 1 NoCard (without_end line) (StepRead step.now)) }
+    ensures { MatchOption result (StopsAt 1 NoCard lines.old 1)
+        (λ step. (line : List ℕ) × (lines.old ≡ line ∷ lines.new) × Leads 1 NoCard line (StepRead step.now)) }
 {
-    step_card(right_line(lines.next()?)?)
+    step_card(card_line(lines.next()?)?)
 }
 
 /// Whether the first line that is left is the card of deck 1.
 fn deck_card_follows(lines: &mut Lines) -> bool
-    ensures { (step : List ℕ) → MatchBool result ((line : List ℕ) × (lines.old ≡ line ∷ lines.new) × Leads 2 (StepRead step) (without_end line) (InDeck step None [])) (StopsAt 2 (StepRead step) (map without_end lines.old) 2) }
+    ensures { (step : List ℕ) → MatchBool result
+        ((line : List ℕ) × (lines.old ≡ line ∷ lines.new) × Leads 2 (StepRead step) line (InDeck step None []))
+        (StopsAt 2 (StepRead step) lines.old 2) }
 {
     let Some(line) = lines.next() else {
         return false;
     };
-    match right_line(line) {
+    match card_line(line) {
         Some(line) => is_deck_card(line),
         None => false,
     }
@@ -57,8 +62,9 @@ fn deck_card_follows(lines: &mut Lines) -> bool
 /// The deck of the lines that are left.
 fn read_deck(alloc: Global, lines: Lines) -> Result<DeckText, JobFault>
     requires { length lines ≤ 2 ^ 26 }
-    ensures deck { IfOk result (λ deck. (step : List ℕ) → Reads 3 (InDeck step None []) (map without_end lines.entry) (InDeck step deck.file deck.orders)) }
-    ensures fault { IfErr result (λ fault. (step : List ℕ) → FaultFrom 3 (InDeck step None []) (map without_end lines.entry) fault) }
+    ensures deck { IfOk result (λ deck. (step : List ℕ)
+        → Reads 3 (InDeck step None []) lines.entry (InDeck step deck.file deck.orders)) }
+    ensures fault { IfErr result (λ fault. (step : List ℕ) → FaultFrom 3 (InDeck step None []) lines.entry fault) }
 {
     let mut deck = DeckText {
         file: None,
@@ -74,8 +80,10 @@ fn read_deck(alloc: Global, lines: Lines) -> Result<DeckText, JobFault>
 
 /// Takes a line into the deck so far.
 fn add_line(alloc: Global, deck: &mut DeckText, number: u32, line: &[u8]) -> Result<(), JobFault>
-    ensures ok { OnOk result ((step : List ℕ) → Leads number (InDeck step deck.old.file deck.old.orders) (without_end line.now) (InDeck step deck.new.file deck.new.orders)) }
-    ensures fault { IfErr result (λ fault. (step : List ℕ) → FaultAt number (InDeck step deck.old.file deck.old.orders) (without_end line.now) fault) }
+    ensures ok { OnOk result ((step : List ℕ) → Leads number (InDeck step deck.old.file deck.old.orders) line.now
+        (InDeck step deck.new.file deck.new.orders)) }
+    ensures fault { IfErr result (λ fault. (step : List ℕ)
+        → FaultAt number (InDeck step deck.old.file deck.old.orders) line.now fault) }
 {
     let Some(line) = right_line(line) else {
         return Err(JobFault::Form(TextFault { line: number }));
@@ -88,7 +96,8 @@ fn add_line(alloc: Global, deck: &mut DeckText, number: u32, line: &[u8]) -> Res
 
 /// Adds what a line says to the deck so far. A file is declared once, and before it is used.
 fn add(alloc: Global, deck: &mut DeckText, number: u32, read: DeckLine) -> Result<(), JobFault>
-    ensures ok { OnOk result (Adds number (meaning_of read.entry) deck.old.file deck.old.orders deck.new.file deck.new.orders) }
+    ensures ok { OnOk result (Adds number (meaning_of read.entry) deck.old.file deck.old.orders deck.new.file
+        deck.new.orders) }
     ensures fault { IfErr result (CannotAdd number (meaning_of read.entry) deck.old.file deck.old.orders) }
 {
     match read {

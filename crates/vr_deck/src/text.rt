@@ -1,3 +1,4 @@
+//! What a job text says.
 ghost use Rattle.std.specs.Prelude.{◌≡◌, List, [], ◌∷◌, ◌++◌, OnOk, OnErr};
 
 use std::alloc::Global;
@@ -53,11 +54,19 @@ impl Orders {
         }
     }
 
-    /// The orders, in order.
+    /// The orders, first to last.
     pub fn as_slice(&self) -> &[Order]
         ensures { result.now ≡ self.now }
     {
         self.orders.as_slice()
+    }
+
+    /// The orders as a `Vec`, which takes no memory.
+    pub fn into_vec(self) -> Vec<Order>
+        ensures { result.items ≡ self }
+    {
+        let Orders { orders } = self;
+        orders
     }
 
     /// Adds an order at the end. Where memory runs out, nothing changes.

@@ -1,5 +1,5 @@
--- Lemmas on what a write and a sync make of the contents that a crash may leave. They stand here, since the laws of a
--- device in memory rest on them and can cite no proofs.
+-- Lemmas on what a write and a sync make of the contents that a crash may leave. They stand here,
+-- since the laws of a device in memory rest on them and can cite no proofs.
 use Rattle.std.proofs.Common.{◌≡◌, ◌⊎◌, inl, inr, ⊎_elim, ℕ, zero, suc, ◌==◌, List, [], ◌∷◌, ◌++◌, get_or, map, set, Contains, refl, sym, ap, subst, ◌∙◌, arith, eq-eqb, ne_eqb, get_or-set_same, get_or-set_other, length-set, if◌then◌else◌}
 use Rattle.std.specs.List.{filter}
 use Rattle.std.proofs.lemmas.Bool.{cases_eq}

@@ -4,7 +4,8 @@ use Rattle.vr_types.specs.Calls.{Calls, fails_next}
 use Rattle.vr_types.specs.Calls.{uncalled as uncalled_script, counted as counted_script, stopped as stopped_script}
 use Rattle.vr_types.specs.Faults.{Faults}
 
--- which calls fail, and how many were made; how many writes and syncs failed out of memory, and the two fault counts
+-- which calls fail, and how many were made; how many writes and syncs failed out of memory, and the
+-- two fault counts
 pub record DeviceCalls : Type 0 where
   pub script : Calls
   pub refused : ℕ

@@ -1,10 +1,11 @@
--- What a device in memory holds, and what a crash may leave of it. That blocks are whole and independent of one another
--- is this project's own model of a disk.
+-- What a device in memory holds, and what a crash may leave of it. That blocks are whole and
+-- independent of one another is this project's own model of a disk.
 use Rattle.std.specs.Prelude.{◌≡◌, ◌⊎◌, ◌==◌, ◌<◌, ◌≤◌, ℕ, Some, slice_get, slice_index, List, [], ◌∷◌, ◌++◌, length, map, filter, slice_set, Contains}
 use Rattle.vr_types.specs.Image.{Block, Image, block_at}
 
--- the blocks as a read gives them, the blocks that are stable, and what was written since the last sync that
--- succeeded: each write's block and content, the oldest first, those of failed writes among them
+-- the blocks as a read gives them, the blocks that are stable, and what was written since the last
+-- sync that succeeded: each write's block and content, the oldest first, those of failed writes
+-- among them
 pub record Disk : Type 0 where
   pub seen : Image
   pub stable : Image
@@ -14,8 +15,8 @@ pub record Disk : Type 0 where
 abbrev pub contents_of : List (ℕ × Block) → ℕ → List Block
 contents_of writes n = map (λ w. w.1) (filter (λ w. w.0 == n) writes)
 
--- what a crash may leave in block n: its stable content, or one that was written to it since the last sync that
--- succeeded
+-- what a crash may leave in block n: its stable content, or one that was written to it since the
+-- last sync that succeeded
 abbrev pub choices_of : Disk → ℕ → List Block
 choices_of disk n = block_at disk.stable n ∷ contents_of disk.writes n
 
@@ -43,8 +44,8 @@ pub record IsFit (count : ℕ) (disk : Disk) (choice : List ℕ) : Type 0 where
   pub length_is : length choice ≡ count
   pub each : (n : ℕ) → n < count → slice_index choice n < length (choices_of disk n)
 
--- block n is the first for which the choice has no number, or names none of its contents, or that isn't there though
--- the choice has a number for it
+-- block n is the first for which the choice has no number, or names none of its contents, or that
+-- isn't there though the choice has a number for it
 pub record IsMisfit (count : ℕ) (disk : Disk) (choice : List ℕ) (n : ℕ) : Type 0 where
   pub within : n ≤ count
   pub before : (m : ℕ) → m < n → (m < length choice) × (slice_index choice m < length (choices_of disk m))

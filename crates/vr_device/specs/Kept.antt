@@ -1,4 +1,5 @@
--- What a history keeps: its blocks as they are read, and where its last sync stands, are those that its events tell.
+-- What a history keeps: its blocks as they are read, and where its last sync stands, are those that
+-- its events tell.
 use Rattle.std.specs.Prelude.{◌≡◌, ◌<◌, ◌≤◌, ◌^◌, length, take, drop, All}
 use Rattle.std.specs.List.{AllByRecursion}
 use Rattle.vr_device.specs.Past.{Past, EventFits, writes_in, after_all, fresh, disk_of}

@@ -1,5 +1,5 @@
--- Lemmas on what a device in memory reads and may leave at its moments. They stand here, since its laws rest on them
--- and can cite no proofs.
+-- Lemmas on what a device in memory reads and may leave at its moments. They stand here, since its
+-- laws rest on them and can cite no proofs.
 use Rattle.std.proofs.Common.{ℕ, List, [], ◌∷◌, length, refl, subst, arith, take, take_all}
 use Rattle.vr_types.specs.Image.{Image, IsImage}
 use Rattle.vr_device.specs.Disk.{Disk, MayHold}

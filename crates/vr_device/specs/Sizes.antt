@@ -1,5 +1,5 @@
--- Lemmas on the sizes of the contents of a past's disk. They stand here, since the laws of a device in memory rest on
--- them and can cite no proofs.
+-- Lemmas on the sizes of the contents of a past's disk. They stand here, since the laws of a device
+-- in memory rest on them and can cite no proofs.
 use Rattle.std.proofs.Common.{◌≡◌, ⊎_elim, ℕ, ◌<◌, List, [], ◌∷◌, length, get_or, set, All, refl, sym, ap, subst, ◌∙◌, arith, get_or-set_same, get_or-set_other, length-set}
 use Rattle.std.specs.List.{AllByRecursion}
 use Rattle.std.proofs.lemmas.Bool.{cases_eq}

@@ -1,6 +1,6 @@
--- A block, and a second one, its log, which keeps what the first had while that is replaced. The first byte of a block
--- is its mark: 0 in a content, and another in a log that keeps one. This is the project's own example of a promise about
--- a crash at any moment.
+-- A block, and a second one, its log, which keeps what the first had while that is replaced. The
+-- first byte of a block is its mark: 0 in a content, and another in a log that keeps one. This is
+-- the project's own example of a promise about a crash at any moment.
 use Rattle.std.specs.Prelude.{◌≡◌, ◌⊎◌, ◌≤◌, ℕ, zero, suc, List, [], ◌∷◌, length, take, Option, Some, None, unwrap_or}
 use Rattle.vr_types.specs.Image.{Block, Image, block_at}
 use Rattle.vr_types.specs.Seen.{Seen, Only}

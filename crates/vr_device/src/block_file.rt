@@ -7,9 +7,10 @@ ghost use Rattle.vr_device.specs.BlockFile.{BeginsAt};
 
 use vr_types::Failed;
 
-/// A file that holds blocks of one size, one after the other: block n is the `size` bytes from byte n * size on. Where
-/// it reports its content, each call says what it leaves of the blocks, and what a crash may leave of them: a block that
-/// was written since the last sync that succeeded is left whole, as it was written or as it was before.
+/// A file that holds blocks of one size, one after the other: block n is the `size` bytes from byte
+/// n * size on. Where it reports its content, each call says what it leaves of the blocks, and what
+/// a crash may leave of them: a block that was written since the last sync that succeeded is left
+/// whole, as it was written or as it was before.
 pub trait BlockFile: Drop {
     /// Whether the file reports its content.
     ghost tells: { Bool };
@@ -22,7 +23,8 @@ pub trait BlockFile: Drop {
         requires block { (n : ℕ) × BeginsAt (seen self.old) n start }
         requires whole { length into.old ≡ (seen self.old).size }
         ensures bytes { IsTrue tells → OnOk result
-            ((n : ℕ) → BeginsAt (seen self.old) n start → into.new ≡ block_at (seen self.old).cur n) }
+            ((n : ℕ) → BeginsAt (seen self.old) n start
+            → into.new ≡ block_at (seen self.old).cur n) }
         ensures after { Keeps tells (seen self.old) (seen self.new) };
 
     /// Writes the block that begins at this byte. After `Failed` the write may have happened.

@@ -1,8 +1,32 @@
-// The contents that a crash may leave in a block, found in a device's past.
-ghost use Rattle.std.specs.Prelude.{◌≡◌, ◌<◌, ◌^◌, ◌↔◌, IsTrue, ◌∷◌, ℕ, [], length, replicate, slice_index, slice_get, option_copied, IfOk, OnOk};
+//! The contents that a crash may leave in a block, found in a device's past.
+ghost use Rattle.std.specs.Prelude.{
+  ◌≡◌,
+  ◌<◌,
+  ◌^◌,
+  ◌↔◌,
+  IsTrue,
+  ◌∷◌,
+  ℕ,
+  [],
+  length,
+  replicate,
+  slice_index,
+  slice_get,
+  option_copied,
+  IfOk,
+  OnOk,
+};
 ghost use Rattle.std.specs.List.{AllByRecursion};
 ghost use Rattle.vr_device.specs.Disk.{contents_of};
-ghost use Rattle.vr_device.specs.Past.{after_all, fresh, writes_in, content_of, contents_from, ArePicked, IsWithin};
+ghost use Rattle.vr_device.specs.Past.{
+  after_all,
+  fresh,
+  writes_in,
+  content_of,
+  contents_from,
+  ArePicked,
+  IsWithin,
+};
 ghost use Rattle.vr_device.specs.PastEvent.{blocks_of, event_of, events_of};
 
 use crate::past::PastEvent;
@@ -21,9 +45,11 @@ impl PastEvent {
     }
 }
 
-/// The content that was written to the block, counted from 0 among those that these events wrote to it.
+/// The content that was written to the block, counted from 0 among those that these events wrote to
+/// it.
 pub(crate) fn written_at(entries: &[PastEvent], n: u32, count: u32) -> Option<&[u8]>
-    ensures { option_copied result ≡ slice_get (contents_of (writes_in (events_of entries.now)) n) count }
+    ensures { option_copied result
+        ≡ slice_get (contents_of (writes_in (events_of entries.now)) n) count }
 {
     let mut left = count;
     for entry in entries {
@@ -37,14 +63,16 @@ pub(crate) fn written_at(entries: &[PastEvent], n: u32, count: u32) -> Option<&[
     None
 }
 
-/// The content that a choice names: at 0 the stable one, and then those written since, the oldest first.
+/// The content that a choice names: at 0 the stable one, and then those written since, the oldest
+/// first.
 pub(crate) fn content_at<'a>(
     stable: &'a [u8],
     since: &'a [PastEvent],
     n: u32,
     choice: u32,
 ) -> Option<&'a [u8]>
-    ensures { option_copied result ≡ slice_get (stable.now ∷ contents_of (writes_in (events_of since.now)) n) choice }
+    ensures { option_copied result
+        ≡ slice_get (stable.now ∷ contents_of (writes_in (events_of since.now)) n) choice }
 {
     if choice == 0 {
         Some(stable)
@@ -53,9 +81,11 @@ pub(crate) fn content_at<'a>(
     }
 }
 
-/// Whether the choice names a content of the block: it has a number for it, and so many contents were written.
+/// Whether the choice names a content of the block: it has a number for it, and so many contents
+/// were written.
 pub(crate) fn is_named(since: &[PastEvent], n: u32, choice: &[u32]) -> bool
-    ensures { IsTrue result ↔ ((n < length choice.now) × (slice_index choice.now n < length (contents_from [] (events_of since.now) n))) }
+    ensures { IsTrue result ↔ ((n < length choice.now)
+        × (slice_index choice.now n < length (contents_from [] (events_of since.now) n))) }
 {
     match choice.get(n as usize) {
         Some(number) => content_at(&[], since, n, *number).is_some(),
@@ -92,7 +122,8 @@ pub(crate) fn replay(
     entries: &[PastEvent],
 ) -> Result<(), AllocError>
     requires { AllByRecursion (IsWithin (length blocks.old)) (events_of entries.now) }
-    ensures { OnOk result (blocks_of blocks.new ≡ (after_all (events_of entries.now) (fresh (blocks_of blocks.old))).seen) }
+    ensures { OnOk result (blocks_of blocks.new
+        ≡ (after_all (events_of entries.now) (fresh (blocks_of blocks.old))).seen) }
 {
     for entry in entries {
         if let PastEvent::Wrote { block, bytes } = entry {
@@ -111,8 +142,10 @@ pub(crate) fn pick(
 ) -> Result<Vec<Vec<u8>>, AllocError>
     requires count { length choice.now ≡ length stable.now }
     requires count_fits { length stable.now < 2 ^ 32 }
-    requires fits { (n : ℕ) → n < length stable.now → slice_index choice.now n < length (contents_from (blocks_of stable.now) (events_of since.now) n) }
-    ensures { IfOk result (λ blocks. ArePicked (blocks_of stable.now) (events_of since.now) choice.now (blocks_of blocks.items)) }
+    requires fits { (n : ℕ) → n < length stable.now → slice_index choice.now n
+        < length (contents_from (blocks_of stable.now) (events_of since.now) n) }
+    ensures { IfOk result (λ blocks. ArePicked (blocks_of stable.now) (events_of since.now)
+        choice.now (blocks_of blocks.items)) }
 {
     let mut blocks = Vec::new(alloc);
     for n in 0..stable.len() {

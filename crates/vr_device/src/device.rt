@@ -7,16 +7,17 @@ ghost use Rattle.vr_types.specs.Faults.{Faults, CountsRead, CountsWrite};
 
 use vr_types::Failed;
 
-/// A device of blocks of one size, numbered from 0. Where it reports its contents, each call says what it leaves of
-/// them, and a clock of the device's own, which moves only in its calls, says what a crash at each moment may leave: of
-/// each block, independently of the others, one of the contents that are left to it. A device may sync on its own, so
-/// what a crash may leave is bounded from above alone.
+/// A device of blocks of one size, numbered from 0. Where it reports its contents, each call says
+/// what it leaves of them, and a clock of the device's own, which moves only in its calls, says
+/// what a crash at each moment may leave: of each block, independently of the others, one of the
+/// contents that are left to it. A device may sync on its own, so what a crash may leave is bounded
+/// from above alone.
 pub trait BlockDevice: Drop {
     /// Whether the device reports its contents.
     ghost tells: { Bool };
 
-    /// The number and size of the blocks, the contents as read, those that a crash may leave of each block, and the
-    /// clock with the images of each moment.
+    /// The number and size of the blocks, the contents as read, those that a crash may leave of
+    /// each block, and the clock with the images of each moment.
     ghost seen: { Self → Seen };
 
     /// How often a read has failed, and a write or a sync.
@@ -42,12 +43,13 @@ pub trait BlockDevice: Drop {
     fn write(&mut self, n: u32, from: &[u8]) -> Result<(), Failed>
         requires block { n < (seen self.old).count }
         requires whole { length from.now ≡ (seen self.old).size }
-        ensures written { IsTrue tells → OnOk result ((seen self.new).cur ≡ slice_set (seen self.old).cur n from.now) }
+        ensures written { IsTrue tells → OnOk result
+            ((seen self.new).cur ≡ slice_set (seen self.old).cur n from.now) }
         ensures after { Puts tells n from.now (seen self.old) (seen self.new) }
         ensures fault { CountsWrite (faults self.old) (faults self.new) result };
 
-    /// Makes what was written stable: a crash leaves what is read, and nothing else. After `Failed` it may leave what
-    /// it might have left before.
+    /// Makes what was written stable: a crash leaves what is read, and nothing else. After `Failed`
+    /// it may leave what it might have left before.
     fn sync(&mut self) -> Result<(), Failed>
         ensures synced { IsTrue tells → OnOk result
             (AllForced (seen self.old).count (seen self.old).cur (seen self.new).may) }

@@ -1,7 +1,15 @@
 //! Which calls of a device in memory fail, and what it counts.
 ghost use Rattle.std.specs.Prelude.{◌≡◌, ◌↔◌, IsTrue};
 ghost use Rattle.vr_types.specs.Count.{shown_of};
-ghost use Rattle.vr_device.specs.DeviceCalls.{IsToFail, uncalled, counted, read_failed, write_failed, write_refused, stopped};
+ghost use Rattle.vr_device.specs.DeviceCalls.{
+  IsToFail,
+  uncalled,
+  counted,
+  read_failed,
+  write_failed,
+  write_refused,
+  stopped,
+};
 
 use std::marker::Model;
 use vr_types::{FaultCount, Script};
@@ -21,10 +29,10 @@ impl Model for DeviceCalls {
     ghost Value = { DeviceCalls };
 
     ghost view = { λ c. record {
-        script = c.script;
-        refused = c.memory_faults;
-        read_faults = c.reads;
-        write_faults = c.writes;
+      script = c.script;
+      refused = c.memory_faults;
+      read_faults = c.reads;
+      write_faults = c.writes;
     } };
 }
 

@@ -7,8 +7,9 @@ use crate::device::BlockDevice;
 use std::marker::Model;
 use vr_types::Failed;
 
-/// A file that holds the blocks of a device, which have at least one byte. Its calls are the device's, and fail where
-/// those do; over a device in memory it reports all its content. A clause sees it as the device.
+/// A file that holds the blocks of a device, which have at least one byte. Its calls are the
+/// device's, and fail where those do; over a device in memory it reports all its content. A clause
+/// sees it as the device.
 #[derive(Drop)]
 pub struct DeviceFile<D: BlockDevice> {
     device: D,

@@ -1,5 +1,18 @@
 //! A device over one file.
-ghost use Rattle.std.specs.Prelude.{◌≡◌, ◌<◌, ◌*◌, ◌↔◌, IsTrue, false, length, slice_set, OnOk, IsErr, true, ◌+◌};
+ghost use Rattle.std.specs.Prelude.{
+  ◌≡◌,
+  ◌<◌,
+  ◌*◌,
+  ◌↔◌,
+  IsTrue,
+  false,
+  length,
+  slice_set,
+  OnOk,
+  IsErr,
+  true,
+  ◌+◌,
+};
 ghost use Rattle.vr_types.specs.Blocks.{Keeps, Puts, AllForced};
 ghost use Rattle.vr_types.specs.Faults.{CountsWrite};
 
@@ -8,9 +21,10 @@ use crate::device::BlockDevice;
 use std::marker::Model;
 use vr_types::{Failed, FaultCount};
 
-/// A device over one file. Block n is at byte n * size of the file, and a sync is one of the file. Once a write or a sync
-/// has failed, every further write and sync fails: a host that lost what was written may answer the next sync with
-/// success, and the blocks are then not what they were said to be.
+/// A device over one file. Block n is at byte n * size of the file, and a sync is one of the file.
+/// Once a write or a sync has failed, every further write and sync fails: a host that lost what was
+/// written may answer the next sync with success, and the blocks are then not what they were said
+/// to be.
 #[derive(Drop)]
 pub struct FileDevice<F: BlockFile> {
     file: F,
@@ -28,9 +42,9 @@ impl<F: BlockFile> Model for FileDevice<F> {
     ghost Value = { FileState F };
 
     ghost view = { λ d. record {
-        file = d.file;
-        shut = d.shut;
-        faults = record { reads = d.reads_failed; writes = d.writes_failed };
+      file = d.file;
+      shut = d.shut;
+      faults = record { reads = d.reads_failed; writes = d.writes_failed };
     } };
 
     ghost invariant = { λ d. ((F.seen d.file).count ≡ d.blocks) × ((F.seen d.file).size ≡ d.size) };

@@ -7,8 +7,8 @@ use std::fs::{File, Files, OpenOptions};
 use std::os::unix::fs::FileExt;
 use vr_types::Failed;
 
-/// One file of the host. It reports no content, since no contract can say what a file holds. A file that is missing, or
-/// shorter than its blocks, is one whose calls fail.
+/// One file of the host. It reports no content, since no contract can say what a file holds. A file
+/// that is missing, or shorter than its blocks, is one whose calls fail.
 #[derive(Drop)]
 pub struct HostFile {
     file: Option<File>,
@@ -53,7 +53,8 @@ fn done(is_done: bool) -> Result<(), Failed> {
 }
 
 impl FileDevice<HostFile> {
-    /// Makes the file new, with this many zero blocks of this size in bytes. What was there is gone.
+    /// Makes the file new, with this many zero blocks of this size in bytes. What was there is
+    /// gone.
     pub fn create<R: Files<File = File>>(
         rt: &R,
         path: &str,

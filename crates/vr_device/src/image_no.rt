@@ -7,8 +7,8 @@ use vr_types::OutOfMemory;
 /// Why no image could be made.
 #[derive(Clone, Copy, Debug, PartialEq, Eq)]
 pub enum ImageNo {
-    /// The first block for which the choice has no number, or one past the block's contents. The number of blocks,
-    /// where the choice is too long.
+    /// The first block for which the choice has no number, or one past the block's contents. The
+    /// number of blocks, where the choice is too long.
     Choice { block: u32 },
     /// Out of memory for the device.
     Memory,

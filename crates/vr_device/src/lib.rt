@@ -1,7 +1,7 @@
-//! Block devices: what a read, a write and a sync do, and what a crash at any moment may leave, as the contract of one
-//! trait. It stands on the words of vr_types. It promises that a device in memory meets that contract and reports all
-//! its content, and that the layers above may stand on any device by writing through; a device over a host file meets
-//! it and reports no content.
+//! Block devices: what a read, a write and a sync do, and what a crash at any moment may leave, as
+//! the contract of one trait. It stands on the words of vr_types. It promises that a device in
+//! memory meets that contract and reports all its content, and that the layers above may stand on
+//! any device by writing through; a device over a host file meets it and reports no content.
 #![tactic(auto)]
 
 mod block_file;
@@ -26,12 +26,9 @@ pub use device_file::DeviceFile;
 pub use file_device::FileDevice;
 pub use host_file::HostFile;
 pub use image_no::ImageNo;
-pub use laws::choices_are_images;
+pub use laws::{choices_are_images, devices_can_be_sent};
 pub use memory::MemoryDevice;
 pub use new_direct::direct;
 pub use new_memory::memory_device;
 pub use write_ahead::{replace, replace_all};
 pub use write_through::Direct;
-
-#[cfg(test)]
-mod tests;

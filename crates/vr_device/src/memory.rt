@@ -2,16 +2,17 @@
 ghost use Rattle.vr_device.specs.Sizes.{IsSized};
 
 use crate::device::BlockDevice;
+use crate::device_calls::DeviceCalls;
 use crate::image_no::ImageNo;
 use crate::past::Past;
-use crate::device_calls::DeviceCalls;
 use std::alloc::Global;
 use vr_types::{Failed, OutOfMemory};
 
-/// A device in memory. It keeps each write and each sync, from which it reports what a crash at every moment may leave,
-/// so its memory grows with what is written. A call fails where its number, counted from 0, is among those that it was
-/// made with, and from the number of `stop` on. Apart from that a write or a sync fails only when it is out of memory to
-/// keep the event. The calls from 2^64 - 1 on share that number.
+/// A device in memory. It keeps each write and each sync, from which it reports what a crash at
+/// every moment may leave, so its memory grows with what is written. A call fails where its number,
+/// counted from 0, is among those that it was made with, and from the number of `stop` on. Apart
+/// from that a write or a sync fails only when it is out of memory to keep the event. The calls
+/// from 2^64 - 1 on share that number.
 #[derive(Drop)]
 pub struct MemoryDevice {
     past: Past,
@@ -24,7 +25,13 @@ impl BlockDevice for MemoryDevice {
     ghost use Rattle.vr_types.specs.Image.{block_at};
     ghost use Rattle.vr_device.specs.Past.{disk_of, seen_of, wrote, forced, with_event};
     ghost use Rattle.vr_device.specs.DeviceCalls.{IsToFail, counted, read_failed, faults_of};
-    ghost use Rattle.vr_device.specs.Memory.{past_in, calls_in, IsFailedWrite, IsFailedSync, IsRefused};
+    ghost use Rattle.vr_device.specs.Memory.{
+      past_in,
+      calls_in,
+      IsFailedWrite,
+      IsFailedSync,
+      IsRefused,
+    };
     ghost use Rattle.vr_device.specs.Readable.{images-now, readable-of, read-image};
 
     ghost tells = { true };
@@ -70,9 +77,11 @@ impl BlockDevice for MemoryDevice {
         requires block { n < length (past_in self.old).start }
         requires whole { length from.now ≡ (past_in self.old).size }
         ensures fails { IsToFail (calls_in self.old) → IsErr result }
-        ensures ok { OnOk result (past_in self.new ≡ with_event (past_in self.old) (wrote n from.now)) }
+        ensures ok { OnOk result
+            (past_in self.new ≡ with_event (past_in self.old) (wrote n from.now)) }
         ensures counted { OnOk result (calls_in self.new ≡ counted (calls_in self.old)) }
-        ensures err { OnErr result (IsFailedWrite self.old self.new n from.now ⊎ IsRefused self.old self.new) }
+        ensures err { OnErr result
+            (IsFailedWrite self.old self.new n from.now ⊎ IsRefused self.old self.new) }
     {
         if self.calls.begin() {
             return Err(self.fail_write(n, from));
@@ -146,14 +155,18 @@ impl MemoryDevice {
         self.calls.refused()
     }
 
-    /// The device that a crash leaves now, when each block holds the content of its list that the choice names. The
-    /// list of a block has its stable content at 0, and then what was written to it since the last sync that succeeded,
-    /// by failed writes too, the oldest first. No call of that device fails.
+    /// The device that a crash leaves now, when each block holds the content of its list that the
+    /// choice names. The list of a block has its stable content at 0, and then what was written to
+    /// it since the last sync that succeeded, by failed writes too, the oldest first. No call of
+    /// that device fails.
     pub fn image(&self, alloc: Global, choice: &[u32]) -> Result<MemoryDevice, ImageNo>
-        ensures misfit { (block : ℕ) → (result ≡ Err (ImageNo.Choice block)) ↔ IsMisfit (length (past_in self.now).start) (disk_of (past_in self.now)) choice.now block }
+        ensures misfit { (block : ℕ) → (result ≡ Err (ImageNo.Choice block))
+            ↔ IsMisfit (length (past_in self.now).start) (disk_of (past_in self.now)) choice.now block }
         ensures chosen { IfOk result (λ d.
-            IsChosen (length (past_in self.now).start) (disk_of (past_in self.now)) choice.now (past_in d).start) }
-        ensures past { IfOk result (λ d. past_in d ≡ unwritten (past_in self.now).size (past_in d).start) }
+            IsChosen (length (past_in self.now).start) (disk_of (past_in self.now))
+            choice.now (past_in d).start) }
+        ensures past { IfOk result (λ d.
+            past_in d ≡ unwritten (past_in self.now).size (past_in d).start) }
         ensures calls { IfOk result (λ d. calls_in d ≡ uncalled []) }
     {
         if let Some(block) = self.past.misfit(choice) {
@@ -165,12 +178,14 @@ impl MemoryDevice {
         Ok(MemoryDevice::over(past, DeviceCalls::new(Vec::new(alloc))))
     }
 
-    // A write that fails: its bytes join what a crash may leave, if there is memory for them.
+    /// A write that fails: its bytes join what a crash may leave, if there is memory for them.
     fn fail_write(&mut self, n: u32, from: &[u8]) -> Failed
         requires block { n < length (past_in self.old).start }
         requires whole { length from.now ≡ (past_in self.old).size }
-        ensures { ((past_in self.new ≡ with_event (past_in self.old) (failed n from.now)) × (calls_in self.new ≡ write_failed (calls_in self.old)))
-            ⊎ ((past_in self.new ≡ past_in self.old) × (calls_in self.new ≡ write_refused (calls_in self.old))) }
+        ensures { ((past_in self.new ≡ with_event (past_in self.old) (failed n from.now))
+            × (calls_in self.new ≡ write_failed (calls_in self.old)))
+            ⊎ ((past_in self.new ≡ past_in self.old)
+            × (calls_in self.new ≡ write_refused (calls_in self.old))) }
     {
         match self.past.fail(n, from) {
             Ok(()) => self.calls.fail_write(),

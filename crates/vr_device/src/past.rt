@@ -1,6 +1,20 @@
-// What a device in memory holds and held: the blocks as it was made, the blocks as they are read, and each write and
-// each sync since.
-ghost use Rattle.std.specs.Prelude.{◌≡◌, ◌<◌, ◌^◌, ◌++◌, [], ◌∷◌, length, OnOk, OnErr, IfOk, MatchOption, All, ℕ};
+//! What a device in memory holds and held: the blocks as it was made, the blocks as they are read,
+//! and each write and each sync since.
+ghost use Rattle.std.specs.Prelude.{
+  ◌≡◌,
+  ◌<◌,
+  ◌^◌,
+  ◌++◌,
+  [],
+  ◌∷◌,
+  length,
+  OnOk,
+  OnErr,
+  IfOk,
+  MatchOption,
+  All,
+  ℕ,
+};
 ghost use Rattle.vr_types.specs.Image.{block_at};
 ghost use Rattle.vr_device.specs.Disk.{IsFit, IsMisfit, IsChosen};
 ghost use Rattle.vr_device.specs.Past.{Past, disk_of, wrote, failed, forced, with_event, unwritten};
@@ -11,7 +25,8 @@ use std::alloc::Global;
 use std::marker::Model;
 use vr_types::OutOfMemory;
 
-/// One event of a device's past: a write that succeeded, a write that failed, or a sync that succeeded.
+/// One event of a device's past: a write that succeeded, a write that failed, or a sync that
+/// succeeded.
 #[derive(Drop)]
 pub(crate) enum PastEvent {
     Wrote { block: u32, bytes: Vec<u8> },
@@ -19,17 +34,17 @@ pub(crate) enum PastEvent {
     Forced,
 }
 
-/// The blocks of a device in memory and its past. A clause sees the size of a block, the blocks as the device was
-/// made, and each event since.
+/// The blocks of a device in memory and its past. A clause sees the size of a block, the blocks as
+/// the device was made, and each event since.
 #[derive(Drop)]
 pub(crate) struct Past {
     alloc: Global,
     size: u32,
     start: Vec<Vec<u8>>,
-    // The blocks as they are read.
+    /// The blocks as they are read.
     seen: Vec<Vec<u8>>,
     entries: Vec<PastEvent>,
-    // The number of events up to the last sync that succeeded.
+    /// The number of events up to the last sync that succeeded.
     stable_at: usize,
 }
 
@@ -122,10 +137,12 @@ impl Past {
         Ok(())
     }
 
-    /// The first block for which the choice names no content, or has no number. The number of blocks, where only the
-    /// choice is too long.
+    /// The first block for which the choice names no content, or has no number. The number of
+    /// blocks, where only the choice is too long.
     pub(crate) fn misfit(&self, choice: &[u32]) -> Option<u32>
-        ensures { MatchOption result (IsFit (length self.now.start) (disk_of self.now) choice.now) (IsMisfit (length self.now.start) (disk_of self.now) choice.now) }
+        ensures { MatchOption result
+            (IsFit (length self.now.start) (disk_of self.now) choice.now)
+            (IsMisfit (length self.now.start) (disk_of self.now) choice.now) }
     {
         let since = &self.entries[self.stable_at..];
         for n in 0..self.start.len() {
@@ -143,15 +160,17 @@ impl Past {
     /// The blocks that a crash leaves when each holds the content that the choice names.
     pub(crate) fn chosen(&self, alloc: Global, choice: &[u32]) -> Result<Vec<Vec<u8>>, OutOfMemory>
         requires { IsFit (length self.now.start) (disk_of self.now) choice.now }
-        ensures { IfOk result (λ blocks. IsChosen (length self.now.start) (disk_of self.now) choice.now (blocks_of blocks.items)) }
+        ensures { IfOk result (λ blocks. IsChosen (length self.now.start) (disk_of self.now)
+            choice.now (blocks_of blocks.items)) }
     {
         let stable = self.stable_blocks(alloc)?;
         Ok(pick(alloc, &stable, &self.entries[self.stable_at..], choice)?)
     }
 
-    // The blocks as the last sync that succeeded left them.
+    /// The blocks as the last sync that succeeded left them.
     fn stable_blocks(&self, alloc: Global) -> Result<Vec<Vec<u8>>, OutOfMemory>
-        ensures stable { IfOk result (λ blocks. blocks_of blocks.items ≡ (disk_of self.now).stable) }
+        ensures stable { IfOk result (λ blocks.
+            blocks_of blocks.items ≡ (disk_of self.now).stable) }
         ensures count { IfOk result (λ blocks. length blocks.items ≡ length self.now.start) }
     {
         let mut stable = copy_of_blocks(alloc, &self.start)?;

@@ -8,8 +8,9 @@ use std::alloc::Global;
 use std::marker::Model;
 use vr_types::{Blocks, DeviceFault, Failed};
 
-/// The blocks of a device. Each `put` is a write of the device at once, and each `force` a sync, whatever it lists. It
-/// keeps one buffer of a block, which `get` lends. A clause sees it as its device.
+/// The blocks of a device. Each `put` is a write of the device at once, and each `force` a sync,
+/// whatever it lists. It keeps one buffer of a block, which `get` lends. A clause sees it as its
+/// device.
 #[derive(Drop)]
 pub struct Direct<D: BlockDevice> {
     device: D,
@@ -77,7 +78,8 @@ impl<D: BlockDevice> Blocks for Direct<D> {
 
     fn force(&mut self, _list: &[u32]) -> Result<(), DeviceFault>
         requires { All (λ n. n < (D.seen self.old).count) _list.now }
-        ensures forced { IsTrue D.tells → OnOk result (Forced _list.now (D.seen self.old).cur (D.seen self.new).may) }
+        ensures forced { IsTrue D.tells → OnOk result
+            (Forced _list.now (D.seen self.old).cur (D.seen self.new).may) }
         ensures synced { IsTrue D.tells → OnOk result
             (AllForced (D.seen self.old).count (D.seen self.old).cur (D.seen self.new).may) }
         ensures after { Keeps D.tells (D.seen self.old) (D.seen self.new) }

@@ -5,7 +5,7 @@ use Rattle.vr_deck.specs.declared.text.JobText.{JobText}
 use Rattle.vr_deck.specs.declared.text.TextFault.{TextFault}
 use Rattle.vr_deck.specs.JobText.{IsJobText, IsFirstFault}
 use Rattle.vr_job.specs.declared.entry.Entry.{Entry}
-use Rattle.vr_job.specs.declared.trace.Trace.{Trace}
+use Rattle.vr_job.specs.declared.job_end.Trace.{Trace}
 use Rattle.vr_job.specs.State.{opening_state}
 use Rattle.vr_job.specs.History.{IsLegal}
 use Rattle.vr_job.specs.Ending.{Ending, NoCommand, ReadFailed, TooLong, NoMemory, NotAJob, Ran, ending_of_text, ending_of, HasFixedLine}

@@ -1,17 +1,17 @@
 -- How a deck's run ends.
-use Rattle.std.proofs.Common.{◌≡◌, inl, inr, ℕ, List, [], ◌∷◌, Option, Some, None, Contains, refl, sym, ◌∙◌, subst, arith, append-nil}
+use Rattle.std.proofs.Common.{◌≡◌, ◌⊎◌, inl, inr, ℕ, List, [], ◌∷◌, Option, Some, None, Contains, refl, sym, ◌∙◌, subst, arith, append-nil}
 use Rattle.vr_deck.specs.declared.text.JobText.{JobText}
 use Rattle.vr_deck.specs.declared.text.TextFault.{TextFault}
 use Rattle.vr_deck.specs.JobText.{IsJobText}
 use Rattle.vr_deck.specs.Bound.{bound_requests}
-use Rattle.vr_job.specs.declared.trace.Trace.{Trace}
+use Rattle.vr_job.specs.declared.job_end.Trace.{Trace}
 use Rattle.vr_job.specs.State.{opening_state}
-use Rattle.vr_job.specs.History.{IsLegal, AreParts}
+use Rattle.vr_job.specs.History.{AreParts}
 use Rattle.vr_job.specs.Code.{step_code}
 use Rattle.vr_job.specs.Input.{IsAll}
 use Rattle.vr_job.specs.Ending.{Ending, NoCommand, ReadFailed, TooLong, NoMemory, NotAJob, Ran, ending_of}
-use Rattle.vr_job.specs.JobEnd.{KeepsJob, AsksAll, IsOfText, Asks, IsStatusOf, HasCode, IsWhole}
-use Rattle.vr_job.specs.Ends.{IsRunOf, IsDeckEnd}
+use Rattle.vr_job.specs.JobEnd.{KeepsNothing, KeepsJob, AsksAll, IsOfText, Asks, IsStatusOf, HasCode, IsWhole}
+use Rattle.vr_job.specs.Ends.{IsRunOf, IsDeckPart, IsDeckRun}
 use Rattle.vr_job.proofs.Severities.{Coded, coded}
 
 -- what is known of a run, by its status and the fault that is kept
@@ -23,11 +23,13 @@ pub record EndsAs (text : List ℕ) (trace : Trace) (status : ℕ) (fault : Opti
   pub whole : ending_of status fault ≡ Ran → IsWhole status
   pub known : Contains (0 ∷ 4 ∷ 16 ∷ 36 ∷ []) status
 
-pub deck_ends : (text : List ℕ) (job : JobText) (status : ℕ) (trace : Trace) → IsJobText text job → trace.job ≡ Some job → trace.fault ≡ None
-    → IsLegal opening_state trace.history.entries → IsDeckEnd status job trace → EndsAs text trace status trace.fault
-deck_ends text job status trace is_job kept no_fault legal end = subst (EndsAs text trace status) (sym no_fault) (ends end) where
+pub deck_ends : (text : List ℕ) (job : JobText) (status : ℕ) (trace : Trace) → IsJobText text job → IsDeckRun status job trace → EndsAs text trace status trace.fault
+deck_ends text job status trace is_job run = subst (EndsAs text trace status) (sym run.no_fault) (ends run.part) where
+  kept : trace.job ≡ Some job
+  kept = run.kept
+
   keeps : KeepsJob text trace
-  keeps = record { job = job; kept = kept; is_job = is_job; no_fault = no_fault }
+  keeps = record { job = job; kept = kept; is_job = is_job; no_fault = run.no_fault }
 
   E : ℕ → Type 0
   E status = EndsAs text trace status None
@@ -52,7 +54,7 @@ deck_ends text job status trace is_job kept no_fault legal end = subst (EndsAs t
         known = (1, omega arith, refl);
       })
 
-  ends : IsDeckEnd status job trace → EndsAs text trace status None
+  ends : IsDeckPart status job.deck trace.history.entries → EndsAs text trace status None
   ends (inl short) =
       subst E (sym short.0) (record {
         run = inr keeps;
@@ -62,7 +64,25 @@ deck_ends text job status trace is_job kept no_fault legal end = subst (EndsAs t
         whole = λ ran. cc;
         known = (3, omega arith, refl);
       })
-  ends (inr whole) = at_code whole.1 (coded opening_state job.deck trace.history.entries whole.1 legal) whole.0
+  ends (inr whole) = at_code whole.1 (coded opening_state job.deck trace.history.entries whole.1 run.legal) whole.0
+
+-- an end at which nothing is kept
+pub nothing_ends : (text : List ℕ) (status : ℕ) (trace : Trace) → KeepsNothing trace → status ≡ 36 → EndsAs text trace status trace.fault
+nothing_ends text status trace nothing is =
+    let E : ℕ → Type 0 = λ s. EndsAs text trace s None in
+    subst (EndsAs text trace status) (sym nothing.no_fault) (subst E (sym is) (record {
+      run = inl nothing;
+      asks = inl nothing.no_entry;
+      ending = refl;
+      code = (λ e. absurd (omega (arith, e)), λ e. absurd (omega (arith, e)));
+      whole = λ ran. cc;
+      known = (3, omega arith, refl);
+    }))
+
+pub parsed_ends : (text : List ℕ) (job : JobText) (status : ℕ) (trace : Trace) → IsJobText text job → (KeepsNothing trace × (status ≡ 36)) ⊎ IsDeckRun status job trace
+    → EndsAs text trace status trace.fault
+parsed_ends text job status trace is_job (inl none) = nothing_ends text status trace none.0 none.1
+parsed_ends text job status trace is_job (inr run) = deck_ends text job status trace is_job run
 
 -- what is known of the text of a run, by where the text came from
 pub text_of_run : (ending : Ending) (left left' : Option (List ℕ)) (text : List ℕ) (trace : Trace) → IsAll left left' text → IsRunOf ending text trace → IsOfText ending left left' trace

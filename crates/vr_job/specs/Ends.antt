@@ -1,7 +1,9 @@
-use Rattle.std.specs.Prelude.{◌≡◌, ◌≢◌, ◌⊎◌, ℕ, ◌<◌, List, [], ◌∷◌, Option, None, Contains}
+use Rattle.std.specs.Prelude.{◌≡◌, ◌≢◌, ◌⊎◌, ℕ, ◌<◌, List, [], ◌∷◌, Option, None, Some, Contains}
 use Rattle.vr_deck.specs.declared.text.JobText.{JobText}
+use Rattle.vr_deck.specs.declared.text.DeckText.{DeckText}
 use Rattle.vr_deck.specs.Bound.{bound_requests}
-use Rattle.vr_job.specs.declared.trace.Trace.{Trace}
+use Rattle.vr_job.specs.declared.entry.Entry.{Entry}
+use Rattle.vr_job.specs.declared.job_end.Trace.{Trace}
 use Rattle.vr_job.specs.State.{opening_state}
 use Rattle.vr_job.specs.History.{IsLegal, AreParts, ArePrefixes}
 use Rattle.vr_job.specs.Code.{step_code}
@@ -19,10 +21,17 @@ IsRunOf NoMemory text trace = KeepsNothing trace ⊎ KeepsJob text trace
 IsRunOf (NotAJob fault) text trace = KeepsFault text trace
 IsRunOf Ran text trace = KeepsJob text trace
 
--- the status of a deck's run, and the part that was run
-abbrev pub IsDeckEnd : ℕ → JobText → Trace → Type 0
-IsDeckEnd status job trace = ((status ≡ 36) × ArePrefixes 1 (bound_requests job.deck) trace.history.entries)
-    ⊎ ((status ≡ step_code trace.history.entries) × AreParts 1 (bound_requests job.deck) trace.history.entries)
+-- which part of a deck's requests was asked, by the status of its run
+abbrev pub IsDeckPart : ℕ → DeckText → List Entry → Type 0
+IsDeckPart status deck entries = ((status ≡ 36) × ArePrefixes 1 (bound_requests deck) entries)
+    ⊎ ((status ≡ step_code entries) × AreParts 1 (bound_requests deck) entries)
+
+-- the run of a job's deck: the trace keeps the job
+pub record IsDeckRun (status : ℕ) (job : JobText) (trace : Trace) : Type 0 where
+  pub kept : trace.job ≡ Some job
+  pub no_fault : trace.fault ≡ None
+  pub legal : IsLegal opening_state trace.history.entries
+  pub part : IsDeckPart status job.deck trace.history.entries
 
 -- What is known of a job's end before anything is printed.
 pub record IsInputEnd (left left' : Option (List ℕ)) (faults faults' status : ℕ) (trace : Trace) : Type 0 where

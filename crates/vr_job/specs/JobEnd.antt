@@ -10,7 +10,7 @@ use Rattle.vr_deck.specs.Bound.{bound_requests}
 use Rattle.vr_job.specs.declared.entry.Entry.{Entry}
 use Rattle.vr_job.specs.declared.entry.What.{What}
 use Rattle.vr_job.specs.declared.entry.What.TheVariants.{Asked, Undone, Claimed, Split, Faulted}
-use Rattle.vr_job.specs.declared.trace.Trace.{Trace}
+use Rattle.vr_job.specs.declared.job_end.Trace.{Trace}
 use Rattle.vr_job.specs.History.{of_deck, part_of_deck, IsPrefixOf}
 use Rattle.vr_job.specs.Code.{step_code}
 use Rattle.vr_job.specs.Input.{IsAll}

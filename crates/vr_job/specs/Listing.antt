@@ -11,7 +11,7 @@ use Rattle.vr_deck.specs.declared.text.TextFault.{TextFault}
 use Rattle.vr_job.specs.declared.entry.Entry.{Entry}
 use Rattle.vr_job.specs.declared.entry.What.{What}
 use Rattle.vr_job.specs.declared.entry.What.TheVariants.{Asked, Undone, Claimed, Split, Faulted}
-use Rattle.vr_job.specs.declared.trace.Trace.{Trace}
+use Rattle.vr_job.specs.declared.job_end.Trace.{Trace}
 use Rattle.vr_job.specs.Code.{return_code, feedback_of, step_code}
 use Rattle.vr_job.specs.Ending.{Ending, NoCommand, ReadFailed, TooLong, NoMemory, NotAJob, Ran, ending_of}
 

@@ -24,13 +24,6 @@ Serves request reply old new = (state : State) (deck : ℕ) → state.contents 1
 abbrev pub state_with : Content → State
 state_with content = record { contents = λ _. content; positions = λ _ _. first_position; numbers = λ _. 1 }
 
--- a GET of a key, and a PUT that adds a record
-abbrev pub get_request : List ℕ → Request
-get_request key = Get first_file (Equal key) false Nri
-
-abbrev pub add_request : List ℕ → Request
-add_request bytes = Add first_file None bytes
-
 -- the reply to a request where the file has a content and memory is ample, and the content after a reply
 abbrev pub reply_to : Content → Request → Reply
 reply_to content request = answer_of (state_with content) request

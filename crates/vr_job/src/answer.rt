@@ -1,6 +1,8 @@
+//! The answers to requests on VRM.FIRST.
 ghost use Rattle.std.specs.Prelude.{◌≡◌, IfOk, OnErr, min, length, ◌^◌, ◌-◌};
+ghost use Rattle.vr_deck.specs.Bound.{get_request, add_request};
 ghost use Rattle.vr_job.specs.Step.{IsOffered};
-ghost use Rattle.vr_job.specs.Serve.{Serves, reply_to, content_after, get_request, add_request, or_refused};
+ghost use Rattle.vr_job.specs.Serve.{Serves, reply_to, content_after, or_refused};
 
 use crate::record_file::{KEY_LENGTH, RecordFile, key};
 use std::alloc::Global;

@@ -1,3 +1,4 @@
+//! Return codes, feedback numbers and condition codes.
 ghost use Rattle.std.specs.Prelude.{◌≡◌};
 ghost use Rattle.vr_job.specs.Code.{return_code, feedback_of, severity, reply_severity, step_code};
 

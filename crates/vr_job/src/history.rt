@@ -1,3 +1,4 @@
+//! The list of the entries that were made on a volume.
 ghost use Rattle.std.specs.Prelude.{◌≡◌, ◌<◌, ◌≤◌, ◌+◌, ◌-◌, [], ◌∷◌, ◌++◌, OnOk, OnErr};
 ghost use Rattle.vr_job.specs.History.{IsStamped, last_stamp};
 
@@ -33,7 +34,7 @@ impl History {
         }
     }
 
-    /// The entries, in order.
+    /// The entries, first to last.
     pub fn entries(&self) -> &[Entry]
         ensures value { result.now ≡ self.now.entries }
         ensures stamped { IsStamped 0 self.now.entries }
@@ -51,7 +52,7 @@ impl History {
         }
     }
 
-    /// Makes room for so many more entries. The entries stay, whatever the answer.
+    /// Makes room for that many more entries. The entries stay, whatever the answer.
     pub fn reserve(&mut self, more: usize) -> Result<(), OutOfMemory>
         ensures entries { self.new.entries ≡ self.old.entries }
         ensures room { OnOk result (more ≤ self.new.room) }

@@ -1,34 +1,27 @@
-ghost use Rattle.std.specs.Prelude.{◌≡◌, ◌≢◌, ◌↔◌, ◌<◌, ◌≤◌, ◌⊎◌, ◌^◌, length, Contains, [], ◌∷◌, OnOk, IfSome, Some, None};
+//! The top call.
+ghost use Rattle.std.specs.Prelude.{◌≡◌, ◌≢◌, ◌↔◌, ◌<◌, ◌≤◌, ◌⊎◌, ◌^◌, length, Contains, [], ◌∷◌, OnOk, IfOk, IfErr, IfSome, Some, None};
 ghost use Rattle.vr_outside.specs.Told.{Takes};
 ghost use Rattle.vr_deck.specs.Bound.{bound_requests};
-ghost use Rattle.vr_deck.specs.JobText.{IsJobText};
+ghost use Rattle.vr_deck.specs.JobText.{IsJobText, CauseOf};
 ghost use Rattle.vr_deck.specs.declared.text.JobText.{JobText};
 ghost use Rattle.vr_job.specs.State.{opening_state};
 ghost use Rattle.vr_job.specs.History.{IsLegal, IsStamped, AreParts, ArePrefixes};
 ghost use Rattle.vr_job.specs.Ending.{Ran, ending_of, HasFixedLine};
 ghost use Rattle.vr_job.specs.Listing.{listing_of};
 ghost use Rattle.vr_job.specs.JobEnd.{run_words, KeepsNothing, IsOfText, Asks, IsStatusOf, HasCode, IsPrinted, IsWhole, statuses};
-ghost use Rattle.vr_job.specs.Ends.{IsRunOf, IsDeckEnd, IsInputEnd, PrintsAs};
+ghost use Rattle.vr_job.specs.Ends.{IsRunOf, IsDeckPart, IsDeckRun, IsInputEnd, PrintsAs};
 
 use crate::code::step_code;
-use crate::command::Plan;
+use crate::command_words::plan;
 use crate::history::History;
 use crate::input::{InputFault, read_text};
+use crate::job_end::{JobEnd, KeptJob, Plan, Trace};
 use crate::listing::{fixed_line, has_fixed_line, listing};
 use crate::run::run_deck;
-use crate::trace::Trace;
-use crate::words::plan;
 use std::alloc::Global;
-use vr_deck::{JobFault, JobText, TextFault, bind, no_value_at_a_fault, parse_job};
+use vr_deck::{DeckText, JobFault, JobText, TextFault, bind, parse_job};
 use vr_outside::{Sink, Source, write_whole};
 use vr_types::{Bytes, OutOfMemory, Words};
-
-/// How a job ended: the status, and what it did.
-#[derive(Debug, Drop)]
-pub struct JobEnd {
-    pub status: u8,
-    pub trace: Trace,
-}
 
 /// Runs the job that the words ask for: reads its text, runs its deck over an empty VRM.FIRST, and prints the listing.
 ///
@@ -80,7 +73,6 @@ pub fn run_job<S: Source, K: Sink>(
     ensures untouched { result.status ≡ 20 → input.new ≡ input.old }
     ensures steady { result.status ≢ 24 → S.faults input.new ≡ S.faults input.old }
 {
-    no_value_at_a_fault();
     match plan(words) {
         Some(Plan::Run) => {
             let end = run_input(alloc, input);
@@ -99,7 +91,7 @@ fn run_input<S: Source>(alloc: Global, input: &mut S) -> JobEnd
         result.status result.trace }
 {
     match read_text(alloc, input) {
-        Ok(text) => run_text(alloc, text.as_slice()),
+        Ok(text) => run_text(alloc, text),
         Err(InputFault::Read) => ended(alloc, 24, None),
         Err(InputFault::TooLong) => ended(alloc, 26, None),
         Err(InputFault::Memory) => ended(alloc, 36, None),
@@ -107,9 +99,9 @@ fn run_input<S: Source>(alloc: Global, input: &mut S) -> JobEnd
 }
 
 /// Runs the deck of a job text. It reads nothing and prints nothing.
-fn run_text(alloc: Global, text: &[u8]) -> JobEnd
-    requires { length text.now ≤ 2 ^ 26 }
-    ensures run { IsRunOf (ending_of result.status result.trace.fault) text.now result.trace }
+fn run_text(alloc: Global, text: Vec<u8>) -> JobEnd
+    requires { length text.items ≤ 2 ^ 26 }
+    ensures run { IsRunOf (ending_of result.status result.trace.fault) text.items result.trace }
     ensures requests { Asks (ending_of result.status result.trace.fault) result.trace }
     ensures ending { IsStatusOf (ending_of result.status result.trace.fault) result.trace result.status }
     ensures legal { IsLegal opening_state result.trace.history.entries }
@@ -117,22 +109,43 @@ fn run_text(alloc: Global, text: &[u8]) -> JobEnd
     ensures whole { ending_of result.status result.trace.fault ≡ Ran → IsWhole result.status }
     ensures status { Contains (0 ∷ 4 ∷ 16 ∷ 36 ∷ []) result.status }
 {
-    match parse_job(alloc, text) {
-        Ok(job) => run_job_text(alloc, job),
+    match parse_text(alloc, text) {
+        Ok(job) => run_parsed(alloc, job),
         Err(JobFault::Memory) => ended(alloc, 36, None),
         Err(JobFault::Form(fault)) => ended(alloc, 16, Some(fault)),
     }
 }
 
-/// Runs the deck of a job.
-fn run_job_text(alloc: Global, job: JobText) -> JobEnd
+/// The job of a text, which is let go.
+fn parse_text(alloc: Global, text: Vec<u8>) -> Result<JobText, JobFault>
+    requires { length text.items ≤ 2 ^ 26 }
+    ensures job { IfOk result (IsJobText text.items) }
+    ensures fault { IfErr result (CauseOf text.items) }
+    ensures few { IfOk result (λ job. length job.deck.orders ≤ 2 ^ 26) }
+{
+    parse_job(alloc, text.as_slice())
+}
+
+/// Keeps what the trace keeps of a job, and runs its deck.
+fn run_parsed(alloc: Global, job: JobText) -> JobEnd
     requires { length job.deck.orders ≤ 2 ^ 26 }
-    ensures kept { (result.trace.job ≡ Some job) × (result.trace.fault ≡ None) }
-    ensures end { IsDeckEnd result.status job result.trace }
+    ensures { (KeepsNothing result.trace × (result.status ≡ 36)) ⊎ IsDeckRun result.status job result.trace }
+{
+    match KeptJob::of(alloc, &job) {
+        Ok(kept) => run_deck_text(alloc, kept, job.deck),
+        Err(OutOfMemory) => ended(alloc, 36, None),
+    }
+}
+
+/// Runs a deck, whose job is kept.
+fn run_deck_text(alloc: Global, kept: KeptJob, deck: DeckText) -> JobEnd
+    requires { length deck.orders ≤ 2 ^ 26 }
+    ensures kept { (result.trace.job ≡ Some kept) × (result.trace.fault ≡ None) }
     ensures legal { IsLegal opening_state result.trace.history.entries }
+    ensures part { IsDeckPart result.status deck result.trace.history.entries }
 {
     let mut history = History::new(alloc);
-    let ran = run_bound(alloc, &job, &mut history);
+    let ran = run_bound(alloc, deck, &mut history);
     let status = match ran {
         Ok(()) => step_code(history.entries()),
         Err(OutOfMemory) => 36,
@@ -140,22 +153,22 @@ fn run_job_text(alloc: Global, job: JobText) -> JobEnd
     JobEnd {
         status,
         trace: Trace {
-            job: Some(job),
+            job: Some(kept),
             fault: None,
             history,
         },
     }
 }
 
-/// Binds the requests of a job's deck and runs them.
-fn run_bound(alloc: Global, job: &JobText, history: &mut History) -> Result<(), OutOfMemory>
-    requires few { length job.now.deck.orders ≤ 2 ^ 26 }
+/// Binds the requests of a deck and runs them.
+fn run_bound(alloc: Global, deck: DeckText, history: &mut History) -> Result<(), OutOfMemory>
+    requires few { length deck.orders ≤ 2 ^ 26 }
     requires fresh { history.old.entries ≡ [] }
     ensures legal { IsLegal opening_state history.new.entries }
-    ensures whole { OnOk result (AreParts 1 (bound_requests job.now.deck) history.new.entries) }
-    ensures prefix { ArePrefixes 1 (bound_requests job.now.deck) history.new.entries }
+    ensures whole { OnOk result (AreParts 1 (bound_requests deck) history.new.entries) }
+    ensures prefix { ArePrefixes 1 (bound_requests deck) history.new.entries }
 {
-    let requests = bind(alloc, &job.deck)?;
+    let requests = bind(alloc, deck)?;
     run_deck(alloc, &requests, history)
 }
 

@@ -1,29 +1,27 @@
-// The top call: it reads a job from a source, runs its deck over VRM.FIRST, keeps the history of every reply, and
-// prints the listing to a sink. It stands on the shared words (vr_types), literals (vr_text), sources and sinks (vr_outside)
-// and job texts (vr_deck). It promises, on the call `run_job`, that what was printed is the listing of one legal history that
-// holds every request of the deck in order, each once, and that each status comes where its cause is and nowhere else.
+//! The top call: it reads a job from a source, runs its deck over VRM.FIRST, keeps the history of every reply, and
+//! prints the listing to a sink. It stands on the shared words (vr_types), literals (vr_text), sources and sinks
+//! (vr_outside) and job texts (vr_deck). It promises, on the call `run_job`: what was printed is the listing of one
+//! legal history, which holds the requests of the job's deck in order, each once, and those of no other deck; what
+//! the trace keeps is the text's job or its fault; and 16, 20, 24, 26 and 28 come only where their causes are. Out of
+//! memory (36) may come in place of each status but 20 and 24.
 #![tactic(auto)]
 
-pub mod answer;
-pub mod code;
-pub mod command;
-pub mod entry;
-pub mod history;
-pub mod input;
-pub mod job;
-pub mod listing;
-pub mod positions;
-pub mod record_file;
-pub mod run;
-#[cfg(test)]
-mod tests;
-pub mod trace;
-pub mod words;
+mod answer;
+mod code;
+mod command_words;
+mod entry;
+mod history;
+mod input;
+mod job;
+mod job_end;
+mod listing;
+mod positions;
+mod record_file;
+mod run;
 
-pub use command::Plan;
+pub use command_words::plan;
 pub use entry::{Entry, What};
 pub use history::History;
-pub use job::{JobEnd, run_job};
+pub use job::run_job;
+pub use job_end::{JobEnd, KeptJob, Plan, Trace};
 pub use positions::Positions;
-pub use trace::Trace;
-pub use words::plan;

@@ -1,15 +1,16 @@
+//! The bytes that a job prints.
 ghost use Rattle.std.specs.Prelude.{◌≡◌, ℕ, List, [], ◌∷◌, ◌++◌, ◌↔◌, codes, IfOk, OnOk, IsTrue};
 ghost use Rattle.std.specs.Fmt.{decimal};
 ghost use Rattle.vr_job.specs.Code.{step_code};
 ghost use Rattle.vr_job.specs.Ending.{HasFixedLine};
 ghost use Rattle.vr_job.specs.Listing.{verb_of, file_of, shown, values_of, asked_line, entry_line, entry_lines, name_of, step_listing, fault_line, run_listing, listing_of};
-ghost use Rattle.vr_job.specs.declared.trace.Trace.{Trace};
+ghost use Rattle.vr_job.specs.declared.job_end.Trace.{Trace};
 
 use crate::code::{feedback, return_code, step_code};
 use crate::entry::{Entry, What};
-use crate::trace::Trace;
+use crate::job_end::{KeptJob, Trace};
 use std::alloc::Global;
-use vr_deck::{JobText, TextFault};
+use vr_deck::TextFault;
 use vr_text::write_literal;
 use vr_types::{Bytes, OutOfMemory, Place, Reply, Request};
 
@@ -65,7 +66,7 @@ fn write_fault(alloc: Global, out: &mut Bytes, fault: &TextFault) -> Result<(), 
 fn write_run(
     alloc: Global,
     out: &mut Bytes,
-    job: &Option<JobText>,
+    job: &Option<KeptJob>,
     entries: &[Entry],
 ) -> Result<(), OutOfMemory>
     ensures { OnOk result (out.new ≡ out.old ++ run_listing job.now entries.now) }
@@ -80,19 +81,19 @@ fn write_run(
 fn write_step(
     alloc: Global,
     out: &mut Bytes,
-    job: &JobText,
+    job: &KeptJob,
     entries: &[Entry],
 ) -> Result<(), OutOfMemory>
     ensures { OnOk result (out.new ≡ out.old ++ step_listing job.now entries.now) }
 {
     let code = u64::from(step_code(entries));
     out.extend(b"STEP ")?;
-    out.extend(job.step.as_slice())?;
+    out.extend(job.step())?;
     out.extend(b" DECKS")?;
     out.push(NEW_LINE)?;
-    write_entries(alloc, out, file_name(&job.deck.file), entries)?;
+    write_entries(alloc, out, file_name(job.file()), entries)?;
     out.extend(b"STEP ")?;
-    out.extend(job.step.as_slice())?;
+    out.extend(job.step())?;
     out.extend(b" CODE ")?;
     write_number(alloc, out, code)?;
     out.push(NEW_LINE)?;
@@ -122,7 +123,7 @@ fn write_entries(
 {
     for entry in entries {
         if let What::Asked { request, reply } = &entry.what {
-            write_asked(alloc, out, name, entry, request, reply)?;
+            write_asked(alloc, out, name, entry, request.get(), reply)?;
         }
     }
     Ok(())

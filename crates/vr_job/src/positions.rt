@@ -1,3 +1,4 @@
+//! Where the files of decks are, and what they hold for update.
 ghost use Rattle.std.specs.Prelude.{◌≡◌, ◌<◌, ◌≤◌, ◌+◌, ◌⊎◌, [], None, IsSome, OnOk, MatchResult, option_copied, map, true};
 ghost use Rattle.vr_job.specs.Positions.{position_at, SetsOnly, AreInOrder, IsAt, IsGapFor, dropped_by, without_held, without_deck};
 

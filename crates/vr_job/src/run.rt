@@ -1,3 +1,4 @@
+//! The run of a deck.
 ghost use Rattle.std.specs.Prelude.{◌≡◌, ◌<◌, ◌≤◌, ◌^◌, ◌-◌, [], IfOk, OnOk, OnErr, All, length};
 ghost use Rattle.vr_job.specs.State.{opening_state};
 ghost use Rattle.vr_job.specs.History.{IsLegal, AreParts, ArePrefixes, last_stamp};
@@ -16,8 +17,8 @@ use vr_types::{Bound, OutOfMemory, Reply, Request, Unit};
 /// The number of the one deck.
 const DECK: u32 = 1;
 
-/// Runs the requests of deck 1 over an empty VRM.FIRST, in order, and enters each with its reply. Where memory runs out, the
-/// entries are those of the requests so far.
+/// Runs the requests of deck 1 over an empty VRM.FIRST, in order, and enters each with its reply. Where memory runs out,
+/// the entries are those of the requests so far.
 pub fn run_deck(
     alloc: Global,
     requests: &DeckRequests,
@@ -33,13 +34,15 @@ pub fn run_deck(
     let mut file = RecordFile::new(alloc);
     let mut positions = Positions::new(alloc);
     let mut number = 1u32;
+    history.reserve(requests.as_slice().len())?;
     for bound in requests.as_slice() {
         number = run_one(alloc, &mut file, &mut positions, history, bound, number)?;
     }
     Ok(())
 }
 
-/// Answers a request and enters it, and gives the number of the deck's next unit. Where memory runs out, nothing changes.
+/// Answers a request and enters it, and gives the number of the deck's next unit. Where memory runs out, nothing
+/// changes.
 fn run_one(
     alloc: Global,
     file: &mut RecordFile,
@@ -51,15 +54,17 @@ fn run_one(
     requires here { IsHere bound.now }
     requires number { number < 2 ^ 32 - 1 }
     requires stamp { last_stamp 0 history.old.entries < 2 ^ 64 - 1 }
-    ensures ok { IfOk result (λ next. Enters bound.now number next history.old.entries history.new.entries file.old file.new positions.old.files positions.new.files) }
+    ensures ok { IfOk result (λ next. Enters bound.now number next history.old.entries history.new.entries
+        file.old file.new positions.old.files positions.new.files) }
     ensures err { OnErr result (history.new.entries ≡ history.old.entries) }
 {
     history.reserve(1)?;
-    let request = bound.request.copy(alloc)?;
-    begin(positions, &request);
-    let reply = answer(alloc, file, &request);
-    end(positions, &request, &reply);
-    let next = number_after(&request, &reply, number);
+    let request = bound.request.share()?;
+    let asked = bound.request.get();
+    begin(positions, asked);
+    let reply = answer(alloc, file, asked);
+    end(positions, asked, &reply);
+    let next = number_after(asked, &reply, number);
     history.push(Entry {
         stamp: history.last() + 1,
         unit: Unit { deck: DECK, number },

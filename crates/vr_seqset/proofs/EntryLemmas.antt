@@ -112,7 +112,7 @@ entry_back place e rest fits =
     ap (λ (ns : List ℕ). record { intervals = ns; high = take place (drop (2 + 2 * two_at 0 (entry_bytes e ++ rest)) (entry_bytes e ++ rest)) }) numbers
     ∙ ap (λ (h : List ℕ). record { intervals = e.intervals; high = h }) high
 
--- the bytes behind an entry
+-- the bytes after an entry
 pub behind_entry : (place : ℕ) (e : Entry) (rest : List ℕ) → CanBeSpelled place e → drop (2 + 2 * two_at 0 (entry_bytes e ++ rest) + place) (entry_bytes e ++ rest) ≡ rest
 behind_entry place e rest fits =
     drop_at (entry_bytes e) rest (2 + 2 * two_at 0 (entry_bytes e ++ rest) + place) (omega (arith, length-entry_bytes e, length-twos e.intervals, count_back place e rest fits, fits.high))
@@ -194,20 +194,20 @@ whole_front n place bytes pos whole = first_whole n place place bytes pos whole
 
 pub whole_rest : (n place : ℕ) (bytes rest : List ℕ) → rest ≡ drop (2 + 2 * two_at 0 bytes + place) bytes → All (IsWhole place) (entries_in (suc n) place bytes) → All (IsWhole place) (entries_in n place rest)
 unfolding entries_in
-whole_rest n place bytes rest e whole = rw e (All-tail (IsWhole place) (entry_in place bytes) (entries_in n place (drop (2 + 2 * two_at 0 bytes + place) bytes)) whole)
+whole_rest n place bytes rest same whole = rw same (All-tail (IsWhole place) (entry_in place bytes) (entries_in n place (drop (2 + 2 * two_at 0 bytes + place) bytes)) whole)
 
 pub whole_behind : (n place : ℕ) (bytes rest : List ℕ) → 0 < n → rest ≡ drop (2 + 2 * two_at 0 bytes + place) bytes → All (IsWhole place) (entries_in n place bytes) → All (IsWhole place) (entries_in (n - 1) place rest)
-whole_behind n place bytes rest pos e whole =
+whole_behind n place bytes rest pos same whole =
     let more : suc (n - 1) ≡ n = omega arith in
-    whole_rest (n - 1) place bytes rest e (subst (λ (m : ℕ). All (IsWhole place) (entries_in m place bytes)) (sym more) whole)
+    whole_rest (n - 1) place bytes rest same (subst (λ (m : ℕ). All (IsWhole place) (entries_in m place bytes)) (sym more) whole)
 
 pub whole_both : (n place : ℕ) (bytes rest : List ℕ) → rest ≡ drop (2 + 2 * two_at 0 bytes + place) bytes → IsWhole place (entry_in place bytes) → All (IsWhole place) (entries_in n place rest) → All (IsWhole place) (entries_in (suc n) place bytes)
 unfolding entries_in
-whole_both n place bytes rest e first others = All-cons (IsWhole place) (entry_in place bytes) (entries_in n place (drop (2 + 2 * two_at 0 bytes + place) bytes)) first (rw (← e) others)
+whole_both n place bytes rest same first others = All-cons (IsWhole place) (entry_in place bytes) (entries_in n place (drop (2 + 2 * two_at 0 bytes + place) bytes)) first (rw (← same) others)
 
 pub ruleset whole_steps = (whole_within, some_within, is_whole)
 
--- ---- going over entries
+-- ---- walking over entries
 
 length-whole : (place : ℕ) (bytes : List ℕ) → IsWhole place (entry_in place bytes) → length (entry_bytes (entry_in place bytes)) ≡ 2 + 2 * two_at 0 bytes + place
 unfolding entry_in
@@ -224,15 +224,15 @@ drop-entry left place bytes whole =
     omega (arith, length-append (entry_bytes (entry_in place bytes)) (flat_map entry_bytes others), length-whole place bytes whole) in
     ap (λ (n : ℕ). drop n bytes) len ∙ sym (drop-drop (length (flat_map entry_bytes others)) (2 + 2 * two_at 0 bytes + place) bytes)
 
--- after some of the entries in bytes so many are left in rest
+-- after some of the entries in bytes that many are left in rest
 pub record IsLeft (count place : ℕ) (bytes : List ℕ) (left : ℕ) (rest : List ℕ) : Type 0 where
   pub all : All (IsWhole place) (entries_in left place rest) → All (IsWhole place) (entries_in count place bytes)
   pub others : All (IsWhole place) (entries_in count place bytes) → All (IsWhole place) (entries_in left place rest)
   pub behind : drop (length (flat_map entry_bytes (entries_in count place bytes))) bytes ≡ drop (length (flat_map entry_bytes (entries_in left place rest))) rest
 
 pub IsLeft-next : (count place : ℕ) (bytes : List ℕ) (left fewer : ℕ) (rest after : List ℕ) → IsLeft count place bytes left rest → left ≡ suc fewer → after ≡ drop (2 + 2 * two_at 0 rest + place) rest → IsWhole place (entry_in place rest) → IsLeft count place bytes fewer after
-IsLeft-next count place bytes left fewer rest after h e after-is whole =
-    let at_left : IsLeft count place bytes (suc fewer) rest = rw e at h in
+IsLeft-next count place bytes left fewer rest after left_is same after-is whole =
+    let at_left : IsLeft count place bytes (suc fewer) rest = rw same at left_is in
     record {
       all = λ others. at_left.all (whole_both fewer place rest after after-is whole others);
       others = λ all. whole_rest fewer place rest after after-is (at_left.others all);
@@ -240,12 +240,12 @@ IsLeft-next count place bytes left fewer rest after h e after-is whole =
     }
 
 pub IsLeft-broken : (count place : ℕ) (bytes : List ℕ) (left : ℕ) (rest : List ℕ) → IsLeft count place bytes left rest → 0 < left → (IsWhole place (entry_in place rest) → ⊥) → All (IsWhole place) (entries_in count place bytes) → ⊥
-IsLeft-broken count place bytes left rest h pos broken all = broken (whole_front left place rest pos (h.others all))
+IsLeft-broken count place bytes left rest left_is pos broken all = broken (whole_front left place rest pos (left_is.others all))
 
 pub IsLeft-none : (count place : ℕ) (bytes : List ℕ) (left : ℕ) (rest : List ℕ) → IsLeft count place bytes left rest → left ≡ 0 → All (IsWhole place) (entries_in count place bytes) × (rest ≡ drop (length (flat_map entry_bytes (entries_in count place bytes))) bytes)
 unfolding entries_in
-IsLeft-none count place bytes left rest h e =
-    let at_none : IsLeft count place bytes 0 rest = rw e at h in
+IsLeft-none count place bytes left rest left_is same =
+    let at_none : IsLeft count place bytes 0 rest = rw same at left_is in
     (at_none.all (All-nil (IsWhole place)), sym at_none.behind)
 
 -- entry i of those in bytes is entry left of those in rest, which are whole
@@ -255,8 +255,8 @@ pub record IsAt (place : ℕ) (bytes : List ℕ) (i left : ℕ) (rest : List ℕ
 
 pub IsAt-next : (place : ℕ) (bytes : List ℕ) (i left fewer : ℕ) (rest after : List ℕ) → IsAt place bytes i left rest → left ≡ suc fewer → after ≡ drop (2 + 2 * two_at 0 rest + place) rest → IsAt place bytes i fewer after
 unfolding entries_in
-IsAt-next place bytes i left fewer rest after h e after-is =
-    let at_left : IsAt place bytes i (suc fewer) rest = rw e at h in
+IsAt-next place bytes i left fewer rest after at_is equal after-is =
+    let at_left : IsAt place bytes i (suc fewer) rest = rw equal at at_is in
     record {
       whole = whole_rest (suc fewer) place rest after after-is at_left.whole;
       same = at_left.same ∙ ap (λ (x : List ℕ). slice_get (entries_in (suc fewer) place x) fewer) (sym after-is);
@@ -264,8 +264,8 @@ IsAt-next place bytes i left fewer rest after h e after-is =
 
 pub IsAt-front : (place : ℕ) (bytes : List ℕ) (i left : ℕ) (rest : List ℕ) → IsAt place bytes i left rest → left ≡ 0 → slice_get (entries_in (suc i) place bytes) i ≡ Some (entry_in place rest)
 unfolding entries_in
-IsAt-front place bytes i left rest h e =
-    let at_front : IsAt place bytes i 0 rest = rw e at h in
+IsAt-front place bytes i left rest at_is equal =
+    let at_front : IsAt place bytes i 0 rest = rw equal at at_is in
     at_front.same
 
 -- ---- the first of many entries

@@ -72,7 +72,7 @@ module _ (cis : ℕ) (block : List ℕ) (limit : ℕ) (low : List ℕ) (entries 
       ∙ ap (λ (es : List Entry). AreOnceBelow (intervals_used cis (length block) (length (record_in block).low)) (flat_map (λ (e : Entry). e.intervals) es)) entries_was
 
   pub used_to : AreOnceBelow limit (flat_map (λ e. e.intervals) entries) → HasIntervals cis (length block) (record_in block)
-  used_to h = subst (λ (P : Type 0). P) used_is h
+  used_to once = subst (λ (P : Type 0). P) used_is once
 
   pub used_from : HasIntervals cis (length block) (record_in block) → AreOnceBelow limit (flat_map (λ e. e.intervals) entries)
   used_from h = subst (λ (P : Type 0). P) (sym used_is) h
@@ -85,7 +85,7 @@ module _ (block : List ℕ) (first : Bool) (low : List ℕ) (entries : List Entr
       ∙ ap (λ (es : List Entry). cond (record_in block).first [] ((record_in block).low ∷ []) ++ map (λ (e : Entry). e.high) es) entries_was
 
   pub ascends_to : IsStrictlySortedBy (slice_cmp nat_cmp) (cond first [] (low ∷ []) ++ map (λ e. e.high) entries) → Ascends (record_in block)
-  ascends_to h = subst (IsStrictlySortedBy (slice_cmp nat_cmp)) bounds_are h
+  ascends_to sorted = subst (IsStrictlySortedBy (slice_cmp nat_cmp)) bounds_are sorted
 
   pub ascends_from : Ascends (record_in block) → IsStrictlySortedBy (slice_cmp nat_cmp) (cond first [] (low ∷ []) ++ map (λ e. e.high) entries)
   ascends_from h = subst (IsStrictlySortedBy (slice_cmp nat_cmp)) (sym bounds_are) h

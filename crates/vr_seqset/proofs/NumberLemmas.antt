@@ -26,9 +26,9 @@ IsDistinct-left xs ys once = IsDistinct-from_apart eqb xs (λ i j d lt below.
     ∙ apart_from_distinct eqb (xs ++ ys) i j d once lt (omega (arith, length-append xs ys)))
 
 pub once_left : (limit : ℕ) (xs ys : List ℕ) → AreOnceBelow limit (xs ++ ys) → AreOnceBelow limit xs
-once_left limit xs ys h = record { below = All-left (λ (n : ℕ). n < limit) xs ys h.below; once = IsDistinct-left xs ys h.once }
+once_left limit xs ys once_is = record { below = All-left (λ (n : ℕ). n < limit) xs ys once_is.below; once = IsDistinct-left xs ys once_is.once }
 
--- a number that stands before does not stand once
+-- a number that comes before is not there once
 twice : (xs : List ℕ) (n : ℕ) → list_any (eqb n) xs ≡ true → IsDistinct eqb (xs ++ n ∷ []) → ⊥
 twice [] n there once = absurd cc
 twice (x ∷ xs) n there once =
@@ -44,16 +44,16 @@ twice (x ∷ xs) n there once =
 -- a number that is not marked yet
 pub mark_more : (limit : ℕ) (seen : List Bool) (xs : List ℕ) (n : ℕ) → limit ≤ length seen → n < limit → get_or seen n false ≡ false → AreOnceBelow limit xs × Marks limit seen xs
     → AreOnceBelow limit (xs ++ n ∷ []) × Marks limit (set seen n true) (xs ++ n ∷ [])
-mark_more limit seen xs n room lt fresh h = (
+mark_more limit seen xs n room lt fresh both = (
   record {
-    below = All-push (λ (m : ℕ). m < limit) xs n h.0.below lt;
-    once = IsDistinct-push nat_eq_equiv xs n h.0.once (sym (h.1 n lt) ∙ fresh);
+    below = All-push (λ (m : ℕ). m < limit) xs n both.0.below lt;
+    once = IsDistinct-push nat_eq_equiv xs n both.0.once (sym (both.1 n lt) ∙ fresh);
   },
   λ m below. elim (cases_eq m n) [
     | inl same ↦
         rw same (get_or-set_same seen n true false (omega arith) ∙ sym (list_any-append (eqb n) xs (n ∷ []) ∙ or_right (list_any (eqb n) xs) (list_any (eqb n) (n ∷ [])) (ap (λ (b : Bool). b || false) (eq-eqb n n refl))))
     | inr other ↦
-        get_or-set_other seen n m true false other ∙ h.1 m below ∙ sym (list_any-append (eqb m) xs (n ∷ []) ∙ ap (λ (b : Bool). list_any (eqb m) xs || (b || false)) (ne_eqb m n other) ∙ or_false (list_any (eqb m) xs))
+        get_or-set_other seen n m true false other ∙ both.1 m below ∙ sym (list_any-append (eqb m) xs (n ∷ []) ∙ ap (λ (b : Bool). list_any (eqb m) xs || (b || false)) (ne_eqb m n other) ∙ or_false (list_any (eqb m) xs))
   ],
 )
   where
@@ -63,13 +63,13 @@ mark_more limit seen xs n room lt fresh h = (
 
 -- a number that is marked, or past the limit
 pub marked : (limit : ℕ) (seen : List Bool) (xs : List ℕ) (n : ℕ) → get_or seen n false ≡ true → Marks limit seen xs → AreOnceBelow limit (xs ++ n ∷ []) → ⊥
-marked limit seen xs n there marks h =
-    let lt : n < limit = All-head (λ (m : ℕ). m < limit) n [] (All-right (λ (m : ℕ). m < limit) xs (n ∷ []) h.below) in
-    twice xs n (sym (marks n lt) ∙ there) h.once
+marked limit seen xs n there marks once_is =
+    let lt : n < limit = All-head (λ (m : ℕ). m < limit) n [] (All-right (λ (m : ℕ). m < limit) xs (n ∷ []) once_is.below) in
+    twice xs n (sym (marks n lt) ∙ there) once_is.once
 
 pub past_limit : (limit : ℕ) (xs : List ℕ) (n : ℕ) → limit ≤ n → AreOnceBelow limit (xs ++ n ∷ []) → ⊥
-past_limit limit xs n le h =
-    let lt : n < limit = All-head (λ (m : ℕ). m < limit) n [] (All-right (λ (m : ℕ). m < limit) xs (n ∷ []) h.below) in
+past_limit limit xs n le once =
+    let lt : n < limit = All-head (λ (m : ℕ). m < limit) n [] (All-right (λ (m : ℕ). m < limit) xs (n ∷ []) once.below) in
     omega arith
 
 -- ---- the numbers of an entry, one by one
@@ -79,9 +79,9 @@ more_used used ns j lt = ap (λ (x : List ℕ). used ++ x) (take_more ns j 0 lt)
 
 -- what holds of all numbers holds of the first ones
 pub once_upto : (limit : ℕ) (used ns : List ℕ) (j : ℕ) → j < length ns → AreOnceBelow limit (used ++ ns) → AreOnceBelow limit ((used ++ take j ns) ++ get_or ns j 0 ∷ [])
-once_upto limit used ns j lt h =
+once_upto limit used ns j lt once =
     let cut : used ++ ns ≡ (used ++ take (j + 1) ns) ++ drop (j + 1) ns = ap (λ (x : List ℕ). used ++ x) (sym (take-append-drop (j + 1) ns)) ∙ sym (append_assoc used (take (j + 1) ns) (drop (j + 1) ns)) in
-    let front : AreOnceBelow limit (used ++ take (j + 1) ns) = once_left limit (used ++ take (j + 1) ns) (drop (j + 1) ns) (subst (AreOnceBelow limit) cut h) in
+    let front : AreOnceBelow limit (used ++ take (j + 1) ns) = once_left limit (used ++ take (j + 1) ns) (drop (j + 1) ns) (subst (AreOnceBelow limit) cut once) in
     subst (AreOnceBelow limit) (more_used used ns j lt) front
 
 -- ---- entry by entry

@@ -17,13 +17,13 @@ use Rattle.vr_seqset.proofs.NumberLemmas.{once_left}
 use Rattle.vr_seqset.proofs.PlaceLemmas.{Sorted}
 
 below_left : (p : List ℕ) (xs ys : List (List ℕ)) → AllByRecursion (λ y. slice_cmp nat_cmp p y ≡ Less) (xs ++ ys) → AllByRecursion (λ y. slice_cmp nat_cmp p y ≡ Less) xs
-below_left p [] ys h = tt
-below_left p (x ∷ xs) ys h = (h.0, below_left p xs ys h.1)
+below_left p [] ys all = tt
+below_left p (x ∷ xs) ys all = (all.0, below_left p xs ys all.1)
 
 sorted_left : (xs ys : List (List ℕ)) → Sorted (xs ++ ys) → Sorted xs
 unfolding IsStrictlySortedBy
-sorted_left [] ys h = tt
-sorted_left (x ∷ xs) ys h = (below_left x xs ys h.0, sorted_left xs ys h.1)
+sorted_left [] ys sorted = tt
+sorted_left (x ∷ xs) ys sorted = (below_left x xs ys sorted.0, sorted_left xs ys sorted.1)
 
 pub earlier_keep : (cis size : ℕ) (s : SequenceSet) (es fs : List Entry) → KeepsRules cis size (record s { entries = es ++ fs }) → KeepsRules cis size (record s { entries = es })
 earlier_keep cis size s es fs rules =

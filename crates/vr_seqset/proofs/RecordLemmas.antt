@@ -31,7 +31,7 @@ pub length-spelling : (s : SequenceSet) → length (spelling s) ≡ 32 + length 
 unfolding spelling
 length-spelling s = omega (arith, length-append (head_bytes s ++ s.low) (flat_map entry_bytes s.entries), length-append (head_bytes s) s.low, length-head_bytes s)
 
--- ---- what stands in a block
+-- ---- what is in a block
 
 same_record : (s t : SequenceSet) → s.first ≡ t.first → s.part ≡ t.part → s.next ≡ t.next → s.top ≡ t.top → s.index_area ≡ t.index_area → s.low ≡ t.low → s.entries ≡ t.entries → s ≡ t
 same_record s t first part next top index_area low entries = λ i. record {
@@ -62,7 +62,7 @@ place_within block cut =
       | inr le ↦ le
     ]
 
--- places have the length that stands in the block
+-- places have the length that the block says
 pub place_is : (block : List ℕ) → CanBeCut block → length (record_in block).low ≡ two_at 6 block
 unfolding record_in
 place_is block cut = omega (arith, place_within block cut, length-take (two_at 6 block) (drop 32 block), length-drop 32 block)
@@ -106,13 +106,13 @@ flag_again zero lt = refl
 flag_again (suc zero) lt = refl
 flag_again (suc (suc b)) lt = absurd (omega arith)
 
--- the fields of a spelling, one behind another
+-- the fields of a spelling, one after another
 spelling_parts : (s : SequenceSet) (rest : List ℕ) → spelling s ++ rest
     ≡ 83 ∷ cond s.first 1 0 ∷ (two (length s.entries) ++ (0 ∷ 0 ∷ (two (length s.low) ++ (four s.part ++ (four (area_field s.next) ++ (four s.top ++ (four (area_field s.index_area) ++ (replicate 8 0 ++ (s.low ++ (flat_map entry_bytes s.entries ++ rest))))))))))
 unfolding spelling head_bytes
 spelling_parts s rest = simp append_assoc
 
--- the entries and the zeros behind them
+-- the entries and the zeros after them
 entries_cut : (block : List ℕ) → IsBytes block → CanBeCut block → AreZeros (drop (length (spelling (record_in block))) block)
     → drop 32 block ≡ (record_in block).low ++ (flat_map entry_bytes (record_in block).entries ++ replicate (length block - length (spelling (record_in block))) 0)
 unfolding record_in
@@ -310,12 +310,12 @@ module _ (block behind : List ℕ) (count place : ℕ) (count_was : count ≡ tw
       (drop-drop (length (flat_map entry_bytes entries)) (32 + two_at 6 block) block ∙ ap (λ (n : ℕ). drop n block) (sym len))
 
 pub both_some : {X : Type 0} (r : Option X) (P Q R : X → Type 0) → IfSome r P → IfSome r Q → ((x : X) → P x → Q x → R x) → IfSome r R
-both_some None P Q R p q f = tt
-both_some (Some x) P Q R p q f = f x p q
+both_some None P Q R some some_is each = tt
+both_some (Some x) P Q R some some_is each = each x some some_is
 
 pub IfNone-then : {X : Type 0} (r : Option X) (P Q : Type 0) → IfNone r P → (P → Q) → IfNone r Q
-IfNone-then None P Q p f = f p
-IfNone-then (Some x) P Q p f = tt
+IfNone-then None P Q p each = each p
+IfNone-then (Some x) P Q p each = tt
 
 pub ruleset cuts = (count_some, place_some, place_within)
 
@@ -331,10 +331,10 @@ module _ (block behind : List ℕ) (place i : ℕ) (cut : CanBeCut block) (place
 
   pub entry_found : (e : Entry) → slice_get (entries_in (i + 1) place behind) i ≡ Some e → e ≡ entry_of (record_in block) i
   unfolding record_in
-  entry_found e h =
+  entry_found e same =
       let one : i + 1 ≡ suc i = omega arith in
       let got : slice_get (entries_in (two_at 2 block) place behind) i ≡ Some e =
-      sym (get_fewer i (two_at 2 block) place behind lt_count) ∙ ap (λ (n : ℕ). slice_get (entries_in n place behind) i) (sym one) ∙ h in
+      sym (get_fewer i (two_at 2 block) place behind lt_count) ∙ ap (λ (n : ℕ). slice_get (entries_in n place behind) i) (sym one) ∙ same in
       let fields : entries_in (two_at 2 block) (two_at 6 block) (drop (32 + two_at 6 block) block) ≡ entries_in (two_at 2 block) place behind =
       ap (λ (n : ℕ). entries_in (two_at 2 block) n (drop (32 + n) block)) (sym place_was) ∙ ap (entries_in (two_at 2 block) place) (sym behind_was) in
       sym (ap (λ (es : List Entry). get_or es i (record { intervals = []; high = [] })) fields ∙ get_or_from_slice_get (entries_in (two_at 2 block) place behind) i e (record { intervals = []; high = [] }) got)

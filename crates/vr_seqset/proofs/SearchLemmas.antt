@@ -14,23 +14,23 @@ pub begins : (test : Entry → Bool) (all : List Entry) → Searches test all 0 
 begins test all = record { behind = refl; same = position_from-zero test all }
 
 get_at : (all rest : List Entry) (i : ℕ) (e : Entry) → drop i all ≡ e ∷ rest → slice_get all i ≡ Some e
-get_at [] rest zero e h = absurd cc
-get_at [] rest (suc i) e h = absurd cc
-get_at (x ∷ all) rest zero e h = cc
-get_at (x ∷ all) rest (suc i) e h = get_at all rest i e h
+get_at [] rest zero e same = absurd cc
+get_at [] rest (suc i) e same = absurd cc
+get_at (x ∷ all) rest zero e same = cc
+get_at (x ∷ all) rest (suc i) e same = get_at all rest i e same
 
 rest_at : (all rest : List Entry) (i : ℕ) (e : Entry) → drop i all ≡ e ∷ rest → drop (i + 1) all ≡ rest
-rest_at all rest i e h = sym (drop-drop 1 i all) ∙ ap (drop 1) h
+rest_at all rest i e same = sym (drop-drop 1 i all) ∙ ap (drop 1) same
 
 pub passes : (test : Entry → Bool) (all left rest : List Entry) (i : ℕ) (e : Entry) → left ≡ e ∷ rest → test e ≡ false → Searches test all i left → Searches test all (i + 1) rest
-passes test all left rest i e cut fails h = record {
-  behind = sym (rest_at all rest i e (sym h.behind ∙ cut));
-  same = h.same ∙ ap (position_from test i) cut ∙ ap (λ (b : Bool). cond b (Some i) (position_from test (i + 1) rest)) fails;
+passes test all left rest i e cut fails search = record {
+  behind = sym (rest_at all rest i e (sym search.behind ∙ cut));
+  same = search.same ∙ ap (position_from test i) cut ∙ ap (λ (b : Bool). cond b (Some i) (position_from test (i + 1) rest)) fails;
 }
 
 pub found : (test : Entry → Bool) (all left rest : List Entry) (i : ℕ) (e : Entry) → left ≡ e ∷ rest → test e ≡ true → Searches test all i left → position test all ≡ Some i
-found test all left rest i e cut hits h =
-    h.same ∙ ap (position_from test i) cut ∙ ap (λ (b : Bool). cond b (Some i) (position_from test (i + 1) rest)) hits
+found test all left rest i e cut hits search =
+    search.same ∙ ap (position_from test i) cut ∙ ap (λ (b : Bool). cond b (Some i) (position_from test (i + 1) rest)) hits
 
 pub is_there : (test : Entry → Bool) (all left rest : List Entry) (i : ℕ) (e : Entry) → left ≡ e ∷ rest → Searches test all i left → slice_get all i ≡ Some e
-is_there test all left rest i e cut h = get_at all rest i e (sym h.behind ∙ cut)
+is_there test all left rest i e cut search = get_at all rest i e (sym search.behind ∙ cut)

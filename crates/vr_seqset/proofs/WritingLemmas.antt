@@ -120,7 +120,7 @@ module _ (s : SequenceSet) (intervals high : List ℕ) where
       ∙ sym (append_assoc front_of e (replicate (size - length (spelling (with_entry s intervals high))) 0))
       ∙ ap (λ (x : List ℕ). x ++ replicate (size - length (spelling (with_entry s intervals high))) 0) (sym spelling_more)
 
--- what stands in the count's field
+-- what is in the count's field
 pub count_is : (block : List ℕ) → length (record_in block).entries ≡ two_at 2 block
 unfolding record_in
 count_is block = length-entries_in (two_at 2 block) (two_at 6 block) (drop (32 + two_at 6 block) block)

@@ -9,16 +9,16 @@ use Rattle.vr_text.specs.LiteralParts.{CauseInDigits}
 use Rattle.vr_text.proofs.Quotes.{doubled_same}
 use Rattle.vr_text.proofs.Digits.{SpellsBytes-digit_pair, SpellsBytes_same, no_quote, no_bad_digit, first_bad_same}
 
--- what stands in a form is known from the text
+-- what is in a form is known from the text
 pub hexadecimal_form_same : (a b : List ℕ) → hexadecimal_form a ≡ hexadecimal_form b → a ≡ b
-hexadecimal_form_same a b h = append_cancel_left (codes "X'") a b (append_cancel_right (codes "X'" ++ a) (codes "X'" ++ b) (codes "'") h)
+hexadecimal_form_same a b same = append_cancel_left (codes "X'") a b (append_cancel_right (codes "X'" ++ a) (codes "X'" ++ b) (codes "'") same)
 
 pub character_form_same : (a b : List ℕ) → character_form a ≡ character_form b → a ≡ b
-character_form_same a b h = doubled_same a b (append_cancel_left (codes "C'") (doubled a) (doubled b) (append_cancel_right (codes "C'" ++ doubled a) (codes "C'" ++ doubled b) (codes "'") h))
+character_form_same a b same = doubled_same a b (append_cancel_left (codes "C'") (doubled a) (doubled b) (append_cancel_right (codes "C'" ++ doubled a) (codes "C'" ++ doubled b) (codes "'") same))
 
 -- no text has both forms
 pub one_form : (bytes digits : List ℕ) → character_form bytes ≡ hexadecimal_form digits → ⊥
-one_form bytes digits h = let first : List ℕ → ℕ = λ text. get_or text 0 0 in let heads : first (character_form bytes) ≡ first (hexadecimal_form digits) = ap first h in absurd (omega arith)
+one_form bytes digits same = let first : List ℕ → ℕ = λ text. get_or text 0 0 in let heads : first (character_form bytes) ≡ first (hexadecimal_form digits) = ap first same in absurd (omega arith)
 
 -- a text is a literal of one list of bytes
 pub one_value : (text a b : List ℕ) → IsLiteral text a → IsLiteral text b → a ≡ b
@@ -31,10 +31,10 @@ one_value text a b (inr g) (inr h) =
 
 -- the spelling that is written is a literal of the bytes
 pub written_is_read : (bytes : List ℕ) → AllByRecursion (λ b. b < 256) bytes → IsLiteral (literal_of bytes) bytes
-written_is_read bytes h =
+written_is_read bytes all =
     elim (list_all is_printable bytes) as (λ (printable : Bool). IsLiteral (cond printable (character_form bytes) (hexadecimal_form (flat_map digit_pair bytes))) bytes) [
       | true ↦ inl refl
-      | false ↦ inr (flat_map digit_pair bytes, refl, SpellsBytes-digit_pair bytes h)
+      | false ↦ inr (flat_map digit_pair bytes, refl, SpellsBytes-digit_pair bytes all)
     ]
 
 -- a literal is closed
@@ -51,25 +51,25 @@ not_bad_digit text bytes at (inr h) cause =
 
 -- so a literal has no cause but out of memory
 pub literal_has_no_cause : (text bytes : List ℕ) (fault : LiteralFault) → IsLiteral text bytes → CauseOf text fault → fault ≡ Memory
-literal_has_no_cause text bytes Unclosed h cause = absurd (not_unclosed text bytes h cause)
-literal_has_no_cause text bytes (Digit at) h cause = absurd (not_bad_digit text bytes at h cause)
-literal_has_no_cause text bytes Memory h cause = refl
+literal_has_no_cause text bytes Unclosed literal cause = absurd (not_unclosed text bytes literal cause)
+literal_has_no_cause text bytes (Digit at) literal cause = absurd (not_bad_digit text bytes at literal cause)
+literal_has_no_cause text bytes Memory literal cause = refl
 
 -- the digit is one
 digit_same : (text : List ℕ) (a b : ℕ) → CauseOf text (Digit a) → CauseOf text (Digit b) → a ≡ b
-digit_same text a b g h =
-    let digits : h.0 ≡ g.0 = hexadecimal_form_same h.0 g.0 (sym h.2.form ∙ g.2.form) in
-    g.4 ∙ ap (λ i. i + 2) (first_bad_same g.0 g.1 h.1 g.3 (rw digits at h.3)) ∙ sym h.4
+digit_same text a b cause cause_is =
+    let digits : cause_is.0 ≡ cause.0 = hexadecimal_form_same cause_is.0 cause.0 (sym cause_is.2.form ∙ cause.2.form) in
+    cause.4 ∙ ap (λ i. i + 2) (first_bad_same cause.0 cause.1 cause_is.1 cause.3 (rw digits at cause_is.3)) ∙ sym cause_is.4
 
 -- no text has two causes
 pub one_cause : (text : List ℕ) (a b : LiteralFault) → CauseOf text a → CauseOf text b → a ≡ b
-one_cause text Unclosed Unclosed g h = refl
-one_cause text Unclosed (Digit b) g h = absurd (g.1 h.0 h.2)
-one_cause text (Digit a) Unclosed g h = absurd (h.1 g.0 g.2)
-one_cause text (Digit a) (Digit b) g h = ap Digit (digit_same text a b g h)
-one_cause text Memory b g h = sym (literal_has_no_cause text g.0 b g.1 h)
-one_cause text Unclosed Memory g h = literal_has_no_cause text h.0 Unclosed h.1 g
-one_cause text (Digit a) Memory g h = literal_has_no_cause text h.0 (Digit a) h.1 g
+one_cause text Unclosed Unclosed cause cause_is = refl
+one_cause text Unclosed (Digit b) cause cause_is = absurd (cause.1 cause_is.0 cause_is.2)
+one_cause text (Digit a) Unclosed cause cause_is = absurd (cause_is.1 cause.0 cause.2)
+one_cause text (Digit a) (Digit b) cause cause_is = ap Digit (digit_same text a b cause cause_is)
+one_cause text Memory b cause cause_is = sym (literal_has_no_cause text cause.0 b cause.1 cause_is)
+one_cause text Unclosed Memory cause cause_is = literal_has_no_cause text cause_is.0 Unclosed cause_is.1 cause
+one_cause text (Digit a) Memory cause cause_is = literal_has_no_cause text cause_is.0 (Digit a) cause_is.1 cause
 
 -- what is wrong with the digits is wrong with the text
 pub cause_of_digits : (text digits : List ℕ) (fault : LiteralFault) → text ≡ hexadecimal_form digits → CauseInDigits digits fault → CauseOf text fault

@@ -4,7 +4,7 @@ use Rattle.std.proofs.lemmas.Bool.{and_parts, cases_Bool}
 use Rattle.std.proofs.lemmas.Bool.Decides.{Decides-eqb, nat_tests}
 use Rattle.vr_text.specs.Literal.{doubled}
 
--- each quote of what is left has its second, where the first of one may stand before it
+-- each quote of what is left has its second, where the first of one may come before it
 abbrev pub is_doubled_from : Bool → List ℕ → Bool
 is_doubled_from halved [] = not halved
 is_doubled_from false (b ∷ bs) = is_doubled_from (b == 39) bs
@@ -40,19 +40,19 @@ doubled-other b bytes other = rw other refl
 
 -- what passes is doubled
 pub doubled_from : (halved : Bool) (quoted : List ℕ) → is_doubled_from halved quoted ≡ true → (bytes : List ℕ) × ((if halved then 39 ∷ quoted else quoted) ≡ doubled bytes)
-doubled_from false [] h = ([], refl)
-doubled_from true [] h = cc
-doubled_from false (b ∷ quoted) h =
+doubled_from false [] same = ([], refl)
+doubled_from true [] same = cc
+doubled_from false (b ∷ quoted) same =
     elim (is_quote b) [
       | inl quote ↦
-          let rest = doubled_from true quoted (rw quote at h) in
+          let rest = doubled_from true quoted (rw quote at same) in
           (rest.0, ap (λ (v : ℕ). v ∷ quoted) quote ∙ rest.1)
       | inr other ↦
-          let rest = doubled_from false quoted (rw other at h) in
+          let rest = doubled_from false quoted (rw other at same) in
           (b ∷ rest.0, ap (λ (bs : List ℕ). b ∷ bs) rest.1 ∙ sym (doubled-other b rest.0 other))
     ]
-doubled_from true (b ∷ quoted) h =
-    let parts = and_parts (b == 39) (is_doubled_from false quoted) h in
+doubled_from true (b ∷ quoted) same =
+    let parts = and_parts (b == 39) (is_doubled_from false quoted) same in
     let rest = doubled_from false quoted parts.1 in
     let quote : b ≡ 39 = (Decides-eqb b 39).0 parts.0 in
     (39 ∷ rest.0, ap (λ (v : ℕ). 39 ∷ v ∷ quoted) quote ∙ ap (λ (bs : List ℕ). 39 ∷ 39 ∷ bs) rest.1)
@@ -69,26 +69,26 @@ undoubled_from-doubled (b ∷ bytes) =
 
 -- one list of bytes is doubled so
 pub doubled_same : (a b : List ℕ) → doubled a ≡ doubled b → a ≡ b
-doubled_same a b h = sym (undoubled_from-doubled a) ∙ ap (undoubled_from false) h ∙ undoubled_from-doubled b
+doubled_same a b same = sym (undoubled_from-doubled a) ∙ ap (undoubled_from false) same ∙ undoubled_from-doubled b
 
 -- the answer tells whether a text is doubled
 pub IsTrue-is_doubled : (quoted : List ℕ) (r : Bool) → r ≡ is_doubled_from false quoted → IsTrue r ↔ ((bytes : List ℕ) × (quoted ≡ doubled bytes))
-IsTrue-is_doubled quoted true h = (λ holds. doubled_from false quoted (sym h), λ found. refl)
-IsTrue-is_doubled quoted false h = (
+IsTrue-is_doubled quoted true same = (λ holds. doubled_from false quoted (sym same), λ found. refl)
+IsTrue-is_doubled quoted false same = (
   λ holds. cc,
-  λ found. h ∙ ap (is_doubled_from false) found.1 ∙ is_doubled_from-doubled found.0,
+  λ found. same ∙ ap (is_doubled_from false) found.1 ∙ is_doubled_from-doubled found.0,
 )
 
 -- the first of two quotes, and no second
 pub is_doubled_from-lone : (halved : Bool) (quoted : List ℕ) (i : ℕ) → i < length quoted → halved ≡ true → get_or quoted i 0 ≢ 39 → is_doubled_from halved (drop i quoted) ≡ false
-is_doubled_from-lone halved quoted i h first lone =
-    let rest = drop-cons quoted i 0 h in
+is_doubled_from-lone halved quoted i below first lone =
+    let rest = drop-cons quoted i 0 below in
     let other : (get_or quoted i 0 == 39) ≡ false = grind (arith, nat_tests) in
     ap₂ is_doubled_from first rest ∙ ap (λ test. test && is_doubled_from false (drop (suc i) quoted)) other
 
 -- the end
 pub is_doubled_from-end : (halved : Bool) (quoted : List ℕ) (i : ℕ) → length quoted ≤ i → is_doubled_from halved (drop i quoted) ≡ not halved
-is_doubled_from-end halved quoted i h = ap (is_doubled_from halved) (drop_of_length-le quoted h)
+is_doubled_from-end halved quoted i within = ap (is_doubled_from halved) (drop_of_length-le quoted within)
 
 pub undoubled_from-end : (halved : Bool) (quoted : List ℕ) (i : ℕ) → length quoted ≤ i → undoubled_from halved (drop i quoted) ≡ []
-undoubled_from-end halved quoted i h = ap (undoubled_from halved) (drop_of_length-le quoted h)
+undoubled_from-end halved quoted i within = ap (undoubled_from halved) (drop_of_length-le quoted within)

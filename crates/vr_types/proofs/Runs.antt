@@ -1,6 +1,6 @@
--- What a caller of `Blocks` cites, by way of CallerLemmas: how a run of calls keeps a fact true of every image, what a call leaves of one block
--- and of a region of blocks, and the causes of a run's faults. Each premise `IsTrue tells` is that the contents are
--- reported.
+-- What a caller of `Blocks` cites, by way of CallerLemmas: how a run of calls keeps a fact true of
+-- every image, what a call leaves of one block and of a region of blocks, and the causes of a run's
+-- faults. Each premise `IsTrue tells` is that the contents are reported.
 use Rattle.std.proofs.Common.{◌≡◌, ◌≢◌, ◌⊎◌, inl, inr, ⊎_elim, ◌<◌, ℕ, Bool, IsTrue, List, All, zero, suc, [], ◌∷◌, Contains, Result, Ok, arith, refl, sym, ap, subst, ◌∙◌, slice_set, length, get_or-set_same, get_or-set_other, is_ok, true≢false}
 use Rattle.std.proofs.lemmas.Bool.{cases_lt}
 use Rattle.vr_types.specs.Image.{Block, Image, IsImage, MayAlso, block_at}
@@ -89,7 +89,8 @@ guards-puts tells first mid last n bytes P so_far call told holds = record {
   });
 }
 
--- One run, and then another. A loop whose P doesn't name its step adds each iteration's run by this.
+-- One run, and then another. A loop whose P doesn't name its step adds each iteration's run by
+-- this.
 pub guards-then : (a b c : Seen) (P : Image → Type 0) → Guards a b P → Guards b c P → Guards a c P
 guards-then a b c P first second = record { during = during-then a b c P first.during second.during; rest = second.rest }
 
@@ -219,7 +220,8 @@ module _ (tells : Bool) where
 pub on-mine : (mine other : ℕ → Type 0) (count : ℕ) (may : ℕ → Block → Type 0) (image : Image) → Apart mine other → IsImageOn (Outside other) count may image → IsImageOn mine count may image
 on-mine mine other count may image apart left = record { each = λ n below is. left.each n below (λ there. apart n is there) }
 
--- While another puts into its own blocks, each image keeps what rests on mine, beside what the other says.
+-- While another puts into its own blocks, each image keeps what rests on mine, beside what the
+-- other says.
 pub both-hold : (mine other : ℕ → Type 0) (P Q : Image → Type 0) (old new : Seen) → Apart mine other → ((image : Image) → IsImageOn mine old.count old.may image → P image) → Touches other Q old new
     → During old new (λ image. P image × Q image)
 both-hold mine other P Q old new apart mine_has call =
@@ -295,7 +297,8 @@ cause-then a b c result same call = subst (λ before. HasCause before c result) 
 pub write_cause-then : {T : Type 0} (a b c : Faults) (result : Result T DeviceFault) → b ≡ a → HasWriteCause b c result → HasWriteCause a c result
 write_cause-then a b c result same call = subst (λ before. HasWriteCause before c result) same call
 
--- An answer without a fault, after calls that were each Ok. A loop keeps the first premise as its invariant.
+-- An answer without a fault, after calls that were each Ok. A loop keeps the first premise as its
+-- invariant.
 pub cause-ok : {T : Type 0} (a b : Faults) (x : T) → b ≡ a → HasCause a b (Ok x)
 cause-ok a b x same = record {
   reads = omega (arith, ap (λ f. f.reads) same);

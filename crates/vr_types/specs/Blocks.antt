@@ -1,5 +1,5 @@
--- What a call leaves of the blocks that the layers above a device read and write. What is said of contents is said
--- where they are reported. The rules are this project's own.
+-- What a call leaves of the blocks that the layers above a device read and write. What is said of
+-- contents is said where they are reported. The rules are this project's own.
 use Rattle.std.specs.Prelude.{◌≡◌, ◌⊎◌, ◌<◌, ℕ, Bool, IsTrue, List, slice_set, Contains}
 use Rattle.vr_types.specs.Image.{Block, Image, IsImage, MayAlso, block_at}
 use Rattle.vr_types.specs.Seen.{Seen, Left}
@@ -19,7 +19,8 @@ abbrev pub AllForced : ℕ → Image → (ℕ → Block → Type 0) → Type 0
 AllForced count blocks may =
     (n : ℕ) (block : Block) → n < count → may n block → block ≡ block_at blocks n
 
--- A call that puts nothing made `new` of `old`, whether it failed or not. It may have written blocks out.
+-- A call that puts nothing made `new` of `old`, whether it failed or not. It may have written
+-- blocks out.
 pub record Keeps (tells : Bool) (old new : Seen) : Type 0 where
   pub count_same : new.count ≡ old.count
   pub size_same : new.size ≡ old.size

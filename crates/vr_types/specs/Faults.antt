@@ -24,7 +24,8 @@ CountsWrite before now result =
     OnOk result (now ≡ before)
     × OnErr result ((before.writes < now.writes) × (now.reads ≡ before.reads))
 
--- Neither count falls, each fault is one that its count rose for, and neither rose where there is none.
+-- Neither count falls, each fault is one that its count rose for, and neither rose where there is
+-- none.
 pub record HasCause {T : Type 0} (before now : Faults) (result : Result T DeviceFault) : Type 0 where
   pub reads : before.reads ≤ now.reads
   pub writes : before.writes ≤ now.writes

@@ -1,4 +1,5 @@
--- What a crash may leave of a device, as this project models one: each block whole, and each for itself.
+-- What a crash may leave of a device, as this project models one: each block whole, and each for
+-- itself.
 use Rattle.std.specs.Prelude.{◌≡◌, ◌⊎◌, ◌<◌, ℕ, List, [], length, slice_index_or}
 
 -- the bytes of one block

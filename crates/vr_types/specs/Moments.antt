@@ -1,5 +1,6 @@
--- A clock of moments, on which calls say what they leave at every moment from their start to their end. Each moment has
--- its images: the contents that a crash at that moment may leave. The rules are this project's own.
+-- A clock of moments, on which calls say what they leave at every moment from their start to their
+-- end. Each moment has its images: the contents that a crash at that moment may leave. The rules
+-- are this project's own.
 use Rattle.std.specs.Prelude.{◌<◌, ◌≤◌, ◌↔◌, ℕ}
 use Rattle.vr_types.specs.Image.{Image}
 use Rattle.vr_types.specs.Seen.{Seen, Left}
@@ -14,8 +15,8 @@ pub record During (old new : Seen) (P : Image → Type 0) : Type 0 where
   pub kept : (image : Image) → old.images old.moment image → new.images old.moment image
   pub each : (t : ℕ) (image : Image) → old.moment ≤ t → t ≤ new.moment → new.images t image → P image
 
--- Calls made `now` of `first`. Every image at every moment of theirs has P, and so has each that a crash may leave from
--- here on, while nothing is put.
+-- Calls made `now` of `first`. Every image at every moment of theirs has P, and so has each that a
+-- crash may leave from here on, while nothing is put.
 pub record Guards (first now : Seen) (P : Image → Type 0) : Type 0 where
   pub during : During first now P
   pub rest : (image : Image) → Left now image → P image

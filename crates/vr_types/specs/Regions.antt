@@ -16,8 +16,8 @@ Outside region n = region n → ⊥
 abbrev pub Apart : (ℕ → Type 0) → (ℕ → Type 0) → Type 0
 Apart mine other = (n : ℕ) → mine n → other n → ⊥
 
--- Calls that put into a region alone made `new` of `old`, and each image of theirs has Q. This is the word of one
--- owner, and at once what all others are told.
+-- Calls that put into a region alone made `new` of `old`, and each image of theirs has Q. This is
+-- the word of one owner, and at once what all others are told.
 pub record Touches (region : ℕ → Type 0) (Q : Image → Type 0) (old new : Seen) : Type 0 where
   pub count_same : new.count ≡ old.count
   pub size_same : new.size ≡ old.size

@@ -1,5 +1,5 @@
--- What is seen of blocks at one time: what they hold, and what a crash may leave of them. The rules are this project's
--- own.
+-- What is seen of blocks at one time: what they hold, and what a crash may leave of them. The rules
+-- are this project's own.
 use Rattle.std.specs.Prelude.{ℕ}
 use Rattle.vr_types.specs.Image.{Block, Image, IsImage}
 

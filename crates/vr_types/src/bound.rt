@@ -2,27 +2,26 @@
 ghost use Rattle.std.specs.Prelude.{◌≡◌, IfOk};
 
 use crate::memory::OutOfMemory;
-use crate::request::Request;
-use std::alloc::Global;
+use crate::shared_request::SharedRequest;
 
 /// A request of a deck with its volume and its line. The COMMIT that is added at a deck's end has
 /// line 0.
-#[derive(Debug, Drop, PartialEq, Eq)]
+#[derive(Debug, Drop)]
 pub struct Bound {
     pub volume: u32,
     pub line: u32,
-    pub request: Request,
+    pub request: SharedRequest,
 }
 
 impl Bound {
-    /// Copies the value; fails only if memory runs out.
-    pub fn copy(&self, alloc: Global) -> Result<Bound, OutOfMemory>
-        ensures { IfOk result (λ copy. copy ≡ self.now) }
+    /// The same value, which shares the request. It takes no memory; an error stands for 2^63 owners.
+    pub fn share(&self) -> Result<Bound, OutOfMemory>
+        ensures { IfOk result (λ shared. shared ≡ self.now) }
     {
         Ok(Bound {
             volume: self.volume,
             line: self.line,
-            request: self.request.copy(alloc)?,
+            request: self.request.share()?,
         })
     }
 }

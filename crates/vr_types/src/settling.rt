@@ -8,12 +8,14 @@ ghost use Rattle.vr_types.specs.Faults.{HasCause, HasWriteCause};
 use crate::blocks::Blocks;
 use crate::fault::DeviceFault;
 
-/// Makes the content of block `n` these bytes, which have the size of a block, and forces it: at `Ok` a crash leaves
-/// them, and nothing else. The whole counts as one put. `Write` is that of the put or of the force.
+/// Makes the content of block `n` these bytes, which have the size of a block, and forces it: at
+/// `Ok` a crash leaves them, and nothing else. The whole counts as one put. `Write` is that of the
+/// put or of the force.
 pub fn settle<B: Blocks>(blocks: &mut B, n: u32, bytes: &[u8]) -> Result<(), DeviceFault>
     requires block { n < (B.seen blocks.old).count }
     requires whole { length bytes.now ≡ (B.seen blocks.old).size }
-    ensures ok { IsTrue B.tells → OnOk result (Only (B.seen blocks.new) n (λ block. block ≡ bytes.now)) }
+    ensures ok { IsTrue B.tells → OnOk result
+        (Only (B.seen blocks.new) n (λ block. block ≡ bytes.now)) }
     ensures put { IsTrue B.tells → OnOk result
         ((B.seen blocks.new).cur ≡ slice_set (B.seen blocks.old).cur n bytes.now) }
     ensures after { Puts B.tells n bytes.now (B.seen blocks.old) (B.seen blocks.new) }
@@ -23,8 +25,8 @@ pub fn settle<B: Blocks>(blocks: &mut B, n: u32, bytes: &[u8]) -> Result<(), Dev
     blocks.force(&[n])
 }
 
-/// Copies the content of a block to another, through a buffer of the size of a block, and forces the copy. The whole
-/// counts as one put. The faults are those of the blocks.
+/// Copies the content of a block to another, through a buffer of the size of a block, and forces
+/// the copy. The whole counts as one put. The faults are those of the blocks.
 pub fn copy_block<B: Blocks>(
     blocks: &mut B,
     from: u32,
@@ -38,7 +40,8 @@ pub fn copy_block<B: Blocks>(
         (Only (B.seen blocks.new) to (λ block. block ≡ block_at (B.seen blocks.old).cur from)) }
     ensures put { IsTrue B.tells → OnOk result ((B.seen blocks.new).cur
         ≡ slice_set (B.seen blocks.old).cur to (block_at (B.seen blocks.old).cur from)) }
-    ensures after { Puts B.tells to (block_at (B.seen blocks.old).cur from) (B.seen blocks.old) (B.seen blocks.new) }
+    ensures after { Puts B.tells to (block_at (B.seen blocks.old).cur from)
+        (B.seen blocks.old) (B.seen blocks.new) }
     ensures cause { HasCause (B.faults blocks.old) (B.faults blocks.new) result }
     ensures buffer { length buffer.new ≡ length buffer.old }
 {

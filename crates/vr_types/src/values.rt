@@ -80,6 +80,14 @@ impl Bytes {
         self.bytes.as_slice()
     }
 
+    /// Its bytes as a `Vec`, which takes no memory.
+    pub fn into_vec(self) -> Vec<u8>
+        ensures { result.items ≡ self }
+    {
+        let Bytes { bytes } = self;
+        bytes
+    }
+
     /// Copies the value; fails only if memory runs out.
     pub fn copy(&self, alloc: Global) -> Result<Bytes, OutOfMemory>
         ensures { IfOk result (λ copy. copy ≡ self.now) }

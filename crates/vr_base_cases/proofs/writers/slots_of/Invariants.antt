@@ -1,5 +1,5 @@
-use Rattle.std.proofs.Common.{◌≡◌, length}
-use Rattle.vr_ci.specs.declared.form.Form.TheVariants.{Slots}
+use Rattle.std.proofs.Common.{◌≡◌}
+use Rattle.vr_ci_match.specs.declared.form.Form.TheVariants.{Slots}
 use Rattle.vr_ci.specs.Writer.{form_of, added_of, size_of}
 use Rattle.vr_base_cases.proofs.writers.slots_of.Given as goal
 

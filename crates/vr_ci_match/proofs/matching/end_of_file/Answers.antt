@@ -8,7 +8,8 @@ returns-in-None-clause-found c =
     record {
       size = c.requires.size;
       content = inr (record {
-        zeros = all_zeros c.args.bytes.now (size_bounds _ c.requires.size).0 c.requires.zero c.in-None.ensures;
+        zeros = all_zeros c.args.bytes.now (size_bounds _ c.requires.size).0 c.requires.zero
+            c.in-None.ensures;
         is = refl;
       });
     }

@@ -20,7 +20,8 @@ returns-in-None-clause-found c =
         whole = whole;
         right = c.in-None.ensures rdfs whole tally;
         low = omega (arith, c.of-cidf.ensures.displacement, c.of-cidf.ensures.free);
-        shape = c.shape_of.ensures ∙ shape_by_last c.args.form rdfs whole.right.chain c.in_ok-tally.tally.last tally.last;
+        shape = c.shape_of.ensures
+            ∙ shape_by_last c.args.form rdfs whole.right.chain c.in_ok-tally.tally.last tally.last;
         busy = c.of-cidf.ensures.busy;
         count = tally.count;
       });

@@ -7,10 +7,10 @@ returns-in_default c =
     no_meaning_without_words c.args.line.now c.in_default.ensures (refuted _ c.says_nothing.ensures c.if-says_nothing.false)
 
 pub keyword_literal-requires : goal.keyword_literal-requires
-keyword_literal-requires c = All-operand (λ b. (32 ≤ b) × (b < 127)) _ _ _ _ c.in-Some.ensures c.requires.characters
+keyword_literal-requires c = All-operand (λ b. (32 ≤ b) × (b < 127)) _ _ _ _ c.in-Some.ensures c.requires.printable
 
-pub keyword_literal-requires-then-eq-4 : goal.keyword_literal-requires-then-eq-4
-keyword_literal-requires-then-eq-4 c = All-operand (λ b. (32 ≤ b) × (b < 127)) _ _ _ _ c.in-Some.ensures c.requires.characters
+pub keyword_literal-requires-then-eq-3 : goal.keyword_literal-requires-then-eq-3
+keyword_literal-requires-then-eq-3 c = All-operand (λ b. (32 ≤ b) × (b < 127)) _ _ _ _ c.in-Some.ensures c.requires.printable
 
 pub returns-in-None : goal.returns-in-None
 returns-in-None c =

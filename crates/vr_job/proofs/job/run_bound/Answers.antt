@@ -10,13 +10,13 @@ use Rattle.vr_job.proofs.job.run_bound.Goals as goal
 
 pub returns-in_err-requests-clause-prefix : goal.returns-in_err-requests-clause-prefix
 returns-in_err-requests-clause-prefix c =
-    let P : List Entry → Type 0 = ArePrefixes 1 (bound_requests c.args.job.now.deck) in
-    subst P (sym c.requires.fresh) (parts_are_prefixes 1 0 (bound_requests c.args.job.now.deck) [] (of_deck-nil 1))
+    let P : List Entry → Type 0 = ArePrefixes 1 (bound_requests c.args.deck) in
+    subst P (sym c.requires.fresh) (parts_are_prefixes 1 0 (bound_requests c.args.deck) [] (of_deck-nil 1))
 
 pub run_deck-requires-clause-here : goal.run_deck-requires-clause-here
 run_deck-requires-clause-here c =
     let H : List Bound → Type 0 = All IsHere in
-    subst H (sym c.in_ok-requests.ensures) (all_here c.args.job.now.deck)
+    subst H (sym c.in_ok-requests.ensures) (all_here c.args.deck)
 
 pub returns-clause-prefix : goal.returns-clause-prefix
 returns-clause-prefix c =

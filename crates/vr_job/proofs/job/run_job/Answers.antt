@@ -1,5 +1,6 @@
 use Rattle.std.proofs.Common.{ℕ, Contains, sym, subst, refl, arith}
-use Rattle.vr_job.specs.declared.trace.Trace.{Trace}
+use Rattle.vr_deck.proofs.CallerLemmas.{no_value_at_a_fault}
+use Rattle.vr_job.specs.declared.job_end.Trace.{Trace}
 use Rattle.vr_job.specs.JobEnd.{IsOfText, Asks, IsStatusOf, statuses}
 use Rattle.vr_job.specs.Ending.{Ending, ending_of}
 use Rattle.vr_job.proofs.Ends.{asks_without_memory, text_without_memory}
@@ -36,10 +37,10 @@ pub returns-in-Some-Run-clause-status : goal.returns-in-Some-Run-clause-status
 returns-in-Some-Run-clause-status g c = known_status _ _ _ _ c.run_input-end.result.trace c.run_input-end.ensures.known c.print_end.ensures.status
 
 pub returns-in-Some-Run-clause-refused : goal.returns-in-Some-Run-clause-refused
-returns-in-Some-Run-clause-refused g c = λ is. refused_is_no_job _ _ _ _ _ _ _ _ _ c.no_value_at_a_fault.ensures c.run_input-end.ensures c.print_end.ensures.status is
+returns-in-Some-Run-clause-refused g c = λ is. refused_is_no_job _ _ _ _ _ _ _ _ _ no_value_at_a_fault c.run_input-end.ensures c.print_end.ensures.status is
 
 pub returns-in-Some-Run-clause-complete : goal.returns-in-Some-Run-clause-complete
-returns-in-Some-Run-clause-complete g c = λ _ steady sink. completes _ _ _ _ _ _ _ _ c.run_input-end.result.trace c.no_value_at_a_fault.ensures c.run_input-end.ensures c.print_end.ensures.status steady sink
+returns-in-Some-Run-clause-complete g c = λ _ steady sink. completes _ _ _ _ _ _ _ _ c.run_input-end.result.trace no_value_at_a_fault c.run_input-end.ensures c.print_end.ensures.status steady sink
 
 pub returns-in-Some-Run-clause-steady : goal.returns-in-Some-Run-clause-steady
 returns-in-Some-Run-clause-steady g c = λ other. steady_after _ _ _ _ _ _ _ _ _ c.run_input-end.ensures c.print_end.ensures.status other

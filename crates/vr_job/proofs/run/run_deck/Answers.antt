@@ -1,14 +1,14 @@
-use Rattle.std.proofs.Common.{◌≡◌, ◌<◌, List, length, get_or, subst, sym}
+use Rattle.std.proofs.Common.{◌≡◌, ◌<◌, List, [], ◌∙◌, length, get_or, subst, sym}
 use Rattle.vr_types.specs.declared.bound.Bound.{Bound}
 use Rattle.vr_job.specs.declared.entry.Entry.{Entry}
 use Rattle.vr_job.specs.History.{ArePrefixes}
 use Rattle.vr_job.specs.Run.{IsHere}
-use Rattle.vr_job.proofs.Histories.{parts_are_prefixes}
+use Rattle.vr_job.proofs.Histories.{of_deck-nil, parts_are_prefixes}
 use Rattle.vr_job.proofs.Runs.{Running-start, Running-step}
 use Rattle.vr_job.proofs.run.run_deck.Goals as goal
 
 pub loop-bound-init : goal.loop-bound-init
-loop-bound-init c = Running-start _ _ _ c.requires.fresh c.new-file.ensures _ c.new-positions.ensures
+loop-bound-init c = Running-start _ _ _ (c.reserve.ensures.entries ∙ c.requires.fresh) c.new-file.ensures _ c.new-positions.ensures
 
 pub loop-bound-preserved : goal.loop-bound-preserved
 loop-bound-preserved c =
@@ -26,3 +26,8 @@ pub returns-in_err-number-clause-prefix : goal.returns-in_err-number-clause-pref
 returns-in_err-number-clause-prefix c =
     let P : List Entry → Type 0 = ArePrefixes 1 c.args.requests.now in
     subst P (sym c.in_err-number.ensures.err) (parts_are_prefixes 1 c.loop-bound.bound-index c.args.requests.now _ c.loop-bound.invariant.parts)
+
+pub returns-in_err-reserve-clause-prefix : goal.returns-in_err-reserve-clause-prefix
+returns-in_err-reserve-clause-prefix c =
+    let P : List Entry → Type 0 = ArePrefixes 1 c.args.requests.now in
+    subst P (sym (c.reserve.ensures.entries ∙ c.requires.fresh)) (parts_are_prefixes 1 0 c.args.requests.now [] (of_deck-nil 1))

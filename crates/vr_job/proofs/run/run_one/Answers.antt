@@ -12,6 +12,7 @@ pub returns-clause-ok : goal.returns-clause-ok
 returns-clause-ok c =
     let reply = c.answer-reply.result in
     let same : c.in_ok-request.request ≡ c.args.bound.now.request = c.in_ok-request.ensures in
+    let asked : c.get-asked.result.now ≡ c.args.bound.now.request = c.get-asked.ensures in
     let old : c.reserve.new.self.entries ≡ c.args.history.now.entries = c.reserve.ensures.entries in
     let stamp : c.last.result ≡ last_stamp 0 c.args.history.now.entries = c.last.ensures ∙ ap (last_stamp 0) old in
     let added : List Entry → ℕ → Request → List Entry = λ entries last request. entries ++ record { stamp = last + 1; unit = record { deck = 1; number = c.args.number }; line = c.args.bound.now.line; what = Asked request reply } ∷ [] in
@@ -21,7 +22,7 @@ returns-clause-ok c =
       reply = reply;
       entered = c.push.ensures.entries ∙ ap (λ entries. added entries c.last.result c.in_ok-request.request) old
           ∙ ap (λ last. added c.args.history.now.entries last c.in_ok-request.request) stamp ∙ ap (λ request. added c.args.history.now.entries (last_stamp 0 c.args.history.now.entries) request) same;
-      served = subst S same c.answer-reply.ensures;
-      counted = c.number_after-next.ensures ∙ ap (λ request. next_number request reply c.args.number) same;
-      positioned = subst F same (c.end.ensures ∙ ap (files_ended c.in_ok-request.request reply) c.begin.ensures);
+      served = subst S asked c.answer-reply.ensures;
+      counted = c.number_after-next.ensures ∙ ap (λ request. next_number request reply c.args.number) asked;
+      positioned = subst F asked (c.end.ensures ∙ ap (files_ended c.get-asked.result.now reply) c.begin.ensures);
     }

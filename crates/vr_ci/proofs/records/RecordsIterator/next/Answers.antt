@@ -9,8 +9,11 @@ returns-clause-steps c =
     let block = c.self.inside.bytes.now in
     let next = c.in_ok-batch.batch in
     let found = c.in_ok-batch.ensures in
-    sym c.self.view_is ∙ next_items block c.self.inside.low c.self.inside.batch next _ c.self.inside.offset found.some found.marks refl
-    ∙ ap (λ (x : List ℕ). (let i : Item = record { bytes = x; live = next.live } in i) ∷ items_left block c.self.inside.low (record next { left = next.left - 1 }) (c.self.inside.offset + next.length))
+    sym c.self.view_is ∙ next_items block c.self.inside.low c.self.inside.batch next _
+    c.self.inside.offset found.some found.marks refl
+    ∙ ap (λ (x : List ℕ). (let i : Item = record { bytes = x; live = next.live } in
+    i) ∷ items_left block c.self.inside.low (record next { left = next.left - 1 })
+    (c.self.inside.offset + next.length))
     (sym (part_of block c.self.inside.offset next.length))
 
 pub returns-clause-goes : goal.returns-clause-goes
@@ -23,10 +26,13 @@ returns-clause-goes c = record {
 pub invariant_of-self : goal.invariant_of-self
 invariant_of-self c =
     let found = c.in_ok-batch.ensures in
-    (lend_in c.self.inside.bytes.now c.self.inside.low c.self.inside.batch c.in_ok-batch.batch c.self.inside.offset c.self.invariant found.some found.lent found.bytes).0
+    (lend_in c.self.inside.bytes.now c.self.inside.low c.self.inside.batch c.in_ok-batch.batch
+    c.self.inside.offset c.self.invariant found.some found.lent found.bytes).0
 
 pub overflow_add-self : goal.overflow_add-self
 overflow_add-self c =
     let found = c.in_ok-batch.ensures in
-    let fits = (lend_in c.self.inside.bytes.now c.self.inside.low c.self.inside.batch c.in_ok-batch.batch c.self.inside.offset c.self.invariant found.some found.lent found.bytes).1 in
+    let fits = (lend_in c.self.inside.bytes.now c.self.inside.low c.self.inside.batch
+    c.in_ok-batch.batch c.self.inside.offset c.self.invariant found.some found.lent found.bytes).1
+    in
     omega (arith, fits)

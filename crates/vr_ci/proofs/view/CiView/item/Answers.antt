@@ -11,5 +11,8 @@ pub returns : goal.returns
 returns c =
     let items = c.args.self.now.items in
     let lent : Bor (List ℕ) × Bool = (c.in-Some.bytes, c.in-Some.field-0-1) in
-    let got = nth_from_yields_List (Some lent) _ c.args.i c.in-Some.ensures.ran (YieldsList-from_first item_lent (λ (rest : List Item). rest) c.iter.result refl) in
-    slice_get-map bytes_of items c.args.i ∙ ap (option_map bytes_of) (ap (λ (x : List Item). slice_get x c.args.i) (sym c.iter.ensures) ∙ sym got)
+    let got = nth_from_yields_List (Some lent) _ c.args.i c.in-Some.ensures.ran
+    (YieldsList-from_first item_lent (λ (rest : List Item). rest) c.iter.result refl) in
+    slice_get-map bytes_of items c.args.i
+    ∙ ap (option_map bytes_of) (ap (λ (x : List Item). slice_get x c.args.i) (sym c.iter.ensures)
+    ∙ sym got)

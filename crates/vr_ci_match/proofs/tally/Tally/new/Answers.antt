@@ -3,4 +3,5 @@ use Rattle.vr_ci_match.proofs.TallyLemmas.{tally_none}
 use Rattle.vr_ci_match.proofs.tally.Tally.new.Goals as goal
 
 pub returns-clause-tally : goal.returns-clause-tally
-returns-clause-tally c = λ form block size. tally_none form block _ refl refl refl refl (λ limit. c.new.ensures.compared block limit size)
+returns-clause-tally c = λ form block size. tally_none form block _ refl refl refl refl
+    (λ limit. c.new.ensures.compared block limit size)

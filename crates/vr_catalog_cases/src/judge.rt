@@ -1,0 +1,92 @@
+//! The reader of records beside a plain, slow program, over all records that differ in one byte or in two.
+
+use crate::answers::{Answer, Stop, say, say_number};
+use crate::desk::Desk;
+use crate::plain::is_record;
+use crate::records::entry_of;
+use crate::words::{parted, size_of};
+use std::alloc::Global;
+
+/// How many records were judged, how many of them spell an entry, and how many are judged otherwise.
+#[derive(Drop)]
+struct Judged {
+    inputs: u64,
+    spelled: u64,
+    differ: u64,
+}
+
+/// `byte` judges each record that differs from the record in one byte; `bytes FIRST SECOND` each that has other values in
+/// two.
+pub fn judge(alloc: Global, desk: &Desk, rest: &str, out: &mut String) -> Answer {
+    let (what, places) = parted(rest);
+    let mut judged = Judged {
+        inputs: 0,
+        spelled: 0,
+        differ: 0,
+    };
+    let mut record = Vec::from_slice(alloc, desk.record.as_slice())?;
+    let record = record.as_mut_slice();
+    match what {
+        "byte" => {
+            for place in 0..record.len() {
+                each_value(alloc, record, place, &mut judged)?;
+            }
+        }
+        "bytes" => {
+            let (first, second) = parted(places);
+            let second = size_of(second)?;
+            each_pair(alloc, record, size_of(first)?, second, &mut judged)?;
+        }
+        _ => return Err(Stop::Line),
+    }
+    say_number(out, "", judged.inputs)?;
+    say_number(out, " records, ", judged.spelled)?;
+    say_number(out, " of entries, ", judged.differ)?;
+    say(out, " differ")
+}
+
+/// Judges the record with each value of a byte, and leaves it as it was.
+fn each_value(alloc: Global, record: &mut [u8], place: usize, judged: &mut Judged) -> Answer {
+    let Some(kept) = record.get(place).copied() else {
+        return Err(Stop::Line);
+    };
+    for value in 0..256u32 {
+        put(record, place, value as u8);
+        judge_one(alloc, record, judged)?;
+    }
+    put(record, place, kept);
+    Ok(())
+}
+
+/// Judges the record with each value of two bytes.
+fn each_pair(
+    alloc: Global,
+    record: &mut [u8],
+    first: usize,
+    second: usize,
+    judged: &mut Judged,
+) -> Answer {
+    for value in 0..256u32 {
+        put(record, first, value as u8);
+        each_value(alloc, record, second, judged)?;
+    }
+    Ok(())
+}
+
+fn put(record: &mut [u8], place: usize, value: u8) {
+    if let Some(byte) = record.get_mut(place) {
+        *byte = value;
+    }
+}
+
+fn judge_one(alloc: Global, record: &[u8], judged: &mut Judged) -> Answer {
+    let spelled = entry_of(alloc, record)?.is_some();
+    judged.inputs = judged.inputs.saturating_add(1);
+    if spelled {
+        judged.spelled = judged.spelled.saturating_add(1);
+    }
+    if spelled != is_record(record) {
+        judged.differ = judged.differ.saturating_add(1);
+    }
+    Ok(())
+}

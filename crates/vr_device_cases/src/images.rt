@@ -1,0 +1,65 @@
+//! The device in memory: how it is made, what it counts, and the images that a crash leaves.
+
+use crate::answers::{Answer, Stop, say, say_no_image, say_number};
+use crate::calls::read;
+use crate::held::Held;
+use crate::words::{long_number, long_numbers, number, numbers, parted};
+use std::alloc::Global;
+use vr_device::{BlockDevice, memory_device};
+
+/// The largest block, in bytes, and the most blocks.
+const LIMIT: u32 = 512;
+
+/// Makes the device: `SIZE BLOCKS FAILS..`.
+pub fn make(alloc: Global, held: &mut Held, rest: &str, out: &mut String) -> Answer {
+    let (size, rest) = parted(rest);
+    let (blocks, fails) = parted(rest);
+    let size = number(size)?;
+    let blocks = number(blocks)?;
+    if size > LIMIT || blocks > LIMIT {
+        return Err(Stop::Line);
+    }
+    let fails = long_numbers(alloc, fails)?;
+    *held = Held::Memory(memory_device(alloc, size, blocks, fails.as_slice())?);
+    say(out, "ok")
+}
+
+/// Makes the calls from a number on fail: `NUMBER`.
+pub fn stop(held: &mut Held, rest: &str, out: &mut String) -> Answer {
+    let call = long_number(rest)?;
+    held.memory()?.stop(call);
+    say(out, "ok")
+}
+
+/// How many calls were made, and how many of them failed out of memory.
+pub fn counts(held: &mut Held, out: &mut String) -> Answer {
+    let device = held.memory()?;
+    let calls = device.calls();
+    let refused = device.refused();
+    say_number(out, calls)?;
+    say(out, " ")?;
+    say_number(out, refused)
+}
+
+/// The blocks of the image that a choice gives: `NUMBER..`.
+pub fn image(alloc: Global, held: &mut Held, rest: &str, out: &mut String) -> Answer {
+    let choice = numbers(alloc, rest)?;
+    let device = held.memory()?;
+    match device.image(alloc, choice.as_slice()) {
+        Ok(mut left) => say_blocks(alloc, &mut left, out),
+        Err(no) => say_no_image(out, no),
+    }
+}
+
+/// Each block of a device.
+fn say_blocks<D: BlockDevice>(alloc: Global, device: &mut D, out: &mut String) -> Answer {
+    for n in 0..device.blocks() {
+        if n > 0 {
+            say(out, " ")?;
+        }
+        if n < device.blocks() {
+            read(alloc, device, n, out)?;
+        }
+    }
+    Ok(())
+}

@@ -1,0 +1,46 @@
+//! Numbers and bytes in a line.
+
+use crate::answers::Stop;
+use std::alloc::Global;
+
+/// A number of four bytes that a word spells.
+pub fn number(word: &str) -> Result<u32, Stop> {
+    word.parse().ok().ok_or(Stop::Line)
+}
+
+/// A number of eight bytes that a word spells.
+pub fn long_number(word: &str) -> Result<u64, Stop> {
+    word.parse().ok().ok_or(Stop::Line)
+}
+
+/// The first word of a text and what comes after it, which may be nothing.
+pub fn parted(text: &str) -> (&str, &str) {
+    text.split_once(' ').unwrap_or((text, ""))
+}
+
+/// The numbers that words spell.
+pub fn numbers(alloc: Global, text: &str) -> Result<Vec<u32>, Stop> {
+    let mut numbers = Vec::new(alloc);
+    for word in text.split_whitespace() {
+        numbers.push(number(word)?)?;
+    }
+    Ok(numbers)
+}
+
+/// The numbers of eight bytes that words spell.
+pub fn long_numbers(alloc: Global, text: &str) -> Result<Vec<u64>, Stop> {
+    let mut numbers = Vec::new(alloc);
+    for word in text.split_whitespace() {
+        numbers.push(long_number(word)?)?;
+    }
+    Ok(numbers)
+}
+
+/// The bytes that hexadecimal digits spell.
+pub fn bytes_of(alloc: Global, digits: &str) -> Result<Vec<u8>, Stop> {
+    match hex::decode(alloc, digits) {
+        Ok(bytes) => Ok(bytes),
+        Err(hex::FromHexError::OutOfMemory) => Err(Stop::Memory),
+        Err(_) => Err(Stop::Line),
+    }
+}
