@@ -1,6 +1,6 @@
--- What stands in the way of a request, as the DFSMStvs Planning and Operating Guide gives record locks: any number of
--- units of recovery share a name, and one alone has it exclusively. That the first name is shown with the earliest lock is
--- this project's own rule.
+-- What stands in the way of a request, as the DFSMStvs Planning and Operating Guide gives record
+-- locks: any number of units of recovery share a name, and one alone has it exclusively. That the
+-- first name is shown with the earliest lock is this project's own rule.
 use Rattle.std.specs.Prelude.{Bool, true, false, not, ◌==◌, ◌&&◌, ◌||◌, List, [], ◌∷◌, Option, None}
 use Rattle.std.specs.List.{find}
 use Rattle.std.specs.Option.{option_or}
@@ -22,7 +22,8 @@ is_exclusive Exclusive = true
 
 -- a lock stands in the way of a unit that asks for its name in a mode
 unfoldable pub stands_against : units.Unit → Mode → Lock → Bool
-stands_against unit mode lock = not (same_unit unit lock.unit) && (is_exclusive mode || is_exclusive lock.mode)
+stands_against unit mode lock =
+    not (same_unit unit lock.unit) && (is_exclusive mode || is_exclusive lock.mode)
 
 -- and of one that asks for a name
 abbrev pub conflicts : units.Unit → Mode → LockName → Lock → Bool
@@ -35,7 +36,8 @@ first_conflict locks unit mode name = find (conflicts unit mode name) locks
 -- the lock that stands in the way of the first name of a request that has one
 abbrev pub refusal : List Lock → units.Unit → Mode → List LockName → Option Lock
 refusal locks unit mode [] = None
-refusal locks unit mode (name ∷ names) = option_or (first_conflict locks unit mode name) (refusal locks unit mode names)
+refusal locks unit mode (name ∷ names) =
+    option_or (first_conflict locks unit mode name) (refusal locks unit mode names)
 
 -- who has a lock, and how
 abbrev pub holding : Lock → units.Unit × Mode

@@ -1,5 +1,5 @@
--- What a request that is granted, and the end of a unit of recovery, make of the locks, which stand in the order in which
--- they were taken. The rules are this project's own.
+-- What a request that is granted, and the end of a unit of recovery, make of the locks, which stand
+-- in the order in which they were taken. The rules are this project's own.
 use Rattle.std.specs.Prelude.{Bool, not, ◌&&◌, cond, List, [], ◌∷◌, ◌++◌, map}
 use Rattle.std.specs.List.{filter, fold, list_any}
 use Rattle.vr_types.specs.declared.lock_name.LockName.{LockName}
@@ -19,7 +19,8 @@ abbrev pub raise : Mode → Lock → Lock
 raise Shared lock = lock
 raise Exclusive lock = record lock { mode = Exclusive }
 
--- the locks once a unit has a name in a mode: its own lock on the name is raised in its place, or a new one comes last
+-- the locks once a unit has a name in a mode: its own lock on the name is raised in its place, or a
+-- new one comes last
 abbrev pub with_lock : units.Unit → Mode → List Lock → LockName → List Lock
 with_lock unit mode locks name =
     cond (list_any (is_own unit name) locks)

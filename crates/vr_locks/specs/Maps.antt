@@ -26,7 +26,8 @@ of_unit maps unit = numbers_in (get same_unit maps.units unit)
 abbrev pub locks_in : LockMaps → List Lock
 locks_in maps = listed (lock_at maps) maps.next
 
--- Every lock is filed under its name and its unit, no number from `bound` on is in use, and the locks go together.
+-- Every lock is filed under its name and its unit, no number from `bound` on is in use, and the
+-- locks go together.
 pub record IsConsistent (maps : LockMaps) (bound : ℕ) : Type 0 where
   pub names : IsFiled lock_name_eq (λ (lock : Lock). lock.name) (lock_at maps) bound (of_name maps)
   pub units : IsFiled same_unit (λ (lock : Lock). lock.unit) (lock_at maps) bound (of_unit maps)

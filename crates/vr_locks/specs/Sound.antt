@@ -1,4 +1,5 @@
--- Which locks may stand side by side, as the DFSMStvs Planning and Operating Guide gives record locks.
+-- Which locks may stand side by side, as the DFSMStvs Planning and Operating Guide gives record
+-- locks.
 use Rattle.std.specs.Prelude.{◌≡◌, ◌≢◌, List, AllPairs}
 use Rattle.vr_types.specs.declared.unit.Mode.TheVariants.{Shared}
 use Rattle.vr_types.specs.Locks.{Lock}

@@ -49,10 +49,11 @@ pub fn lock_table(alloc: Global) -> LockTable
 
 impl LockTable {
     /// Gives a unit all the names in a mode, or none. The unit's own locks are never in the way,
-    /// and a shared one is raised in its place. A name that is given twice counts once. `Held` comes
-    /// exactly where a lock of another unit stands in the way of a name: it shows the first such
-    /// name and the earliest such lock. `Memory` comes where memory runs out, also for the name
-    /// that `Held` would show. All memory is taken before a lock changes, and an error changes none.
+    /// and a shared one is raised in its place. A name that is given twice counts once. `Held`
+    /// comes exactly where a lock of another unit stands in the way of a name: it shows the first
+    /// such name and the earliest such lock. `Memory` comes where memory runs out, also for the
+    /// name that `Held` would show. All memory is taken before a lock changes, and an error changes
+    /// none.
     pub fn ask(&mut self, unit: Unit, names: &LockNames, mode: Mode) -> Result<(), LockNo>
         ensures granted { OnOk result (refusal self.old unit mode names.now ≡ None) }
         ensures refused { IfErr result (CauseOf (refusal self.old unit mode names.now)) }
