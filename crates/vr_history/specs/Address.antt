@@ -1,7 +1,8 @@
--- Where an entry-sequenced data set puts the next record, and how many areas a record of an entry-sequenced or a
--- relative data set needs (DFSMS Using Data Sets, relative byte addresses and slots). How much of a control interval
--- is used is this project's own rule of room.
-use Rattle.std.specs.Prelude.{ℕ, ◌+◌, ◌-◌, ◌*◌, ◌/◌, Bool, true, false, cond, List, [], ◌∷◌, Option, Some, None, ◌==◌, ◌&&◌, nat_le, length, filter, map, sum}
+-- Where an entry-sequenced data set puts the next record, and how many areas a record of an
+-- entry-sequenced or a relative data set needs (DFSMS Using Data Sets, relative byte addresses and
+-- slots). How much of a control interval is used is this project's own rule of room.
+use Rattle.std.specs.Prelude.{ℕ, ◌+◌, ◌-◌, ◌*◌, ◌/◌, Bool, true, false, cond, List, [], ◌∷◌, Option}
+use Rattle.std.specs.Prelude.{Some, None, ◌==◌, ◌&&◌, nat_le, length, filter, map, sum}
 use Rattle.std.specs.Int.{w32, from_be_bytes, div_ceil}
 use Rattle.vr_types.specs.Content.{Content, Placed, Item, Standing, Withdrawn}
 use Rattle.vr_types.specs.declared.unit.Kind.{Kind}
@@ -39,18 +40,21 @@ begins_in size interval placed = number_of placed.0 / size == interval
 
 -- the room that the items which begin in an interval take there
 abbrev pub room_taken : ℕ → ℕ → Content → ℕ
-room_taken size interval content = sum (map (λ placed. length_of placed.1 + 3) (filter (begins_in size interval) content))
+room_taken size interval content =
+    sum (map (λ placed. length_of placed.1 + 3) (filter (begins_in size interval) content))
 
 abbrev pub lengths_taken : ℕ → ℕ → Content → ℕ
-lengths_taken size interval content = sum (map (λ placed. length_of placed.1) (filter (begins_in size interval) content))
+lengths_taken size interval content =
+    sum (map (λ placed. length_of placed.1) (filter (begins_in size interval) content))
 
--- a plain record goes after the last item where that is a plain one and leaves room for it, else, as a spanned one, to
--- the start of the next interval
+-- a plain record goes after the last item where that is a plain one and leaves room for it, else,
+-- as a spanned one, to the start of the next interval
 abbrev pub next_after : ℕ → Content → ℕ → Option Placed → ℕ
 next_after size content new None = 0
 next_after size content new (Some last) =
     let interval = last_interval size (number_of last.0) (length_of last.1) in
-    cond (not_spanned (length_of last.1) && (not_spanned new && nat_le (room_taken size interval content + new + 3) (size - 4)))
+    cond (not_spanned (length_of last.1)
+    && (not_spanned new && nat_le (room_taken size interval content + new + 3) (size - 4)))
     (interval * size + lengths_taken size interval content)
     ((interval + 1) * size)
   where
@@ -64,11 +68,13 @@ next_address size content new = next_after size content new (last_item content)
 abbrev pub slots_in : ℕ → ℕ → ℕ
 slots_in size length = (size - 4) / (length + 3)
 
--- the last interval that a record at a place takes: none is told of a key-sequenced data set, where the layout decides
+-- the last interval that a record at a place takes: none is told of a key-sequenced data set, where
+-- the layout decides
 abbrev pub interval_needed : Kind → ℕ → ℕ → List ℕ → ℕ → Option ℕ
 interval_needed Keyed size maximum place length = None
 interval_needed Entry size maximum place length = Some (last_interval size (number_of place) length)
-interval_needed Relative size maximum place length = Some ((number_of place - 1) / slots_in size maximum)
+interval_needed Relative size maximum place length =
+    Some ((number_of place - 1) / slots_in size maximum)
 
 -- how many areas of that many intervals are needed beside those that the part has
 abbrev pub areas_needed : ℕ → ℕ → ℕ → ℕ

@@ -5,7 +5,8 @@ use Rattle.vr_types.specs.declared.geometry.Geometry.{Geometry}
 use Rattle.vr_types.specs.declared.request.FileRef.{FileRef}
 use Rattle.vr_types.specs.declared.request.Find.{Find}
 use Rattle.vr_types.specs.declared.request.Request.{Request}
-use Rattle.vr_types.specs.declared.request.Request.TheVariants.{Get, Point, Add, Update, Erase, EndReq, Commit, Backout}
+use Rattle.vr_types.specs.declared.request.Request.TheVariants.{Get, Point, Add, Update, Erase}
+use Rattle.vr_types.specs.declared.request.Request.TheVariants.{EndReq, Commit, Backout}
 use Rattle.vr_types.specs.declared.unit.Integrity.{Integrity}
 use Rattle.vr_types.specs.declared.unit.Integrity.TheVariants.{Nri, Cr, Cre}
 use Rattle.vr_types.specs.declared.unit.Unit.{Unit as UnitOfRecovery}
@@ -94,4 +95,6 @@ sees_kept Backout = false
 
 -- the place of the record that the request's file holds for update
 abbrev pub dropped : Case → Option (List ℕ)
-dropped case = option_and_then (λ file. (case.state.positions case.unit.deck file.slot).held) (file_of case.request)
+dropped case =
+    option_and_then (λ file. (case.state.positions case.unit.deck file.slot).held)
+    (file_of case.request)

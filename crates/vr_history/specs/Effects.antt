@@ -1,7 +1,9 @@
--- What an entry leaves of the state: one word for each effect (DFSMS Using Data Sets for positions and records, the
--- DFSMStvs Planning and Operating Guide for locks and units of recovery).
-use Rattle.std.specs.Prelude.{ℕ, ◌+◌, Bool, true, false, not, cond, if◌then◌else◌, List, [], ◌∷◌, ◌++◌, Option, Some, None, ◌==◌, ◌&&◌, nat_eq, filter, map}
+-- What an entry leaves of the state: one word for each effect (DFSMS Using Data Sets for positions
+-- and records, the DFSMStvs Planning and Operating Guide for locks and units of recovery).
+use Rattle.std.specs.Prelude.{ℕ, ◌+◌, Bool, true, false, not, cond, if◌then◌else◌, List, [], ◌∷◌}
+use Rattle.std.specs.Prelude.{◌++◌, Option, Some, None, ◌==◌, ◌&&◌, nat_eq, filter, map}
 use Rattle.std.specs.List.{list_any}
+use Rattle.vr_types.specs.Locks.{same_unit}
 use Rattle.vr_catalog.specs.Catalog.{parts_in}
 use Rattle.vr_catalog.specs.declared.entry.CatEntry.{CatEntry}
 use Rattle.vr_catalog.specs.declared.entry.EntryKind.{EntryKind}
@@ -18,11 +20,15 @@ use Rattle.vr_history.specs.Change.{Change}
 use Rattle.vr_history.specs.LogSpace.{Logging}
 use Rattle.vr_history.specs.Names.{with_locks}
 use Rattle.vr_history.specs.Opened.{catalog_of}
-use Rattle.vr_history.specs.State.{BeforeImage, Logged, State, is_kept, is_unit}
+use Rattle.vr_history.specs.State.{BeforeImage, Logged, State, is_kept}
 
 -- one file's position changes
 abbrev pub moves_file : ℕ → ℕ → (Position → Position) → State → State
-moves_file deck slot to state = record state { positions = λ d s. if d == deck && s == slot then to (state.positions d s) else state.positions d s }
+moves_file deck slot to state =
+    record state {
+      positions = λ d s. if d == deck
+          && s == slot then to (state.positions d s) else state.positions d s;
+    }
 
 abbrev pub holding : List ℕ → Position → Position
 holding place position = record position { held = Some place }
@@ -45,24 +51,42 @@ placed_in place None content = without_item content place
 placed_in place (Some item) content = with_item content place item
 
 abbrev pub with_change : Change → (ℕ → Content) → ℕ → Content
-with_change change contents part = if part == change.part then placed_in change.place change.new (contents part) else contents part
+with_change change contents part =
+    if part == change.part then placed_in change.place change.new (contents part) else contents part
 
 abbrev pub changes : Change → State → State
 changes change state = record state { contents = with_change change state.contents }
 
 -- the unit's first change of a place keeps what stood there
 abbrev pub image_kept : State → UnitOfRecovery → Change → BeforeImage
-image_kept state unit change = record { unit = unit; part = change.part; place = change.place; old = item_at (state.contents change.part) change.place }
+image_kept state unit change =
+    record {
+      unit = unit;
+      part = change.part;
+      place = change.place;
+      old =
+          item_at (state.contents change.part) change.place;
+    }
 
 abbrev pub keeps_before : UnitOfRecovery → Change → State → State
-keeps_before unit change state = record state { befores = cond (is_kept state unit change.part change.place) state.befores (state.befores ++ image_kept state unit change ∷ []) }
+keeps_before unit change state =
+    record state {
+      befores =
+          cond (is_kept state unit change.part change.place) state.befores (state.befores
+          ++ image_kept state unit change ∷ []);
+    }
 
 -- the places that a change logs, and the bytes that this takes
 abbrev pub as_logged : UnitOfRecovery → Logging → Logged
 as_logged unit logging = record { unit = unit; part = logging.part; place = logging.place }
 
 abbrev pub logs : UnitOfRecovery → List Logging → ℕ → State → State
-logs unit loggings need state = record state { logged = state.logged ++ map (as_logged unit) loggings; used = state.used + need }
+logs unit loggings need state =
+    record state {
+      logged = state.logged ++ map (as_logged unit) loggings;
+      used =
+          state.used + need;
+    }
 
 -- the unit's last kept before-image
 abbrev pub last_of : List BeforeImage → Option BeforeImage
@@ -71,30 +95,33 @@ last_of (kept ∷ []) = Some kept
 last_of (kept ∷ next ∷ rest) = last_of (next ∷ rest)
 
 abbrev pub last_kept : State → UnitOfRecovery → Option BeforeImage
-last_kept state unit = last_of (filter (λ kept. is_unit unit kept.unit) state.befores)
+last_kept state unit = last_of (filter (λ kept. same_unit unit kept.unit) state.befores)
 
 -- the list without the unit's last kept before-image
 abbrev pub keeps_other : UnitOfRecovery → List BeforeImage → Bool
-keeps_other unit befores = list_any (λ kept. is_unit unit kept.unit) befores
+keeps_other unit befores = list_any (λ kept. same_unit unit kept.unit) befores
 
 abbrev pub without_last : UnitOfRecovery → List BeforeImage → List BeforeImage
 without_last unit [] = []
-without_last unit (kept ∷ rest) = cond (is_unit unit kept.unit && not (keeps_other unit rest)) rest (kept ∷ without_last unit rest)
+without_last unit (kept ∷ rest) =
+    cond (same_unit unit kept.unit
+    && not (keeps_other unit rest)) rest (kept ∷ without_last unit rest)
 
 abbrev pub takes_out : UnitOfRecovery → State → State
 takes_out unit state = record state { befores = without_last unit state.befores }
 
 -- an area gets a part
 abbrev pub claims : ℕ → ℕ → State → State
-claims area part state = record state { owned = state.owned ++ record { area = area; part = part } ∷ [] }
+claims area part state =
+    record state { owned = state.owned ++ record { area = area; part = part } ∷ [] }
 
 abbrev pub stops : ℕ → State → State
 stops stamp state = record state { stopped = Some stamp }
 
--- A unit ends: its locks, before-images and log records go, its deck's files drop what they hold, and its deck's next
--- unit begins. The log is empty once no unit is live.
+-- A unit ends: its locks, before-images and log records go, its deck's files drop what they hold,
+-- and its deck's next unit begins. The log is empty once no unit is live.
 abbrev pub is_other : UnitOfRecovery → UnitOfRecovery → Bool
-is_other unit other = not (is_unit unit other)
+is_other unit other = not (same_unit unit other)
 
 abbrev pub used_after : List Logged → ℕ → ℕ
 used_after [] used = 0
@@ -108,12 +135,13 @@ without_unit unit state =
       befores = filter (λ kept. is_other unit kept.unit) state.befores;
       logged = logged;
       used = used_after logged state.used;
-      positions = λ deck slot. if deck == unit.deck then unheld (state.positions deck slot) else state.positions deck slot;
+      positions = λ deck slot. if deck == unit.deck then unheld (state.positions deck slot) else
+          state.positions deck slot;
       numbers = λ deck. if deck == unit.deck then state.numbers deck + 1 else state.numbers deck;
     }
 
--- Once no unit of the utilities is live, what the catalog hasn't goes: the contents and areas of its parts, and the
--- areas of alternate indexes that aren't built.
+-- Once no unit of the utilities is live, what the catalog hasn't goes: the contents and areas of
+-- its parts, and the areas of alternate indexes that aren't built.
 abbrev pub has_part : List ℕ → ℕ → Bool
 has_part parts part = list_any (nat_eq part) (0 ∷ parts)
 
@@ -130,7 +158,8 @@ abbrev pub is_utility_live : State → Bool
 is_utility_live state = list_any (λ logged. logged.unit.deck == 0) state.logged
 
 abbrev pub contents_left : State → ℕ → Content
-contents_left state part = if has_part (parts_in (catalog_of state)) part then state.contents part else []
+contents_left state part =
+    if has_part (parts_in (catalog_of state)) part then state.contents part else []
 
 abbrev pub gives_back : State → State
 gives_back state = cond (is_utility_live state) state (record state {

@@ -1,14 +1,18 @@
--- The locks that a request asks for (DFSMStvs Planning and Operating Guide, record-level locking): on its record, and
--- for a change on each key of a unique alternate index that it gives up or takes. Which reads keep a lock is
--- that guide's too; that a refused lock is answered at once is this project's own rule.
-use Rattle.std.specs.Prelude.{ℕ, Bool, true, false, not, cond, List, [], ◌∷◌, ◌++◌, Option, Some, None, ◌&&◌, ◌||◌, find, filter, map, flat_map, option_to_list}
+-- The locks that a request asks for (DFSMStvs Planning and Operating Guide, record-level locking):
+-- on its record, and for a change on each key of a unique alternate index that it gives up or
+-- takes. Which reads keep a lock is that guide's too; that a refused lock is answered at once is
+-- this project's own rule.
+use Rattle.std.specs.Prelude.{ℕ, Bool, true, false, not, cond, List, [], ◌∷◌, ◌++◌, Option, Some}
+use Rattle.std.specs.Prelude.{None, ◌&&◌, ◌||◌, find, filter, map, flat_map, option_to_list}
 use Rattle.std.specs.Option.{option_map_or, option_or}
 use Rattle.std.specs.List.{list_any}
-use Rattle.vr_types.specs.Locks.{Lock}
+use Rattle.vr_types.specs.LockName.{lock_name_eq}
+use Rattle.vr_types.specs.Locks.{Lock, same_unit}
 use Rattle.vr_types.specs.declared.lock_name.LockName.{LockName}
 use Rattle.vr_types.specs.declared.lock_name.LockName.TheVariants.{Record, Unique}
 use Rattle.vr_types.specs.declared.request.Request.{Request}
-use Rattle.vr_types.specs.declared.request.Request.TheVariants.{Get, Point, Add, Update, Erase, EndReq, Commit, Backout}
+use Rattle.vr_types.specs.declared.request.Request.TheVariants.{Get, Point, Add, Update, Erase}
+use Rattle.vr_types.specs.declared.request.Request.TheVariants.{EndReq, Commit, Backout}
 use Rattle.vr_types.specs.declared.unit.Integrity.{Integrity}
 use Rattle.vr_types.specs.declared.unit.Integrity.TheVariants.{Nri, Cr, Cre}
 use Rattle.vr_types.specs.declared.unit.Mode.{Mode}
@@ -18,7 +22,7 @@ use Rattle.vr_history.specs.Case.{Case}
 use Rattle.vr_history.specs.Change.{PairMove, pair_moves, place_changed}
 use Rattle.vr_history.specs.Found.{place_read}
 use Rattle.vr_history.specs.Opened.{base_of}
-use Rattle.vr_history.specs.State.{State, is_name, is_unit}
+use Rattle.vr_history.specs.State.{State}
 
 abbrev pub record_name : Case → List ℕ → LockName
 record_name case place = Record (record { 0 = base_of case }) place
@@ -31,7 +35,8 @@ abbrev pub keys_moved : PairMove → List LockName
 keys_moved move = map (key_name move) (option_to_list move.given_up ++ option_to_list move.taken)
 
 abbrev pub change_names : Case → List LockName
-change_names case = map (record_name case) (option_to_list (place_changed case)) ++ flat_map keys_moved (filter (λ move. move.alternate.unique) (pair_moves case))
+change_names case = map (record_name case) (option_to_list (place_changed case))
+    ++ flat_map keys_moved (filter (λ move. move.alternate.unique) (pair_moves case))
 
 abbrev pub read_names : Case → List LockName
 read_names case = map (record_name case) (option_to_list (place_read case))
@@ -48,7 +53,8 @@ read_mode false integrity = mode_by integrity
 
 -- the names that a request asks for, each in the order in which they are tried, and how
 abbrev pub lock_names : Case → Request → List LockName
-lock_names case (Get file find update integrity) = option_map_or (λ mode. read_names case) (read_mode update integrity) []
+lock_names case (Get file find update integrity) =
+    option_map_or (λ mode. read_names case) (read_mode update integrity) []
 lock_names case (Point file find) = []
 lock_names case (Add file place bytes) = change_names case
 lock_names case (Update file bytes) = change_names case
@@ -68,20 +74,8 @@ mode_asked (EndReq file) = Shared
 mode_asked Commit = Shared
 mode_asked Backout = Shared
 
-abbrev pub is_exclusive : Mode → Bool
-is_exclusive Shared = false
-is_exclusive Exclusive = true
-
--- two locks conflict where they are on one name, of different units, and one is exclusive
-abbrev pub conflicts : UnitOfRecovery → Mode → LockName → Lock → Bool
-conflicts unit mode name lock = is_name name lock.name && (not (is_unit unit lock.unit) && (is_exclusive mode || is_exclusive lock.mode))
-
--- the earliest conflicting lock on the first name that has one
-abbrev pub conflict_on : State → UnitOfRecovery → Mode → List LockName → Option Lock
-conflict_on state unit mode [] = None
-conflict_on state unit mode (name ∷ names) = option_or (find (conflicts unit mode name) state.locks) (conflict_on state unit mode names)
-
--- a name is locked in a mode: a lock of the unit is raised in its place, and else a new one comes last
+-- a name is locked in a mode: a lock of the unit is raised in its place, and else a new one comes
+-- last
 abbrev pub raised : Mode → Mode → Mode
 raised Shared Shared = Shared
 raised Shared Exclusive = Exclusive
@@ -89,14 +83,18 @@ raised Exclusive Shared = Exclusive
 raised Exclusive Exclusive = Exclusive
 
 abbrev pub is_own : UnitOfRecovery → LockName → Lock → Bool
-is_own unit name lock = is_unit unit lock.unit && is_name name lock.name
+is_own unit name lock = same_unit unit lock.unit && lock_name_eq name lock.name
 
 abbrev pub raises : UnitOfRecovery → LockName → Mode → Lock → Lock
-raises unit name mode lock = cond (is_own unit name lock) (record lock { mode = raised lock.mode mode }) lock
+raises unit name mode lock =
+    cond (is_own unit name lock) (record lock { mode = raised lock.mode mode }) lock
 
 abbrev pub with_lock : UnitOfRecovery → Mode → LockName → List Lock → List Lock
-with_lock unit mode name locks = cond (list_any (is_own unit name) locks) (map (raises unit name mode) locks) (locks ++ record { name = name; unit = unit; mode = mode } ∷ [])
+with_lock unit mode name locks =
+    cond (list_any (is_own unit name) locks) (map (raises unit name mode) locks) (locks
+    ++ record { name = name; unit = unit; mode = mode } ∷ [])
 
 abbrev pub with_locks : UnitOfRecovery → Mode → List LockName → List Lock → List Lock
 with_locks unit mode [] locks = locks
-with_locks unit mode (name ∷ names) locks = with_locks unit mode names (with_lock unit mode name locks)
+with_locks unit mode (name ∷ names) locks =
+    with_locks unit mode names (with_lock unit mode name locks)

@@ -1,5 +1,5 @@
--- What a file is on, by the catalog of its volume: a cluster, or a cluster by way of a path over one of its alternate
--- indexes (DFSMS Using Data Sets, alternate indexes and paths).
+-- What a file is on, by the catalog of its volume: a cluster, or a cluster by way of a path over
+-- one of its alternate indexes (DFSMS Using Data Sets, alternate indexes and paths).
 use Rattle.std.specs.Prelude.{ℕ, cond, List, Option, Some, None, ◌==◌, filter, find}
 use Rattle.std.specs.Option.{option_map_or}
 use Rattle.vr_catalog.specs.Catalog.{Alternate, entries_in, definition_of, alternates_over}
@@ -22,7 +22,8 @@ catalog_of state = entries_in (state.contents 0)
 
 -- the alternates over a base that are built, by part number
 abbrev pub built_over : State → ℕ → List Alternate
-built_over state base = filter (λ alternate. alternate.built) (alternates_over (catalog_of state) base)
+built_over state base =
+    filter (λ alternate. alternate.built) (alternates_over (catalog_of state) base)
 
 abbrev pub by_path : Definition → Option Alternate → Opened
 by_path definition None = Unknown
@@ -30,15 +31,18 @@ by_path definition (Some alternate) = ByPath definition alternate
 
 abbrev pub by_name : State → ℕ → Option PartNo → Definition → Opened
 by_name state base None definition = Cluster definition
-by_name state base (Some path) definition = by_path definition (find (λ alternate. alternate.part == path.0) (built_over state base))
+by_name state base (Some path) definition =
+    by_path definition (find (λ alternate. alternate.part == path.0) (built_over state base))
 
 abbrev pub opened_base : State → FileRef → Option Definition → Opened
 opened_base state file None = Unknown
 opened_base state file (Some definition) = by_name state file.base.0 file.path definition
 
--- what a file is on: a known name, a cluster of the catalog or the catalog itself, and a built alternate over it
+-- what a file is on: a known name, a cluster of the catalog or the catalog itself, and a built
+-- alternate over it
 abbrev pub opened_file : State → FileRef → Opened
-opened_file state file = cond file.known (opened_base state file (definition_of (catalog_of state) file.base.0)) Unknown
+opened_file state file =
+    cond file.known (opened_base state file (definition_of (catalog_of state) file.base.0)) Unknown
 
 abbrev pub opened : Case → Opened
 opened case = option_map_or (opened_file case.state) (file_of case.request) Unknown

@@ -1,16 +1,19 @@
--- Refusals of a request by the file that it is on, and by the places and records that it names. Each word answers the
--- refusal exactly where its cause is there. The causes are those of the return codes of DFSMS Using Data Sets; what is
--- this project's own says so.
-use Rattle.std.specs.Prelude.{ℕ, ◌-◌, ◌^◌, Bool, true, false, not, min, nat_eq, List, Option, Some, None, ◌==◌, ◌&&◌, ◌||◌, length, is_none, option_map, option_and_then}
+-- Refusals of a request by the file that it is on, and by the places and records that it names.
+-- Each word answers the refusal exactly where its cause is there. The causes are those of the
+-- return codes of DFSMS Using Data Sets; what is this project's own says so.
+use Rattle.std.specs.Prelude.{ℕ, ◌-◌, ◌^◌, Bool, true, false, not, min, nat_eq, List, Option, Some}
+use Rattle.std.specs.Prelude.{None, ◌==◌, ◌&&◌, ◌||◌, length, is_none, option_map, option_and_then}
 use Rattle.std.specs.List.{list_any}
 use Rattle.std.specs.Option.{option_map_or}
 use Rattle.vr_catalog.specs.Definition.{is_valid_record}
 use Rattle.vr_types.specs.declared.reply.Refusal.{Refusal}
-use Rattle.vr_types.specs.declared.reply.Refusal.TheVariants.{NoFile, Stopped, NotAllowed, BadSlot, BadLength}
+use Rattle.vr_types.specs.declared.reply.Refusal.TheVariants.{NoFile, Stopped, NotAllowed, BadSlot}
+use Rattle.vr_types.specs.declared.reply.Refusal.TheVariants.{BadLength}
 use Rattle.vr_types.specs.declared.request.Find.{Find}
 use Rattle.vr_types.specs.declared.request.Find.TheVariants.{Next, Equal, AtLeast}
 use Rattle.vr_types.specs.declared.request.Request.{Request}
-use Rattle.vr_types.specs.declared.request.Request.TheVariants.{Get, Point, Add, Update, Erase, EndReq, Commit, Backout}
+use Rattle.vr_types.specs.declared.request.Request.TheVariants.{Get, Point, Add, Update, Erase}
+use Rattle.vr_types.specs.declared.request.Request.TheVariants.{EndReq, Commit, Backout}
 use Rattle.vr_types.specs.declared.unit.Kind.{Kind}
 use Rattle.vr_types.specs.declared.unit.Kind.TheVariants.{Keyed, Entry, Relative}
 use Rattle.vr_history.specs.Address.{number_of}
@@ -28,16 +31,20 @@ is_unknown Unknown = true
 is_unknown (Cluster definition) = false
 is_unknown (ByPath definition alternate) = false
 
--- a unit of the utilities that changed the catalog is still live (this project's own rule: its BACKOUT met a fault)
+-- a unit of the utilities that changed the catalog is still live (this project's own rule: its
+-- BACKOUT met a fault)
 abbrev pub changed_catalog : Logged → Bool
 changed_catalog logged = logged.unit.deck == 0 && logged.part == 0
 
 abbrev pub is_catalog_changing : Case → Bool
-is_catalog_changing case = not (case.unit.deck == 0) && (is_none case.state.stopped && list_any changed_catalog case.state.logged)
+is_catalog_changing case = not (case.unit.deck == 0)
+    && (is_none case.state.stopped && list_any changed_catalog case.state.logged)
 
 -- the name is in no catalog, or what it names can't be opened
 abbrev pub no_file : Case → Option Refusal
-no_file case = option_and_then (λ file. refused_if (is_unknown (opened case) || is_catalog_changing case) NoFile) (file_of case.request)
+no_file case =
+    option_and_then (λ file. refused_if (is_unknown (opened case)
+    || is_catalog_changing case) NoFile) (file_of case.request)
 
 -- a write or a sync of the volume failed earlier
 abbrev pub stopped : Case → Option Refusal
@@ -123,14 +130,17 @@ is_slot_zero (Cluster definition) place = is_zero_in definition.kind
 
 -- slots are numbered from 1
 abbrev pub bad_slot : Case → Option Refusal
-bad_slot case = option_and_then (λ place. refused_if (is_slot_zero (opened case) place) BadSlot) (slot_named case.request)
+bad_slot case =
+    option_and_then (λ place. refused_if (is_slot_zero (opened case) place) BadSlot)
+    (slot_named case.request)
 
 -- the length that a refusal shows
 abbrev pub shown_length : List ℕ → ℕ
 shown_length bytes = min (length bytes) (2 ^ 32 - 1)
 
 abbrev pub has_length : ℕ → List ℕ → Option Refusal
-has_length wanted place = refused_if (not (nat_eq (length place) wanted)) (BadLength (shown_length place))
+has_length wanted place =
+    refused_if (not (nat_eq (length place) wanted)) (BadLength (shown_length place))
 
 -- this project's own rule: a key that is named has the length of the file's keys
 abbrev pub key_length_wrong : Opened → List ℕ → Option Refusal
@@ -150,8 +160,10 @@ find_length_wrong opened (AtLeast place) = key_length_wrong opened place
 
 abbrev pub record_wrong : Opened → List ℕ → Option Refusal
 record_wrong Unknown bytes = None
-record_wrong (Cluster definition) bytes = refused_if (not (is_valid_record definition bytes)) (BadLength (shown_length bytes))
-record_wrong (ByPath definition alternate) bytes = refused_if (not (is_valid_record definition bytes)) (BadLength (shown_length bytes))
+record_wrong (Cluster definition) bytes =
+    refused_if (not (is_valid_record definition bytes)) (BadLength (shown_length bytes))
+record_wrong (ByPath definition alternate) bytes =
+    refused_if (not (is_valid_record definition bytes)) (BadLength (shown_length bytes))
 
 abbrev pub length_wrong : Opened → Request → Option Refusal
 length_wrong opened (Get file find update integrity) = find_length_wrong opened find

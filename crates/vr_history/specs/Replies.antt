@@ -1,28 +1,34 @@
--- Which reply a request may have: its first refusal in the order in which they are tried, or what a request that is done
--- answers (DFSMS Using Data Sets). In place of it may come a fault of the device, or that memory ran out. The order is
--- this project's own.
-use Rattle.std.specs.Prelude.{◌≡◌, ◌⊎◌, ◌<◌, ℕ, Bool, true, false, not, List, [], ◌∷◌, ◌++◌, Option, Some, None, ◌&&◌, IsTrue, bytes_eq, take, filter_map, is_none}
+-- Which reply a request may have: its first refusal in the order in which they are tried, or what a
+-- request that is done answers (DFSMS Using Data Sets). In place of it may come a fault of the
+-- device, or that memory ran out. The order is this project's own.
+use Rattle.std.specs.Prelude.{◌≡◌, ◌⊎◌, ◌<◌, ℕ, Bool, true, false, not, List, [], ◌∷◌, ◌++◌, Option}
+use Rattle.std.specs.Prelude.{Some, None, ◌&&◌, IsTrue, bytes_eq, take, filter_map, is_none}
 use Rattle.std.specs.List.{list_any}
 use Rattle.std.specs.Option.{option_map_or}
 use Rattle.std.specs.Ordering.{is_lt}
+use Rattle.vr_types.specs.Locks.{same_unit}
 use Rattle.vr_catalog.specs.Catalog.{Alternate}
 use Rattle.vr_types.specs.Content.{place_cmp}
 use Rattle.vr_types.specs.declared.reply.Refusal.{Refusal}
-use Rattle.vr_types.specs.declared.reply.Refusal.TheVariants.{Memory, NoSpace, ReadFault, WriteFault}
+use Rattle.vr_types.specs.declared.reply.Refusal.TheVariants.{Memory, NoSpace, ReadFault}
+use Rattle.vr_types.specs.declared.reply.Refusal.TheVariants.{WriteFault}
 use Rattle.vr_types.specs.declared.reply.Reply.{Reply}
 use Rattle.vr_types.specs.declared.reply.Reply.TheVariants.{Done, Refused}
 use Rattle.vr_types.specs.declared.request.Request.{Request}
-use Rattle.vr_types.specs.declared.request.Request.TheVariants.{Get, Point, Add, Update, Erase, EndReq, Commit, Backout}
+use Rattle.vr_types.specs.declared.request.Request.TheVariants.{Get, Point, Add, Update, Erase}
+use Rattle.vr_types.specs.declared.request.Request.TheVariants.{EndReq, Commit, Backout}
 use Rattle.vr_types.specs.declared.unit.Kind.{Kind}
 use Rattle.vr_types.specs.declared.unit.Kind.TheVariants.{Keyed, Entry, Relative}
 use Rattle.vr_history.specs.Case.{Case, new_record}
 use Rattle.vr_history.specs.Change.{PairMove, pair_moves, place_changed}
 use Rattle.vr_history.specs.Found.{Candidate, candidate_in, found, place_read, records_in}
-use Rattle.vr_history.specs.Opened.{Opened, Unknown, Cluster, ByPath, base_of, definition_in, opened}
+use Rattle.vr_history.specs.Opened.{Opened, Unknown, Cluster, ByPath, base_of, definition_in}
+use Rattle.vr_history.specs.Opened.{opened}
 use Rattle.vr_history.specs.RefusedFile.{bad_length, bad_slot, no_file, not_allowed, stopped}
-use Rattle.vr_history.specs.RefusedRecord.{absent, duplicate, duplicate_key, gone, held, is_taken, key_changed, length_changed, no_get, no_position, record_read}
+use Rattle.vr_history.specs.RefusedRecord.{absent, duplicate, duplicate_key, gone, held, is_taken}
+use Rattle.vr_history.specs.RefusedRecord.{key_changed, length_changed, no_get, no_position}
+use Rattle.vr_history.specs.RefusedRecord.{record_read}
 use Rattle.vr_history.specs.RefusedRoom.{free_areas, log_full, no_space}
-use Rattle.vr_history.specs.State.{is_unit}
 
 -- the first of some refusals that has its cause
 abbrev pub first_of : List (Option Refusal) → Option Refusal
@@ -30,14 +36,19 @@ first_of [] = None
 first_of (None ∷ refusals) = first_of refusals
 first_of (Some refusal ∷ refusals) = Some refusal
 
--- The refusals in the order in which they are tried: those that no fault of the device comes before,
+-- The refusals in the order in which they are tried: those that no fault of the device comes
+-- before,
 abbrev pub before_all : Case → List (Option Refusal)
 before_all case = no_file case ∷ stopped case ∷ []
 
--- those by the request, by what its file holds, by locks and records, and by the areas of numbered places,
+-- those by the request, by what its file holds, by locks and records, and by the areas of numbered
+-- places,
 abbrev pub before_room : Case → List (Option Refusal)
-before_room case = before_all case ++ not_allowed case ∷ bad_slot case ∷ bad_length case ∷ no_position case ∷ no_get case ∷ gone case ∷ key_changed case
-    ∷ length_changed case ∷ held case ∷ absent case ∷ duplicate case ∷ duplicate_key case ∷ no_space case ∷ []
+before_room case = before_all case
+    ++ not_allowed case ∷ bad_slot case ∷ bad_length case ∷ no_position case ∷ no_get case ∷ gone
+    case ∷ key_changed case
+    ∷ length_changed case ∷ held case ∷ absent case ∷ duplicate case ∷ duplicate_key case ∷ no_space
+    case ∷ []
 
 -- and all, that of the log last.
 abbrev pub all_refusals : Case → List (Option Refusal)
@@ -45,15 +56,19 @@ all_refusals case = before_room case ++ log_full case ∷ []
 
 -- through a path, a later pair has the key of the one that was found
 abbrev pub is_later : Alternate → Candidate → Candidate → Bool
-is_later alternate this other = bytes_eq (take alternate.key_length this.at) (take alternate.key_length other.at) && is_lt (place_cmp this.at other.at)
+is_later alternate this other =
+    bytes_eq (take alternate.key_length this.at) (take alternate.key_length other.at)
+    && is_lt (place_cmp this.at other.at)
 
 abbrev pub pairs_seen : Case → List Candidate
-pairs_seen case = filter_map (candidate_in (opened case)) (records_in (case.state.contents (base_of case)))
+pairs_seen case =
+    filter_map (candidate_in (opened case)) (records_in (case.state.contents (base_of case)))
 
 abbrev pub has_later : Opened → Case → Candidate → Bool
 has_later Unknown case this = false
 has_later (Cluster definition) case this = false
-has_later (ByPath definition alternate) case this = list_any (is_later alternate this) (pairs_seen case)
+has_later (ByPath definition alternate) case this =
+    list_any (is_later alternate this) (pairs_seen case)
 
 -- feedback 8: through a path, more records have the key
 abbrev pub feedback_if : Bool → ℕ
@@ -72,7 +87,8 @@ change_feedback case = feedback_if (list_any (is_shared case) (pair_moves case))
 
 -- the reply to a request that isn't refused: with the place of the base, and a GET with the record
 abbrev pub done_by : Case → Request → Reply
-done_by case (Get file find update integrity) = Done (read_feedback case) (place_read case) (record_read case)
+done_by case (Get file find update integrity) =
+    Done (read_feedback case) (place_read case) (record_read case)
 done_by case (Point file find) = Done 0 (place_read case) None
 done_by case (Add file place bytes) = Done (change_feedback case) (place_changed case) None
 done_by case (Update file bytes) = Done (change_feedback case) (place_changed case) None
@@ -89,7 +105,8 @@ refused_or (Some refusal) done = Refused refusal
 abbrev pub answer_of : Case → Reply
 answer_of case = refused_or (first_of (all_refusals case)) (done_by case case.request)
 
--- out of memory may take the place of any reply to a request on a file but that of the first refusals
+-- out of memory may take the place of any reply to a request on a file but that of the first
+-- refusals
 abbrev pub may_want : Request → Bool
 may_want (Get file find update integrity) = true
 may_want (Point file find) = true
@@ -118,28 +135,34 @@ is_keyed Entry = false
 is_keyed Relative = false
 
 abbrev pub fills_base : Case → Bool
-fills_base case = option_map_or (λ definition. is_keyed definition.kind) (definition_in (opened case)) false
+fills_base case =
+    option_map_or (λ definition. is_keyed definition.kind) (definition_in (opened case)) false
 
 abbrev pub gains_pair : PairMove → Bool
 gains_pair move = not (is_none move.taken)
 
 abbrev pub FillsKeyed : Case → Type 0
-FillsKeyed case = ((new_record case.request ≡ None → ⊥) × IsTrue (fills_base case)) ⊎ IsTrue (list_any gains_pair (pair_moves case))
+FillsKeyed case = ((new_record case.request ≡ None → ⊥) × IsTrue (fills_base case))
+    ⊎ IsTrue (list_any gains_pair (pair_moves case))
 
--- What may come in place of the answer. A state has no layout, so of a key-sequenced part it says only that the areas
--- needed are more than are free.
+-- What may come in place of the answer. A state has no layout, so of a key-sequenced part it says
+-- only that the areas needed are more than are free.
 abbrev pub LacksRoom : Case → Reply → Type 0
-LacksRoom case reply = (first_of (before_room case) ≡ None) × FillsKeyed case × (need : ℕ) × (free_areas case < need) × (reply ≡ Refused (NoSpace need (free_areas case)))
+LacksRoom case reply = (first_of (before_room case) ≡ None) × FillsKeyed case × (need : ℕ)
+    × (free_areas case < need) × (reply ≡ Refused (NoSpace need (free_areas case)))
 
 abbrev pub LacksMemory : Case → Reply → Type 0
-LacksMemory case reply = (first_of (before_all case) ≡ None) × IsTrue (may_want case.request) × (reply ≡ Refused Memory)
+LacksMemory case reply = (first_of (before_all case) ≡ None) × IsTrue (may_want case.request)
+    × (reply ≡ Refused Memory)
 
 abbrev pub MeetsFault : Case → Reply → Type 0
-MeetsFault case reply = (first_of (before_all case) ≡ None) × ((reply ≡ Refused WriteFault) ⊎ (IsTrue (may_read case.request) × (reply ≡ Refused ReadFault)))
+MeetsFault case reply = (first_of (before_all case) ≡ None)
+    × ((reply ≡ Refused WriteFault)
+    ⊎ (IsTrue (may_read case.request) × (reply ≡ Refused ReadFault)))
 
 -- a BACKOUT is done only once its unit keeps no before-image
 abbrev pub keeps_none : Case → Bool
-keeps_none case = not (list_any (λ kept. is_unit case.unit kept.unit) case.state.befores)
+keeps_none case = not (list_any (λ kept. same_unit case.unit kept.unit) case.state.befores)
 
 abbrev pub CanEnd : Case → Request → Type 0
 CanEnd case Backout = IsTrue (keeps_none case)
@@ -152,8 +175,10 @@ CanEnd case (Erase file) = Unit {0}
 CanEnd case (EndReq file) = Unit {0}
 
 abbrev pub IsAnswered : Case → Reply → Type 0
-IsAnswered case reply = (reply ≡ answer_of case) × ((first_of (all_refusals case) ≡ None) → CanEnd case case.request)
+IsAnswered case reply = (reply ≡ answer_of case)
+    × ((first_of (all_refusals case) ≡ None) → CanEnd case case.request)
 
 -- the replies that a request may have
 abbrev pub MayReply : Case → Reply → Type 0
-MayReply case reply = IsAnswered case reply ⊎ LacksRoom case reply ⊎ LacksMemory case reply ⊎ MeetsFault case reply
+MayReply case reply = IsAnswered case reply ⊎ LacksRoom case reply ⊎ LacksMemory case reply
+    ⊎ MeetsFault case reply

@@ -1,10 +1,12 @@
--- The state of a volume, as the record file that a request sees: the contents of its parts, the locks, before-images
--- and log records of units of recovery, where files stand, and which areas are owned. Locks, before-images and units
--- are those of the DFSMStvs Planning and Operating Guide; how they are kept is this project's own.
-use Rattle.std.specs.Prelude.{ℕ, Bool, List, [], Option, None, ◌==◌, ◌&&◌, false, length, filter, bytes_eq}
+-- The state of a volume, as the record file that a request sees: the contents of its parts, the
+-- locks, before-images and log records of units of recovery, where files stand, and which areas are
+-- owned. Locks, before-images and units are those of the DFSMStvs Planning and Operating Guide; how
+-- they are kept is this project's own.
+use Rattle.std.specs.Prelude.{ℕ, Bool, List, [], Option, None, ◌==◌, ◌&&◌, false, length, filter}
+use Rattle.std.specs.Prelude.{bytes_eq}
 use Rattle.std.specs.List.{list_any}
+use Rattle.vr_types.specs.Locks.{Lock, same_unit}
 use Rattle.vr_types.specs.Content.{Content, Item}
-use Rattle.vr_types.specs.Locks.{Lock}
 use Rattle.vr_types.specs.Position.{first_position}
 use Rattle.vr_types.specs.declared.position.Position.{Position}
 use Rattle.vr_types.specs.declared.lock_name.LockName.{LockName}
@@ -62,26 +64,21 @@ opening_state contents owned = record {
   stopped = None;
 }
 
-abbrev pub is_unit : UnitOfRecovery → UnitOfRecovery → Bool
-is_unit unit other = unit.deck == other.deck && unit.number == other.number
-
-abbrev pub is_name : LockName → LockName → Bool
-is_name (Record part place) (Record other_part other_place) = part.0 == other_part.0 && bytes_eq place other_place
-is_name (Unique part key) (Unique other_part other_key) = part.0 == other_part.0 && bytes_eq key other_key
-is_name (Record part place) (Unique other_part other_key) = false
-is_name (Unique part key) (Record other_part other_place) = false
-
 -- a unit is live while the log has a before record of it
 abbrev pub is_live : State → UnitOfRecovery → Bool
-is_live state unit = list_any (λ logged. is_unit unit logged.unit) state.logged
+is_live state unit = list_any (λ logged. same_unit unit logged.unit) state.logged
 
 -- the log has a before record of this place for the unit
 abbrev pub is_logged : State → UnitOfRecovery → ℕ → List ℕ → Bool
-is_logged state unit part place = list_any (λ logged. is_unit unit logged.unit && (logged.part == part && bytes_eq place logged.place)) state.logged
+is_logged state unit part place =
+    list_any (λ logged. same_unit unit logged.unit
+    && (logged.part == part && bytes_eq place logged.place)) state.logged
 
 -- the unit keeps a before-image of this place
 abbrev pub is_kept : State → UnitOfRecovery → ℕ → List ℕ → Bool
-is_kept state unit part place = list_any (λ kept. is_unit unit kept.unit && (kept.part == part && bytes_eq place kept.place)) state.befores
+is_kept state unit part place =
+    list_any (λ kept. same_unit unit kept.unit
+    && (kept.part == part && bytes_eq place kept.place)) state.befores
 
 -- the areas of a part
 abbrev pub areas_of : State → ℕ → ℕ

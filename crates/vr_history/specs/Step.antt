@@ -1,5 +1,6 @@
 -- The step of the record file: which entry may come in a state, and the state after it.
-use Rattle.std.specs.Prelude.{◌≡◌, ◌<◌, ℕ, Bool, true, false, List, [], Option, Some, None, ◌==◌, find, length, option_map, option_and_then, option_to_list}
+use Rattle.std.specs.Prelude.{◌≡◌, ◌<◌, ℕ, Bool, true, false, List, [], Option, Some, None, ◌==◌}
+use Rattle.std.specs.Prelude.{find, length, option_map, option_and_then, option_to_list}
 use Rattle.std.specs.List.{list_any}
 use Rattle.std.specs.Option.{option_map_or}
 use Rattle.vr_catalog.specs.Catalog.{definition_of}
@@ -10,14 +11,20 @@ use Rattle.vr_types.specs.declared.geometry.Geometry.{Geometry}
 use Rattle.vr_types.specs.declared.position.Stand.{Stand}
 use Rattle.vr_types.specs.declared.position.Stand.TheVariants.{At, After, End, None as Nowhere}
 use Rattle.vr_types.specs.declared.reply.Refusal.{Refusal}
-use Rattle.vr_types.specs.declared.reply.Refusal.TheVariants.{EndOfData, Duplicate, NotFound, NoAddress, NoSpace, NoPosition, NoGet, KeyChanged, LengthChanged, BadLength, BadSlot, Held, LogFull, Stopped, ReadFault, WriteFault, Memory, NotAllowed, NoFile}
+use Rattle.vr_types.specs.declared.reply.Refusal.TheVariants.{EndOfData, Duplicate, NotFound}
+use Rattle.vr_types.specs.declared.reply.Refusal.TheVariants.{NoAddress, NoSpace, NoPosition, NoGet}
+use Rattle.vr_types.specs.declared.reply.Refusal.TheVariants.{KeyChanged, LengthChanged, BadLength}
+use Rattle.vr_types.specs.declared.reply.Refusal.TheVariants.{BadSlot, Held, LogFull, Stopped}
+use Rattle.vr_types.specs.declared.reply.Refusal.TheVariants.{ReadFault, WriteFault, Memory}
+use Rattle.vr_types.specs.declared.reply.Refusal.TheVariants.{NotAllowed, NoFile}
 use Rattle.vr_types.specs.declared.reply.Reply.{Reply}
 use Rattle.vr_types.specs.declared.reply.Reply.TheVariants.{Done, Refused}
 use Rattle.vr_types.specs.declared.request.FileRef.{FileRef}
 use Rattle.vr_types.specs.declared.request.Find.{Find}
 use Rattle.vr_types.specs.declared.request.Find.TheVariants.{Next, Equal, AtLeast}
 use Rattle.vr_types.specs.declared.request.Request.{Request}
-use Rattle.vr_types.specs.declared.request.Request.TheVariants.{Get, Point, Add, Update, Erase, EndReq, Commit, Backout}
+use Rattle.vr_types.specs.declared.request.Request.TheVariants.{Get, Point, Add, Update, Erase}
+use Rattle.vr_types.specs.declared.request.Request.TheVariants.{EndReq, Commit, Backout}
 use Rattle.vr_types.specs.declared.unit.Integrity.{Integrity}
 use Rattle.vr_types.specs.declared.unit.Integrity.TheVariants.{Nri, Cr, Cre}
 use Rattle.vr_types.specs.declared.unit.Kind.{Kind}
@@ -29,7 +36,8 @@ use Rattle.vr_history.specs.declared.entry.What.TheVariants.{Asked, Undone, Clai
 use Rattle.vr_history.specs.Address.{length_of}
 use Rattle.vr_history.specs.Case.{Case, file_of}
 use Rattle.vr_history.specs.Change.{Change, change_of}
-use Rattle.vr_history.specs.Effects.{changes, claims, drops_held, ends_unit, holding, keeps_before, last_kept, locks, logs, moves_file, standing, stops, takes_out}
+use Rattle.vr_history.specs.Effects.{changes, claims, drops_held, ends_unit, holding, keeps_before}
+use Rattle.vr_history.specs.Effects.{last_kept, locks, logs, moves_file, standing, stops, takes_out}
 use Rattle.vr_history.specs.Found.{found, place_read}
 use Rattle.vr_history.specs.LogSpace.{log_need, new_loggings}
 use Rattle.vr_history.specs.Names.{lock_names}
@@ -39,9 +47,11 @@ use Rattle.vr_history.specs.State.{BeforeImage, State}
 use Rattle.vr_types.specs.declared.unit.Mode.TheVariants.{Shared, Exclusive}
 
 abbrev pub case_of : Geometry → State → UnitOfRecovery → Request → Case
-case_of geometry state unit request = record { geometry = geometry; state = state; unit = unit; request = request }
+case_of geometry state unit request =
+    record { geometry = geometry; state = state; unit = unit; request = request }
 
--- What an entry changes, at one place at most: the state after it and the committed contents are both made of this.
+-- What an entry changes, at one place at most: the state after it and the committed contents are
+-- both made of this.
 
 -- an added entry-sequenced record that is backed out keeps its address
 abbrev pub withdrawn_by : Kind → Option Item → Option Item
@@ -51,18 +61,24 @@ withdrawn_by EntrySequenced now = option_map (λ item. Withdrawn (length_of item
 
 abbrev pub put_back : State → BeforeImage → Option Item → Option Item
 put_back state kept (Some old) = Some old
-put_back state kept None = option_and_then (λ definition. withdrawn_by definition.kind (item_at (state.contents kept.part) kept.place)) (definition_of (catalog_of state) kept.part)
+put_back state kept None =
+    option_and_then
+    (λ definition. withdrawn_by definition.kind (item_at (state.contents kept.part) kept.place))
+    (definition_of (catalog_of state) kept.part)
 
 abbrev pub change_back : State → BeforeImage → Change
-change_back state kept = record { part = kept.part; place = kept.place; new = put_back state kept kept.old }
+change_back state kept =
+    record { part = kept.part; place = kept.place; new = put_back state kept kept.old }
 
 abbrev pub asked_changes : Case → Reply → List Change
 asked_changes case (Refused refusal) = []
 asked_changes case (Done feedback place bytes) = option_to_list (change_of case)
 
 abbrev pub place_changes : Geometry → State → UnitOfRecovery → What → List Change
-place_changes geometry state unit (Asked request reply) = asked_changes (case_of geometry state unit request) reply
-place_changes geometry state unit (Undone part place) = option_to_list (option_map (change_back state) (last_kept state unit))
+place_changes geometry state unit (Asked request reply) =
+    asked_changes (case_of geometry state unit request) reply
+place_changes geometry state unit (Undone part place) =
+    option_to_list (option_map (change_back state) (last_kept state unit))
 place_changes geometry state unit (Claimed part area) = []
 place_changes geometry state unit (Split part) = []
 place_changes geometry state unit (Faulted fault) = []
@@ -84,7 +100,8 @@ abbrev pub stands_after : Case → Option Stand → State → State
 stands_after case stand state = stands_in case.unit.deck (file_of case.request) stand state
 
 abbrev pub reads_on : Case → Find → State → State
-reads_on case find state = stands_after case (option_and_then (λ candidate. read_on find candidate.at) (found case)) state
+reads_on case find state =
+    stands_after case (option_and_then (λ candidate. read_on find candidate.at) (found case)) state
 
 -- a read for update, and one with CRE, keeps its lock; one for update holds its record
 abbrev pub keeps_shared : Case → Integrity → State → State
@@ -93,25 +110,35 @@ keeps_shared case Cr state = state
 keeps_shared case Cre state = locks case.unit Shared (lock_names case case.request) state
 
 abbrev pub holds : Case → State → State
-holds case state = option_map_or (λ file. option_map_or (λ place. moves_file case.unit.deck file.slot (holding place) state) (place_read case) state) (file_of case.request) state
+holds case state =
+    option_map_or
+    (λ file. option_map_or (λ place. moves_file case.unit.deck file.slot (holding place) state)
+    (place_read case) state) (file_of case.request) state
 
 abbrev pub keeps_read : Case → Bool → Integrity → State → State
-keeps_read case true integrity state = holds case (locks case.unit Exclusive (lock_names case case.request) state)
+keeps_read case true integrity state =
+    holds case (locks case.unit Exclusive (lock_names case case.request) state)
 keeps_read case false integrity state = keeps_shared case integrity state
 
 -- a change takes its locks, keeps its before-image, logs its places, and is made
 abbrev pub makes : Case → Change → State → State
-makes case change state = changes change (logs case.unit (new_loggings case) (log_need case) (keeps_before case.unit change (locks case.unit Exclusive (lock_names case case.request) state)))
+makes case change state =
+    changes change
+    (logs case.unit (new_loggings case) (log_need case)
+    (keeps_before case.unit change
+    (locks case.unit Exclusive (lock_names case case.request) state)))
 
 abbrev pub makes_change : Case → State → State
 makes_change case state = option_map_or (λ change. makes case change state) (change_of case) state
 
 -- POINT stands at what it found; ENDREQ stands nowhere
 abbrev pub points_at : Case → State → State
-points_at case state = stands_after case (option_map (λ candidate. At candidate.at) (found case)) state
+points_at case state =
+    stands_after case (option_map (λ candidate. At candidate.at) (found case)) state
 
 abbrev pub done_effect : Case → Request → State → State
-done_effect case (Get file find update integrity) state = reads_on case find (keeps_read case update integrity state)
+done_effect case (Get file find update integrity) state =
+    reads_on case find (keeps_read case update integrity state)
 done_effect case (Point file find) state = points_at case state
 done_effect case (Add file place bytes) state = makes_change case state
 done_effect case (Update file bytes) state = makes_change case state
@@ -154,19 +181,24 @@ stand_refused request NoFile = None
 
 abbrev pub after_reply : Case → Reply → State → State
 after_reply case (Done feedback place bytes) state = done_effect case case.request state
-after_reply case (Refused refusal) state = stands_after case (stand_refused case.request refusal) state
+after_reply case (Refused refusal) state =
+    stands_after case (stand_refused case.request refusal) state
 
 -- every request on a file first drops what the file holds, also where it is refused then
 abbrev pub after_asked : Case → Reply → State
-after_asked case reply = after_reply case reply (drops_held case.unit.deck (file_of case.request) case.state)
+after_asked case reply =
+    after_reply case reply (drops_held case.unit.deck (file_of case.request) case.state)
 
 -- the unit's last kept before-image is put back and taken out
 abbrev pub puts_back : UnitOfRecovery → State → State
-puts_back unit state = option_map_or (λ kept. takes_out unit (changes (change_back state kept) state)) (last_kept state unit) state
+puts_back unit state =
+    option_map_or (λ kept. takes_out unit (changes (change_back state kept) state))
+    (last_kept state unit) state
 
 -- the state after an entry
 abbrev pub after_what : Geometry → State → UnitOfRecovery → ℕ → What → State
-after_what geometry state unit stamp (Asked request reply) = after_asked (case_of geometry state unit request) reply
+after_what geometry state unit stamp (Asked request reply) =
+    after_asked (case_of geometry state unit request) reply
 after_what geometry state unit stamp (Undone part place) = puts_back unit state
 after_what geometry state unit stamp (Claimed part area) = claims area.0 part.0 state
 after_what geometry state unit stamp (Split part) = state
@@ -181,7 +213,8 @@ IsOfUnit state unit = unit.number ≡ state.numbers unit.deck
 
 -- the unit's last kept before-image, put back at its place,
 abbrev pub IsLastKept : State → UnitOfRecovery → ℕ → List ℕ → Type 0
-IsLastKept state unit part place = (kept : BeforeImage) × (last_kept state unit ≡ Some kept) × (kept.part ≡ part) × (kept.place ≡ place)
+IsLastKept state unit part place = (kept : BeforeImage) × (last_kept state unit ≡ Some kept)
+    × (kept.part ≡ part) × (kept.place ≡ place)
 
 -- the least area that no part has,
 abbrev pub is_owned : State → ℕ → Bool
@@ -194,7 +227,8 @@ pub record IsLeastFree (geometry : Geometry) (state : State) (area : ℕ) : Type
 
 -- a split of an interval, which leaves the state as it is, or the first fault of a write.
 abbrev pub MayEnter : Geometry → State → UnitOfRecovery → What → Type 0
-MayEnter geometry state unit (Asked request reply) = IsOfUnit state unit × MayReply (case_of geometry state unit request) reply
+MayEnter geometry state unit (Asked request reply) = IsOfUnit state unit
+    × MayReply (case_of geometry state unit request) reply
 MayEnter geometry state unit (Undone part place) = IsLastKept state unit part.0 place
 MayEnter geometry state unit (Claimed part area) = IsLeastFree geometry state area.0
 MayEnter geometry state unit (Split part) = Unit {0}

@@ -1,43 +1,8 @@
--- What stands in the way of a request, as the DFSMStvs Planning and Operating Guide gives record
--- locks: any number of units of recovery share a name, and one alone has it exclusively. That the
--- first name is shown with the earliest lock is this project's own rule.
-use Rattle.std.specs.Prelude.{Bool, true, false, not, ◌==◌, ◌&&◌, ◌||◌, List, [], ◌∷◌, Option, None}
-use Rattle.std.specs.List.{find}
-use Rattle.std.specs.Option.{option_or}
-use Rattle.vr_types.specs.declared.lock_name.LockName.{LockName}
+-- What the answer to a refused request shows of the lock that stands in its way. The rule is this
+-- project's own.
 use Rattle.vr_types.specs.declared.unit.Mode.{Mode}
-use Rattle.vr_types.specs.declared.unit.Mode.TheVariants.{Shared, Exclusive}
 use Rattle.vr_types.specs.declared.unit.Unit as units
-use Rattle.vr_types.specs.LockName.{lock_name_eq}
 use Rattle.vr_types.specs.Locks.{Lock}
-
--- two units of recovery are one
-abbrev pub same_unit : units.Unit → units.Unit → Bool
-same_unit unit other = (unit.deck == other.deck) && (unit.number == other.number)
-
--- a mode that lets no other unit hold the name
-abbrev pub is_exclusive : Mode → Bool
-is_exclusive Shared = false
-is_exclusive Exclusive = true
-
--- a lock stands in the way of a unit that asks for its name in a mode
-unfoldable pub stands_against : units.Unit → Mode → Lock → Bool
-stands_against unit mode lock =
-    not (same_unit unit lock.unit) && (is_exclusive mode || is_exclusive lock.mode)
-
--- and of one that asks for a name
-abbrev pub conflicts : units.Unit → Mode → LockName → Lock → Bool
-conflicts unit mode name lock = lock_name_eq name lock.name && stands_against unit mode lock
-
--- the earliest lock that stands in the way of a name
-abbrev pub first_conflict : List Lock → units.Unit → Mode → LockName → Option Lock
-first_conflict locks unit mode name = find (conflicts unit mode name) locks
-
--- the lock that stands in the way of the first name of a request that has one
-abbrev pub refusal : List Lock → units.Unit → Mode → List LockName → Option Lock
-refusal locks unit mode [] = None
-refusal locks unit mode (name ∷ names) =
-    option_or (first_conflict locks unit mode name) (refusal locks unit mode names)
 
 -- who has a lock, and how
 abbrev pub holding : Lock → units.Unit × Mode

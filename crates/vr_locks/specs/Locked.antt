@@ -7,8 +7,7 @@ use Rattle.vr_types.specs.declared.unit.Mode.{Mode}
 use Rattle.vr_types.specs.declared.unit.Mode.TheVariants.{Shared, Exclusive}
 use Rattle.vr_types.specs.declared.unit.Unit as units
 use Rattle.vr_types.specs.LockName.{lock_name_eq}
-use Rattle.vr_types.specs.Locks.{Lock}
-use Rattle.vr_locks.specs.Conflict.{same_unit}
+use Rattle.vr_types.specs.Locks.{Lock, same_unit}
 
 -- the lock is a unit's own on a name
 abbrev pub is_own : units.Unit → LockName → Lock → Bool

@@ -3,10 +3,9 @@ use Rattle.std.specs.Prelude.{◌≡◌, ◌≤◌, ℕ, List, Option, nat_eq}
 use Rattle.std.specs.HashMap.{get}
 use Rattle.vr_types.specs.declared.lock_name.LockName.{LockName}
 use Rattle.vr_types.specs.declared.unit.Unit as units
-use Rattle.vr_types.specs.Locks.{Lock}
+use Rattle.vr_types.specs.Locks.{Lock, same_unit}
 use Rattle.vr_types.specs.LockName.{lock_name_eq}
 use Rattle.vr_locks.specs.declared.maps.LockMaps.{LockMaps}
-use Rattle.vr_locks.specs.Conflict.{same_unit}
 use Rattle.vr_locks.specs.Filed.{numbers_in}
 use Rattle.vr_locks.specs.Listed.{listed, IsFiled, AreSound, AreBelow}
 

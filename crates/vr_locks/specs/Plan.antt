@@ -6,11 +6,10 @@ use Rattle.vr_types.specs.declared.lock_name.LockName.{LockName}
 use Rattle.vr_types.specs.declared.unit.Mode.{Mode}
 use Rattle.vr_types.specs.declared.unit.Unit as units
 use Rattle.vr_types.specs.LockName.{lock_name_eq}
-use Rattle.vr_types.specs.Locks.{Lock}
+use Rattle.vr_types.specs.Locks.{Lock, conflicts, same_unit}
 use Rattle.vr_locks.specs.declared.maps.LockMaps.{LockMaps}
 use Rattle.vr_locks.specs.declared.planning.Step.{Step}
 use Rattle.vr_locks.specs.declared.planning.Step.TheVariants.{Raise, Take}
-use Rattle.vr_locks.specs.Conflict.{conflicts, same_unit}
 use Rattle.vr_locks.specs.Maps.{IsConsistent, lock_at, locks_in, of_name, of_unit}
 use Rattle.vr_locks.specs.Locked.{is_own, with_lock}
 

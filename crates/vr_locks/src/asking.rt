@@ -3,7 +3,7 @@ ghost use Rattle.std.specs.Prelude.{◌≡◌, ◌<◌, ◌≤◌, ◌+◌, ℕ,
 ghost use Rattle.std.specs.Prelude.{IfErr, IfOk, OnErr, OnOk};
 ghost use Rattle.std.specs.HashMap.{spare};
 ghost use Rattle.vr_locks.specs.Answer.{CauseOf};
-ghost use Rattle.vr_locks.specs.Conflict.{refusal};
+ghost use Rattle.vr_types.specs.Locks.{conflict_on};
 ghost use Rattle.vr_locks.specs.Listed.{AreBelow};
 ghost use Rattle.vr_locks.specs.Locked.{with_locks};
 ghost use Rattle.vr_locks.specs.Maps.{IsConsistent, lock_at, locks_in};
@@ -89,8 +89,8 @@ impl LockMaps {
     pub(crate) fn ask(&mut self, unit: Unit, mode: Mode, names: &[LockName]) -> Result<(), LockNo>
         requires { IsConsistent self.old self.old.next }
         ensures kept { IsConsistent self.new self.new.next }
-        ensures granted { OnOk result (refusal (locks_in self.old) unit mode names.now ≡ None) }
-        ensures refused { IfErr result (CauseOf (refusal (locks_in self.old) unit mode names.now)) }
+        ensures granted { OnOk result (conflict_on (locks_in self.old) unit mode names.now ≡ None) }
+        ensures refused { IfErr result (CauseOf (conflict_on (locks_in self.old) unit mode names.now)) }
         ensures taken { OnOk result
             (locks_in self.new ≡ with_locks unit mode (locks_in self.old) names.now) }
         ensures unchanged { OnErr result (locks_in self.new ≡ locks_in self.old) }

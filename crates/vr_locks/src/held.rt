@@ -1,7 +1,6 @@
 //! A lock that is held.
 ghost use Rattle.std.specs.Prelude.{◌≡◌};
-ghost use Rattle.vr_types.specs.Locks.{Lock};
-ghost use Rattle.vr_locks.specs.Conflict.{same_unit, stands_against};
+ghost use Rattle.vr_types.specs.Locks.{Lock, same_unit, stands_against};
 ghost use Rattle.vr_locks.specs.Locked.{raise};
 
 use std::marker::Model;
@@ -58,7 +57,7 @@ impl HeldLock {
     }
 
     /// Whether it stands in the way of a unit that asks for its name in a mode.
-    #[tactic(auto, unfolding(crate::specs::Conflict::stands_against))]
+    #[tactic(auto, unfolding(vr_types::specs::Locks::stands_against))]
     pub(crate) fn is_against(&self, unit: Unit, mode: Mode) -> bool
         ensures { result ≡ stands_against unit mode self.now }
     {

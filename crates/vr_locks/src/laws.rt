@@ -3,8 +3,7 @@ ghost use Rattle.std.specs.Prelude.{◌≡◌, ◌≢◌, ◌↔◌, AllPairs, C
 ghost use Rattle.vr_types.specs.declared.lock_name.LockName.{LockName};
 ghost use Rattle.vr_types.specs.declared.unit.Mode.{Mode};
 ghost use Rattle.vr_types.specs.declared.unit.Unit as units;
-ghost use Rattle.vr_types.specs.Locks.{Conflict, Lock};
-ghost use Rattle.vr_locks.specs.Conflict.{conflicts, first_conflict, refusal};
+ghost use Rattle.vr_types.specs.Locks.{Conflict, Lock, conflict_on, conflicts, first_conflict};
 
 use crate::table::LockTable;
 
@@ -30,15 +29,15 @@ pub fn conflicts_stand_in_the_way()
 pub fn shown_is_held()
     ensures held { (locks : List Lock) (unit : units.Unit) (mode : Mode)
         (names : List LockName) (shown : Lock)
-        → refusal locks unit mode names ≡ Some shown
+        → conflict_on locks unit mode names ≡ Some shown
         → Contains locks shown }
     ensures asked { (locks : List Lock) (unit : units.Unit) (mode : Mode)
         (names : List LockName) (shown : Lock)
-        → refusal locks unit mode names ≡ Some shown
+        → conflict_on locks unit mode names ≡ Some shown
         → Contains names shown.name }
     ensures conflicts { (locks : List Lock) (unit : units.Unit) (mode : Mode)
         (names : List LockName) (shown : Lock)
-        → refusal locks unit mode names ≡ Some shown
+        → conflict_on locks unit mode names ≡ Some shown
         → Conflict (record { name = shown.name; unit = unit; mode = mode }) shown }
 {}
 
@@ -50,5 +49,5 @@ pub fn free_is_granted()
     ensures names { (locks : List Lock) (unit : units.Unit) (mode : Mode) (names : List LockName)
         → ((name : LockName) (lock : Lock) → Contains names name → Contains locks lock
         → lock.name ≢ name)
-        → refusal locks unit mode names ≡ None }
+        → conflict_on locks unit mode names ≡ None }
 {}

@@ -2,9 +2,9 @@
 ghost use Rattle.std.specs.Prelude.{◌≡◌, true, false, Some, None, MatchOption, OnOk, IfErr};
 ghost use Rattle.std.specs.Option.{option_map};
 ghost use Rattle.std.specs.List.{list_any};
-ghost use Rattle.vr_types.specs.Locks.{Lock};
+ghost use Rattle.vr_types.specs.Locks.{Lock, conflict_on, first_conflict};
 ghost use Rattle.vr_locks.specs.Answer.{CauseOf};
-ghost use Rattle.vr_locks.specs.Conflict.{first_conflict, holding, refusal};
+ghost use Rattle.vr_locks.specs.Conflict.{holding};
 ghost use Rattle.vr_locks.specs.Locked.{is_own};
 ghost use Rattle.vr_locks.specs.Maps.{IsConsistent, lock_at, locks_in};
 
@@ -66,8 +66,8 @@ impl LockMaps {
     /// Answers with the lock that stands in the way of the first name that has one.
     pub(crate) fn refuse(&self, unit: Unit, mode: Mode, names: &[LockName]) -> Result<(), LockNo>
         requires { IsConsistent self.now self.now.next }
-        ensures granted { OnOk result (refusal (locks_in self.now) unit mode names.now ≡ None) }
-        ensures refused { IfErr result (CauseOf (refusal (locks_in self.now) unit mode names.now)) }
+        ensures granted { OnOk result (conflict_on (locks_in self.now) unit mode names.now ≡ None) }
+        ensures refused { IfErr result (CauseOf (conflict_on (locks_in self.now) unit mode names.now)) }
     {
         for name in names {
             if let Some((holder, held)) = self.conflict(unit, mode, name) {

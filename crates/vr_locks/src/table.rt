@@ -2,7 +2,8 @@
 ghost use Rattle.std.specs.Prelude.{◌≡◌, [], IfErr, None, OnErr, OnOk};
 ghost use Rattle.std.specs.Option.{option_map};
 ghost use Rattle.vr_locks.specs.Answer.{CauseOf};
-ghost use Rattle.vr_locks.specs.Conflict.{first_conflict, holding, refusal};
+ghost use Rattle.vr_types.specs.Locks.{conflict_on, first_conflict};
+ghost use Rattle.vr_locks.specs.Conflict.{holding};
 ghost use Rattle.vr_locks.specs.Locked.{with_locks, without_unit};
 
 use crate::maps::LockMaps;
@@ -55,8 +56,8 @@ impl LockTable {
     /// name that `Held` would show. All memory is taken before a lock changes, and an error changes
     /// none.
     pub fn ask(&mut self, unit: Unit, names: &LockNames, mode: Mode) -> Result<(), LockNo>
-        ensures granted { OnOk result (refusal self.old unit mode names.now ≡ None) }
-        ensures refused { IfErr result (CauseOf (refusal self.old unit mode names.now)) }
+        ensures granted { OnOk result (conflict_on self.old unit mode names.now ≡ None) }
+        ensures refused { IfErr result (CauseOf (conflict_on self.old unit mode names.now)) }
         ensures taken { OnOk result (self.new ≡ with_locks unit mode self.old names.now) }
         ensures unchanged { OnErr result (self.new ≡ self.old) }
     {

@@ -23,7 +23,8 @@ is_past (Some first) call = nat_le first call
 
 -- the next call fails
 abbrev pub fails_next : Calls → Bool
-fails_next calls = list_any (λ number. number == calls.next) calls.fails || is_past calls.stop calls.next
+fails_next calls = list_any (λ number. number == calls.next) calls.fails
+    || is_past calls.stop calls.next
 
 -- after one more call
 abbrev pub counted : Calls → Calls

@@ -67,7 +67,8 @@ found_by Greater here further = further
 -- the record at a place
 abbrev pub record_at : Content → List ℕ → Option (List ℕ)
 record_at [] place = None
-record_at (entry ∷ content) place = found_by (place_cmp place entry.0) (record_of entry.1) (record_at content place)
+record_at (entry ∷ content) place =
+    found_by (place_cmp place entry.0) (record_of entry.1) (record_at content place)
 
 abbrev pub put_by : Ordering → Placed → Placed → Content → Content → Content
 put_by Less new entry content further = new ∷ entry ∷ content
@@ -77,13 +78,15 @@ put_by Greater new entry content further = entry ∷ further
 -- the content with an item at a place, where it is in order
 abbrev pub with_item : Content → List ℕ → Item → Content
 with_item [] place item = (place, item) ∷ []
-with_item (entry ∷ content) place item = put_by (place_cmp place entry.0) (place, item) entry content (with_item content place item)
+with_item (entry ∷ content) place item =
+    put_by (place_cmp place entry.0) (place, item) entry content (with_item content place item)
 
--- what stands at a place
+-- what is at a place
 abbrev pub item_at : Content → List ℕ → Option Item
 item_at [] place = None
-item_at (entry ∷ content) place = found_by (place_cmp place entry.0) (Some entry.1) (item_at content place)
+item_at (entry ∷ content) place =
+    found_by (place_cmp place entry.0) (Some entry.1) (item_at content place)
 
--- the content without what stands at a place
+-- the content without what is at a place
 abbrev pub without_item : Content → List ℕ → Content
 without_item content place = filter (λ (entry : Placed). not (bytes_eq place entry.0)) content

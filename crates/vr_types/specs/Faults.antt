@@ -26,15 +26,17 @@ CountsWrite before now result =
 
 -- Neither count falls, each fault is one that its count rose for, and neither rose where there is
 -- none.
-pub record HasCause {T : Type 0} (before now : Faults) (result : Result T DeviceFault) : Type 0 where
-  pub reads : before.reads ≤ now.reads
-  pub writes : before.writes ≤ now.writes
-  pub ok : OnOk result (now ≡ before)
-  pub read : IsErrOf result Read → before.reads < now.reads
-  pub write : IsErrOf result Write → before.writes < now.writes
+pub record HasCause {T : Type 0} (before now : Faults) (result : Result T DeviceFault) : Type 0
+  where
+    pub reads : before.reads ≤ now.reads
+    pub writes : before.writes ≤ now.writes
+    pub ok : OnOk result (now ≡ before)
+    pub read : IsErrOf result Read → before.reads < now.reads
+    pub write : IsErrOf result Write → before.writes < now.writes
 
 -- the same of a call that reads nothing
-pub record HasWriteCause {T : Type 0} (before now : Faults) (result : Result T DeviceFault) : Type 0 where
-  pub cause : HasCause before now result
-  pub reads_same : now.reads ≡ before.reads
-  pub only_write : result ≡ Err Read → ⊥
+pub record HasWriteCause {T : Type 0} (before now : Faults) (result : Result T DeviceFault) : Type 0
+  where
+    pub cause : HasCause before now result
+    pub reads_same : now.reads ≡ before.reads
+    pub only_write : result ≡ Err Read → ⊥

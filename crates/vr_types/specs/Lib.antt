@@ -17,3 +17,4 @@ pub mod Position
 pub mod Refusal
 pub mod Regions
 pub mod Seen
+pub mod Space

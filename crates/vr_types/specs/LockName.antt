@@ -21,7 +21,9 @@ place_of (Record part place) = place
 place_of (Unique part key) = key
 
 abbrev pub lock_name_cmp : LockName → LockName → Ordering
-lock_name_cmp = then_cmp (on kind_number nat_cmp) (then_cmp (on part_number nat_cmp) (on place_of place_cmp))
+lock_name_cmp =
+    then_cmp (on kind_number nat_cmp) (then_cmp (on part_number nat_cmp) (on place_of place_cmp))
 
 abbrev pub lock_name_eq : LockName → LockName → Bool
-lock_name_eq = eq_of_both (on kind_number nat_eq) (eq_of_both (on part_number nat_eq) (on place_of bytes_eq))
+lock_name_eq =
+    eq_of_both (on kind_number nat_eq) (eq_of_both (on part_number nat_eq) (on place_of bytes_eq))

@@ -13,7 +13,8 @@ pub record During (old new : Seen) (P : Image → Type 0) : Type 0 where
   pub passed : (t : ℕ) (image : Image) → t < old.moment → new.images t image ↔ old.images t image
   -- the moment at which the calls began loses none; it may get others while it lasts
   pub kept : (image : Image) → old.images old.moment image → new.images old.moment image
-  pub each : (t : ℕ) (image : Image) → old.moment ≤ t → t ≤ new.moment → new.images t image → P image
+  pub each : (t : ℕ) (image : Image) → old.moment ≤ t → t ≤ new.moment → new.images t image
+      → P image
 
 -- Calls made `now` of `first`. Every image at every moment of theirs has P, and so has each that a
 -- crash may leave from here on, while nothing is put.

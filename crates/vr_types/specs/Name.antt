@@ -21,7 +21,9 @@ continues_qualifier b = is_ascii_alphanumeric b || is_national b || b == 45
 
 -- whether a byte may come after `column` bytes of its qualifier
 abbrev pub fits_column : ℕ → ℕ → Bool
-fits_column column b = if column == 0 then begins_qualifier b else (b == 46 || (nat_lt column 8 && continues_qualifier b))
+fits_column column b =
+    if column == 0 then begins_qualifier b else (b == 46
+    || (nat_lt column 8 && continues_qualifier b))
 
 -- how many bytes of its qualifier come before byte i: those since the last dot
 abbrev pub column_at : List ℕ → ℕ → ℕ
@@ -29,7 +31,9 @@ column_at text i = suffix_len (λ b. not (b == 46)) (take i text)
 
 -- byte i may be where it is; at the end, no qualifier is left empty
 abbrev pub is_right_at : List ℕ → ℕ → Bool
-is_right_at text i = if nat_lt i (length text) then fits_column (column_at text i) (slice_index text i) else nat_lt 0 (column_at text i)
+is_right_at text i =
+    if nat_lt i (length text) then fits_column (column_at text i) (slice_index text i) else nat_lt 0
+    (column_at text i)
 
 -- the text is the name of a data set, in capitals or not
 pub record IsDatasetName (text : List ℕ) : Type 0 where

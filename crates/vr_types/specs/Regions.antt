@@ -5,7 +5,8 @@ use Rattle.vr_types.specs.Seen.{Seen}
 use Rattle.vr_types.specs.Moments.{During}
 
 -- Each block of a region, independently of the others, holds one of the contents that may be there.
-pub record IsImageOn (region : ℕ → Type 0) (count : ℕ) (may : ℕ → Block → Type 0) (image : Image) : Type 0 where
+pub record IsImageOn (region : ℕ → Type 0) (count : ℕ) (may : ℕ → Block
+    → Type 0) (image : Image) : Type 0 where
   pub each : (n : ℕ) → n < count → region n → may n (block_at image n)
 
 -- the blocks that aren't of the region
@@ -22,6 +23,8 @@ pub record Touches (region : ℕ → Type 0) (Q : Image → Type 0) (old new : S
   pub count_same : new.count ≡ old.count
   pub size_same : new.size ≡ old.size
   pub content : (n : ℕ) → Outside region n → block_at new.cur n ≡ block_at old.cur n
-  pub adds_none : (n : ℕ) (block : Block) → n < old.count → Outside region n → new.may n block → old.may n block
-  pub moments : During old new (λ image. IsImageOn (Outside region) old.count old.may image × Q image)
+  pub adds_none : (n : ℕ) (block : Block) → n < old.count → Outside region n → new.may n block
+      → old.may n block
+  pub moments : During old new (λ image. IsImageOn (Outside region) old.count old.may image
+      × Q image)
   pub rest : (image : Image) → IsImageOn region new.count new.may image → Q image

@@ -14,7 +14,8 @@ pub struct Bound {
 }
 
 impl Bound {
-    /// The same value, which shares the request. It takes no memory; an error stands for 2^63 owners.
+    /// The same value, which shares the request. It takes no memory; an error stands for 2^63
+    /// owners.
     pub fn share(&self) -> Result<Bound, OutOfMemory>
         ensures { IfOk result (λ shared. shared ≡ self.now) }
     {

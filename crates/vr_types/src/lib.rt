@@ -1,13 +1,14 @@
 //! The words that every layer of the record manager shares: places, bytes and names of data sets,
 //! units of recovery, requests, replies and refusals with the number that each shows, names of
-//! locks, positions of files, the content of a data set, the shape of a volume and the fields of
-//! its blocks, which calls of a double fail, the count of faults, and the trait of blocks with what
-//! a crash may leave of them. It stands on std, and on the kit's lists. It promises that each value
-//! built here is the list of bytes that it was built from, that a copy equals what it was copied
-//! from, that places, bytes and names are compared by their bytes, and that a data set name is
-//! taken exactly when the catalog's rules allow it.
+//! locks, positions of files, the content of a data set, the shape of a volume, the owners of its
+//! areas and the fields of its blocks, which calls of a double fail, the count of faults, and the
+//! trait of blocks with what a crash may leave of them. It stands on std, and on the kit's lists. It
+//! promises that each value built here is the list of bytes that it was built from, that a copy
+//! equals what it was copied from, that places, bytes and names are compared by their bytes, and
+//! that a data set name is taken exactly when the catalog's rules allow it.
 #![tactic(auto)]
 
+mod areas;
 mod blocks;
 mod bound;
 mod count;
@@ -30,6 +31,7 @@ mod unit;
 mod values;
 mod words;
 
+pub use areas::Space;
 pub use blocks::Blocks;
 pub use bound::Bound;
 pub use count::FaultCount;
@@ -39,7 +41,7 @@ pub use fields::{
 };
 pub use geometry::{Geometry, is_block_size};
 pub use lock_name::{LockName, LockNames};
-pub use makers::{bytes, number_place, place};
+pub use makers::{bytes, number_place, place, space};
 pub use memory::OutOfMemory;
 pub use name::{NAME_LIMIT, Name, NameFault, dataset_name};
 pub use place_buffer::{PlaceBuffer, empty_place};

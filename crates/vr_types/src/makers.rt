@@ -1,7 +1,9 @@
 //! Places and bytes from what they are made of.
 ghost use Rattle.std.specs.Prelude.{◌≡◌, IfOk};
 ghost use Rattle.std.specs.Int.{to_be_bytes, w32};
+ghost use Rattle.vr_types.specs.Space.{all_free};
 
+use crate::areas::Space;
 use crate::memory::OutOfMemory;
 use crate::values::{Bytes, Place};
 use std::alloc::Global;
@@ -26,4 +28,11 @@ pub fn number_place(alloc: Global, n: u32) -> Result<Place, OutOfMemory>
     ensures { IfOk result (λ place. place ≡ to_be_bytes w32 n) }
 {
     place(alloc, &n.to_be_bytes())
+}
+
+/// The owners of that many areas, each of which is free. Fails only if memory runs out.
+pub fn space(alloc: Global, areas: u32) -> Result<Space, OutOfMemory>
+    ensures { IfOk result (λ space. space ≡ all_free areas) }
+{
+    Space::of(alloc, areas)
 }

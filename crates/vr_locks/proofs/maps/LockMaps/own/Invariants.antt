@@ -1,6 +1,5 @@
 use Rattle.std.proofs.Common.{◌≡◌, ◌<◌, ℕ, false, Some, get_or}
-use Rattle.vr_types.specs.Locks.{Lock}
-use Rattle.vr_locks.specs.Conflict.{same_unit}
+use Rattle.vr_types.specs.Locks.{Lock, same_unit}
 use Rattle.vr_locks.specs.Maps.{lock_at}
 use Rattle.vr_locks.proofs.maps.LockMaps.own.Given as goal
 
