@@ -1,0 +1,6 @@
+pub mod Held
+pub mod Places
+pub mod Cache
+pub mod Refill
+pub mod Table
+pub mod Resident

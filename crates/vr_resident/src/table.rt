@@ -1,0 +1,50 @@
+//! The table of places: searches, and changes of one place.
+ghost use Rattle.std.specs.Prelude.{◌≡◌, ◌∷◌, ◌++◌, List, MatchOption};
+ghost use Rattle.lru.specs.LruCache.{lru_cache};
+ghost use Rattle.vr_resident.specs.Places.{Entry, AreNone, IsLast};
+ghost use Rattle.vr_resident.specs.Table.{IsEntry};
+ghost use Rattle.vr_resident.specs.declared.place.Place.{Place};
+
+use crate::place::{Place, Sought};
+use lru::LruCache;
+use std::mem;
+
+/// The table of places, with the most recently used first.
+pub type Table = LruCache<u32, Place>;
+
+/// The number of the last such place.
+pub(crate) fn last_fit(table: &Table, sought: Sought) -> Option<u32>
+    ensures { MatchOption result (AreNone sought table.now.entries)
+        (IsLast sought table.now.entries) }
+{
+    let mut last = None;
+    for (number, place) in table {
+        if place.fits(sought) {
+            last = Some(*number);
+        }
+    }
+    last
+}
+
+/// Makes the place the most recently used.
+pub(crate) fn use_place(table: &mut Table, number: u32)
+    requires { IsEntry table.old.entries number }
+    ensures { (before after : List Entry) (place : Place)
+        → table.old.entries ≡ before ++ (number, place) ∷ after
+        → table.new ≡ lru_cache ((number, place) ∷ before ++ after) table.old.cap }
+{
+    let _ = table.len();
+    table.promote(&number);
+}
+
+/// Changes what the place holds, and gives what it held. The order stays.
+pub(crate) fn change(table: &mut Table, number: u32, to: Place) -> Place
+    requires { IsEntry table.old.entries number }
+    ensures { (before after : List Entry) (place : Place)
+        → table.old.entries ≡ before ++ (number, place) ∷ after
+        → (result ≡ place)
+        × (table.new ≡ lru_cache (before ++ (number, to) ∷ after) table.old.cap) }
+{
+    let _ = table.len();
+    mem::replace(table.peek_mut(&number).unwrap(), to)
+}
