@@ -1,3 +1,6 @@
 pub mod Entries
 pub mod Held
+pub mod Moves
+pub mod Framing
 pub mod Over
+pub mod Taking

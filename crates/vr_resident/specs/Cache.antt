@@ -1,6 +1,6 @@
 -- A cache of blocks as clauses see it, and what each call does to it. The rules are this project's
 -- own.
-use Rattle.std.specs.Prelude.{◌≡◌, ◌⊎◌, ◌<◌, ◌≤◌, ◌+◌, ℕ, Bool, IsTrue, List, [], ◌∷◌, ◌++◌, length}
+use Rattle.std.specs.Prelude.{◌≡◌, ◌⊎◌, ◌<◌, ◌≤◌, ◌+◌, ℕ, Bool, true, false, IsTrue, List, [], ◌∷◌, ◌++◌, length}
 use Rattle.std.specs.List.{AllByRecursion}
 use Rattle.std.specs.Arc.{arc_value}
 use Rattle.vr_types.specs.Image.{Block}
@@ -8,11 +8,15 @@ use Rattle.vr_types.specs.Seen.{Seen}
 use Rattle.vr_frames.specs.declared.shared.Pool.{Pool}
 use Rattle.vr_frames.specs.declared.seat.FrameSeat.{FrameSeat}
 use Rattle.vr_frames.specs.declared.frame.Frame.{Frame}
-use Rattle.vr_frames.specs.Frames.{IsSeatOf, IsSameSeat, FindsAllOut, Gets, parts_of}
+use Rattle.vr_frames.specs.Frames.{IsSeatOf, IsSameSeat, FindsAllOut, Gets, parts_of, frame_size}
 use Rattle.vr_frames.specs.Keeper.{HoldsEach, others_of}
 use Rattle.vr_resident.specs.Held.{Held, IsOther, IsHeld, IsBetween}
-use Rattle.vr_resident.specs.Places.{Entry, IsBufferOf, buffers_of, numbers_of, held_of, count_of}
+use Rattle.vr_resident.specs.Places.{Entry, IsBufferOf, buffers_of, numbers_of, held_of, count_of, AreNone}
+use Rattle.vr_resident.specs.declared.place.Buffer.{Buffer}
+use Rattle.vr_resident.specs.declared.place.Place.{Place}
+use Rattle.vr_resident.specs.declared.place.Place.TheVariants.{Empty, Taken}
 use Rattle.vr_resident.specs.declared.place.Sought.TheVariants as sought
+use Rattle.lru.specs.LruCache.{lru_cache}
 use Rattle.vr_resident.specs.declared.frames.Frames.{Frames}
 
 -- the places, the pool and the blocks held
@@ -24,6 +28,10 @@ pool_of frames = arc_value frames.pool
 
 abbrev pub held_by : Frames → List Held
 held_by frames = held_of frames.size frames.table.entries
+
+-- the same with other places
+abbrev pub with_entries : Frames → List Entry → Frames
+with_entries frames entries = record frames { table = lru_cache entries frames.table.cap }
 
 -- the empty frames, and the places without a frame
 abbrev pub empty_count : Frames → ℕ
@@ -39,6 +47,7 @@ others frames = others_of frames.seat (numbers_of frames.table.entries)
 -- What always holds of the frames: each is one that the seat took of the pool, once, and has room
 -- for a block, and there are at least 16.
 pub record IsFramed (frames : Frames) : Type 0 where
+  pub long : frames.size ≤ frame_size (pool_of frames)
   pub seat_of : IsSeatOf (pool_of frames) frames.seat
   pub each_is : AllByRecursion (IsBufferOf (pool_of frames) frames.size) (buffers_of (entries_of frames))
   pub holds : HoldsEach frames.seat (numbers_of (entries_of frames))
@@ -67,6 +76,26 @@ pub record GetsFrame (old new : Frames) : Type 0 where
   pub frame : Frame
   pub got : Gets old.seat frame new.seat
 
+-- The block of the last place that holds one left its frame, which is empty.
+pub record Leaves (number : ℕ) (old new : Frames) : Type 0 where
+  pub before : List Entry
+  pub after : List Entry
+  pub block : ℕ
+  pub changed : Bool
+  pub buffer : Buffer
+  pub was : entries_of old ≡ before ++ (number, Taken block changed buffer) ∷ after
+  pub is : new ≡ with_entries old (before ++ (number, Empty buffer) ∷ after)
+  pub none_after : AreNone sought.Held after
+
+-- The changed block of a place is written.
+pub record IsWritten (number : ℕ) (old new : Frames) : Type 0 where
+  pub before : List Entry
+  pub after : List Entry
+  pub block : ℕ
+  pub buffer : Buffer
+  pub was : entries_of old ≡ before ++ (number, Taken block true buffer) ∷ after
+  pub is : new ≡ with_entries old (before ++ (number, Taken block false buffer) ∷ after)
+
 -- The block that was used least recently left: there was no empty frame, and either no place was
 -- bare or the pool had no frame home.
 pub record LastLeaves (old new : Frames) : Type 0 where
@@ -80,7 +109,19 @@ pub record LastLeaves (old new : Frames) : Type 0 where
 -- There is room for one more block.
 abbrev pub MakesRoom : Frames → Frames → Type 0
 MakesRoom old new =
-    ((0 < empty_count old) × (new ≡ old)) ⊎ GetsFrame old new ⊎ LastLeaves old new
+    ((0 < empty_count old) × (new ≡ old)) ⊎ (GetsFrame old new ⊎ LastLeaves old new)
+
+-- No frame was got: no place is bare, or the pool had none home.
+abbrev pub GetsNone : Frames → Frames → Type 0
+GetsNone old new =
+    (new.table ≡ old.table) × ((bare_count old ≡ 0) ⊎ FindsAllOut (pool_of old) old.seat new.seat)
+
+-- A place is now the most recently used, and holds a block.
+pub record Moves (number : ℕ) (was place : Place) (old new : Frames) : Type 0 where
+  pub before : List Entry
+  pub after : List Entry
+  pub split : entries_of old ≡ before ++ (number, was) ∷ after
+  pub is : new ≡ with_entries old ((number, place) ∷ (before ++ after))
 
 -- A block comes in, as the one that was used most recently.
 pub record Enters (h : Held) (old new : Frames) : Type 0 where
@@ -94,19 +135,69 @@ pub record IsSameCache (old new : Frames) : Type 0 where
   pub empty : empty_count new ≡ empty_count old
   pub bare : bare_count new ≡ bare_count old
 
--- A block that was held is now the first, as `h`; the others keep their order.
-pub record Hits (n : ℕ) (h : Held) (old new : Frames) : Type 0 where
-  pub was : Held
+-- the block, as it is put
+abbrev pub put_as : ℕ → Block → Held
+put_as n bytes = record { block = n; bytes = bytes; changed = true }
+
+-- A block that was held as `was` is now the first, as `h`; the others keep their order.
+pub record Hits (was h : Held) (old new : Frames) : Type 0 where
   pub rest : List Held
   pub between : IsBetween was (held_by old) rest
-  pub it_is : was.block ≡ n
   pub first : held_by new ≡ h ∷ rest
   pub empty : empty_count new ≡ empty_count old
   pub bare : bare_count new ≡ bare_count old
 
 -- A block that was not held came in, once there was room for it.
-pub record Misses (n : ℕ) (h : Held) (old new : Frames) : Type 0 where
-  pub not_held : IsOther n (held_by old)
+pub record Misses (h : Held) (old new : Frames) : Type 0 where
+  pub not_held : IsOther h.block (held_by old)
   pub with_room : Frames
   pub room : MakesRoom old with_room
   pub enters : Enters h with_room new
+
+-- The block is now the first, and what it was before stays where it was held.
+abbrev pub GetsBlock : ℕ → Frames → Frames → Type 0
+GetsBlock n old new =
+    (h : Held) × (h.block ≡ n) × (Hits h h old new ⊎ ((h.changed ≡ false) × Misses h old new))
+
+-- The block is now the first, with these bytes, and changed.
+abbrev pub PutsBlock : ℕ → Block → Frames → Frames → Type 0
+PutsBlock n bytes old new =
+    ((was : Held) × (was.block ≡ n) × Hits was (put_as n bytes) old new)
+    ⊎ Misses (put_as n bytes) old new
+
+-- A read failed: room was made for the block, and is empty.
+abbrev pub StaysEmpty : Frames → Frames → Type 0
+StaysEmpty old new = (with_room : Frames) × MakesRoom old with_room × IsSameCache with_room new
+
+-- the first place holds block n
+pub record IsFirst (n : ℕ) (frames : Frames) : Type 0 where
+  pub number : ℕ
+  pub changed : Bool
+  pub buffer : Buffer
+  pub rest : List Entry
+  pub split : entries_of frames ≡ (number, Taken n changed buffer) ∷ rest
+
+-- A block that was not held was read into an empty frame.
+pub record ReadsIn (n : ℕ) (old new : Frames) : Type 0 where
+  pub h : Held
+  pub it_is : h.block ≡ n
+  pub unchanged : h.changed ≡ false
+  pub not_held : IsOther n (held_by old)
+  pub enters : Enters h old new
+  pub first : IsFirst n new
+
+-- A block was put into the frame that holds it, or into an empty one.
+abbrev pub FillsIn : ℕ → Block → Frames → Frames → Type 0
+FillsIn n bytes old new =
+    ((was : Held) × (was.block ≡ n) × Hits was (put_as n bytes) old new)
+    ⊎ (IsOther n (held_by old) × Enters (put_as n bytes) old new)
+
+-- the place holds the block, or is empty where no place holds it
+pub record CanFill (n : ℕ) (entries : List Entry) (number : ℕ) : Type 0 where
+  pub place : Place
+  pub before : List Entry
+  pub after : List Entry
+  pub split : entries ≡ before ++ (number, place) ∷ after
+  pub buffer : Buffer
+  pub kind : ((place ≡ Empty buffer) × AreNone (sought.Block n) entries)
+      ⊎ ((changed : Bool) × (place ≡ Taken n changed buffer))

@@ -1,7 +1,8 @@
 -- A place of the table. It is this project's own.
-use Rattle.std.specs.Prelude.{◌≡◌, ◌∷◌, ◌++◌, ℕ, List}
-use Rattle.vr_resident.specs.Places.{Entry}
+use Rattle.std.specs.Prelude.{◌≡◌, ◌<◌, ◌∷◌, ◌++◌, ℕ, Bool, true, List, length}
+use Rattle.vr_resident.specs.Places.{Entry, buffers_at, fits}
 use Rattle.vr_resident.specs.declared.place.Place.{Place}
+use Rattle.vr_resident.specs.declared.place.Sought.{Sought}
 
 -- the table has this place
 pub record IsEntry (entries : List Entry) (number : ℕ) : Type 0 where
@@ -9,3 +10,19 @@ pub record IsEntry (entries : List Entry) (number : ℕ) : Type 0 where
   pub before : List Entry
   pub after : List Entry
   pub split : entries ≡ before ++ (number, place) ∷ after
+
+-- the table has this place, with a buffer
+pub record HasBuffer (entries : List Entry) (number : ℕ) : Type 0 where
+  pub place : Place
+  pub before : List Entry
+  pub after : List Entry
+  pub split : entries ≡ before ++ (number, place) ∷ after
+  pub has : 0 < length (buffers_at place)
+
+-- the table has this place, which is one that is looked for
+pub record IsFit (which : Sought) (entries : List Entry) (number : ℕ) : Type 0 where
+  pub place : Place
+  pub before : List Entry
+  pub after : List Entry
+  pub split : entries ≡ before ++ (number, place) ∷ after
+  pub it_fits : fits which place ≡ true

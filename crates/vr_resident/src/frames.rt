@@ -14,5 +14,5 @@ pub struct Frames {
     pub(crate) size: u32,
 }
 
-#[tactic(auto, using(crate::proofs::Over::no_call))]
+#[tactic(auto, using(crate::proofs::Taking::if_none))]
 pub(crate) fn nothing() {}

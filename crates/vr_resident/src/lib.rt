@@ -1,7 +1,10 @@
 //! Resident blocks: a write-back cache of a device's blocks in frames that all volumes share.
 #![tactic(auto)]
 
+mod bringing;
 mod frames;
+mod moving;
+mod room;
 mod place;
 mod resident;
 mod table;

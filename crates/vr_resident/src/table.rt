@@ -1,11 +1,12 @@
 //! The table of places: searches, and changes of one place.
-ghost use Rattle.std.specs.Prelude.{◌≡◌, ◌∷◌, ◌++◌, List, MatchOption};
+ghost use Rattle.std.specs.Prelude.{◌≡◌, ◌∷◌, ◌++◌, [], List, MatchOption};
 ghost use Rattle.lru.specs.LruCache.{lru_cache};
-ghost use Rattle.vr_resident.specs.Places.{Entry, AreNone, IsLast};
-ghost use Rattle.vr_resident.specs.Table.{IsEntry};
+ghost use Rattle.vr_resident.specs.Places.{Entry, AreNone, IsLast, buffers_at};
+ghost use Rattle.vr_resident.specs.Table.{IsEntry, HasBuffer};
 ghost use Rattle.vr_resident.specs.declared.place.Place.{Place};
+ghost use Rattle.vr_resident.specs.declared.place.Place.TheVariants.{Bare};
 
-use crate::place::{Place, Sought};
+use crate::place::{Buffer, Place, Sought};
 use lru::LruCache;
 use std::mem;
 
@@ -47,4 +48,30 @@ pub(crate) fn change(table: &mut Table, number: u32, to: Place) -> Place
 {
     let _ = table.len();
     mem::replace(table.peek_mut(&number).unwrap(), to)
+}
+
+/// Changes what the place holds, and makes it the most recently used.
+pub(crate) fn put_first(table: &mut Table, number: u32, to: Place)
+    requires { IsEntry table.old.entries number }
+    ensures { (before after : List Entry) (place : Place)
+        → table.old.entries ≡ before ++ (number, place) ∷ after
+        → table.new ≡ lru_cache ((number, to) ∷ before ++ after) table.old.cap }
+{
+    drop(change(table, number, to));
+    use_place(table, number);
+}
+
+/// Takes the buffer out of the place, which is bare then.
+pub(crate) fn lift(table: &mut Table, number: u32) -> Buffer
+    requires { HasBuffer table.old.entries number }
+    ensures { (before after : List Entry) (place : Place)
+        → table.old.entries ≡ before ++ (number, place) ∷ after
+        → (buffers_at place ≡ result ∷ [])
+        × (table.new ≡ lru_cache (before ++ (number, Bare) ∷ after) table.old.cap) }
+{
+    match change(table, number, Place::Bare) {
+        Place::Empty(buffer) => buffer,
+        Place::Taken(_, _, buffer) => buffer,
+        Place::Bare => unreachable!(),
+    }
 }

@@ -1,0 +1,45 @@
+use Rattle.std.proofs.Common.{◌≡◌, ◌∷◌, ◌++◌, ℕ, List, Option, Some, None, OnSome, IfSome, IfNone, refl, sym, ap, ◌∙◌, subst, inl, inr}
+use Rattle.lru.specs.LruCache.{LruCache, lru_cache}
+use Rattle.vr_frames.specs.declared.seat.FrameSeat.{FrameSeat}
+use Rattle.vr_frames.specs.declared.shared.Pool.{Pool}
+use Rattle.vr_frames.specs.Frames.{IsSeatOf, IsFrameOf}
+use Rattle.vr_resident.specs.Places.{Entry}
+use Rattle.vr_resident.specs.Table.{IsFit}
+use Rattle.vr_resident.specs.Cache.{IsFramed, KeepsSeat, GetsFrame, GetsNone, entries_of, with_entries}
+use Rattle.vr_resident.specs.declared.place.Buffer.TheVariants.{Shared}
+use Rattle.vr_resident.specs.declared.place.Place.{Place}
+use Rattle.vr_resident.specs.declared.place.Place.TheVariants.{Bare, Empty, Taken}
+use Rattle.vr_resident.specs.declared.place.Sought.TheVariants as sought
+use Rattle.vr_resident.proofs.Moves.{count_none}
+use Rattle.vr_resident.proofs.Taking.{framed_got, seat_got, frame_got, framed_none, if_none, bare_is}
+use Rattle.vr_resident.proofs.room.take_frame.Goals as goal
+
+pub returns-in_err-number-clause-none : goal.returns-in_err-number-clause-none
+returns-in_err-number-clause-none c = if_none c.from_residual.result _ (refl, inl (count_none sought.Bare (entries_of c.args.frames.now) c.in_err-number.ensures))
+
+pub returns-in_err-frame-clause-framed : goal.returns-in_err-frame-clause-framed
+returns-in_err-frame-clause-framed c = framed_none c.args.frames.now c.take.new.seat c.in_err-frame.ensures.none.same_frames (subst (λ (p : Pool). IsSeatOf p c.take.new.seat) c.deref.ensures c.take.ensures.of_pool) c.requires.framed
+
+pub returns-clause-got : goal.returns-clause-got
+returns-clause-got c =
+    let frames = c.args.frames.now in
+    let r = c.in_ok-number.ensures in
+    let was : entries_of frames ≡ r.before ++ (c.in_ok-number.number, Bare) ∷ r.after = r.split ∙ ap (λ (p : Place). r.before ++ (c.in_ok-number.number, p) ∷ r.after) (bare_is r.place r.it_fits) in
+    subst (λ (x : LruCache ℕ Place). GetsFrame frames (record frames { table = x; seat = c.take.new.seat })) (sym (c.change.ensures r.before r.after Bare was).1)
+    (frame_got frames c.take.new.seat c.in_ok-frame.frame c.in_ok-number.number r.before r.after was c.in_ok-frame.ensures.some c.requires.none)
+
+pub returns-clause-framed : goal.returns-clause-framed
+returns-clause-framed c =
+    let frames = c.args.frames.now in
+    let r = c.in_ok-number.ensures in
+    let was : entries_of frames ≡ r.before ++ (c.in_ok-number.number, Bare) ∷ r.after = r.split ∙ ap (λ (p : Place). r.before ++ (c.in_ok-number.number, p) ∷ r.after) (bare_is r.place r.it_fits) in
+    subst (λ (x : LruCache ℕ Place). IsFramed (record frames { table = x; seat = c.take.new.seat })) (sym (c.change.ensures r.before r.after Bare was).1)
+    (framed_got frames c.take.new.seat c.in_ok-frame.frame c.in_ok-number.number r.before r.after was c.in_ok-frame.ensures.some c.requires.framed (subst (λ (p : Pool). IsSeatOf p c.take.new.seat) c.deref.ensures c.take.ensures.of_pool) (subst (λ (p : Pool). IsFrameOf p c.in_ok-frame.frame) c.deref.ensures c.in_ok-frame.ensures.frame))
+
+pub returns-clause-seat : goal.returns-clause-seat
+returns-clause-seat c =
+    let frames = c.args.frames.now in
+    let r = c.in_ok-number.ensures in
+    let was : entries_of frames ≡ r.before ++ (c.in_ok-number.number, Bare) ∷ r.after = r.split ∙ ap (λ (p : Place). r.before ++ (c.in_ok-number.number, p) ∷ r.after) (bare_is r.place r.it_fits) in
+    subst (λ (x : LruCache ℕ Place). KeepsSeat frames (record frames { table = x; seat = c.take.new.seat })) (sym (c.change.ensures r.before r.after Bare was).1)
+    (seat_got frames c.take.new.seat c.in_ok-frame.frame c.in_ok-number.number r.before r.after was c.in_ok-frame.ensures.some c.take.ensures.same c.take.ensures.parts)
