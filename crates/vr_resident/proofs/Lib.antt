@@ -1,4 +1,5 @@
 pub mod Entries
+pub mod Entering
 pub mod Held
 pub mod Moves
 pub mod Framing

@@ -192,12 +192,12 @@ FillsIn n bytes old new =
     ((was : Held) × (was.block ≡ n) × Hits was (put_as n bytes) old new)
     ⊎ (IsOther n (held_by old) × Enters (put_as n bytes) old new)
 
--- the place holds the block, or is empty where no place holds it
-pub record CanFill (n : ℕ) (entries : List Entry) (number : ℕ) : Type 0 where
+-- the place holds the block, or is empty where the block isn't held
+pub record CanFill (n : ℕ) (frames : Frames) (number : ℕ) : Type 0 where
   pub place : Place
   pub before : List Entry
   pub after : List Entry
-  pub split : entries ≡ before ++ (number, place) ∷ after
+  pub split : entries_of frames ≡ before ++ (number, place) ∷ after
   pub buffer : Buffer
-  pub kind : ((place ≡ Empty buffer) × AreNone (sought.Block n) entries)
+  pub kind : ((place ≡ Empty buffer) × IsOther n (held_by frames))
       ⊎ ((changed : Bool) × (place ≡ Taken n changed buffer))

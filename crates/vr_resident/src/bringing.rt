@@ -1,11 +1,10 @@
 //! How a block comes into a frame.
-ghost use Rattle.std.specs.Prelude.{◌≡◌, ◌<◌, length, IsErrOf, OnOk, OnErr};
+ghost use Rattle.std.specs.Prelude.{◌≡◌, ◌<◌, length, slice_set, IsTrue, IsErrOf, OnOk, OnErr};
 ghost use Rattle.vr_types.specs.Blocks.{Keeps, Puts};
 ghost use Rattle.vr_types.specs.Faults.{CountsRead, HasCause, HasWriteCause};
 ghost use Rattle.vr_types.specs.declared.fault.DeviceFault.TheVariants.{Read, Write};
-ghost use Rattle.vr_resident.specs.Held.{over};
-ghost use Rattle.vr_resident.specs.Table.{IsFit, HasBuffer};
-ghost use Rattle.vr_resident.specs.Places.{AreNone};
+ghost use Rattle.vr_resident.specs.Held.{over, IsOther};
+ghost use Rattle.vr_resident.specs.Table.{IsFit};
 ghost use Rattle.vr_resident.specs.Cache.{
   IsKept,
   KeepsSeat,
@@ -19,7 +18,7 @@ ghost use Rattle.vr_resident.specs.Cache.{
   IsFirst,
   held_by,
 };
-ghost use Rattle.vr_resident.specs.declared.place.Sought.TheVariants.{Block, Empty};
+ghost use Rattle.vr_resident.specs.declared.place.Sought.TheVariants.{Empty};
 
 use crate::frames::Frames;
 use crate::place::{Place, Sought};
@@ -37,7 +36,7 @@ fn read_in<D: BlockDevice>(
 ) -> Result<(), Failed>
     requires kept { IsKept D.tells (D.seen device.old) frames.old }
     requires block { n < (D.seen device.old).count }
-    requires not_held { AreNone (Block n) frames.old.table.entries }
+    requires not_held { IsOther n (held_by frames.old) }
     requires empty { IsFit Empty frames.old.table.entries number }
     ensures ok { OnOk result (ReadsIn n frames.old frames.new) }
     ensures err { OnErr result (IsSameCache frames.old frames.new) }
@@ -64,7 +63,7 @@ fn read_in<D: BlockDevice>(
 fn miss<D: BlockDevice>(device: &mut D, frames: &mut Frames, n: u32) -> Result<(), DeviceFault>
     requires kept { IsKept D.tells (D.seen device.old) frames.old }
     requires block { n < (D.seen device.old).count }
-    requires not_held { AreNone (Block n) frames.old.table.entries }
+    requires not_held { IsOther n (held_by frames.old) }
     ensures ok { OnOk result (GetsBlock n frames.old frames.new) }
     ensures first { OnOk result (IsFirst n frames.new) }
     ensures unread { IsErrOf result Read → StaysEmpty frames.old frames.new }
@@ -111,15 +110,50 @@ pub(crate) fn bring<D: BlockDevice>(
     }
 }
 
+/// Puts a block into the frame that holds it, or into one for which room is made.
+pub(crate) fn store<D: BlockDevice>(
+    device: &mut D,
+    frames: &mut Frames,
+    n: u32,
+    bytes: &[u8],
+) -> Result<(), DeviceFault>
+    requires kept { IsKept D.tells (D.seen device.old) frames.old }
+    requires block { n < (D.seen device.old).count }
+    requires whole { length bytes.now ≡ (D.seen device.old).size }
+    ensures ok { OnOk result (PutsBlock n bytes.now frames.old frames.new) }
+    ensures err { OnErr result (frames.new.table ≡ frames.old.table) }
+    ensures put { IsTrue D.tells → OnOk result ((over (D.seen device.new) (held_by frames.new)).cur
+        ≡ slice_set (over (D.seen device.old) (held_by frames.old)).cur n bytes.now) }
+    ensures kept { IsKept D.tells (D.seen device.new) frames.new }
+    ensures seat { KeepsSeat frames.old frames.new }
+    ensures after { Puts D.tells n bytes.now (over (D.seen device.old) (held_by frames.old))
+        (over (D.seen device.new) (held_by frames.new)) }
+    ensures cause { HasWriteCause (D.faults device.old) (D.faults device.new) result }
+{
+    if let Some(number) = last_fit(&frames.table, Sought::Block(n)) {
+        fill(device, frames, number, n, bytes);
+        return Ok(());
+    }
+    match room(device, frames) {
+        Ok(number) => {
+            fill(device, frames, number, n, bytes);
+            Ok(())
+        }
+        Err(Failed) => Err(DeviceFault::Write),
+    }
+}
+
 /// Puts a block into a frame that is empty or holds it. It is the first then, and changed.
 fn fill<D: BlockDevice>(device: &D, frames: &mut Frames, number: u32, n: u32, bytes: &[u8])
     requires kept { IsKept D.tells (D.seen device.now) frames.old }
     requires block { n < (D.seen device.now).count }
     requires whole { length bytes.now ≡ (D.seen device.now).size }
-    requires place { CanFill n frames.old.table.entries number }
+    requires place { CanFill n frames.old number }
     ensures filled { FillsIn n bytes.now frames.old frames.new }
     ensures kept { IsKept D.tells (D.seen device.now) frames.new }
     ensures seat { KeepsSeat frames.old frames.new }
+    ensures put { IsTrue D.tells → (over (D.seen device.now) (held_by frames.new)).cur
+        ≡ slice_set (over (D.seen device.now) (held_by frames.old)).cur n bytes.now }
     ensures after { Puts D.tells n bytes.now (over (D.seen device.now) (held_by frames.old))
         (over (D.seen device.now) (held_by frames.new)) }
 {

@@ -14,5 +14,5 @@ pub struct Frames {
     pub(crate) size: u32,
 }
 
-#[tactic(auto, using(crate::proofs::Taking::if_none))]
+#[tactic(auto, using(crate::proofs::Entering::none_other))]
 pub(crate) fn nothing() {}

@@ -1,0 +1,50 @@
+use Rattle.std.proofs.Common.{rules, ◌≡◌, ◌≤◌, ◌<◌, ◌⊎◌, OnOk, OnErr, ℕ, Bool, true, false, IsTrue, List, [], ◌∷◌, ◌++◌, sym, ap, ◌∙◌, subst, refl, length, arith, inl, inr, ⊎_elim}
+use Rattle.lru.specs.LruCache.{LruCache, lru_cache}
+use Rattle.vr_types.specs.Image.{Image, Block, block_at}
+use Rattle.vr_types.specs.Seen.{Seen, Left}
+use Rattle.vr_types.specs.Blocks.{Keeps, Puts}
+use Rattle.vr_resident.specs.Held.{Held, over, IsOther}
+use Rattle.vr_resident.specs.Places.{Entry, block_in, bytes_in, buffers_at, fits}
+use Rattle.vr_resident.specs.Cache.{IsKept, KeepsSeat, ReadsIn, FillsIn, CanFill, GetsBlock, PutsBlock, StaysEmpty, IsSameCache, IsFirst, Hits, Misses, held_by, entries_of, with_entries, pool_of, put_as}
+use Rattle.vr_resident.specs.declared.frames.Frames.{Frames}
+use Rattle.vr_resident.specs.declared.place.Buffer.{Buffer}
+use Rattle.vr_resident.specs.declared.place.Place.{Place}
+use Rattle.vr_resident.specs.declared.place.Place.TheVariants.{Bare, Empty, Taken}
+use Rattle.vr_resident.specs.declared.place.Sought.TheVariants as sought
+use Rattle.vr_resident.proofs.Framing.{twice, has_room, held_in}
+use Rattle.vr_resident.proofs.Taking.{empty_is}
+use Rattle.vr_resident.proofs.Entering.{none_other, room_other, same_buffer, buffer_in, one_of, front, is_first, entered, entered_seat, hit, hit_seat, refilled, refilled_cache, refilled_seat, read_kept, unread_kept, used_kept, put_again, put_new}
+use Rattle.std.proofs.lemmas.Bool.{eqb-true}
+use Rattle.vr_resident.proofs.bringing.bring.Goals as goal
+
+pub miss-requires-clause-not_held : goal.miss-requires-clause-not_held
+miss-requires-clause-not_held g c = none_other c.args.frames.now.size c.args.n (entries_of c.args.frames.now) c.in-None.ensures
+
+taken_is : (n : ℕ) (place : Place) → fits (sought.Block n) place ≡ true → (mark : Bool) × (buffer : Buffer) × (place ≡ Taken n mark buffer)
+taken_is n Bare is = cc
+taken_is n (Empty buffer) is = cc
+taken_is n (Taken block mark buffer) is = (mark, buffer, ap (λ (k : ℕ). Taken k mark buffer) (eqb-true block n is))
+
+pub returns-in-Some : goal.returns-in-Some
+returns-in-Some g c =
+    let tells = g.D.BlockDevice.tells in
+    let device = g.D.BlockDevice.seen c.args.device.now in
+    let frames = c.args.frames.now in
+    let r = c.in-Some.ensures in
+    let t = taken_is c.args.n r.place r.it_fits in
+    let mark = t.0 in
+    let b = t.1 in
+    let was : entries_of frames ≡ r.before ++ (c.in-Some.number, Taken c.args.n t.0 t.1) ∷ r.after = r.split ∙ ap (λ (p : Place). r.before ++ (c.in-Some.number, p) ∷ r.after) t.2 in
+    let new : c.use_place.new.table ≡ lru_cache ((c.in-Some.number, Taken c.args.n t.0 t.1) ∷ (r.before ++ r.after)) frames.table.cap = c.use_place.ensures r.before r.after (Taken c.args.n t.0 t.1) was in
+    let both = used_kept tells device frames c.args.n c.in-Some.number r.before r.after t.1 t.1 (same_buffer t.1) c.requires.kept (λ told image left. g.met.D.BlockDevice.images_may c.args.device.now image told left) t.0 was in
+    record {
+      ok = subst (λ (x : LruCache ℕ Place). GetsBlock c.args.n frames (record frames { table = x })) (sym new)
+          (held_in frames c.args.n t.0 t.1, refl, inl (hit frames c.args.n c.in-Some.number r.before r.after t.1 t.1 t.0 (same_buffer t.1) t.0 was));
+      first = subst (λ (x : LruCache ℕ Place). IsFirst c.args.n (record frames { table = x })) (sym new) (is_first frames c.args.n c.in-Some.number r.before r.after t.1 t.1 t.0 (same_buffer t.1));
+      unread = search rules;
+      unwritten = search rules;
+      kept = subst (λ (x : LruCache ℕ Place). IsKept tells device (record frames { table = x })) (sym new) both.0;
+      seat = subst (λ (x : LruCache ℕ Place). KeepsSeat frames (record frames { table = x })) (sym new) (hit_seat frames c.args.n c.in-Some.number r.before r.after t.1 t.1 t.0 (same_buffer t.1) t.0 was);
+      after = subst (λ (x : LruCache ℕ Place). Keeps tells (over device (held_by frames)) (over device (held_by (record frames { table = x })))) (sym new) both.1;
+      cause = search rules;
+    }
