@@ -1,6 +1,6 @@
 -- What a block that comes in, or is used again, makes of the frames.
 use Rattle.std.proofs.Common.{rules, ◌≡◌, ◌≢◌, ◌⊎◌, inl, inr, ⊎_elim, ◌+◌, ◌<◌, ◌≤◌, ◌==◌, ℕ, Bool, true, false, cond, IsTrue, List, [], ◌∷◌, ◌++◌, refl, sym, ap, ◌∙◌, subst, arith, length, slice_set, true≢false, nat_eq}
-use Rattle.std.proofs.lemmas.Bool.{eqb-false}
+use Rattle.std.proofs.lemmas.Bool.{eqb-false, eqb-true}
 use Rattle.std.specs.List.{AllByRecursion, flat_map}
 use Rattle.std.proofs.lemmas.List.Concat.{flat_map-append}
 use Rattle.vr_types.specs.Image.{Block, Image, block_at}
@@ -43,6 +43,12 @@ room_other n old new made other = ⊎_elim (λ same. subst (λ (f : Frames). IsO
 -- a buffer is as it is
 pub same_buffer : (b : Buffer) → IsSameBuffer b b
 same_buffer b = record { shared_same = refl; number_same = refl; long_same = refl; of_pool = λ pool size is. is }
+
+-- the place of a block holds it
+pub taken_is : (n : ℕ) (place : Place) → fits (sought.Block n) place ≡ true → (mark : Bool) × (buffer : Buffer) × (place ≡ Taken n mark buffer)
+taken_is n Bare is = cc
+taken_is n (Empty buffer) is = cc
+taken_is n (Taken block mark buffer) is = (mark, buffer, ap (λ (k : ℕ). Taken k mark buffer) (eqb-true block n is))
 
 -- the buffer of a place is one of the frames
 pub buffer_in : (frames : Frames) (number : ℕ) (before after : List Entry) (place : Place) (b : Buffer) → IsFramed frames → entries_of frames ≡ before ++ (number, place) ∷ after → buffers_at place ≡ b ∷ [] → IsBufferOf (pool_of frames) frames.size b

@@ -4,4 +4,6 @@ pub mod Held
 pub mod Moves
 pub mod Framing
 pub mod Over
+pub mod Seeing
 pub mod Taking
+pub mod Written

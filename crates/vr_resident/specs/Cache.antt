@@ -10,7 +10,7 @@ use Rattle.vr_frames.specs.declared.seat.FrameSeat.{FrameSeat}
 use Rattle.vr_frames.specs.declared.frame.Frame.{Frame}
 use Rattle.vr_frames.specs.Frames.{IsSeatOf, IsSameSeat, FindsAllOut, Gets, parts_of, frame_size}
 use Rattle.vr_frames.specs.Keeper.{HoldsEach, others_of}
-use Rattle.vr_resident.specs.Held.{Held, IsOther, IsHeld, IsBetween}
+use Rattle.vr_resident.specs.Held.{Held, IsOther, IsHeld, IsBetween, forced, flushed}
 use Rattle.vr_resident.specs.Places.{Entry, IsBufferOf, buffers_of, numbers_of, held_of, count_of, AreNone}
 use Rattle.vr_resident.specs.declared.place.Buffer.{Buffer}
 use Rattle.vr_resident.specs.declared.place.Place.{Place}
@@ -201,3 +201,15 @@ pub record CanFill (n : ℕ) (frames : Frames) (number : ℕ) : Type 0 where
   pub buffer : Buffer
   pub kind : ((place ≡ Empty buffer) × IsOther n (held_by frames))
       ⊎ ((changed : Bool) × (place ≡ Taken n changed buffer))
+
+-- The listed blocks are written, and the cache is as it was otherwise.
+pub record IsForced (listed : List ℕ) (old new : Frames) : Type 0 where
+  pub held : held_by new ≡ forced listed (held_by old)
+  pub empty : empty_count new ≡ empty_count old
+  pub bare : bare_count new ≡ bare_count old
+
+-- So many changed blocks are written, the least recently used first.
+pub record IsFlushed (most : ℕ) (old new : Frames) : Type 0 where
+  pub held : held_by new ≡ flushed most (held_by old)
+  pub empty : empty_count new ≡ empty_count old
+  pub bare : bare_count new ≡ bare_count old

@@ -1,7 +1,7 @@
 -- The blocks that a cache holds, as a list with the most recently used first, and what a reader
 -- finds and a crash may leave once they are laid over a device. The rules are this project's own.
-use Rattle.std.specs.Prelude.{◌≡◌, ◌≢◌, ◌⊎◌, ◌<◌, ◌==◌, ◌&&◌, ℕ, Bool, true, false, IsTrue, cond, List, [], ◌∷◌, ◌++◌, map, slice_set, length, count_by, Option, Some, None, nat_lt}
-use Rattle.std.specs.List.{AllByRecursion, list_any}
+use Rattle.std.specs.Prelude.{◌≡◌, ◌≢◌, ◌⊎◌, ◌<◌, ◌==◌, ◌&&◌, ◌||◌, ℕ, Bool, true, false, IsTrue, cond, List, [], ◌∷◌, ◌++◌, map, slice_set, length, count_by, Option, Some, None, nat_lt}
+use Rattle.std.specs.List.{AllByRecursion}
 use Rattle.vr_types.specs.Image.{Block, Image, block_at}
 use Rattle.vr_types.specs.Seen.{Seen}
 
@@ -63,14 +63,24 @@ over device held = record {
 abbrev pub changed_count : List Held → ℕ
 changed_count = count_by (λ h. h.changed)
 
--- after the most recently used `most` less: the `most` least recently used changed ones are written
+-- the last `most` elements that pass the test, as f makes them; the others stay
+abbrev pub with_last : {X : Type 0} → (X → Bool) → (X → X) → ℕ → List X → List X
+with_last test f most [] = []
+with_last test f most (x ∷ xs) =
+    cond (test x && nat_lt (count_by test xs) most) (f x) x ∷ with_last test f most xs
+
+-- the `most` least recently used ones that are changed, or all where there are fewer, are written
 abbrev pub flushed : ℕ → List Held → List Held
-flushed most [] = []
-flushed most (h ∷ held) = cond (nat_lt (changed_count held) most) (clean h) h ∷ flushed most held
+flushed = with_last (λ h. h.changed) clean
+
+-- the number is listed
+abbrev pub is_listed : ℕ → List ℕ → Bool
+is_listed n [] = false
+is_listed n (m ∷ listed) = (m == n) || is_listed n listed
 
 -- the listed ones are written
 abbrev pub forced : List ℕ → List Held → List Held
-forced listed = map (λ h. cond (list_any (λ n. n == h.block) listed) (clean h) h)
+forced listed = map (λ h. cond (is_listed h.block listed) (clean h) h)
 
 -- `held` is `rest` with `h` somewhere between
 pub record IsBetween (h : Held) (held rest : List Held) : Type 0 where

@@ -4,7 +4,7 @@ use Rattle.std.specs.List.{AllByRecursion, flat_map}
 use Rattle.vr_types.specs.Image.{Block}
 use Rattle.vr_frames.specs.declared.shared.Pool.{Pool}
 use Rattle.vr_frames.specs.Frames.{number_of, bytes_of, IsFrameOf}
-use Rattle.vr_resident.specs.Held.{Held}
+use Rattle.vr_resident.specs.Held.{Held, with_last}
 use Rattle.vr_resident.specs.declared.place.Buffer.{Buffer}
 use Rattle.vr_resident.specs.declared.place.Buffer.TheVariants.{Own, Shared}
 use Rattle.vr_resident.specs.declared.place.Place.{Place}
@@ -64,6 +64,7 @@ numbers_of entries = flat_map numbers_in (buffers_of entries)
 -- whether a place is one that is looked for
 abbrev pub fits : Sought → Place → Bool
 fits (sought.Block n) (Taken block changed buffer) = block == n
+fits (sought.ChangedBlock n) (Taken block changed buffer) = changed && (block == n)
 fits sought.Changed (Taken block changed buffer) = changed
 fits sought.Held (Taken block changed buffer) = true
 fits sought.Empty (Empty buffer) = true
@@ -92,8 +93,7 @@ pub record IsLast (which : Sought) (entries : List Entry) (number : ℕ) : Type 
 abbrev pub count_of : Sought → List Entry → ℕ
 count_of which = count_by (is_at which)
 
--- the last `most` places whose clean frames may go back to the pool are bare
+-- the `most` least recently used places whose frames may go back to the pool, or all where there
+-- are fewer, are bare
 abbrev pub gave : ℕ → List Entry → List Entry
-gave most [] = []
-gave most (e ∷ entries) =
-    cond (is_at sought.Free e && nat_lt (count_of sought.Free entries) most) (e.0, Bare) e ∷ gave most entries
+gave = with_last (is_at sought.Free) (λ e. (e.0, Bare))

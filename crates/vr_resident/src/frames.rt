@@ -14,5 +14,5 @@ pub struct Frames {
     pub(crate) size: u32,
 }
 
-#[tactic(auto, using(crate::proofs::Entering::none_other))]
+#[tactic(auto, using(crate::proofs::Written::forced_more))]
 pub(crate) fn nothing() {}

@@ -8,5 +8,6 @@ mod room;
 mod place;
 mod resident;
 mod table;
+mod writing;
 
 pub use resident::Resident;

@@ -29,6 +29,8 @@ pub enum Place {
 pub enum Sought {
     /// The place of a block.
     Block(u32),
+    /// The place of a block, where that is changed.
+    ChangedBlock(u32),
     /// A block that is changed.
     Changed,
     /// A block.
@@ -138,6 +140,7 @@ impl Place {
     {
         match (sought, self) {
             (Sought::Block(n), Place::Taken(block, _, _)) => *block == n,
+            (Sought::ChangedBlock(n), Place::Taken(block, changed, _)) => *changed && *block == n,
             (Sought::Changed, Place::Taken(_, changed, _)) => *changed,
             (Sought::Held, Place::Taken(_, _, _)) => true,
             (Sought::Empty, Place::Empty(_)) => true,

@@ -14,16 +14,11 @@ use Rattle.vr_resident.specs.declared.place.Sought.TheVariants as sought
 use Rattle.vr_resident.proofs.Framing.{twice, has_room, held_in}
 use Rattle.vr_resident.proofs.Taking.{empty_is}
 use Rattle.vr_resident.proofs.Entering.{none_other, room_other, same_buffer, buffer_in, one_of, front, is_first, entered, entered_seat, hit, hit_seat, refilled, refilled_cache, refilled_seat, read_kept, unread_kept, used_kept, put_again, put_new}
-use Rattle.std.proofs.lemmas.Bool.{eqb-true}
+use Rattle.vr_resident.proofs.Entering.{taken_is}
 use Rattle.vr_resident.proofs.bringing.bring.Goals as goal
 
 pub miss-requires-clause-not_held : goal.miss-requires-clause-not_held
 miss-requires-clause-not_held g c = none_other c.args.frames.now.size c.args.n (entries_of c.args.frames.now) c.in-None.ensures
-
-taken_is : (n : ℕ) (place : Place) → fits (sought.Block n) place ≡ true → (mark : Bool) × (buffer : Buffer) × (place ≡ Taken n mark buffer)
-taken_is n Bare is = cc
-taken_is n (Empty buffer) is = cc
-taken_is n (Taken block mark buffer) is = (mark, buffer, ap (λ (k : ℕ). Taken k mark buffer) (eqb-true block n is))
 
 pub returns-in-Some : goal.returns-in-Some
 returns-in-Some g c =
