@@ -14,6 +14,7 @@ use Rattle.vr_frames.specs.Keeper.{HoldsEach, others_of}
 use Rattle.vr_resident.specs.Held.{Held, IsHeld, IsOther, IsOnce, overlay, IsChanged, AreClean, clean, over}
 use Rattle.vr_resident.specs.Places.{Entry, bytes_in, block_in, numbers_in, IsBufferOf, buffers_at, held_at, held_of, buffers_of, numbers_of, fits, is_at, AreNone, count_of}
 use Rattle.vr_resident.specs.Cache.{entries_of, pool_of, held_by, with_entries, IsFramed, IsKept, KeepsSeat, others}
+use Rattle.vr_resident.specs.Seeing.{length-block_in}
 use Rattle.vr_resident.specs.declared.place.Buffer.{Buffer}
 use Rattle.vr_resident.specs.declared.place.Buffer.TheVariants.{Own, Shared}
 use Rattle.vr_resident.specs.declared.place.Place.{Place}
@@ -160,9 +161,6 @@ module _ (tells : Bool) (device : Seen) (frames : Frames) (number : ℕ) (before
 pub has_room : (pool : Pool) (size : ℕ) (buffer : Buffer) → IsBufferOf pool size buffer → size ≤ length (bytes_in buffer)
 has_room pool size (Own bytes) is = is
 has_room pool size (Shared frame) is = is.1
-
-pub length-block_in : (size : ℕ) (buffer : Buffer) → length (block_in size buffer) ≡ size
-length-block_in size buffer = omega (arith, length-take size (bytes_in buffer ++ replicate size 0), length-append (bytes_in buffer) (replicate size 0), length-replicate {A = ℕ} size 0)
 
 -- two changes of one place, one after the other
 pub twice : (frames : Frames) (number : ℕ) (before after : List Entry) (first to : Place) (one two : LruCache ℕ Place)

@@ -4,19 +4,12 @@ use Rattle.std.proofs.Common.{get_or-set_same, get_or-set_other}
 use Rattle.std.specs.List.{AllByRecursion}
 use Rattle.std.proofs.lemmas.List.{set-set, set_comm, set-get_or}
 use Rattle.vr_types.specs.Image.{Block, Image, block_at}
+use Rattle.vr_resident.specs.Seeing.{overlay-length}
 use Rattle.vr_resident.specs.Held.{Held, IsOther, IsOnce, overlay, IsChanged, AreClean, clean}
 
 pub overlay-append : (cur : Image) (xs ys : List Held) → overlay cur (xs ++ ys) ≡ overlay (overlay cur ys) xs
 overlay-append cur [] ys = refl
 overlay-append cur (x ∷ xs) ys = ap (λ (i : Image). cond x.changed (slice_set i x.block x.bytes) i) (overlay-append cur xs ys)
-
-pub overlay-length : (cur : Image) (xs : List Held) → length (overlay cur xs) ≡ length cur
-overlay-length cur [] = refl
-overlay-length cur (x ∷ xs) = by_mark (overlay-length cur xs) x.changed
-  where
-    by_mark : length (overlay cur xs) ≡ length cur → (mark : Bool) → length (cond mark (slice_set (overlay cur xs) x.block x.bytes) (overlay cur xs)) ≡ length cur
-    by_mark before true = length-set (overlay cur xs) x.block x.bytes ∙ before
-    by_mark before false = before
 
 -- a block that is not held is read from the device
 pub overlay-other : (cur : Image) (xs : List Held) (n : ℕ) → IsOther n xs → block_at (overlay cur xs) n ≡ block_at cur n

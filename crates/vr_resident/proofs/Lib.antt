@@ -3,7 +3,8 @@ pub mod Entering
 pub mod Held
 pub mod Moves
 pub mod Framing
+pub mod Flushing
 pub mod Over
-pub mod Seeing
+pub mod Steps
 pub mod Taking
 pub mod Written

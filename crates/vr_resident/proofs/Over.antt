@@ -8,11 +8,8 @@ use Rattle.vr_types.specs.Seen.{Seen, Left}
 use Rattle.vr_types.specs.Moments.{During}
 use Rattle.vr_types.specs.Blocks.{Keeps, Puts}
 use Rattle.vr_resident.specs.Held.{Held, IsHeld, IsOther, IsOnce, overlay, IsChanged, AreClean, clean, over}
+use Rattle.vr_resident.specs.Seeing.{left_over}
 use Rattle.vr_resident.proofs.Held.{all_at, all_rest, all_with, once_other, once_rest, once_same, clean_past, overlay-written, overlay-absorbs, overlay-between, overlay-put, overlay-clean, changed_here, changed_clean, changed_more, changed_front}
-
--- an image that the device may leave is one that is left through the cache
-pub left_over : (device : Seen) (held : List Held) (image : Image) → Left device image → Left (over device held) image
-left_over device held image left = record { length_is = left.length_is; each = λ n below. inl (left.each n below) }
 
 module _ (tells : Bool) where
   module _ (device : Seen) (held next : List Held) (within : IsTrue tells → (image : Image) → device.images device.moment image → Left device image) where

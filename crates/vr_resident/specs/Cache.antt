@@ -5,13 +5,16 @@ use Rattle.std.specs.List.{AllByRecursion}
 use Rattle.std.specs.Arc.{arc_value}
 use Rattle.vr_types.specs.Image.{Block}
 use Rattle.vr_types.specs.Seen.{Seen}
+use Rattle.std.specs.Prelude.{Result, OnOk, IsErrOf}
+use Rattle.vr_types.specs.declared.fault.DeviceFault.{DeviceFault}
+use Rattle.vr_types.specs.declared.fault.DeviceFault.TheVariants.{Read, Write}
 use Rattle.vr_frames.specs.declared.shared.Pool.{Pool}
 use Rattle.vr_frames.specs.declared.seat.FrameSeat.{FrameSeat}
 use Rattle.vr_frames.specs.declared.frame.Frame.{Frame}
 use Rattle.vr_frames.specs.Frames.{IsSeatOf, IsSameSeat, FindsAllOut, Gets, parts_of, frame_size}
 use Rattle.vr_frames.specs.Keeper.{HoldsEach, others_of}
 use Rattle.vr_resident.specs.Held.{Held, IsOther, IsHeld, IsBetween, forced, flushed}
-use Rattle.vr_resident.specs.Places.{Entry, IsBufferOf, buffers_of, numbers_of, held_of, count_of, AreNone}
+use Rattle.vr_resident.specs.Places.{Entry, block_in, IsBufferOf, buffers_of, numbers_of, held_of, count_of, AreNone}
 use Rattle.vr_resident.specs.declared.place.Buffer.{Buffer}
 use Rattle.vr_resident.specs.declared.place.Place.{Place}
 use Rattle.vr_resident.specs.declared.place.Place.TheVariants.{Empty, Taken}
@@ -88,13 +91,16 @@ pub record Leaves (number : ℕ) (old new : Frames) : Type 0 where
   pub none_after : AreNone sought.Held after
 
 -- The changed block of a place is written.
-pub record IsWritten (number : ℕ) (old new : Frames) : Type 0 where
-  pub before : List Entry
-  pub after : List Entry
+pub record IsWritten (before after : List Entry) (number : ℕ) (place : Place) (old new : Frames) : Type 0 where
   pub block : ℕ
   pub buffer : Buffer
-  pub was : entries_of old ≡ before ++ (number, Taken block true buffer) ∷ after
+  pub was : place ≡ Taken block true buffer
   pub is : new ≡ with_entries old (before ++ (number, Taken block false buffer) ∷ after)
+
+-- the changed block of that place is written, wherever the table is cut there
+abbrev pub WritesAt : ℕ → Frames → Frames → Type 0
+WritesAt number old new = (before after : List Entry) (place : Place)
+    → entries_of old ≡ before ++ (number, place) ∷ after → IsWritten before after number place old new
 
 -- The block that was used least recently left: there was no empty frame, and either no place was
 -- bare or the pool had no frame home.
@@ -213,3 +219,16 @@ pub record IsFlushed (most : ℕ) (old new : Frames) : Type 0 where
   pub held : held_by new ≡ flushed most (held_by old)
   pub empty : empty_count new ≡ empty_count old
   pub bare : bare_count new ≡ bare_count old
+
+-- the bytes are those of block n in the first place
+abbrev pub IsBlockOf : ℕ → Frames → Block → Type 0
+IsBlockOf n frames bytes = (number : ℕ) (changed : Bool) (buffer : Buffer) (rest : List Entry)
+    → entries_of frames ≡ (number, Taken n changed buffer) ∷ rest → bytes ≡ block_in frames.size buffer
+
+-- What a `get` of block n leaves.
+pub record Got {T : Type 0} (n : ℕ) (result : Result T DeviceFault) (old new : Frames) : Type 0
+  where
+    pub first : OnOk result (GetsBlock n old new)
+    pub unread : IsErrOf result Read → StaysEmpty old new
+    pub unwritten : IsErrOf result Write → new.table ≡ old.table
+    pub seat : KeepsSeat old new

@@ -4,3 +4,4 @@ pub mod Cache
 pub mod Refill
 pub mod Table
 pub mod Resident
+pub mod Seeing

@@ -5,7 +5,7 @@ ghost use Rattle.vr_types.specs.Faults.{CountsWrite};
 ghost use Rattle.vr_resident.specs.Held.{over};
 ghost use Rattle.vr_resident.specs.Table.{IsFit};
 ghost use Rattle.vr_resident.specs.Places.{IsLast};
-ghost use Rattle.vr_resident.specs.Cache.{IsKept, Leaves, IsWritten, held_by};
+ghost use Rattle.vr_resident.specs.Cache.{IsKept, Leaves, WritesAt, held_by};
 ghost use Rattle.vr_resident.specs.declared.place.Sought.TheVariants.{Changed, Held};
 
 use crate::frames::Frames;
@@ -79,7 +79,7 @@ pub(crate) fn write_out<D: BlockDevice>(
 ) -> Result<(), Failed>
     requires kept { IsKept D.tells (D.seen device.old) frames.old }
     requires changed { IsFit Changed frames.old.table.entries number }
-    ensures ok { OnOk result (IsWritten number frames.old frames.new) }
+    ensures ok { OnOk result (WritesAt number frames.old frames.new) }
     ensures err { OnErr result (frames.new ≡ frames.old) }
     ensures kept { IsKept D.tells (D.seen device.new) frames.new }
     ensures after { Keeps D.tells (over (D.seen device.old) (held_by frames.old))

@@ -58,7 +58,8 @@ pub(crate) fn force<D: BlockDevice>(
     frames: &mut Frames,
     list: &[u32],
 ) -> Result<(), DeviceFault>
-    requires { IsKept D.tells (D.seen device.old) frames.old }
+    requires kept { IsKept D.tells (D.seen device.old) frames.old }
+    requires listed { All (λ n. n < (D.seen device.old).count) list.now }
     ensures ok { OnOk result (IsForced list.now frames.old frames.new) }
     ensures err { OnErr result ((k : ℕ) × IsForced (take k list.now) frames.old frames.new) }
     ensures forced { IsTrue D.tells → OnOk result

@@ -11,7 +11,8 @@ use Rattle.vr_resident.specs.Cache.{IsKept, Leaves, IsWritten, held_by, entries_
 use Rattle.vr_resident.specs.declared.place.Place.{Place}
 use Rattle.vr_resident.specs.declared.place.Place.TheVariants.{Bare, Empty, Taken}
 use Rattle.vr_resident.specs.declared.place.Sought.TheVariants.{Changed, Held}
-use Rattle.vr_resident.proofs.Framing.{twice, has_room, length-block_in, block_below, buffer_is, left_any, failed_write, written_clean}
+use Rattle.vr_resident.specs.Seeing.{length-block_in}
+use Rattle.vr_resident.proofs.Framing.{twice, has_room, block_below, buffer_is, left_any, failed_write, written_clean}
 use Rattle.vr_resident.proofs.moving.evict.Goals as goal
 
 must : (b : Bool) → (b ≡ false → ⊥) → b ≡ true

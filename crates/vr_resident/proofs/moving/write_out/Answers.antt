@@ -7,13 +7,14 @@ use Rattle.vr_types.specs.Faults.{CountsWrite}
 use Rattle.vr_resident.specs.Held.{over}
 use Rattle.vr_resident.specs.Places.{Entry, block_in, fits}
 use Rattle.vr_resident.specs.Table.{IsFit}
-use Rattle.vr_resident.specs.Cache.{IsKept, Leaves, IsWritten, held_by, entries_of, with_entries, pool_of}
+use Rattle.vr_resident.specs.Cache.{IsKept, WritesAt, IsWritten, held_by, entries_of, with_entries, pool_of}
 use Rattle.vr_resident.specs.declared.place.Place.{Place}
 use Rattle.vr_resident.specs.declared.place.Place.TheVariants.{Bare, Empty, Taken}
 use Rattle.vr_resident.specs.declared.place.Sought.TheVariants.{Changed, Held}
 use Rattle.vr_resident.specs.declared.place.Buffer.{Buffer}
 use Rattle.vr_resident.specs.declared.frames.Frames.{Frames}
-use Rattle.vr_resident.proofs.Framing.{twice, has_room, length-block_in, block_below, buffer_is, left_any, failed_write, written_clean}
+use Rattle.vr_resident.specs.Seeing.{length-block_in}
+use Rattle.vr_resident.proofs.Framing.{twice, has_room, block_below, buffer_is, left_any, failed_write, written_clean}
 use Rattle.vr_resident.proofs.moving.write_out.Goals as goal
 
 marked_by : (block : ℕ) (mark : Bool) (buffer : Buffer) (place : Place) → place ≡ Taken block mark buffer → fits Changed place ≡ true → mark ≡ true
@@ -43,10 +44,9 @@ module _ (tells : Bool) (device now : Seen) (frames : Frames) (number : ℕ) (be
     (was : entries_of frames ≡ before ++ (number, Taken block true buffer) ∷ after) (call : Puts tells block (block_in frames.size buffer) device now) (long : IsTrue tells → length device.cur ≡ device.count) where
   by_result : {E : Type 0} (result : Result (Unit {0}) E) (table : LruCache ℕ Place) → table ≡ lru_cache (before ++ (number, Taken block (is_err result) buffer) ∷ after) frames.table.cap
       → (IsTrue tells → OnOk result (now.cur ≡ slice_set device.cur block (block_in frames.size buffer)))
-      → OnOk result (IsWritten number frames (record frames { table = table })) × OnErr result (record frames { table = table } ≡ frames) × IsKept tells now (record frames { table = table }) × Keeps tells (over device (held_by frames)) (over now (held_by (record frames { table = table })))
+      → OnErr result (record frames { table = table } ≡ frames) × IsKept tells now (record frames { table = table }) × Keeps tells (over device (held_by frames)) (over now (held_by (record frames { table = table })))
   by_result (Ok u) table new written =
       let both = written_clean tells device now frames number before after block buffer true kept was refl call written long in (
-        record { before = before; after = after; block = block; buffer = buffer; was = was; is = ap (λ (x : LruCache ℕ Place). record frames { table = x }) new },
         tt,
         subst (λ (x : LruCache ℕ Place). IsKept tells now (record frames { table = x })) (sym new) both.0,
         subst (λ (x : LruCache ℕ Place). Keeps tells (over device (held_by frames)) (over now (held_by (record frames { table = x })))) (sym new) both.1,
@@ -54,11 +54,17 @@ module _ (tells : Bool) (device now : Seen) (frames : Frames) (number : ℕ) (be
   by_result (Err e) table new written =
       let both = failed_write tells device now frames number before after block buffer true kept was refl call in
       let same : table ≡ frames.table = new ∙ ap (λ (es : List Entry). lru_cache es frames.table.cap) (sym was) in (
-        tt,
         ap (λ (x : LruCache ℕ Place). record frames { table = x }) same,
         subst (λ (x : LruCache ℕ Place). IsKept tells now (record frames { table = x })) (sym same) both.0,
         subst (λ (x : LruCache ℕ Place). Keeps tells (over device (held_by frames)) (over now (held_by (record frames { table = x })))) (sym same) both.1,
       )
+
+ok_any : {E : Type 0} (frames : Frames) (number block : ℕ) (buffer : Buffer) (result : Result (Unit {0}) E) (table : LruCache ℕ Place)
+    → ((before after : List Entry) (place : Place) → entries_of frames ≡ before ++ (number, place) ∷ after → (place ≡ Taken block true buffer) × (table ≡ lru_cache (before ++ (number, Taken block (is_err result) buffer) ∷ after) frames.table.cap))
+    → OnOk result (WritesAt number frames (record frames { table = table }))
+ok_any frames number block buffer (Ok u) table any = λ before after place split. let a = any before after place split in
+    record { block = block; buffer = buffer; was = a.0; is = ap (λ (x : LruCache ℕ Place). record frames { table = x }) a.1 }
+ok_any frames number block buffer (Err e) table any = tt
 
 pub returns : goal.returns
 returns g c =
@@ -78,4 +84,14 @@ returns g c =
     (λ told. (g.met.D.BlockDevice.cur_may c.args.device.now told).length_is)
     c.write-result.result c.change-in-Taken.new.table new
     (λ told. subst (λ (b : List ℕ). OnOk c.write-result.result ((seen c.write-result.new.self).cur ≡ slice_set (seen c.args.device.now).cur t.block b)) c.block.ensures (c.write-result.ensures.written told)) in
-    record { ok = all.0; err = all.1; kept = all.2; after = all.3; fault = search rules }
+    record {
+      ok = ok_any frames c.args.number t.block t.buffer c.write-result.result c.change-in-Taken.new.table (λ before after place split.
+          let at : place ≡ Taken t.block t.field-1 t.buffer = sym (c.change.ensures before after place split).0 ∙ t.is in
+          let first : c.change.new.table ≡ lru_cache (before ++ (c.args.number, Bare) ∷ after) frames.table.cap = (c.change.ensures before after place split).1 in
+          let second : c.change-in-Taken.new.table ≡ lru_cache (before ++ (c.args.number, Taken t.block (is_err c.write-result.result) t.buffer) ∷ after) c.change.new.table.cap = (c.change-in-Taken.ensures before after Bare (ap (λ (x : LruCache ℕ Place). x.entries) first)).1 ∙ ap (λ (m : Bool). lru_cache (before ++ (c.args.number, Taken t.block m t.buffer) ∷ after) c.change.new.table.cap) mark in
+          (at ∙ ap (λ (m : Bool). Taken t.block m t.buffer) marked, twice frames c.args.number before after Bare (Taken t.block (is_err c.write-result.result) t.buffer) c.change.new.table c.change-in-Taken.new.table first second));
+      err = all.0;
+      kept = all.1;
+      after = all.2;
+      fault = search rules;
+    }

@@ -1,20 +1,33 @@
 -- The laws of what is seen of a device's blocks through frames.
-use Rattle.std.proofs.Common.{◌≡◌, ◌⊎◌, inl, inr, ⊎_elim, ◌<◌, ℕ, Bool, true, false, cond, IsTrue, List, [], ◌∷◌, ◌++◌, refl, sym, ap, ◌∙◌, subst, arith, length, slice_set, get_or-set_same, get_or-set_other, eq-eqb}
+use Rattle.std.proofs.Common.{take, replicate, ◌≡◌, ◌⊎◌, inl, inr, ⊎_elim, ◌<◌, ℕ, Bool, true, false, cond, IsTrue, List, [], ◌∷◌, ◌++◌, refl, sym, ap, ◌∙◌, subst, arith, length, slice_set, get_or-set_same, get_or-set_other, eq-eqb}
 use mathlib.Core.Logic.{dite}
 use native.Mathlib.Decide.{ℕ_discrete}
-use Rattle.std.specs.List.{flat_map}
+use Rattle.std.proofs.lemmas.List.{length-append, length-take, length-replicate, length-set}
 use Rattle.vr_types.specs.Image.{Block, Image, IsImage, block_at}
 use Rattle.vr_types.specs.Seen.{Seen, Left}
 use Rattle.vr_resident.specs.Held.{Held, overlay, IsChanged, over}
-use Rattle.vr_resident.specs.Places.{Entry, held_at, held_of, block_in}
+use Rattle.vr_resident.specs.Places.{Entry, bytes_in, held_at, held_of, block_in}
 use Rattle.vr_resident.specs.Cache.{entries_of, held_by}
 use Rattle.vr_resident.specs.Resident.{seen_through}
+use Rattle.vr_resident.specs.declared.place.Buffer.{Buffer}
 use Rattle.vr_resident.specs.declared.place.Place.{Place}
 use Rattle.vr_resident.specs.declared.place.Place.TheVariants.{Bare, Empty, Taken}
 use Rattle.vr_resident.specs.declared.frames.Frames.{Frames}
-use Rattle.vr_resident.proofs.Held.{overlay-length, changed_either}
-use Rattle.vr_resident.proofs.Over.{left_over}
-use Rattle.vr_resident.proofs.Framing.{length-block_in}
+
+-- an image that the device may leave is one that is left through the cache
+pub left_over : (device : Seen) (held : List Held) (image : Image) → Left device image → Left (over device held) image
+left_over device held image left = record { length_is = left.length_is; each = λ n below. inl (left.each n below) }
+
+pub overlay-length : (cur : Image) (xs : List Held) → length (overlay cur xs) ≡ length cur
+overlay-length cur [] = refl
+overlay-length cur (x ∷ xs) = by_mark (overlay-length cur xs) x.changed
+  where
+    by_mark : length (overlay cur xs) ≡ length cur → (mark : Bool) → length (cond mark (slice_set (overlay cur xs) x.block x.bytes) (overlay cur xs)) ≡ length cur
+    by_mark before true = length-set (overlay cur xs) x.block x.bytes ∙ before
+    by_mark before false = before
+
+pub length-block_in : (size : ℕ) (buffer : Buffer) → length (block_in size buffer) ≡ size
+length-block_in size buffer = omega (arith, length-take size (bytes_in buffer ++ replicate size 0), length-append (bytes_in buffer) (replicate size 0), length-replicate {A = ℕ} size 0)
 
 -- what is read of each block may be left
 reads : (device : Seen) (held : List Held) (n : ℕ) → n < length device.cur → device.may n (block_at device.cur n) → device.may n (block_at (overlay device.cur held) n) ⊎ IsChanged held n (block_at (overlay device.cur held) n)
@@ -50,6 +63,3 @@ changed_size size (e ∷ entries) n block is = by_place e.1 (changed_size size e
 pub sized_through : (device : Seen) (frames : Frames) (n : ℕ) (block : Block) → (device.may n block → length block ≡ device.size) → (seen_through device frames).may n block → length block ≡ device.size
 sized_through device frames n block whole may = ⊎_elim whole (changed_size device.size (entries_of frames) n block) may
 
--- the blocks held are the same, whichever the size is called
-pub same_held : (device : Seen) (frames : Frames) → frames.size ≡ device.size → held_of device.size (entries_of frames) ≡ held_by frames
-same_held device frames is = ap (λ (n : ℕ). held_of n (entries_of frames)) (sym is)

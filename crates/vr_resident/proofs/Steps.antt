@@ -1,0 +1,44 @@
+-- Calls one after the other.
+use Rattle.std.proofs.Common.{◌≡◌, ◌⊎◌, ◌<◌, ℕ, Bool, true, false, IsTrue, List, Result, Ok, Err, OnOk, is_err, is_ok, refl, sym, ap, ◌∙◌, subst, true≢false}
+use Rattle.vr_types.specs.Image.{Image}
+use Rattle.vr_types.specs.Seen.{Seen, Left}
+use Rattle.vr_types.specs.Blocks.{Keeps}
+use Rattle.vr_resident.specs.Held.{Held, over}
+use Rattle.vr_resident.specs.Places.{held_of}
+use Rattle.vr_resident.specs.Cache.{IsKept, KeepsSeat, others, entries_of, held_by}
+use Rattle.vr_resident.specs.declared.frames.Frames.{Frames}
+use Rattle.vr_resident.proofs.Over.{no_call, held_after}
+
+pub on_ok : {T E : Type 0} (r : Result T E) (P Q : Type 0) → (P → Q) → OnOk r P → OnOk r Q
+on_ok (Ok t) P Q f p = f p
+on_ok (Err e) P Q f p = tt
+
+pub got_ok : {T E : Type 0} (r : Result T E) (P : Type 0) → is_err r ≡ false → OnOk r P → P
+got_ok (Ok t) P is p = p
+got_ok (Err e) P is p = absurd (true≢false is)
+
+pub seat_none : (frames : Frames) → KeepsSeat frames frames
+seat_none frames = record { pool_same = refl; size_same = refl; same = record { same_table = refl; same_id = refl }; parts = refl; others_same = refl }
+
+pub seat_then : (a b c : Frames) → KeepsSeat a b → KeepsSeat b c → KeepsSeat a c
+seat_then a b c first second = record {
+  pool_same = second.pool_same ∙ first.pool_same;
+  size_same = second.size_same ∙ first.size_same;
+  same = record { same_table = second.same.same_table ∙ first.same.same_table; same_id = second.same.same_id ∙ first.same.same_id };
+  parts = second.parts ∙ first.parts;
+  others_same = second.others_same ∙ first.others_same;
+}
+
+pub still : (tells : Bool) (device : Seen) (held : List Held) → (IsTrue tells → (image : Image) → device.images device.moment image → Left device image) → Keeps tells (over device held) (over device held)
+still tells device held within = no_call tells device held held within (λ told. refl) (λ n b is. is)
+
+pub kept_after : (tells : Bool) (device after : Seen) (frames : Frames) → Keeps tells device after → IsKept tells device frames → IsKept tells after frames
+kept_after tells device after frames call kept = record {
+  framed = kept.framed;
+  size_is = kept.size_is ∙ sym call.size_same;
+  held_is = held_after tells device after _ call kept.held_is;
+}
+
+-- the blocks held are the same, whichever the size is called
+pub same_held : (device : Seen) (frames : Frames) → frames.size ≡ device.size → held_of device.size (entries_of frames) ≡ held_by frames
+same_held device frames is = ap (λ (n : ℕ). held_of n (entries_of frames)) (sym is)
