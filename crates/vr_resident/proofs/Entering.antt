@@ -53,7 +53,7 @@ taken_is n (Taken block mark buffer) is = (mark, buffer, ap (λ (k : ℕ). Taken
 -- the buffer of a place is one of the frames
 pub buffer_in : (frames : Frames) (number : ℕ) (before after : List Entry) (place : Place) (b : Buffer) → IsFramed frames → entries_of frames ≡ before ++ (number, place) ∷ after → buffers_at place ≡ b ∷ [] → IsBufferOf (pool_of frames) frames.size b
 buffer_in frames number before after place b is was has =
-    (right (buffers_of before) (subst (AllByRecursion (IsBufferOf (pool_of frames) frames.size)) (ap buffers_of was ∙ (buffers_split before (number, place) after ∙ ap (λ (bs : List Buffer). buffers_of before ++ (bs ++ buffers_of after)) has)) is.each_is)).0
+    (right (buffers_of before) (subst (AllByRecursion (IsBufferOf (pool_of frames) frames.size)) (ap buffers_of was ∙ (buffers_split before (number, place) after ∙ ap (λ (bs : List Buffer). buffers_of before ++ (bs ++ buffers_of after)) has)) is.seated.each_is)).0
   where
     right : (xs : List Buffer) → AllByRecursion (IsBufferOf (pool_of frames) frames.size) (xs ++ b ∷ buffers_of after) → AllByRecursion (IsBufferOf (pool_of frames) frames.size) (b ∷ buffers_of after)
     right [] all = all

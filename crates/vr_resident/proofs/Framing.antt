@@ -38,10 +38,13 @@ buffers_same before after number place other same =
 module _ (frames : Frames) (entries : List Entry) (same : buffers_of entries ≡ buffers_of (entries_of frames)) where
   pub framed_same : IsFramed frames → IsFramed (with_entries frames entries)
   framed_same is = record {
-    long = is.long;
-    seat_of = is.seat_of;
-    each_is = subst (λ (bs : List Buffer). AllByRecursion (IsBufferOf (pool_of frames) frames.size) bs) (sym same) is.each_is;
-    holds = subst (λ (bs : List Buffer). HoldsEach frames.seat (flat_map numbers_in bs)) (sym same) is.holds;
+    seated = record {
+      cap_is = is.seated.cap_is;
+      long = is.seated.long;
+      seat_of = is.seated.seat_of;
+      each_is = subst (λ (bs : List Buffer). AllByRecursion (IsBufferOf (pool_of frames) frames.size) bs) (sym same) is.seated.each_is;
+      holds = subst (λ (bs : List Buffer). HoldsEach frames.seat (flat_map numbers_in bs)) (sym same) is.seated.holds;
+    };
     sixteen = subst (λ (bs : List Buffer). 16 ≤ length bs) (sym same) is.sixteen;
   }
 
@@ -151,7 +154,7 @@ module _ (tells : Bool) (device : Seen) (frames : Frames) (number : ℕ) (before
       (held_there tells device device frames number before after block buffer changed kept was).below
 
   pub buffer_is : IsBufferOf (pool_of frames) frames.size buffer
-  buffer_is = (right (buffers_of before) (subst (AllByRecursion (IsBufferOf (pool_of frames) frames.size)) (ap buffers_of was ∙ buffers_split before (number, Taken block changed buffer) after) kept.framed.each_is)).0
+  buffer_is = (right (buffers_of before) (subst (AllByRecursion (IsBufferOf (pool_of frames) frames.size)) (ap buffers_of was ∙ buffers_split before (number, Taken block changed buffer) after) kept.framed.seated.each_is)).0
     where
       right : (xs : List Buffer) → AllByRecursion (IsBufferOf (pool_of frames) frames.size) (xs ++ buffer ∷ buffers_of after) → AllByRecursion (IsBufferOf (pool_of frames) frames.size) (buffer ∷ buffers_of after)
       right [] all = all

@@ -5,6 +5,7 @@ pub mod Moves
 pub mod Framing
 pub mod Flushing
 pub mod Over
+pub mod Returning
 pub mod Steps
 pub mod Taking
 pub mod Written

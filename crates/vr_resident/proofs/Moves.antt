@@ -50,12 +50,15 @@ module _ (frames : Frames) (entries : List Entry)
     (numbers : (k : ℕ) → times k (numbers_of entries) ≡ times k (numbers_of (entries_of frames))) where
   pub framed_by : AllByRecursion (IsBufferOf (pool_of frames) frames.size) (buffers_of entries) → length (buffers_of entries) ≡ length (buffers_of (entries_of frames)) → IsFramed frames → IsFramed (with_entries frames entries)
   framed_by each long is = record {
-    long = is.long;
-    seat_of = is.seat_of;
-    each_is = each;
-    holds = record {
-      once = λ k. subst (λ (n : ℕ). n ≤ 1) (sym (numbers k)) (is.holds.once k);
-      held = λ k there. is.holds.held k (subst (λ (n : ℕ). 0 < n) (numbers k) there);
+    seated = record {
+      cap_is = is.seated.cap_is;
+      long = is.seated.long;
+      seat_of = is.seated.seat_of;
+      each_is = each;
+      holds = record {
+        once = λ k. subst (λ (n : ℕ). n ≤ 1) (sym (numbers k)) (is.seated.holds.once k);
+        held = λ k there. is.seated.holds.held k (subst (λ (n : ℕ). 0 < n) (numbers k) there);
+      };
     };
     sixteen = omega (arith, long, is.sixteen);
   }
@@ -97,7 +100,7 @@ module _ (frames : Frames) (before after : List Entry) (number : ℕ) (place to 
       let numbers : (k : ℕ) → times k (numbers_of (before ++ (number, to) ∷ after)) ≡ times k (numbers_of (entries_of frames)) = numbers_as (before ++ (number, to) ∷ after) (buffers_of before ++ c ∷ buffers_of after) new
       (λ k. ap (times k) (flat_map-append numbers_in (buffers_of before) (c ∷ buffers_of after) ∙ ap (λ (ns : List ℕ). flat_map numbers_in (buffers_of before) ++ (ns ++ flat_map numbers_in (buffers_of after))) same.number_same ∙ sym (flat_map-append numbers_in (buffers_of before) (b ∷ buffers_of after)))) in (
         λ is. framed_by frames (before ++ (number, to) ∷ after) numbers
-        (subst (AllByRecursion (IsBufferOf (pool_of frames) frames.size)) (sym new) (buffers_all (IsBufferOf (pool_of frames) frames.size) (buffers_of before) b c (buffers_of after) (subst (AllByRecursion (IsBufferOf (pool_of frames) frames.size)) old_buffers is.each_is) (same.of_pool (pool_of frames) frames.size)))
+        (subst (AllByRecursion (IsBufferOf (pool_of frames) frames.size)) (sym new) (buffers_all (IsBufferOf (pool_of frames) frames.size) (buffers_of before) b c (buffers_of after) (subst (AllByRecursion (IsBufferOf (pool_of frames) frames.size)) old_buffers is.seated.each_is) (same.of_pool (pool_of frames) frames.size)))
         (omega (arith, ap length new, ap length old_buffers, length-append (buffers_of before) (c ∷ buffers_of after), length-append (buffers_of before) (b ∷ buffers_of after))) is,
         seat_by frames (before ++ (number, to) ∷ after) numbers,
       )
@@ -110,7 +113,7 @@ module _ (frames : Frames) (before after : List Entry) (number : ℕ) (place to 
       ∙ omega (arith, count-append (λ x. x == k) (numbers_in b) (flat_map numbers_in (buffers_of before ++ buffers_of after)), ap (times k) (flat_map-append numbers_in (buffers_of before) (buffers_of after)), count-append (λ x. x == k) (flat_map numbers_in (buffers_of before)) (flat_map numbers_in (buffers_of after)),
       ap (times k) (flat_map-append numbers_in (buffers_of before) (b ∷ buffers_of after)), count-append (λ x. x == k) (flat_map numbers_in (buffers_of before)) (numbers_in b ++ flat_map numbers_in (buffers_of after)), count-append (λ x. x == k) (numbers_in b) (flat_map numbers_in (buffers_of after)))) in (
         λ is. framed_by frames ((number, to) ∷ (before ++ after)) numbers
-        (subst (AllByRecursion (IsBufferOf (pool_of frames) frames.size)) (sym new) (let all = buffers_front (IsBufferOf (pool_of frames) frames.size) (buffers_of before) b (buffers_of after) (subst (AllByRecursion (IsBufferOf (pool_of frames) frames.size)) old_buffers is.each_is) in (same.of_pool (pool_of frames) frames.size all.0, all.1)))
+        (subst (AllByRecursion (IsBufferOf (pool_of frames) frames.size)) (sym new) (let all = buffers_front (IsBufferOf (pool_of frames) frames.size) (buffers_of before) b (buffers_of after) (subst (AllByRecursion (IsBufferOf (pool_of frames) frames.size)) old_buffers is.seated.each_is) in (same.of_pool (pool_of frames) frames.size all.0, all.1)))
         (omega (arith, ap length new, ap length old_buffers, length-append (buffers_of before) (buffers_of after), length-append (buffers_of before) (b ∷ buffers_of after))) is,
         seat_by frames ((number, to) ∷ (before ++ after)) numbers,
       )

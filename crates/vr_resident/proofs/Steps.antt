@@ -1,12 +1,16 @@
 -- Calls one after the other.
-use Rattle.std.proofs.Common.{◌≡◌, ◌⊎◌, ◌<◌, ℕ, Bool, true, false, IsTrue, List, Result, Ok, Err, OnOk, is_err, is_ok, refl, sym, ap, ◌∙◌, subst, true≢false}
-use Rattle.vr_types.specs.Image.{Image}
+use Rattle.std.proofs.Common.{◌≡◌, ◌⊎◌, ◌<◌, ℕ, Bool, true, false, IsTrue, List, Result, Ok, Err, OnOk, is_err, is_ok, refl, sym, ap, ◌∙◌, subst, true≢false, [], ◌∷◌, length, arith}
+use Rattle.vr_types.specs.Image.{Image, block_at}
 use Rattle.vr_types.specs.Seen.{Seen, Left}
-use Rattle.vr_types.specs.Blocks.{Keeps}
-use Rattle.vr_resident.specs.Held.{Held, over}
-use Rattle.vr_resident.specs.Places.{held_of}
+use Rattle.vr_types.specs.Blocks.{Keeps, Forced}
+use Rattle.vr_resident.specs.Held.{Held, IsHeld, over, overlay}
+use Rattle.vr_resident.specs.Places.{Entry, block_in, held_of}
 use Rattle.vr_resident.specs.Cache.{IsKept, KeepsSeat, others, entries_of, held_by}
+use Rattle.vr_resident.specs.Resident.{seen_through}
+use Rattle.vr_resident.specs.declared.place.Buffer.{Buffer}
+use Rattle.vr_resident.specs.declared.place.Place.TheVariants.{Taken}
 use Rattle.vr_resident.specs.declared.frames.Frames.{Frames}
+use Rattle.vr_resident.proofs.Held.{overlay-held}
 use Rattle.vr_resident.proofs.Over.{no_call, held_after}
 
 pub on_ok : {T E : Type 0} (r : Result T E) (P Q : Type 0) → (P → Q) → OnOk r P → OnOk r Q
@@ -42,3 +46,23 @@ kept_after tells device after frames call kept = record {
 -- the blocks held are the same, whichever the size is called
 pub same_held : (device : Seen) (frames : Frames) → frames.size ≡ device.size → held_of device.size (entries_of frames) ≡ held_by frames
 same_held device frames is = ap (λ (n : ℕ). held_of n (entries_of frames)) (sym is)
+
+pub keeps_through : (tells : Bool) (d e : Seen) (f h : Frames) → f.size ≡ d.size → h.size ≡ e.size → Keeps tells (over d (held_by f)) (over e (held_by h)) → Keeps tells (seen_through d f) (seen_through e h)
+keeps_through tells d e f h one two call =
+    subst (λ (hs : List Held). Keeps tells (over d hs) (seen_through e h)) (sym (same_held d f one))
+    (subst (λ (hs : List Held). Keeps tells (over d (held_by f)) (over e hs)) (sym (same_held e h two)) call)
+
+pub forced_through : {T E : Type 0} (r : Result T E) (listed : List ℕ) (d e : Seen) (f h : Frames) → f.size ≡ d.size → h.size ≡ e.size → OnOk r (Forced listed (over d (held_by f)).cur (over e (held_by h)).may) → OnOk r (Forced listed (seen_through d f).cur (seen_through e h).may)
+forced_through r listed d e f h one two call =
+    subst (λ (hs : List Held). OnOk r (Forced listed (over d hs).cur (seen_through e h).may)) (sym (same_held d f one))
+    (subst (λ (hs : List Held). OnOk r (Forced listed (over d (held_by f)).cur (over e hs).may)) (sym (same_held e h two)) call)
+
+-- what is read of the first block
+pub first_content : (tells : Bool) (device : Seen) (frames : Frames) (n number : ℕ) (changed : Bool) (buffer : Buffer) (rest : List Entry) → IsKept tells device frames → entries_of frames ≡ (number, Taken n changed buffer) ∷ rest → IsTrue tells → length device.cur ≡ device.count
+    → block_at (overlay device.cur (held_by frames)) n ≡ block_in frames.size buffer
+first_content tells device frames n number changed buffer rest kept split told long =
+    let h : Held = record { block = n; bytes = block_in frames.size buffer; changed = changed } in
+    let held : held_by frames ≡ h ∷ held_of frames.size rest = ap (held_of frames.size) split in
+    let there : IsHeld tells device (h ∷ held_of frames.size rest) = subst (IsHeld tells device) held kept.held_is in
+    ap (λ (hs : List Held). block_at (overlay device.cur hs) n) held
+    ∙ overlay-held device.cur h [] (held_of frames.size rest) (omega (arith, there.below.0, long)) there.once.0 (there.are_clean told).0

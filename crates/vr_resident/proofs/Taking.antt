@@ -10,10 +10,11 @@ use Rattle.vr_frames.specs.Views.{times}
 use Rattle.vr_frames.specs.declared.frame.Frame.{Frame}
 use Rattle.vr_frames.specs.declared.seat.FrameSeat.{FrameSeat}
 use Rattle.vr_frames.proofs.CallerLemmas.{OneMore, one_more-between, holds_each-got, others_of-got}
-use Rattle.vr_resident.specs.Held.{Held}
+use Rattle.vr_types.specs.Seen.{Seen}
+use Rattle.vr_resident.specs.Held.{Held, IsHeld}
 use Rattle.vr_resident.specs.Table.{IsFit}
 use Rattle.vr_resident.specs.Places.{Entry, block_in, numbers_in, IsBufferOf, buffers_at, held_at, held_of, buffers_of, numbers_of, fits, AreNone, IsLast, count_of}
-use Rattle.vr_resident.specs.Cache.{entries_of, pool_of, held_by, with_entries, IsFramed, KeepsSeat, others, GetsFrame, LastLeaves, Leaves, MakesRoom, GetsNone, empty_count, bare_count}
+use Rattle.vr_resident.specs.Cache.{entries_of, pool_of, held_by, with_entries, IsFramed, IsSeated, IsKept, TakesFrame, reseated, KeepsSeat, others, GetsFrame, LastLeaves, Leaves, MakesRoom, GetsNone, empty_count, bare_count}
 use Rattle.vr_resident.specs.declared.place.Buffer.{Buffer}
 use Rattle.vr_resident.specs.declared.place.Buffer.TheVariants.{Own, Shared}
 use Rattle.vr_resident.specs.declared.place.Place.{Place}
@@ -23,10 +24,6 @@ use Rattle.vr_resident.specs.declared.place.Sought.TheVariants as sought
 use Rattle.vr_resident.specs.declared.frames.Frames.{Frames}
 use Rattle.vr_resident.proofs.Framing.{buffers_split, held_split}
 use Rattle.vr_resident.proofs.Moves.{count_split, count_none}
-
--- the frames with another table and seat
-abbrev pub reseated : Frames → List Entry → FrameSeat → Frames
-reseated frames entries seat = record frames { table = lru_cache entries frames.table.cap; seat = seat }
 
 insert_all : (P : Buffer → Type 0) (xs : List Buffer) (b : Buffer) (ys : List Buffer) → AllByRecursion P (xs ++ ys) → P b → AllByRecursion P (xs ++ b ∷ ys)
 insert_all P [] b ys all here = (here, all)
@@ -54,16 +51,19 @@ module _ (frames : Frames) (seat : FrameSeat) (frame : Frame) (number : ℕ) (be
       (subst (λ (ns : List ℕ). OneMore (number_of frame) (flat_map numbers_in (buffers_of before) ++ flat_map numbers_in (buffers_of after)) ns) (sym new_numbers)
       (one_more-between (number_of frame) (flat_map numbers_in (buffers_of before)) (flat_map numbers_in (buffers_of after))))
 
-  pub framed_got : IsFramed frames → IsSeatOf (pool_of frames) seat → IsFrameOf (pool_of frames) frame → IsFramed with_frame
-  framed_got is seat_of frame_of = record {
+  pub seated_got : IsSeated frames → IsSeatOf (pool_of frames) seat → IsFrameOf (pool_of frames) frame → IsSeated with_frame
+  seated_got is seat_of frame_of = record {
+    cap_is = is.cap_is;
     long = is.long;
     seat_of = seat_of;
     each_is = subst (AllByRecursion (IsBufferOf (pool_of frames) frames.size)) (sym new_buffers)
         (insert_all (IsBufferOf (pool_of frames) frames.size) (buffers_of before) (Shared frame) (buffers_of after) (subst (AllByRecursion (IsBufferOf (pool_of frames) frames.size)) old_buffers is.each_is)
         (frame_of, omega (arith, is.long, frame_of.2)));
     holds = holds_each-got frames.seat seat frame (numbers_of (entries_of frames)) (numbers_of (before ++ (number, Empty (Shared frame)) ∷ after)) got is.holds one_more;
-    sixteen = omega (arith, is.sixteen, ap length old_buffers, ap length new_buffers, length-append (buffers_of before) (buffers_of after), length-append (buffers_of before) (Shared frame ∷ buffers_of after));
   }
+
+  pub one_longer : length (buffers_of (before ++ (number, Empty (Shared frame)) ∷ after)) ≡ length (buffers_of (entries_of frames)) + 1
+  one_longer = omega (arith, ap length old_buffers, ap length new_buffers, length-append (buffers_of before) (buffers_of after), length-append (buffers_of before) (Shared frame ∷ buffers_of after))
 
   pub seat_got : IsSameSeat frames.seat seat → parts_of seat ≡ parts_of frames.seat → KeepsSeat frames with_frame
   seat_got same parts = record {
@@ -89,13 +89,34 @@ module _ (frames : Frames) (seat : FrameSeat) (frame : Frame) (number : ℕ) (be
       }
 
 -- no frame was got
-pub framed_none : (frames : Frames) (seat : FrameSeat) → frames_of seat ≡ frames_of frames.seat → IsSeatOf (pool_of frames) seat → IsFramed frames → IsFramed (record frames { seat = seat })
-framed_none frames seat same seat_of is = record {
+pub seated_none : (frames : Frames) (seat : FrameSeat) → frames_of seat ≡ frames_of frames.seat → IsSeatOf (pool_of frames) seat → IsSeated frames → IsSeated (record frames { seat = seat })
+seated_none frames seat same seat_of is = record {
+  cap_is = is.cap_is;
   long = is.long;
   seat_of = seat_of;
   each_is = is.each_is;
   holds = record { once = is.holds.once; held = λ k there. subst (λ (l : List ℕ). 0 < times k l) (sym same) (is.holds.held k there) };
-  sixteen = is.sixteen;
+}
+
+-- the frames after a take, over a device
+pub kept_taken : (tells : Bool) (device : Seen) (old new : Frames) → AreNone sought.Empty (entries_of old) → TakesFrame old new → IsSeated new → IsKept tells device old → GetsFrame old new × IsKept tells device new
+kept_taken tells device old new none t seated kept =
+    let got : GetsFrame old new = subst (GetsFrame old) (sym t.is) (frame_got old new.seat t.frame t.number t.before t.after t.was t.got none) in
+    let size : new.size ≡ old.size = ap (λ (f : Frames). f.size) t.is in (
+      got,
+      record {
+        framed = record { seated = seated; sixteen = omega (arith, kept.framed.sixteen, one_longer old new.seat t.frame t.number t.before t.after t.was t.got, ap (λ (f : Frames). length (buffers_of (entries_of f))) t.is) };
+        size_is = size ∙ kept.size_is;
+        held_is = subst (IsHeld tells device) (sym got.held) kept.held_is;
+      },
+    )
+
+-- the frames where none was got
+pub kept_none : (tells : Bool) (device : Seen) (old new : Frames) → GetsNone old new → KeepsSeat old new → IsSeated new → IsKept tells device old → IsKept tells device new
+kept_none tells device old new got seat seated kept = record {
+  framed = record { seated = seated; sixteen = omega (arith, kept.framed.sixteen, ap (λ (t : LruCache ℕ Place). length (buffers_of t.entries)) got.0) };
+  size_is = seat.size_same ∙ kept.size_is;
+  held_is = subst (IsHeld tells device) (sym (ap (λ (n : ℕ). held_of n (entries_of new)) seat.size_same ∙ ap (λ (t : LruCache ℕ Place). held_of old.size t.entries) got.0)) kept.held_is;
 }
 
 pub if_none : (o : Option ℕ) (P : Type 0) → P → IfNone o P

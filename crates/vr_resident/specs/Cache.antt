@@ -16,8 +16,9 @@ use Rattle.vr_frames.specs.Keeper.{HoldsEach, others_of}
 use Rattle.vr_resident.specs.Held.{Held, IsOther, IsHeld, IsBetween, forced, flushed}
 use Rattle.vr_resident.specs.Places.{Entry, block_in, IsBufferOf, buffers_of, numbers_of, held_of, count_of, AreNone}
 use Rattle.vr_resident.specs.declared.place.Buffer.{Buffer}
+use Rattle.vr_resident.specs.declared.place.Buffer.TheVariants.{Shared}
 use Rattle.vr_resident.specs.declared.place.Place.{Place}
-use Rattle.vr_resident.specs.declared.place.Place.TheVariants.{Empty, Taken}
+use Rattle.vr_resident.specs.declared.place.Place.TheVariants.{Bare, Empty, Taken}
 use Rattle.vr_resident.specs.declared.place.Sought.TheVariants as sought
 use Rattle.lru.specs.LruCache.{lru_cache}
 use Rattle.vr_resident.specs.declared.frames.Frames.{Frames}
@@ -48,12 +49,17 @@ abbrev pub others : Frames → List ℕ
 others frames = others_of frames.seat (numbers_of frames.table.entries)
 
 -- What always holds of the frames: each is one that the seat took of the pool, once, and has room
--- for a block, and there are at least 16.
-pub record IsFramed (frames : Frames) : Type 0 where
+-- for a block; and there are at most 64 places.
+pub record IsSeated (frames : Frames) : Type 0 where
+  pub cap_is : frames.table.cap ≡ 64
   pub long : frames.size ≤ frame_size (pool_of frames)
   pub seat_of : IsSeatOf (pool_of frames) frames.seat
   pub each_is : AllByRecursion (IsBufferOf (pool_of frames) frames.size) (buffers_of (entries_of frames))
   pub holds : HoldsEach frames.seat (numbers_of (entries_of frames))
+
+-- And there are at least 16.
+pub record IsFramed (frames : Frames) : Type 0 where
+  pub seated : IsSeated frames
   pub sixteen : 16 ≤ length (buffers_of (entries_of frames))
 
 -- What always holds of them over a device.
@@ -116,6 +122,27 @@ pub record LastLeaves (old new : Frames) : Type 0 where
 abbrev pub MakesRoom : Frames → Frames → Type 0
 MakesRoom old new =
     ((0 < empty_count old) × (new ≡ old)) ⊎ (GetsFrame old new ⊎ LastLeaves old new)
+
+-- the frames with another table and seat
+abbrev pub reseated : Frames → List Entry → FrameSeat → Frames
+reseated frames entries seat =
+    record frames { table = lru_cache entries frames.table.cap; seat = seat }
+
+-- A bare place got a further frame of the pool.
+pub record TakesFrame (old new : Frames) : Type 0 where
+  pub number : ℕ
+  pub before : List Entry
+  pub after : List Entry
+  pub frame : Frame
+  pub was : entries_of old ≡ before ++ (number, Bare) ∷ after
+  pub is : new ≡ reseated old (before ++ (number, Empty (Shared frame)) ∷ after) new.seat
+  pub got : Gets old.seat frame new.seat
+
+-- A place is bare, wherever the table is cut there, and its frame went back to the pool.
+abbrev pub GivesAt : ℕ → Frames → Frames → Type 0
+GivesAt number old new = (before after : List Entry) (place : Place)
+    → entries_of old ≡ before ++ (number, place) ∷ after
+    → new.table ≡ lru_cache (before ++ (number, Bare) ∷ after) old.table.cap
 
 -- No frame was got: no place is bare, or the pool had none home.
 abbrev pub GetsNone : Frames → Frames → Type 0

@@ -71,6 +71,8 @@ fits sought.Empty (Empty buffer) = true
 fits sought.Bare Bare = true
 fits sought.Free (Empty buffer) = is_shared buffer
 fits sought.Free (Taken block changed buffer) = not changed && is_shared buffer
+fits sought.Shared (Empty buffer) = is_shared buffer
+fits sought.Shared (Taken block changed buffer) = is_shared buffer
 fits _ _ = false
 
 abbrev pub is_at : Sought → Entry → Bool

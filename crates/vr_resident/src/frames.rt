@@ -14,5 +14,5 @@ pub struct Frames {
     pub(crate) size: u32,
 }
 
-#[tactic(auto, using(crate::proofs::Flushing::flushes_one))]
+#[tactic(auto, using(crate::proofs::Returning::gives_one))]
 pub(crate) fn nothing() {}

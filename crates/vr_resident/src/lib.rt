@@ -3,6 +3,7 @@
 
 mod bringing;
 mod frames;
+mod giving;
 mod moving;
 mod room;
 mod place;

@@ -39,6 +39,8 @@ pub enum Sought {
     Empty,
     /// A place without a frame.
     Bare,
+    /// A frame of the pool.
+    Shared,
     /// A frame of the pool whose block, if it holds one, isn't changed.
     Free,
 }
@@ -132,7 +134,18 @@ impl Buffer {
 }
 
 impl Place {
-    ghost use Rattle.vr_resident.specs.Places.{fits};
+    ghost use Rattle.std.specs.Prelude.{length};
+    ghost use Rattle.vr_resident.specs.Places.{fits, buffers_at};
+
+    /// How many buffers it has.
+    pub(crate) fn buffers(&self) -> u32
+        ensures { result ≡ length (buffers_at self.now) }
+    {
+        match self {
+            Place::Bare => 0,
+            _ => 1,
+        }
+    }
 
     /// Whether the place is one that is looked for.
     pub(crate) fn fits(&self, sought: Sought) -> bool
@@ -145,6 +158,8 @@ impl Place {
             (Sought::Held, Place::Taken(_, _, _)) => true,
             (Sought::Empty, Place::Empty(_)) => true,
             (Sought::Bare, Place::Bare) => true,
+            (Sought::Shared, Place::Empty(buffer)) => buffer.is_shared(),
+            (Sought::Shared, Place::Taken(_, _, buffer)) => buffer.is_shared(),
             (Sought::Free, Place::Empty(buffer)) => buffer.is_shared(),
             (Sought::Free, Place::Taken(_, changed, buffer)) => !*changed && buffer.is_shared(),
             _ => false,

@@ -1,16 +1,26 @@
 //! Blocks of a device in frames.
-ghost use Rattle.std.specs.Prelude.{◌≡◌, ◌<◌, ℕ, All, IsTrue, IfOk, OnOk, OnErr, length, slice_set, take};
+ghost use Rattle.std.specs.Prelude.{◌≡◌, ◌<◌, ◌-◌, ℕ, All, IsTrue, IfOk, IfNone, OnOk, OnErr, length, min, slice_set, take};
 ghost use Rattle.std.specs.Borrow.{sem};
 ghost use Rattle.std.specs.Io.BufRead.{Rests};
 ghost use Rattle.vr_types.specs.Image.{block_at};
-ghost use Rattle.vr_types.specs.Blocks.{Keeps, Puts, Forced};
+ghost use Rattle.vr_types.specs.Blocks.{Keeps, Puts, Forced, AllForced, AddsNone};
+ghost use Rattle.vr_types.specs.Seen.{Left};
+ghost use Rattle.vr_types.specs.Moments.{During};
+ghost use Rattle.vr_frames.specs.Frames.{IsSeatOf, IsSameSeat, frames_of, parts_of};
+ghost use Rattle.vr_resident.specs.Held.{changed_count};
+ghost use Rattle.vr_resident.specs.Places.{buffers_of, count_of, gave};
+ghost use Rattle.vr_resident.specs.declared.place.Sought.TheVariants.{Free};
 ghost use Rattle.vr_types.specs.Faults.{HasCause, HasWriteCause};
-ghost use Rattle.vr_resident.specs.Resident.{seen_through};
+ghost use Rattle.vr_resident.specs.Resident.{seen_through, held_in, HasFaultCause};
 ghost use Rattle.vr_resident.specs.Cache.{
   IsFramed,
   IsFirst,
   IsBlockOf,
   IsForced,
+  IsFlushed,
+  entries_of,
+  others,
+  pool_of,
   KeepsSeat,
   Got,
   PutsBlock,
@@ -19,9 +29,10 @@ ghost use Rattle.vr_resident.specs.Cache.{
 use crate::bringing::{bring, store};
 use crate::frames::Frames;
 use crate::place::Place;
-use crate::writing;
+use crate::{giving, writing};
 use std::marker::Model;
 use vr_device::BlockDevice;
+use vr_frames::FrameSeat;
 use vr_types::{Blocks, DeviceFault};
 
 /// The blocks of a device, of which it holds some in frames. A block that is put stays in its frame
@@ -75,17 +86,7 @@ impl<D: BlockDevice> Blocks for Resident<D> {
     ghost sized = { λ r n block told below may. sized_through (D.seen r.device) r.frames n block
         (λ old. D.sized r.device n block told below old) may };
 
-    fn get(&mut self, n: u32) -> Result<&[u8], DeviceFault>
-        requires { n < (D.seen self.old.device).count }
-        ensures content { IsTrue D.tells → IfOk result (λ s. s.now
-            ≡ block_at (seen_through (D.seen self.old.device) self.old.frames).cur n) }
-        ensures length { IfOk result (λ s. length s.now ≡ (D.seen self.old.device).size) }
-        ensures* after { sem 𝓛 (Rests Self.row self.entry (λ new.
-            Keeps D.tells (seen_through (D.seen self.old.device) self.old.frames)
-            (seen_through (D.seen new.device) new.frames)
-            × HasCause (D.faults self.old.device) (D.faults new.device) result
-            × Got n result self.old.frames new.frames)) }
-    {
+    fn get(&mut self, n: u32) -> Result<&[u8], DeviceFault> {
         match bring(&mut self.device, &mut self.frames, n) {
             Ok(()) => Ok(first(&self.frames, n)),
             Err(fault) => Err(fault),
@@ -123,5 +124,70 @@ impl<D: BlockDevice> Blocks for Resident<D> {
         ensures seat { KeepsSeat self.old.frames self.new.frames }
     {
         writing::force(&mut self.device, &mut self.frames, list)
+    }
+}
+
+impl<D: BlockDevice> Resident<D> {
+    /// Writes so many changed blocks, or all where there are fewer, the least recently used first,
+    /// and answers how many. It doesn't sync. `Write` comes where a write of the device failed: the
+    /// blocks that were written before are not changed any more, and the others still are.
+    pub fn flush_turn(&mut self, most: u32) -> Result<u32, DeviceFault>
+        ensures flushed { IfOk result (λ k. IsFlushed k self.old.frames self.new.frames) }
+        ensures count { IfOk result (λ k. k
+            ≡ min most (changed_count (held_in (D.seen self.old.device) self.old.frames))) }
+        ensures some { OnErr result
+            ((k : ℕ) × (k < most) × IsFlushed k self.old.frames self.new.frames) }
+        ensures seat { KeepsSeat self.old.frames self.new.frames }
+        ensures after { Keeps D.tells (seen_through (D.seen self.old.device) self.old.frames)
+            (seen_through (D.seen self.new.device) self.new.frames) }
+        ensures cause { HasWriteCause (D.faults self.old.device) (D.faults self.new.device) result }
+    {
+        match writing::flush(&mut self.device, &mut self.frames, most as usize) {
+            Ok(written) => Ok(written as u32),
+            Err(fault) => Err(fault),
+        }
+    }
+
+    /// Gives frames that hold no changed block back to the pool, until 16 are left or none is
+    /// clean, the least recently used first, and answers how many. Buffers of the cache's own count
+    /// among the 16, and stay.
+    pub fn give_back(&mut self) -> u32
+        ensures gave { entries_of self.new.frames ≡ gave result (entries_of self.old.frames) }
+        ensures count { result ≡ min (length (buffers_of (entries_of self.old.frames)) - 16)
+            (count_of Free (entries_of self.old.frames)) }
+        ensures device { self.new.device ≡ self.old.device }
+        ensures seat { KeepsSeat self.old.frames self.new.frames }
+        ensures after { Keeps D.tells (seen_through (D.seen self.old.device) self.old.frames)
+            (seen_through (D.seen self.new.device) self.new.frames) }
+    {
+        giving::give_back(&mut self.frames)
+    }
+
+    /// Ends the cache: it writes every changed block and syncs once, up to the first that fails,
+    /// and gives every frame back to the pool. The fault is that of a write or sync that failed;
+    /// the blocks that were not written are lost then.
+    pub fn close(self) -> (D, FrameSeat, Option<DeviceFault>)
+        ensures home { frames_of result.1 ≡ others self.frames }
+        ensures of_pool { IsSeatOf (pool_of self.frames) result.1 }
+        ensures same { IsSameSeat self.frames.seat result.1 }
+        ensures parts { parts_of result.1 ≡ parts_of self.frames.seat }
+        ensures count { (D.seen result.0).count ≡ (D.seen self.device).count }
+        ensures size { (D.seen result.0).size ≡ (D.seen self.device).size }
+        ensures written { IsTrue D.tells → IfNone result.2 ((D.seen result.0).cur
+            ≡ (seen_through (D.seen self.device) self.frames).cur) }
+        ensures synced { IsTrue D.tells → IfNone result.2 (AllForced (D.seen self.device).count
+            (seen_through (D.seen self.device) self.frames).cur (D.seen result.0).may) }
+        ensures adds_none { IsTrue D.tells → AddsNone (D.seen self.device).count
+            (seen_through (D.seen self.device) self.frames).may (D.seen result.0).may }
+        ensures moments { IsTrue D.tells → During (seen_through (D.seen self.device) self.frames)
+            (D.seen result.0) (Left (seen_through (D.seen self.device) self.frames)) }
+        ensures fault { HasFaultCause (D.faults self.device) (D.faults result.0) result.2 }
+    {
+        let Resident {
+            mut device,
+            mut frames,
+        } = self;
+        let fault = writing::write_all(&mut device, &mut frames);
+        (device, giving::give_all(frames), fault)
     }
 }

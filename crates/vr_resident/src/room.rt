@@ -4,12 +4,11 @@ ghost use Rattle.vr_types.specs.Blocks.{Keeps};
 ghost use Rattle.vr_types.specs.Faults.{CountsWrite};
 ghost use Rattle.vr_resident.specs.Held.{over};
 ghost use Rattle.vr_resident.specs.Table.{IsFit};
-ghost use Rattle.vr_resident.specs.Places.{AreNone};
 ghost use Rattle.vr_resident.specs.Cache.{
   IsKept,
-  IsFramed,
+  IsSeated,
   KeepsSeat,
-  GetsFrame,
+  TakesFrame,
   GetsNone,
   MakesRoom,
   held_by,
@@ -24,13 +23,12 @@ use vr_device::BlockDevice;
 use vr_types::Failed;
 
 /// Takes a further frame of the pool, where a place is bare and a frame is home. It is empty.
-fn take_frame(frames: &mut Frames) -> Option<u32>
-    requires framed { IsFramed frames.old }
-    requires none { AreNone Empty frames.old.table.entries }
+pub(crate) fn take_frame(frames: &mut Frames) -> Option<u32>
+    requires { IsSeated frames.old }
     ensures place { IfSome result (λ number. IsFit Empty frames.new.table.entries number) }
-    ensures got { OnSome result (GetsFrame frames.old frames.new) }
+    ensures got { OnSome result (TakesFrame frames.old frames.new) }
     ensures none { IfNone result (GetsNone frames.old frames.new) }
-    ensures framed { IsFramed frames.new }
+    ensures seated { IsSeated frames.new }
     ensures seat { KeepsSeat frames.old frames.new }
 {
     let number = last_fit(&frames.table, Sought::Bare)?;

@@ -1,7 +1,7 @@
 //! The table of places: searches, and changes of one place.
-ghost use Rattle.std.specs.Prelude.{◌≡◌, ◌∷◌, ◌++◌, [], List, MatchOption};
+ghost use Rattle.std.specs.Prelude.{◌≡◌, ◌∷◌, ◌++◌, [], List, MatchOption, length};
 ghost use Rattle.lru.specs.LruCache.{lru_cache};
-ghost use Rattle.vr_resident.specs.Places.{Entry, AreNone, IsLast, buffers_at};
+ghost use Rattle.vr_resident.specs.Places.{Entry, AreNone, IsLast, buffers_at, buffers_of};
 ghost use Rattle.vr_resident.specs.Table.{IsEntry, HasBuffer};
 ghost use Rattle.vr_resident.specs.declared.place.Place.{Place};
 ghost use Rattle.vr_resident.specs.declared.place.Place.TheVariants.{Bare};
@@ -74,4 +74,17 @@ pub(crate) fn lift(table: &mut Table, number: u32) -> Buffer
         Place::Taken(_, _, buffer) => buffer,
         Place::Bare => unreachable!(),
     }
+}
+
+/// How many places have a buffer.
+pub(crate) fn buffer_count(table: &Table) -> u32
+    requires { table.now.cap ≡ 64 }
+    ensures { result ≡ length (buffers_of table.now.entries) }
+{
+    let _ = table.len();
+    let mut count: u32 = 0;
+    for (_, place) in table {
+        count = count.saturating_add(place.buffers());
+    }
+    count
 }

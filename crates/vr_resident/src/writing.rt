@@ -1,8 +1,9 @@
 //! How changed blocks are forced and flushed.
-ghost use Rattle.std.specs.Prelude.{◌≡◌, ◌<◌, ℕ, [], ◌∷◌, min, take, All, IsTrue, IfOk, OnOk, OnErr};
-ghost use Rattle.vr_types.specs.Blocks.{Keeps, Forced};
+ghost use Rattle.std.specs.Prelude.{◌≡◌, ◌<◌, ℕ, [], ◌∷◌, min, take, All, IsTrue, IfNone, IfOk, OnOk, OnErr};
+ghost use Rattle.vr_types.specs.Blocks.{Keeps, Forced, AllForced};
 ghost use Rattle.vr_types.specs.Faults.{CountsWrite, HasWriteCause};
 ghost use Rattle.vr_resident.specs.Held.{over, changed_count};
+ghost use Rattle.vr_resident.specs.Resident.{HasFaultCause};
 ghost use Rattle.vr_resident.specs.Cache.{IsKept, KeepsSeat, IsForced, IsFlushed, held_by};
 
 use crate::frames::Frames;
@@ -107,4 +108,30 @@ pub(crate) fn flush<D: BlockDevice>(
         }
     }
     Ok(most)
+}
+
+/// Writes every changed block and syncs once, up to the first that fails.
+pub(crate) fn write_all<D: BlockDevice>(
+    device: &mut D,
+    frames: &mut Frames,
+) -> Option<DeviceFault>
+    requires { IsKept D.tells (D.seen device.old) frames.old }
+    ensures kept { IsKept D.tells (D.seen device.new) frames.new }
+    ensures seat { KeepsSeat frames.old frames.new }
+    ensures after { Keeps D.tells (over (D.seen device.old) (held_by frames.old))
+        (over (D.seen device.new) (held_by frames.new)) }
+    ensures written { IsTrue D.tells → IfNone result ((D.seen device.new).cur
+        ≡ (over (D.seen device.old) (held_by frames.old)).cur) }
+    ensures synced { IsTrue D.tells → IfNone result (AllForced (D.seen device.old).count
+        (over (D.seen device.old) (held_by frames.old)).cur (D.seen device.new).may) }
+    ensures fault { HasFaultCause (D.faults device.old) (D.faults device.new) result }
+{
+    let most = frames.table.len();
+    match flush(device, frames, most) {
+        Err(fault) => Some(fault),
+        Ok(_) => match device.sync() {
+            Ok(()) => None,
+            Err(Failed) => Some(DeviceFault::Write),
+        },
+    }
 }
