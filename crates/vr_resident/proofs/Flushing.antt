@@ -1,10 +1,12 @@
 -- What writes of changed blocks make of the frames.
-use Rattle.std.proofs.Common.{rules, ◌≡◌, ◌≢◌, ◌⊎◌, inl, inr, ⊎_elim, ◌+◌, ◌-◌, ◌<◌, ◌≤◌, ◌==◌, ◌&&◌, ℕ, Bool, true, false, cond, IsTrue, List, [], ◌∷◌, ◌++◌, map, refl, sym, ap, ◌∙◌, subst, arith, length, true≢false, eqb-true, min, nat_lt, le-ltb}
+use Rattle.std.proofs.Common.{rules, ◌≡◌, ◌≢◌, ◌⊎◌, inl, inr, ⊎_elim, ◌+◌, ◌-◌, ◌<◌, ◌≤◌, ◌==◌, ◌&&◌, ℕ, Bool, true, false, cond, IsTrue, List, [], ◌∷◌, ◌++◌, map, refl, sym, ap, ◌∙◌, subst, arith, length, true≢false, eqb-true, min, nat_lt, le-ltb, slice_set}
 use Rattle.std.specs.Prelude.{count_by}
 use Rattle.std.specs.List.{AllByRecursion, flat_map}
-use Rattle.std.proofs.lemmas.List.Sums.{sum_by-cons, sum_by-append}
+use Rattle.std.proofs.lemmas.List.{length-append}
+use Rattle.std.proofs.lemmas.List.Sums.{sum_by-cons, sum_by-append, count_by-le-length}
+use Rattle.vr_types.specs.Image.{Image}
 use Rattle.vr_types.specs.Seen.{Seen}
-use Rattle.vr_resident.specs.Held.{Held, clean, IsOther, IsOnce, with_last, flushed, forced, is_listed, changed_count}
+use Rattle.vr_resident.specs.Held.{Held, overlay, clean, IsOther, IsOnce, with_last, flushed, forced, is_listed, changed_count}
 use Rattle.vr_resident.specs.Table.{IsFit}
 use Rattle.vr_resident.specs.Places.{Entry, block_in, buffers_at, held_at, held_of, fits, is_at, AreNone, IsLast, count_of}
 use Rattle.vr_resident.specs.Cache.{entries_of, held_by, with_entries, IsKept, IsWritten, WritesAt, IsForced, IsFlushed, KeepsSeat, empty_count, bare_count}
@@ -153,3 +155,26 @@ forces_more first old new listed n so_far one = record {
   empty = one.empty ∙ so_far.empty;
   bare = one.bare ∙ so_far.bare;
 }
+
+-- where as many were flushed as there are places, none is changed
+held_few : (size : ℕ) (entries : List Entry) → length (held_of size entries) ≤ length entries
+held_few size [] = omega arith
+held_few size (e ∷ entries) = omega (arith, length-append (held_at size e.1) (held_of size entries), one e.1, held_few size entries)
+  where
+    one : (place : Place) → length (held_at size place) ≤ 1
+    one Bare = omega arith
+    one (Empty buffer) = omega arith
+    one (Taken block changed buffer) = omega arith
+
+pub all_clean : (first new : Frames) (k : ℕ) → IsFlushed k first new → k ≡ min (length (entries_of first)) (changed_count (held_by first)) → changed_count (held_by new) ≡ 0
+all_clean first new k flushed_is count = omega (arith, count, ap changed_count flushed_is.held, count_last (λ (j : Held). j.changed) clean (λ x. refl) k (held_by first),
+    held_few first.size (entries_of first), count_by-le-length (λ (j : Held). j.changed) (held_by first))
+
+-- what is read where none is changed, and what may be left
+pub overlay_clean : (cur : Image) (hs : List Held) → changed_count hs ≡ 0 → overlay cur hs ≡ cur
+overlay_clean cur [] none = refl
+overlay_clean cur (h ∷ hs) none = by_mark h.changed refl (omega (arith, none, sum_by-cons (λ (j : Held). cond {A = ℕ} j.changed 1 0) h hs)) (overlay_clean cur hs)
+  where
+    by_mark : (mark : Bool) → h.changed ≡ mark → cond {A = ℕ} h.changed 1 0 + changed_count hs ≡ 0 → (changed_count hs ≡ 0 → overlay cur hs ≡ cur) → cond mark (slice_set (overlay cur hs) h.block h.bytes) (overlay cur hs) ≡ cur
+    by_mark true is sum go = absurd (omega (arith, sum, ap {B = ℕ} (λ (b : Bool). cond b 1 0) is))
+    by_mark false is sum go = go (omega (arith, sum))

@@ -5,3 +5,4 @@ pub mod Refill
 pub mod Table
 pub mod Resident
 pub mod Seeing
+pub mod Making

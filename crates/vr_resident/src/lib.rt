@@ -4,6 +4,7 @@
 mod bringing;
 mod frames;
 mod giving;
+mod making;
 mod moving;
 mod room;
 mod place;

@@ -1,5 +1,5 @@
 //! The table of places: searches, and changes of one place.
-ghost use Rattle.std.specs.Prelude.{◌≡◌, ◌∷◌, ◌++◌, [], List, MatchOption, length};
+ghost use Rattle.std.specs.Prelude.{◌≡◌, ◌∷◌, ◌++◌, [], List, MatchOption, length, min};
 ghost use Rattle.lru.specs.LruCache.{lru_cache};
 ghost use Rattle.vr_resident.specs.Places.{Entry, AreNone, IsLast, buffers_at, buffers_of};
 ghost use Rattle.vr_resident.specs.Table.{IsEntry, HasBuffer};
@@ -76,15 +76,22 @@ pub(crate) fn lift(table: &mut Table, number: u32) -> Buffer
     }
 }
 
+/// How many places have a buffer, up to 2^32 - 1.
+fn count_buffers(table: &Table) -> u32
+    ensures { result ≡ min (length (buffers_of table.now.entries)) 4294967295 }
+{
+    let mut count: u32 = 0;
+    for (_, place) in table {
+        count = count.saturating_add(place.buffers());
+    }
+    count
+}
+
 /// How many places have a buffer.
 pub(crate) fn buffer_count(table: &Table) -> u32
     requires { table.now.cap ≡ 64 }
     ensures { result ≡ length (buffers_of table.now.entries) }
 {
     let _ = table.len();
-    let mut count: u32 = 0;
-    for (_, place) in table {
-        count = count.saturating_add(place.buffers());
-    }
-    count
+    count_buffers(table)
 }

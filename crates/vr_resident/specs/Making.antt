@@ -1,0 +1,46 @@
+-- How a cache begins. It is this project's own.
+use Rattle.std.specs.Prelude.{◌≡◌, ◌+◌, ◌<◌, ℕ, zero, suc, List, [], ◌∷◌, length}
+use Rattle.lru.specs.LruCache.{LruCache, lru_cache}
+use Rattle.vr_frames.specs.Frames.{IsSameSeat, IsSeatOf, frame_count, frames_of, parts_of, failed_claims}
+use Rattle.vr_frames.specs.declared.shared.Pool.{Pool}
+use Rattle.vr_frames.specs.declared.seat.FrameSeat.{FrameSeat}
+use Rattle.vr_resident.specs.Places.{Entry, buffers_of}
+use Rattle.vr_resident.specs.Cache.{entries_of, pool_of, held_by, empty_count, bare_count, others}
+use Rattle.vr_resident.specs.declared.place.Place.{Place}
+use Rattle.vr_resident.specs.declared.place.Place.TheVariants.{Bare}
+use Rattle.vr_resident.specs.declared.frames.Frames.{Frames}
+
+-- places of these numbers, all bare
+abbrev pub bare_places : ℕ → List Entry
+bare_places zero = []
+bare_places (suc n) = (n, Bare) ∷ bare_places n
+
+-- So many frames more, which are empty, and the same blocks.
+pub record IsTaken (got : ℕ) (old new : Frames) : Type 0 where
+  pub held : held_by new ≡ held_by old
+  pub empty : empty_count new ≡ empty_count old + got
+  pub bare : bare_count new + got ≡ bare_count old
+  pub buffers : length (buffers_of (entries_of new)) ≡ length (buffers_of (entries_of old)) + got
+
+-- A cache as it begins: of 64 places 16 have an empty frame, and no block is held.
+pub record IsNew (pool : Pool) (seat : FrameSeat) (size : ℕ) (frames : Frames) : Type 0 where
+  pub pool_is : pool_of frames ≡ pool
+  pub size_is : frames.size ≡ size
+  pub held : held_by frames ≡ []
+  pub empty : empty_count frames ≡ 16
+  pub bare : bare_count frames ≡ 48
+  pub same : IsSameSeat seat frames.seat
+  pub parts : parts_of frames.seat ≡ parts_of seat
+  pub home : others frames ≡ frames_of seat
+
+-- the seat found each frame of the pool out, at a claim between these two
+abbrev pub FoundAllOut : Pool → FrameSeat → FrameSeat → Type 0
+FoundAllOut pool old new =
+    (number : ℕ) → number < frame_count pool → failed_claims old number < failed_claims new number
+
+-- The seat is as it was handed in.
+pub record IsBack (pool : Pool) (old new : FrameSeat) : Type 0 where
+  pub of_pool : IsSeatOf pool new
+  pub same : IsSameSeat old new
+  pub parts : parts_of new ≡ parts_of old
+  pub frames : frames_of new ≡ frames_of old
