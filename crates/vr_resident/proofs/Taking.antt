@@ -25,7 +25,7 @@ use Rattle.vr_resident.specs.declared.frames.Frames.{Frames}
 use Rattle.vr_resident.proofs.Framing.{buffers_split, held_split}
 use Rattle.vr_resident.proofs.Moves.{count_split, count_none}
 
-insert_all : (P : Buffer → Type 0) (xs : List Buffer) (b : Buffer) (ys : List Buffer) → AllByRecursion P (xs ++ ys) → P b → AllByRecursion P (xs ++ b ∷ ys)
+pub insert_all : (P : Buffer → Type 0) (xs : List Buffer) (b : Buffer) (ys : List Buffer) → AllByRecursion P (xs ++ ys) → P b → AllByRecursion P (xs ++ b ∷ ys)
 insert_all P [] b ys all here = (here, all)
 insert_all P (x ∷ xs) b ys all here = (all.0, insert_all P xs b ys all.1 here)
 

@@ -6,3 +6,4 @@ pub mod Table
 pub mod Resident
 pub mod Seeing
 pub mod Making
+pub mod Refusing

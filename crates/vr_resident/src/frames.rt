@@ -13,6 +13,3 @@ pub struct Frames {
     pub(crate) seat: FrameSeat,
     pub(crate) size: u32,
 }
-
-#[tactic(auto, using(crate::proofs::Returning::gives_one))]
-pub(crate) fn nothing() {}

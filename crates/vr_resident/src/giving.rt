@@ -1,6 +1,6 @@
 //! How frames go back to the pool.
-ghost use Rattle.std.specs.Prelude.{◌≡◌, ◌-◌, min, length};
-ghost use Rattle.vr_frames.specs.Frames.{IsSeatOf, IsSameSeat, frames_of, parts_of};
+ghost use Rattle.std.specs.Prelude.{◌≡◌, ◌-◌, ℕ, min, length};
+ghost use Rattle.vr_frames.specs.Frames.{IsSeatOf, IsSameSeat, frames_of, parts_of, failed_claims};
 ghost use Rattle.vr_resident.specs.Table.{IsFit};
 ghost use Rattle.vr_resident.specs.Places.{buffers_of, count_of, gave};
 ghost use Rattle.vr_resident.specs.Cache.{IsFramed, IsSeated, GivesAt, KeepsSeat, others, pool_of};
@@ -16,6 +16,7 @@ fn give(frames: &mut Frames, number: u32)
     requires seated { IsSeated frames.old }
     requires shared { IsFit Shared frames.old.table.entries number }
     ensures given { GivesAt number frames.old frames.new }
+    ensures claims { (k : ℕ) → failed_claims frames.new.seat k ≡ failed_claims frames.old.seat k }
     ensures seated { IsSeated frames.new }
     ensures seat { KeepsSeat frames.old frames.new }
 {
@@ -52,6 +53,7 @@ pub(crate) fn give_all(frames: Frames) -> FrameSeat
     ensures of_pool { IsSeatOf (pool_of frames) result }
     ensures same { IsSameSeat frames.seat result }
     ensures parts { parts_of result ≡ parts_of frames.seat }
+    ensures claims { (k : ℕ) → failed_claims result k ≡ failed_claims frames.seat k }
 {
     let mut left = frames;
     while let Some(number) = last_fit(&left.table, Sought::Shared) {

@@ -53,7 +53,7 @@ pub(crate) fn own_sixteen(alloc: Global, frames: &mut Frames) -> Result<(), Allo
     ensures seated { IsSeated frames.new }
     ensures seat { KeepsSeat frames.old frames.new }
 {
-    for _got in 0..16 {
+    for _got in 0..16u32 {
         own_one(alloc, frames)?;
     }
     Ok(())

@@ -44,6 +44,7 @@ returns c =
     let has = lifted.0 ∙ ap (λ (b : Buffer). b ∷ []) c.in-Shared.is in
     record {
       given = λ before after place split. (c.lift.ensures before after place split).1;
+      claims = c.give.ensures.given.same_claims;
       seated = subst (λ (x : LruCache ℕ Place). IsSeated (record frames { table = x; seat = c.give.new.seat })) (sym lifted.1)
           (seated_back frames c.give.new.seat c.in-Shared.frame c.args.number r.before r.after r.place r.split has c.requires.seated c.give.ensures.given (subst (λ (p : Pool). IsSeatOf p c.give.new.seat) c.deref.ensures c.give.ensures.of_pool));
       seat = subst (λ (x : LruCache ℕ Place). KeepsSeat frames (record frames { table = x; seat = c.give.new.seat })) (sym lifted.1)

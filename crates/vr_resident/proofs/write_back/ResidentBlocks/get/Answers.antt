@@ -4,7 +4,7 @@ use Rattle.vr_types.proofs.CallerLemmas.{cause-ok}
 use Rattle.vr_resident.specs.Seeing.{length-block_in}
 use Rattle.vr_resident.specs.Held.{Held, overlay}
 use Rattle.vr_resident.proofs.Steps.{keeps_through, first_content, same_held}
-use Rattle.vr_resident.proofs.resident.ResidentBlocks.get.Goals as goal
+use Rattle.vr_resident.proofs.write_back.ResidentBlocks.get.Goals as goal
 
 pub returns-in-Ok : goal.returns-in-Ok
 returns-in-Ok g c =

@@ -14,6 +14,7 @@ ghost use Rattle.vr_types.specs.Faults.{HasCause, HasWriteCause};
 ghost use Rattle.vr_resident.specs.Resident.{seen_through, held_in, HasFaultCause};
 ghost use Rattle.vr_resident.specs.Cache.{
   IsFramed,
+  IsKept,
   IsFirst,
   IsBlockOf,
   IsForced,
@@ -128,6 +129,15 @@ impl<D: BlockDevice> Blocks for Resident<D> {
 }
 
 impl<D: BlockDevice> Resident<D> {
+    /// The blocks of a device, over these frames.
+    pub(crate) fn over(device: D, frames: Frames) -> Self
+        requires { IsKept D.tells (D.seen device) frames }
+        ensures device { result.device ≡ device }
+        ensures frames { result.frames ≡ frames }
+    {
+        Resident { device, frames }
+    }
+
     /// Writes so many changed blocks, or all where there are fewer, the least recently used first,
     /// and answers how many. It doesn't sync. `Write` comes where a write of the device failed: the
     /// blocks that were written before are not changed any more, and the others still are.

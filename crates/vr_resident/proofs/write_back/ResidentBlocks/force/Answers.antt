@@ -1,6 +1,6 @@
 use Rattle.std.proofs.Common.{◌≡◌, IsTrue}
 use Rattle.vr_resident.proofs.Steps.{forced_through}
-use Rattle.vr_resident.proofs.resident.ResidentBlocks.force.Goals as goal
+use Rattle.vr_resident.proofs.write_back.ResidentBlocks.force.Goals as goal
 
 pub returns-clause-forced : goal.returns-clause-forced
 returns-clause-forced g c =
