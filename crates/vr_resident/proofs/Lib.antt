@@ -1,6 +1,7 @@
 pub mod Beginning
 pub mod Entries
 pub mod Entering
+pub mod Given
 pub mod Held
 pub mod Moves
 pub mod Framing
