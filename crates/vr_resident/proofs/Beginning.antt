@@ -7,10 +7,12 @@ use Rattle.std.proofs.lemmas.Bool.Decides.{nat_tests}
 use Rattle.std.proofs.lemmas.List.{take_all, length-append}
 use Rattle.std.proofs.lemmas.List.Concat.{flat_map-append}
 use Rattle.lru.specs.LruCache.{lru_cache, LruCache, put_entries}
-use Rattle.vr_frames.specs.Frames.{failed_claims, FindsAllOut, frame_count}
+use Rattle.vr_frames.specs.Frames.{failed_claims, FindsAllOut, frame_count, frames_of, parts_of, IsSeatOf, IsSameSeat}
+use Rattle.vr_frames.specs.declared.shared.Pool.{Pool}
+use Rattle.vr_frames.proofs.CallerLemmas.{others_of-none}
 use Rattle.vr_frames.specs.Views.{times}
 use Rattle.vr_frames.specs.declared.seat.FrameSeat.{FrameSeat}
-use Rattle.vr_resident.specs.Making.{bare_places, IsTaken, FoundAllOut}
+use Rattle.vr_resident.specs.Making.{bare_places, IsTaken, FoundAllOut, IsNew, IsBack}
 use Rattle.vr_resident.specs.Places.{Entry, IsBufferOf, numbers_in, buffers_at, buffers_of, numbers_of, held_of, fits, AreNone, IsLast, count_of}
 use Rattle.vr_resident.specs.Cache.{entries_of, pool_of, held_by, with_entries, IsSeated, KeepsSeat, TakesFrame, GetsNone, empty_count, bare_count, others}
 use Rattle.vr_resident.specs.declared.place.Buffer.{Buffer}
@@ -24,6 +26,7 @@ use Rattle.vr_resident.proofs.Moves.{count_split, count_none}
 use Rattle.vr_resident.proofs.Taking.{insert_all, one_longer}
 use Rattle.vr_frames.specs.Keeper.{HoldsEach, others_of}
 use Rattle.std.specs.Arc.{arc_value}
+use Rattle.std.specs.declared.sync.Arc.{Arc}
 use Rattle.std.proofs.Common.{Vec}
 use Rattle.std.specs.Global.{Global}
 
@@ -136,3 +139,33 @@ some_bare frames (Some n) some last = search rules
 pub is_last : (frames : Frames) (o : Option ℕ) (n : ℕ) → o ≡ Some n → MatchOption o (AreNone sought.Bare (entries_of frames)) (IsLast sought.Bare (entries_of frames)) → IsLast sought.Bare (entries_of frames) n
 is_last frames None n is last = cc
 is_last frames (Some m) n is last = let same : m ≡ n = cc in subst (IsLast sought.Bare (entries_of frames)) same last
+
+-- ---- the cache as it begins
+
+module _ (first new : Frames) (table : first.table ≡ lru_cache (bare_places 64) 64) where
+  entries : entries_of first ≡ bare_places 64
+  entries = ap (λ (t : LruCache ℕ Place). t.entries) table
+
+  none_kept : others first ≡ frames_of first.seat
+  none_kept = ap (λ (es : List Entry). others_of first.seat (flat_map numbers_in (buffers_of es))) entries
+      ∙ (ap (λ (bs : List Buffer). others_of first.seat (flat_map numbers_in bs)) (no_buffer_yet 64) ∙ others_of-none first.seat)
+
+  pub is_new : (size : ℕ) → first.size ≡ size → IsTaken 16 first new → KeepsSeat first new → IsNew (pool_of first) first.seat size new
+  is_new size size_is taken seat = record {
+    pool_is = ap (λ (p : Arc Pool Global). arc_value p) seat.pool_same;
+    size_is = seat.size_same ∙ size_is;
+    held = taken.held ∙ (ap (held_of first.size) entries ∙ none_held_yet first.size 64);
+    empty = omega (arith, taken.empty, ap (count_of sought.Empty) entries, none_empty 64);
+    bare = omega (arith, taken.bare, ap (count_of sought.Bare) entries, bare_counts 64);
+    same = seat.same;
+    parts = seat.parts;
+    home = seat.others_same ∙ none_kept;
+  }
+
+  pub is_back : (seat : FrameSeat) → KeepsSeat first new → frames_of seat ≡ others new → IsSeatOf (pool_of new) seat → IsSameSeat new.seat seat → parts_of seat ≡ parts_of new.seat → IsBack (pool_of first) first.seat seat
+  is_back seat kept home of_pool same parts = record {
+    of_pool = subst (λ (p : Arc Pool Global). IsSeatOf (arc_value p) seat) kept.pool_same of_pool;
+    same = record { same_table = same.same_table ∙ kept.same.same_table; same_id = same.same_id ∙ kept.same.same_id };
+    parts = parts ∙ kept.parts;
+    frames = home ∙ (kept.others_same ∙ none_kept);
+  }
