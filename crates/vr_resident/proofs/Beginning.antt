@@ -1,5 +1,5 @@
 -- How the frames of a cache are got one by one.
-use Rattle.std.proofs.Common.{rules, ◌≡◌, ◌≢◌, ◌⊎◌, inl, inr, ⊎_elim, ◌+◌, ◌-◌, ◌<◌, ◌≤◌, ◌==◌, ℕ, zero, suc, Bool, true, false, cond, IsTrue, List, [], ◌∷◌, ◌++◌, Option, Some, None, IfNone, OnSome, IsSome, MatchOption, refl, sym, ap, ◌∙◌, subst, arith, length, true≢false, nat_eq, take, add-one}
+use Rattle.std.proofs.Common.{rules, ◌≡◌, ⊎_elim, ◌+◌, ◌<◌, ◌≤◌, ℕ, zero, suc, Bool, true, false, List, [], ◌∷◌, ◌++◌, Option, Some, None, IfNone, OnSome, IsSome, MatchOption, refl, sym, ap, ◌∙◌, subst, arith, length, true≢false, nat_eq, add-one}
 use Rattle.std.specs.Prelude.{is_some, not}
 use Rattle.std.specs.List.{AllByRecursion, flat_map}
 use Rattle.std.specs.Map.{lookup_entry}
@@ -7,23 +7,22 @@ use Rattle.std.proofs.lemmas.Bool.Decides.{nat_tests}
 use Rattle.std.proofs.lemmas.List.{take_all, length-append}
 use Rattle.std.proofs.lemmas.List.Concat.{flat_map-append}
 use Rattle.lru.specs.LruCache.{lru_cache, LruCache, put_entries}
-use Rattle.vr_frames.specs.Frames.{failed_claims, FindsAllOut, frame_count, frames_of, parts_of, IsSeatOf, IsSameSeat}
+use Rattle.vr_frames.specs.Frames.{failed_claims, frame_count, frames_of, parts_of, IsSeatOf, IsSameSeat}
 use Rattle.vr_frames.specs.declared.shared.Pool.{Pool}
 use Rattle.vr_frames.proofs.CallerLemmas.{others_of-none}
-use Rattle.vr_frames.specs.Views.{times}
 use Rattle.vr_frames.specs.declared.seat.FrameSeat.{FrameSeat}
 use Rattle.vr_resident.specs.Making.{bare_places, IsTaken, FoundAllOut, IsNew, IsBack}
-use Rattle.vr_resident.specs.Places.{Entry, IsBufferOf, numbers_in, buffers_at, buffers_of, numbers_of, held_of, fits, AreNone, IsLast, count_of}
-use Rattle.vr_resident.specs.Cache.{entries_of, pool_of, held_by, with_entries, IsSeated, KeepsSeat, TakesFrame, GetsNone, empty_count, bare_count, others}
+use Rattle.vr_resident.specs.Places.{Entry, IsBufferOf, numbers_in, buffers_of, numbers_of, held_of, AreNone, IsLast, count_of}
+use Rattle.vr_resident.specs.Cache.{entries_of, pool_of, with_entries, IsSeated, KeepsSeat, TakesFrame, GetsNone, bare_count, others}
 use Rattle.vr_resident.specs.declared.place.Buffer.{Buffer}
 use Rattle.vr_resident.specs.declared.place.Buffer.TheVariants.{Own, Shared}
 use Rattle.vr_resident.specs.declared.place.Place.{Place}
-use Rattle.vr_resident.specs.declared.place.Place.TheVariants.{Bare, Empty, Taken}
+use Rattle.vr_resident.specs.declared.place.Place.TheVariants.{Bare, Empty}
 use Rattle.vr_resident.specs.declared.place.Sought.TheVariants as sought
 use Rattle.vr_resident.specs.declared.frames.Frames.{Frames}
 use Rattle.vr_resident.proofs.Framing.{held_split, buffers_split}
 use Rattle.vr_resident.proofs.Moves.{count_split, count_none}
-use Rattle.vr_resident.proofs.Taking.{insert_all, one_longer}
+use Rattle.vr_resident.proofs.Taking.{insert_all}
 use Rattle.vr_frames.specs.Keeper.{HoldsEach, others_of}
 use Rattle.std.specs.Arc.{arc_value}
 use Rattle.std.specs.declared.sync.Arc.{Arc}
@@ -89,8 +88,15 @@ with_buffer old new number before after buffer was is size = record {
   held = ap (λ (n : ℕ). held_of n (entries_of new)) size ∙ (ap (held_of old.size) is ∙ (held_split old.size before (number, Empty buffer) after ∙ sym (ap (held_of old.size) was ∙ held_split old.size before (number, Bare) after)));
   empty = omega (arith, ap (count_of sought.Empty) was, ap (count_of sought.Empty) is, count_split sought.Empty before (number, Bare) after, count_split sought.Empty before (number, Empty buffer) after);
   bare = omega (arith, ap (count_of sought.Bare) was, ap (count_of sought.Bare) is, count_split sought.Bare before (number, Bare) after, count_split sought.Bare before (number, Empty buffer) after);
-  buffers = omega (arith, ap (λ (es : List Entry). length (buffers_of es)) was, ap (λ (es : List Entry). length (buffers_of es)) is, ap length (buffers_split before (number, Bare) after), ap length (buffers_split before (number, Empty buffer) after),
-      length-append (buffers_of before) (buffers_of after), length-append (buffers_of before) (buffer ∷ buffers_of after));
+  buffers = omega (
+    arith,
+    ap (λ (es : List Entry). length (buffers_of es)) was,
+    ap (λ (es : List Entry). length (buffers_of es)) is,
+    ap length (buffers_split before (number, Bare) after),
+    ap length (buffers_split before (number, Empty buffer) after),
+    length-append (buffers_of before) (buffers_of after),
+    length-append (buffers_of before) (buffer ∷ buffers_of after),
+  );
 }
 
 pub taken_one : (old new : Frames) → TakesFrame old new → IsTaken 1 old new

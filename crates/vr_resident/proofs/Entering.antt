@@ -1,23 +1,22 @@
 -- What a block that comes in, or is used again, makes of the frames.
-use Rattle.std.proofs.Common.{rules, ◌≡◌, ◌≢◌, ◌⊎◌, inl, inr, ⊎_elim, ◌+◌, ◌<◌, ◌≤◌, ◌==◌, ℕ, Bool, true, false, cond, IsTrue, List, [], ◌∷◌, ◌++◌, refl, sym, ap, ◌∙◌, subst, arith, length, slice_set, true≢false, nat_eq}
+use Rattle.std.proofs.Common.{◌≡◌, inl, inr, ⊎_elim, ◌<◌, ℕ, Bool, true, false, IsTrue, List, [], ◌∷◌, ◌++◌, refl, sym, ap, ◌∙◌, subst, arith, slice_set, true≢false}
 use Rattle.std.proofs.lemmas.Bool.{eqb-false, eqb-true}
-use Rattle.std.specs.List.{AllByRecursion, flat_map}
+use Rattle.std.specs.List.{AllByRecursion}
 use Rattle.std.proofs.lemmas.List.Concat.{flat_map-append}
 use Rattle.vr_types.specs.Image.{Block, Image, block_at}
 use Rattle.vr_types.specs.Seen.{Seen, Left}
 use Rattle.vr_types.specs.Blocks.{Keeps, Puts}
 use Rattle.vr_types.proofs.CallerLemmas.{keeps-then}
-use Rattle.vr_resident.specs.Held.{Held, IsHeld, IsOther, IsOnce, overlay, IsChanged, AreClean, IsBetween, over}
+use Rattle.vr_resident.specs.Held.{Held, IsHeld, IsOther, overlay, over}
 use Rattle.vr_resident.specs.Refill.{IsSameBuffer}
-use Rattle.vr_resident.specs.Places.{Entry, bytes_in, block_in, IsBufferOf, buffers_at, held_at, held_of, buffers_of, fits, is_at, AreNone, count_of}
-use Rattle.vr_resident.specs.Cache.{entries_of, pool_of, held_by, with_entries, IsFramed, IsKept, KeepsSeat, MakesRoom, Enters, Hits, IsFirst, IsSameCache, empty_count, bare_count, put_as}
+use Rattle.vr_resident.specs.Places.{Entry, block_in, IsBufferOf, buffers_at, held_at, held_of, buffers_of, fits, AreNone, count_of}
+use Rattle.vr_resident.specs.Cache.{entries_of, pool_of, held_by, with_entries, IsFramed, IsKept, KeepsSeat, MakesRoom, Enters, Hits, IsFirst, IsSameCache}
 use Rattle.vr_resident.specs.declared.place.Buffer.{Buffer}
 use Rattle.vr_resident.specs.declared.place.Place.{Place}
 use Rattle.vr_resident.specs.declared.place.Place.TheVariants.{Bare, Empty, Taken}
-use Rattle.vr_resident.specs.declared.place.Sought.{Sought}
 use Rattle.vr_resident.specs.declared.place.Sought.TheVariants as sought
 use Rattle.vr_resident.specs.declared.frames.Frames.{Frames}
-use Rattle.vr_resident.proofs.Framing.{held_split, held_in, has_room, buffers_split}
+use Rattle.vr_resident.proofs.Framing.{held_split, held_in, buffers_split}
 use Rattle.vr_resident.proofs.Moves.{count_split, count_front, framed_front, framed_stays}
 use Rattle.vr_resident.proofs.Held.{overlay-between, overlay-put, changed_front, changed_more, once_other}
 use Rattle.vr_resident.proofs.Over.{no_call, put_only, keeps_over, held_more, held_after, held_front, held_put}
@@ -149,8 +148,8 @@ module _ (tells : Bool) (device now : Seen) (frames : Frames) (n number : ℕ) (
               (λ told unmarked. reads told ∙ sym (ap (λ (i : Image). block_at i n) (call.content told))) (held_after tells device now (held_by frames) call kept.held_is));
         },
         keeps-then tells (over device (held_by frames)) (over now (held_by frames)) (over now (held_by (front frames n number before after b c false same))) (keeps_over tells device now (held_by frames) (held_by frames) call)
-        (subst (λ (hs : List Held). Keeps tells (over now (held_by frames)) (over now hs)) (sym new)
-        (no_call tells now (held_by frames) (held_in frames n false c ∷ held_by frames) within (λ told. refl) (λ m block is. ⊎_elim (λ here. absurd (true≢false (sym here.0))) (λ later. later) is))),
+            (subst (λ (hs : List Held). Keeps tells (over now (held_by frames)) (over now hs)) (sym new)
+            (no_call tells now (held_by frames) (held_in frames n false c ∷ held_by frames) within (λ told. refl) (λ m block is. ⊎_elim (λ here. absurd (true≢false (sym here.0))) (λ later. later) is))),
       )
 
   -- one that failed
@@ -183,8 +182,8 @@ module _ (tells : Bool) (device : Seen) (frames : Frames) (n number : ℕ) (befo
           held_is = subst (IsHeld tells device) (sym new) (held_front tells device k xs ys there);
         },
         subst (λ (hs : List Held). Keeps tells (over device hs) (over device (held_by (front frames n number before after b b mark (same_buffer b))))) (sym old)
-        (subst (λ (hs : List Held). Keeps tells (over device (xs ++ k ∷ ys)) (over device hs)) (sym new)
-        (no_call tells device (xs ++ k ∷ ys) (k ∷ (xs ++ ys)) within (λ told. sym (overlay-between device.cur k xs ys (once_other k xs ys there.once))) (changed_front k xs ys))),
+            (subst (λ (hs : List Held). Keeps tells (over device (xs ++ k ∷ ys)) (over device hs)) (sym new)
+            (no_call tells device (xs ++ k ∷ ys) (k ∷ (xs ++ ys)) within (λ told. sym (overlay-between device.cur k xs ys (once_other k xs ys there.once))) (changed_front k xs ys))),
       )
 
   -- what is read once a block is put into the frame that holds it, or into an empty one
@@ -224,10 +223,10 @@ module _ (tells : Bool) (device : Seen) (frames : Frames) (n number : ℕ) (befo
           held_is = subst (IsHeld tells device) (sym new) (held_put tells device k xs ys j refl refl there);
         },
         subst (λ (hs : List Held). Puts tells n bytes (over device hs) (over device (held_by (front frames n number before after b c true same)))) (sym old)
-        (subst (λ (hs : List Held). Puts tells n bytes (over device (xs ++ k ∷ ys)) (over device hs)) (sym new)
-        (subst (λ (x : Block). Puts tells n x (over device (xs ++ k ∷ ys)) (over device (j ∷ (xs ++ ys)))) filled
-        (put_only tells device (xs ++ k ∷ ys) (j ∷ (xs ++ ys)) within n (block_in frames.size c) (λ told. overlay-put device.cur k j xs ys refl refl (once_other k xs ys there.once))
-        (λ m x is. ⊎_elim (λ here. inr (sym here.1, sym here.2)) (λ later. inl (changed_more k xs ys m x later)) is)))),
+            (subst (λ (hs : List Held). Puts tells n bytes (over device (xs ++ k ∷ ys)) (over device hs)) (sym new)
+            (subst (λ (x : Block). Puts tells n x (over device (xs ++ k ∷ ys)) (over device (j ∷ (xs ++ ys)))) filled
+            (put_only tells device (xs ++ k ∷ ys) (j ∷ (xs ++ ys)) within n (block_in frames.size c) (λ told. overlay-put device.cur k j xs ys refl refl (once_other k xs ys there.once))
+            (λ m x is. ⊎_elim (λ here. inr (sym here.1, sym here.2)) (λ later. inl (changed_more k xs ys m x later)) is)))),
       )
 
   -- a block that is put into an empty frame
@@ -242,7 +241,7 @@ module _ (tells : Bool) (device : Seen) (frames : Frames) (n number : ℕ) (befo
           held_is = subst (IsHeld tells device) (sym new) (held_more tells device j (held_by frames) below other (λ told unmarked. absurd (true≢false unmarked)) kept.held_is);
         },
         subst (λ (hs : List Held). Puts tells n bytes (over device (held_by frames)) (over device hs)) (sym new)
-        (subst (λ (x : Block). Puts tells n x (over device (held_by frames)) (over device (j ∷ held_by frames))) filled
-        (put_only tells device (held_by frames) (j ∷ held_by frames) within n (block_in frames.size c) (λ told. refl)
-        (λ m x is. ⊎_elim (λ here. inr (sym here.1, sym here.2)) (λ later. inl later) is))),
+            (subst (λ (x : Block). Puts tells n x (over device (held_by frames)) (over device (j ∷ held_by frames))) filled
+            (put_only tells device (held_by frames) (j ∷ held_by frames) within n (block_in frames.size c) (λ told. refl)
+            (λ m x is. ⊎_elim (λ here. inr (sym here.1, sym here.2)) (λ later. inl later) is))),
       )

@@ -1,15 +1,13 @@
 -- What writes of changed blocks make of the frames.
-use Rattle.std.proofs.Common.{rules, ◌≡◌, ◌≢◌, ◌⊎◌, inl, inr, ⊎_elim, ◌+◌, ◌-◌, ◌<◌, ◌≤◌, ◌==◌, ◌&&◌, ℕ, Bool, true, false, cond, IsTrue, List, [], ◌∷◌, ◌++◌, map, refl, sym, ap, ◌∙◌, subst, arith, length, true≢false, eqb-true, min, nat_lt, le-ltb, slice_set}
-use Rattle.std.specs.Prelude.{count_by}
+use Rattle.std.proofs.Common.{◌≡◌, ◌+◌, ◌<◌, ◌≤◌, ◌==◌, ◌&&◌, ℕ, Bool, true, false, cond, List, [], ◌∷◌, ◌++◌, refl, sym, ap, ◌∙◌, subst, arith, length, true≢false, eqb-true, min, nat_lt, le-ltb, slice_set}
 use Rattle.std.specs.List.{AllByRecursion, flat_map}
 use Rattle.std.proofs.lemmas.List.{length-append}
 use Rattle.std.proofs.lemmas.List.Sums.{sum_by-cons, sum_by-append, count_by-le-length}
 use Rattle.vr_types.specs.Image.{Image}
-use Rattle.vr_types.specs.Seen.{Seen}
-use Rattle.vr_resident.specs.Held.{Held, overlay, clean, IsOther, IsOnce, with_last, flushed, forced, is_listed, changed_count}
+use Rattle.vr_resident.specs.Held.{Held, overlay, clean, IsOther, IsOnce, flushed, forced, changed_count}
 use Rattle.vr_resident.specs.Table.{IsFit}
-use Rattle.vr_resident.specs.Places.{Entry, block_in, buffers_at, held_at, held_of, fits, is_at, AreNone, IsLast, count_of}
-use Rattle.vr_resident.specs.Cache.{entries_of, held_by, with_entries, IsKept, IsWritten, WritesAt, IsForced, IsFlushed, KeepsSeat, empty_count, bare_count}
+use Rattle.vr_resident.specs.Places.{Entry, buffers_at, held_at, held_of, fits, AreNone, IsLast, count_of}
+use Rattle.vr_resident.specs.Cache.{entries_of, held_by, IsWritten, IsForced, IsFlushed, KeepsSeat, empty_count, bare_count}
 use Rattle.vr_resident.specs.declared.place.Buffer.{Buffer}
 use Rattle.vr_resident.specs.declared.place.Place.{Place}
 use Rattle.vr_resident.specs.declared.place.Place.TheVariants.{Bare, Empty, Taken}
@@ -167,8 +165,14 @@ held_few size (e ∷ entries) = omega (arith, length-append (held_at size e.1) (
     one (Taken block changed buffer) = omega arith
 
 pub all_clean : (first new : Frames) (k : ℕ) → IsFlushed k first new → k ≡ min (length (entries_of first)) (changed_count (held_by first)) → changed_count (held_by new) ≡ 0
-all_clean first new k flushed_is count = omega (arith, count, ap changed_count flushed_is.held, count_last (λ (j : Held). j.changed) clean (λ x. refl) k (held_by first),
-    held_few first.size (entries_of first), count_by-le-length (λ (j : Held). j.changed) (held_by first))
+all_clean first new k flushed_is count = omega (
+  arith,
+  count,
+  ap changed_count flushed_is.held,
+  count_last (λ (j : Held). j.changed) clean (λ x. refl) k (held_by first),
+  held_few first.size (entries_of first),
+  count_by-le-length (λ (j : Held). j.changed) (held_by first),
+)
 
 -- what is read where none is changed, and what may be left
 pub overlay_clean : (cur : Image) (hs : List Held) → changed_count hs ≡ 0 → overlay cur hs ≡ cur

@@ -1,25 +1,20 @@
 -- What a change of one place leaves of the frames.
-use Rattle.std.proofs.Common.{◌≡◌, ◌≢◌, ◌⊎◌, inl, inr, ⊎_elim, ◌+◌, ◌<◌, ◌≤◌, ◌==◌, ℕ, Bool, true, false, cond, IsTrue, List, [], ◌∷◌, ◌++◌, refl, sym, ap, ◌∙◌, subst, arith, length, slice_set, take, replicate}
-use Rattle.std.specs.Prelude.{filter, count_by}
+use Rattle.std.proofs.Common.{◌≡◌, ◌<◌, ◌≤◌, ℕ, Bool, true, false, IsTrue, List, [], ◌∷◌, ◌++◌, refl, sym, ap, ◌∙◌, subst, length, slice_set}
 use Rattle.std.specs.List.{AllByRecursion, flat_map}
 use Rattle.std.proofs.lemmas.List.Concat.{flat_map-append}
-use Rattle.std.proofs.lemmas.List.{length-append, length-take, length-replicate}
 use Rattle.lru.specs.LruCache.{lru_cache, LruCache}
-use Rattle.vr_types.specs.Image.{Block, Image, IsImage, MayAlso, block_at}
+use Rattle.vr_types.specs.Image.{Image}
 use Rattle.vr_types.specs.Seen.{Seen, Left}
 use Rattle.vr_types.specs.Blocks.{Keeps, Puts}
 use Rattle.vr_frames.specs.declared.shared.Pool.{Pool}
-use Rattle.vr_frames.specs.declared.seat.FrameSeat.{FrameSeat}
 use Rattle.vr_frames.specs.Keeper.{HoldsEach, others_of}
-use Rattle.vr_resident.specs.Held.{Held, IsHeld, IsOther, IsOnce, overlay, IsChanged, AreClean, clean, over}
-use Rattle.vr_resident.specs.Places.{Entry, bytes_in, block_in, numbers_in, IsBufferOf, buffers_at, held_at, held_of, buffers_of, numbers_of, fits, is_at, AreNone, count_of}
-use Rattle.vr_resident.specs.Cache.{entries_of, pool_of, held_by, with_entries, IsFramed, IsKept, KeepsSeat, others}
-use Rattle.vr_resident.specs.Seeing.{length-block_in}
+use Rattle.vr_resident.specs.Held.{Held, IsHeld, clean, over}
+use Rattle.vr_resident.specs.Places.{Entry, bytes_in, block_in, numbers_in, IsBufferOf, buffers_at, held_at, held_of, buffers_of}
+use Rattle.vr_resident.specs.Cache.{entries_of, pool_of, held_by, with_entries, IsFramed, IsKept, KeepsSeat}
 use Rattle.vr_resident.specs.declared.place.Buffer.{Buffer}
 use Rattle.vr_resident.specs.declared.place.Buffer.TheVariants.{Own, Shared}
 use Rattle.vr_resident.specs.declared.place.Place.{Place}
-use Rattle.vr_resident.specs.declared.place.Place.TheVariants.{Bare, Empty, Taken}
-use Rattle.vr_resident.specs.declared.place.Sought.{Sought}
+use Rattle.vr_resident.specs.declared.place.Place.TheVariants.{Empty, Taken}
 use Rattle.vr_resident.specs.declared.frames.Frames.{Frames}
 use Rattle.vr_resident.proofs.Over.{held_written, written_over, held_unwritten, unwritten_over, held_left, left_written, held_rest, no_call}
 use Rattle.vr_resident.proofs.Held.{all_at, overlay-clean, changed_more}
@@ -62,7 +57,6 @@ abbrev pub held_in : Frames → ℕ → Bool → Buffer → Held
 held_in frames block changed buffer = record { block = block; bytes = block_in frames.size buffer; changed = changed }
 
 module _ (tells : Bool) (device after_call : Seen) (frames : Frames) (number : ℕ) (before after : List Entry) (block : ℕ) (buffer : Buffer) where
-
   module _ (changed : Bool) (kept : IsKept tells device frames) (was : entries_of frames ≡ before ++ (number, Taken block changed buffer) ∷ after) where
     abbrev h : Held
     h = held_in frames block changed buffer
@@ -100,10 +94,10 @@ module _ (tells : Bool) (device after_call : Seen) (frames : Frames) (number : �
         held_is = subst (IsHeld tells device) (sym held_empty) (held_rest tells device h (held_of frames.size before) (held_of frames.size after) held_there);
       },
       subst (λ (hs : List Held). Keeps tells (over device hs) (over device (held_by emptied))) (sym held_was)
-      (subst (λ (hs : List Held). Keeps tells (over device (held_of frames.size before ++ h ∷ held_of frames.size after)) (over device hs)) (sym held_empty)
-      (no_call tells device (held_of frames.size before ++ h ∷ held_of frames.size after) (held_of frames.size before ++ held_of frames.size after) within
-      (λ told. sym (overlay-clean device.cur h (held_of frames.size before) (held_of frames.size after) unmarked))
-      (changed_more h (held_of frames.size before) (held_of frames.size after)))),
+          (subst (λ (hs : List Held). Keeps tells (over device (held_of frames.size before ++ h ∷ held_of frames.size after)) (over device hs)) (sym held_empty)
+          (no_call tells device (held_of frames.size before ++ h ∷ held_of frames.size after) (held_of frames.size before ++ held_of frames.size after) within
+          (λ told. sym (overlay-clean device.cur h (held_of frames.size before) (held_of frames.size after) unmarked))
+          (changed_more h (held_of frames.size before) (held_of frames.size after)))),
     )
 
     module _ (marked : changed ≡ true) (call : Puts tells block (block_in frames.size buffer) device after_call) where
@@ -119,7 +113,7 @@ module _ (tells : Bool) (device after_call : Seen) (frames : Frames) (number : �
           held_is = subst (IsHeld tells after_call) (sym held_was) (held_unwritten tells device after_call h (held_of frames.size before) (held_of frames.size after) marked call held_there);
         },
         subst (λ (hs : List Held). Keeps tells (over device hs) (over after_call hs)) (sym held_was)
-        (unwritten_over tells device after_call h (held_of frames.size before) (held_of frames.size after) marked call held_there),
+            (unwritten_over tells device after_call h (held_of frames.size before) (held_of frames.size after) marked call held_there),
       )
 
       module _ (written : IsTrue tells → after_call.cur ≡ slice_set device.cur block (block_in frames.size buffer)) (long : IsTrue tells → length device.cur ≡ device.count) where
@@ -131,8 +125,8 @@ module _ (tells : Bool) (device after_call : Seen) (frames : Frames) (number : �
             held_is = subst (IsHeld tells after_call) (sym held_empty) (held_left tells device after_call h (held_of frames.size before) (held_of frames.size after) marked call held_there written long);
           },
           subst (λ (hs : List Held). Keeps tells (over device hs) (over after_call (held_by emptied))) (sym held_was)
-          (subst (λ (hs : List Held). Keeps tells (over device (held_of frames.size before ++ h ∷ held_of frames.size after)) (over after_call hs)) (sym held_empty)
-          (left_written tells device after_call h (held_of frames.size before) (held_of frames.size after) marked call held_there written long)),
+              (subst (λ (hs : List Held). Keeps tells (over device (held_of frames.size before ++ h ∷ held_of frames.size after)) (over after_call hs)) (sym held_empty)
+              (left_written tells device after_call h (held_of frames.size before) (held_of frames.size after) marked call held_there written long)),
         )
 
         pub written_clean : IsKept tells after_call cleaned × Keeps tells (over device (held_by frames)) (over after_call (held_by cleaned))
@@ -143,8 +137,8 @@ module _ (tells : Bool) (device after_call : Seen) (frames : Frames) (number : �
             held_is = subst (IsHeld tells after_call) (sym held_clean) (held_written tells device after_call h (held_of frames.size before) (held_of frames.size after) marked call held_there written long);
           },
           subst (λ (hs : List Held). Keeps tells (over device hs) (over after_call (held_by cleaned))) (sym held_was)
-          (subst (λ (hs : List Held). Keeps tells (over device (held_of frames.size before ++ h ∷ held_of frames.size after)) (over after_call hs)) (sym held_clean)
-          (written_over tells device after_call h (held_of frames.size before) (held_of frames.size after) marked call held_there written long)),
+              (subst (λ (hs : List Held). Keeps tells (over device (held_of frames.size before ++ h ∷ held_of frames.size after)) (over after_call hs)) (sym held_clean)
+              (written_over tells device after_call h (held_of frames.size before) (held_of frames.size after) marked call held_there written long)),
         )
 
 -- what is known of a block of the frames

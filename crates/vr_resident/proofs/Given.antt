@@ -1,11 +1,11 @@
 -- What is held once clean frames went back to the pool.
-use Rattle.std.proofs.Common.{◌≡◌, ◌≢◌, ◌⊎◌, inl, inr, ⊎_elim, ◌<◌, ◌&&◌, ◌==◌, not, ℕ, Bool, true, false, cond, IsTrue, List, [], ◌∷◌, ◌++◌, refl, sym, ap, ◌∙◌, subst, true≢false, slice_set, nat_lt}
-use Rattle.std.specs.List.{AllByRecursion, flat_map}
+use Rattle.std.proofs.Common.{◌≡◌, ◌≢◌, inl, inr, ⊎_elim, ◌<◌, ◌&&◌, ℕ, Bool, true, false, cond, IsTrue, List, [], ◌∷◌, ◌++◌, refl, sym, ap, ◌∙◌, subst, true≢false, slice_set, nat_lt}
+use Rattle.std.specs.List.{AllByRecursion}
 use Rattle.vr_types.specs.Image.{Block, Image, block_at}
 use Rattle.vr_types.specs.Seen.{Seen, Left}
 use Rattle.vr_types.specs.Blocks.{Keeps}
-use Rattle.vr_resident.specs.Held.{Held, IsHeld, IsOther, IsOnce, overlay, IsChanged, AreClean, over}
-use Rattle.vr_resident.specs.Places.{Entry, block_in, is_shared, held_at, held_of, fits, is_at, count_of, gave}
+use Rattle.vr_resident.specs.Held.{Held, IsHeld, IsOther, IsOnce, overlay, IsChanged, over}
+use Rattle.vr_resident.specs.Places.{Entry, block_in, held_at, held_of, fits, is_at, count_of, gave}
 use Rattle.vr_resident.specs.Cache.{entries_of, held_by, IsKept, IsFramed, KeepsSeat}
 use Rattle.vr_resident.specs.declared.place.Place.{Place}
 use Rattle.vr_resident.specs.declared.place.Place.TheVariants.{Bare, Empty, Taken}

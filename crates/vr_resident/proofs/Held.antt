@@ -1,8 +1,8 @@
 -- How lists of held blocks are laid over a device: the overlay, what is changed, and what is clean.
-use Rattle.std.proofs.Common.{◌≡◌, ◌≢◌, ◌⊎◌, inl, inr, ⊎_elim, ◌<◌, ℕ, Bool, true, false, cond, IsTrue, List, [], ◌∷◌, ◌++◌, refl, sym, ap, ◌∙◌, subst, arith, length, length-set, slice_set, true≢false}
+use Rattle.std.proofs.Common.{◌≡◌, ◌≢◌, ◌⊎◌, inl, inr, ⊎_elim, ◌<◌, ℕ, Bool, true, false, cond, List, [], ◌∷◌, ◌++◌, refl, sym, ap, ◌∙◌, subst, arith, length, slice_set, true≢false}
 use Rattle.std.proofs.Common.{get_or-set_same, get_or-set_other}
 use Rattle.std.specs.List.{AllByRecursion}
-use Rattle.std.proofs.lemmas.List.{set-set, set_comm, set-get_or}
+use Rattle.std.proofs.lemmas.List.{set-set, set_comm}
 use Rattle.vr_types.specs.Image.{Block, Image, block_at}
 use Rattle.vr_resident.specs.Seeing.{overlay-length}
 use Rattle.vr_resident.specs.Held.{Held, IsOther, IsOnce, overlay, IsChanged, AreClean, clean}

@@ -1,26 +1,20 @@
 -- What a place that moves to the front, or changes its buffer, leaves of the frames.
-use Rattle.std.proofs.Common.{◌≡◌, ◌≢◌, ◌⊎◌, inl, inr, ⊎_elim, ◌+◌, ◌<◌, ◌≤◌, ◌==◌, ℕ, Bool, true, false, cond, IsTrue, List, [], ◌∷◌, ◌++◌, refl, sym, ap, ◌∙◌, subst, arith, length, slice_set, true≢false, append_assoc}
-use Rattle.std.specs.Prelude.{filter, count_by}
+use Rattle.std.proofs.Common.{◌≡◌, ◌+◌, ◌<◌, ◌≤◌, ◌==◌, ℕ, Bool, true, false, cond, List, [], ◌∷◌, ◌++◌, refl, sym, ap, ◌∙◌, subst, arith, length}
+use Rattle.std.specs.Prelude.{count_by}
 use Rattle.std.specs.List.{AllByRecursion, flat_map}
 use Rattle.std.proofs.lemmas.List.Concat.{flat_map-append}
 use Rattle.std.proofs.lemmas.List.Elements.{filter_agree}
 use Rattle.std.proofs.lemmas.List.{length-append}
 use Rattle.std.proofs.lemmas.List.Sums.{sum_by-cons, sum_by-append}
 use Rattle.vr_frames.specs.Views.{times}
-use Rattle.vr_frames.specs.Frames.{number_of}
-use Rattle.vr_frames.specs.Keeper.{HoldsEach, others_of}
-use Rattle.vr_frames.specs.declared.seat.FrameSeat.{FrameSeat}
-use Rattle.vr_resident.specs.Held.{Held}
 use Rattle.vr_resident.specs.Refill.{IsSameBuffer}
-use Rattle.vr_resident.specs.Places.{Entry, bytes_in, block_in, numbers_in, IsBufferOf, buffers_at, held_at, held_of, buffers_of, numbers_of, fits, is_at, AreNone, count_of}
-use Rattle.vr_resident.specs.Cache.{entries_of, pool_of, held_by, with_entries, IsFramed, KeepsSeat, others}
+use Rattle.vr_resident.specs.Places.{Entry, numbers_in, IsBufferOf, buffers_at, buffers_of, numbers_of, is_at, AreNone, count_of}
+use Rattle.vr_resident.specs.Cache.{entries_of, pool_of, with_entries, IsFramed, KeepsSeat}
 use Rattle.vr_resident.specs.declared.place.Buffer.{Buffer}
 use Rattle.vr_resident.specs.declared.place.Place.{Place}
-use Rattle.vr_resident.specs.declared.place.Place.TheVariants.{Bare, Empty, Taken}
 use Rattle.vr_resident.specs.declared.place.Sought.{Sought}
-use Rattle.vr_resident.specs.declared.place.Sought.TheVariants as sought
 use Rattle.vr_resident.specs.declared.frames.Frames.{Frames}
-use Rattle.vr_resident.proofs.Framing.{buffers_split, held_split}
+use Rattle.vr_resident.proofs.Framing.{buffers_split}
 
 -- counts of a list in two parts
 pub count-append : {X : Type 0} (p : X → Bool) (xs ys : List X) → count_by p (xs ++ ys) ≡ count_by p xs + count_by p ys
@@ -85,7 +79,6 @@ KeepsFrames frames entries = (IsFramed frames → IsFramed (with_entries frames 
 
 module _ (frames : Frames) (before after : List Entry) (number : ℕ) (place to : Place) (b c : Buffer)
     (was : entries_of frames ≡ before ++ (number, place) ∷ after) (has : buffers_at place ≡ b ∷ []) (will : buffers_at to ≡ c ∷ []) (same : IsSameBuffer b c) where
-
   old_buffers : buffers_of (entries_of frames) ≡ buffers_of before ++ b ∷ buffers_of after
   old_buffers = ap buffers_of was ∙ buffers_split before (number, place) after ∙ ap (λ (bs : List Buffer). buffers_of before ++ (bs ++ buffers_of after)) has
 
@@ -93,15 +86,14 @@ module _ (frames : Frames) (before after : List Entry) (number : ℕ) (place to 
       → (k : ℕ) → times k (numbers_of entries) ≡ times k (numbers_of (entries_of frames))
   numbers_as entries bs is numbers k = ap (λ (l : List Buffer). times k (flat_map numbers_in l)) is ∙ (numbers k ∙ ap (λ (l : List Buffer). times k (flat_map numbers_in l)) (sym old_buffers))
 
-
   pub framed_stays : KeepsFrames frames (before ++ (number, to) ∷ after)
   framed_stays =
       let new : buffers_of (before ++ (number, to) ∷ after) ≡ buffers_of before ++ c ∷ buffers_of after = buffers_split before (number, to) after ∙ ap (λ (bs : List Buffer). buffers_of before ++ (bs ++ buffers_of after)) will in
       let numbers : (k : ℕ) → times k (numbers_of (before ++ (number, to) ∷ after)) ≡ times k (numbers_of (entries_of frames)) = numbers_as (before ++ (number, to) ∷ after) (buffers_of before ++ c ∷ buffers_of after) new
       (λ k. ap (times k) (flat_map-append numbers_in (buffers_of before) (c ∷ buffers_of after) ∙ ap (λ (ns : List ℕ). flat_map numbers_in (buffers_of before) ++ (ns ++ flat_map numbers_in (buffers_of after))) same.number_same ∙ sym (flat_map-append numbers_in (buffers_of before) (b ∷ buffers_of after)))) in (
         λ is. framed_by frames (before ++ (number, to) ∷ after) numbers
-        (subst (AllByRecursion (IsBufferOf (pool_of frames) frames.size)) (sym new) (buffers_all (IsBufferOf (pool_of frames) frames.size) (buffers_of before) b c (buffers_of after) (subst (AllByRecursion (IsBufferOf (pool_of frames) frames.size)) old_buffers is.seated.each_is) (same.of_pool (pool_of frames) frames.size)))
-        (omega (arith, ap length new, ap length old_buffers, length-append (buffers_of before) (c ∷ buffers_of after), length-append (buffers_of before) (b ∷ buffers_of after))) is,
+            (subst (AllByRecursion (IsBufferOf (pool_of frames) frames.size)) (sym new) (buffers_all (IsBufferOf (pool_of frames) frames.size) (buffers_of before) b c (buffers_of after) (subst (AllByRecursion (IsBufferOf (pool_of frames) frames.size)) old_buffers is.seated.each_is) (same.of_pool (pool_of frames) frames.size)))
+            (omega (arith, ap length new, ap length old_buffers, length-append (buffers_of before) (c ∷ buffers_of after), length-append (buffers_of before) (b ∷ buffers_of after))) is,
         seat_by frames (before ++ (number, to) ∷ after) numbers,
       )
 
@@ -110,10 +102,17 @@ module _ (frames : Frames) (before after : List Entry) (number : ℕ) (place to 
       let new : buffers_of ((number, to) ∷ (before ++ after)) ≡ c ∷ (buffers_of before ++ buffers_of after) = ap (λ (bs : List Buffer). bs ++ buffers_of (before ++ after)) will ∙ ap (λ (bs : List Buffer). c ∷ bs) (flat_map-append (λ (f : Entry). buffers_at f.1) before after) in
       let numbers : (k : ℕ) → times k (numbers_of ((number, to) ∷ (before ++ after))) ≡ times k (numbers_of (entries_of frames)) = numbers_as ((number, to) ∷ (before ++ after)) (c ∷ (buffers_of before ++ buffers_of after)) new
       (λ k. ap (times k) (ap (λ (ns : List ℕ). ns ++ flat_map numbers_in (buffers_of before ++ buffers_of after)) same.number_same)
-      ∙ omega (arith, count-append (λ x. x == k) (numbers_in b) (flat_map numbers_in (buffers_of before ++ buffers_of after)), ap (times k) (flat_map-append numbers_in (buffers_of before) (buffers_of after)), count-append (λ x. x == k) (flat_map numbers_in (buffers_of before)) (flat_map numbers_in (buffers_of after)),
-      ap (times k) (flat_map-append numbers_in (buffers_of before) (b ∷ buffers_of after)), count-append (λ x. x == k) (flat_map numbers_in (buffers_of before)) (numbers_in b ++ flat_map numbers_in (buffers_of after)), count-append (λ x. x == k) (numbers_in b) (flat_map numbers_in (buffers_of after)))) in (
+      ∙ omega (
+        arith,
+        count-append (λ x. x == k) (numbers_in b) (flat_map numbers_in (buffers_of before ++ buffers_of after)),
+        ap (times k) (flat_map-append numbers_in (buffers_of before) (buffers_of after)),
+        count-append (λ x. x == k) (flat_map numbers_in (buffers_of before)) (flat_map numbers_in (buffers_of after)),
+        ap (times k) (flat_map-append numbers_in (buffers_of before) (b ∷ buffers_of after)),
+        count-append (λ x. x == k) (flat_map numbers_in (buffers_of before)) (numbers_in b ++ flat_map numbers_in (buffers_of after)),
+        count-append (λ x. x == k) (numbers_in b) (flat_map numbers_in (buffers_of after)),
+      )) in (
         λ is. framed_by frames ((number, to) ∷ (before ++ after)) numbers
-        (subst (AllByRecursion (IsBufferOf (pool_of frames) frames.size)) (sym new) (let all = buffers_front (IsBufferOf (pool_of frames) frames.size) (buffers_of before) b (buffers_of after) (subst (AllByRecursion (IsBufferOf (pool_of frames) frames.size)) old_buffers is.seated.each_is) in (same.of_pool (pool_of frames) frames.size all.0, all.1)))
-        (omega (arith, ap length new, ap length old_buffers, length-append (buffers_of before) (buffers_of after), length-append (buffers_of before) (b ∷ buffers_of after))) is,
+            (subst (AllByRecursion (IsBufferOf (pool_of frames) frames.size)) (sym new) (let all = buffers_front (IsBufferOf (pool_of frames) frames.size) (buffers_of before) b (buffers_of after) (subst (AllByRecursion (IsBufferOf (pool_of frames) frames.size)) old_buffers is.seated.each_is) in (same.of_pool (pool_of frames) frames.size all.0, all.1)))
+            (omega (arith, ap length new, ap length old_buffers, length-append (buffers_of before) (buffers_of after), length-append (buffers_of before) (b ∷ buffers_of after))) is,
         seat_by frames ((number, to) ∷ (before ++ after)) numbers,
       )

@@ -1,15 +1,15 @@
 -- What calls leave of blocks that are held over a device: what is seen of them, and what always
 -- holds of the list of those that are held.
-use Rattle.std.proofs.Common.{◌≡◌, ◌≢◌, ◌⊎◌, inl, inr, ⊎_elim, ◌<◌, ℕ, Bool, true, false, cond, IsTrue, List, [], ◌∷◌, ◌++◌, refl, sym, ap, ◌∙◌, subst, arith, length, slice_set}
+use Rattle.std.proofs.Common.{◌≡◌, ◌⊎◌, inl, inr, ⊎_elim, ◌<◌, ℕ, Bool, true, false, IsTrue, List, [], ◌∷◌, ◌++◌, refl, sym, ap, ◌∙◌, subst, arith, length, slice_set}
 use Rattle.std.proofs.Common.{get_or-set_same}
 use Rattle.std.specs.List.{AllByRecursion}
 use Rattle.vr_types.specs.Image.{Block, Image, IsImage, MayAlso, block_at}
 use Rattle.vr_types.specs.Seen.{Seen, Left}
 use Rattle.vr_types.specs.Moments.{During}
 use Rattle.vr_types.specs.Blocks.{Keeps, Puts}
-use Rattle.vr_resident.specs.Held.{Held, IsHeld, IsOther, IsOnce, overlay, IsChanged, AreClean, clean, over}
+use Rattle.vr_resident.specs.Held.{Held, IsHeld, IsOther, overlay, IsChanged, AreClean, clean, over}
 use Rattle.vr_resident.specs.Seeing.{left_over}
-use Rattle.vr_resident.proofs.Held.{all_at, all_rest, all_with, once_other, once_rest, once_same, clean_past, overlay-written, overlay-absorbs, overlay-between, overlay-put, overlay-clean, changed_here, changed_clean, changed_more, changed_front}
+use Rattle.vr_resident.proofs.Held.{all_at, all_rest, all_with, once_other, once_rest, once_same, clean_past, overlay-written, overlay-absorbs, overlay-clean, changed_here, changed_clean, changed_more}
 
 module _ (tells : Bool) where
   module _ (device : Seen) (held next : List Held) (within : IsTrue tells → (image : Image) → device.images device.moment image → Left device image) where

@@ -1,26 +1,23 @@
 -- What a frame that goes back to the pool leaves.
-use Rattle.std.proofs.Common.{rules, ◌≡◌, ◌≢◌, ◌⊎◌, inl, inr, ⊎_elim, ◌+◌, ◌-◌, ◌<◌, ◌≤◌, ◌==◌, ◌&&◌, ℕ, Bool, true, false, cond, IsTrue, List, [], ◌∷◌, ◌++◌, map, refl, sym, ap, ◌∙◌, subst, arith, length, true≢false, min, nat_lt, le-ltb}
-use Rattle.std.specs.Prelude.{count_by}
+use Rattle.std.proofs.Common.{◌≡◌, ◌+◌, ◌-◌, ◌<◌, ◌≤◌, ◌&&◌, ℕ, Bool, true, false, cond, List, [], ◌∷◌, ◌++◌, refl, sym, ap, ◌∙◌, subst, arith, length, true≢false, nat_lt, le-ltb}
 use Rattle.std.specs.List.{AllByRecursion, flat_map}
 use Rattle.std.proofs.lemmas.List.Concat.{flat_map-append}
 use Rattle.std.proofs.lemmas.List.{length-append}
 use Rattle.std.proofs.lemmas.List.Sums.{sum_by-cons, sum_by-append}
-use Rattle.lru.specs.LruCache.{lru_cache, LruCache}
-use Rattle.vr_frames.specs.Frames.{number_of, bytes_of, frames_of, frame_size, parts_of, IsFrameOf, IsSeatOf, IsSameSeat, Returns}
-use Rattle.vr_frames.specs.Keeper.{HoldsEach, others_of}
+use Rattle.lru.specs.LruCache.{LruCache}
+use Rattle.vr_frames.specs.Frames.{number_of, frames_of, parts_of, IsFrameOf, IsSeatOf, IsSameSeat, Returns}
+use Rattle.vr_frames.specs.Keeper.{others_of}
 use Rattle.vr_frames.specs.Views.{times}
 use Rattle.vr_frames.specs.declared.frame.Frame.{Frame}
 use Rattle.vr_frames.specs.declared.seat.FrameSeat.{FrameSeat}
 use Rattle.vr_frames.proofs.CallerLemmas.{OneMore, one_more-between, holds-kept, holds_each-returned, others_of-returned, others_of-none}
-use Rattle.vr_resident.specs.Held.{with_last}
 use Rattle.vr_resident.specs.Table.{IsFit, HasBuffer}
 use Rattle.vr_resident.specs.Places.{Entry, numbers_in, is_shared, IsBufferOf, buffers_at, buffers_of, numbers_of, fits, is_at, AreNone, IsLast, count_of, gave}
-use Rattle.vr_resident.specs.Cache.{entries_of, pool_of, with_entries, reseated, IsFramed, IsSeated, KeepsSeat, others, GivesAt}
+use Rattle.vr_resident.specs.Cache.{entries_of, pool_of, reseated, IsSeated, KeepsSeat, others, GivesAt}
 use Rattle.vr_resident.specs.declared.place.Buffer.{Buffer}
 use Rattle.vr_resident.specs.declared.place.Buffer.TheVariants.{Own, Shared}
 use Rattle.vr_resident.specs.declared.place.Place.{Place}
 use Rattle.vr_resident.specs.declared.place.Place.TheVariants.{Bare, Empty, Taken}
-use Rattle.vr_resident.specs.declared.place.Sought.{Sought}
 use Rattle.vr_resident.specs.declared.place.Sought.TheVariants as sought
 use Rattle.vr_resident.specs.declared.frames.Frames.{Frames}
 use Rattle.vr_resident.proofs.Framing.{buffers_split}
@@ -132,8 +129,13 @@ gives_one first old new k number so_far last given =
     ∙ (ap (gave 1) (sym last.split) ∙ (ap (gave 1) so_far ∙ last_one_more (is_at sought.Free) (λ (e : Entry). (e.0, Bare)) (λ e. refl) k (entries_of first))))
 
 pub one_free : (entries : List Entry) (number : ℕ) → IsLast sought.Free entries number → 0 < count_of sought.Free entries
-one_free entries number last = omega (arith, ap (count_of sought.Free) last.split, sum_by-append (λ (e : Entry). cond {A = ℕ} (is_at sought.Free e) 1 0) last.before ((number, last.place) ∷ last.after),
-    sum_by-cons (λ (e : Entry). cond {A = ℕ} (is_at sought.Free e) 1 0) (number, last.place) last.after, ap {B = ℕ} (λ (b : Bool). cond b 1 0) last.it_fits)
+one_free entries number last = omega (
+  arith,
+  ap (count_of sought.Free) last.split,
+  sum_by-append (λ (e : Entry). cond {A = ℕ} (is_at sought.Free e) 1 0) last.before ((number, last.place) ∷ last.after),
+  sum_by-cons (λ (e : Entry). cond {A = ℕ} (is_at sought.Free e) 1 0) (number, last.place) last.after,
+  ap {B = ℕ} (λ (b : Bool). cond b 1 0) last.it_fits,
+)
 
 pub free_left : (first old : Frames) (k : ℕ) → entries_of old ≡ gave k (entries_of first) → count_of sought.Free (entries_of old) ≡ count_of sought.Free (entries_of first) - k
 free_left first old k so_far = ap (count_of sought.Free) so_far ∙ count_last (is_at sought.Free) (λ (e : Entry). (e.0, Bare)) (λ e. refl) k (entries_of first)
@@ -148,14 +150,30 @@ gave_none (e ∷ entries) = ap (λ (xs : List Entry). e ∷ xs) (gave_none entri
 
 -- each give leaves one fewer
 pub fewer_shared : (old new : Frames) (number : ℕ) → (last : IsLast sought.Shared (entries_of old) number) → GivesAt number old new → count_of sought.Shared (entries_of new) + 1 ≡ count_of sought.Shared (entries_of old)
-fewer_shared old new number last given = omega (arith, ap (count_of sought.Shared) last.split, ap (λ (t : LruCache ℕ Place). count_of sought.Shared t.entries) (given last.before last.after last.place last.split),
-    count_split sought.Shared last.before (number, last.place) last.after, count_split sought.Shared last.before (number, Bare) last.after, sum_by-cons (λ (e : Entry). cond {A = ℕ} (is_at sought.Shared e) 1 0) (number, last.place) [], ap {B = ℕ} (λ (b : Bool). cond b 1 0) last.it_fits)
+fewer_shared old new number last given = omega (
+  arith,
+  ap (count_of sought.Shared) last.split,
+  ap (λ (t : LruCache ℕ Place). count_of sought.Shared t.entries) (given last.before last.after last.place last.split),
+  count_split sought.Shared last.before (number, last.place) last.after,
+  count_split sought.Shared last.before (number, Bare) last.after,
+  sum_by-cons (λ (e : Entry). cond {A = ℕ} (is_at sought.Shared e) 1 0) (number, last.place) [],
+  ap {B = ℕ} (λ (b : Bool). cond b 1 0) last.it_fits,
+)
 
 pub buffers_given : (old new : Frames) (number : ℕ) → (last : IsLast sought.Free (entries_of old) number) → GivesAt number old new → length (buffers_of (entries_of new)) + 1 ≡ length (buffers_of (entries_of old))
 buffers_given old new number last given =
     let s = shared_is last.place (free_shared last.place last.it_fits) in
-    omega (arith, ap (λ (es : List Entry). length (buffers_of es)) last.split, ap (λ (t : LruCache ℕ Place). length (buffers_of t.entries)) (given last.before last.after last.place last.split),
-    ap length (buffers_split last.before (number, last.place) last.after), ap length (buffers_split last.before (number, Bare) last.after), length-append (buffers_of last.before) (buffers_at last.place ++ buffers_of last.after), length-append (buffers_at last.place) (buffers_of last.after), length-append (buffers_of last.before) (buffers_of last.after), ap length s.1)
+    omega (
+      arith,
+      ap (λ (es : List Entry). length (buffers_of es)) last.split,
+      ap (λ (t : LruCache ℕ Place). length (buffers_of t.entries)) (given last.before last.after last.place last.split),
+      ap length (buffers_split last.before (number, last.place) last.after),
+      ap length (buffers_split last.before (number, Bare) last.after),
+      length-append (buffers_of last.before) (buffers_at last.place ++ buffers_of last.after),
+      length-append (buffers_at last.place) (buffers_of last.after),
+      length-append (buffers_of last.before) (buffers_of last.after),
+      ap length s.1,
+    )
 
 -- a place has at most one buffer
 pub buffers_few : (entries : List Entry) → length (buffers_of entries) ≤ length entries

@@ -1,11 +1,11 @@
 -- Calls one after the other.
-use Rattle.std.proofs.Common.{◌≡◌, ◌⊎◌, ◌<◌, ℕ, Bool, true, false, IsTrue, List, Result, Ok, Err, OnOk, is_err, is_ok, refl, sym, ap, ◌∙◌, subst, true≢false, [], ◌∷◌, length, arith}
+use Rattle.std.proofs.Common.{◌≡◌, ℕ, Bool, false, IsTrue, List, Result, Ok, Err, OnOk, is_err, refl, sym, ap, ◌∙◌, subst, true≢false, [], ◌∷◌, length, arith}
 use Rattle.vr_types.specs.Image.{Image, block_at}
 use Rattle.vr_types.specs.Seen.{Seen, Left}
 use Rattle.vr_types.specs.Blocks.{Keeps, Forced}
 use Rattle.vr_resident.specs.Held.{Held, IsHeld, over, overlay}
 use Rattle.vr_resident.specs.Places.{Entry, block_in, held_of}
-use Rattle.vr_resident.specs.Cache.{IsKept, KeepsSeat, others, entries_of, held_by}
+use Rattle.vr_resident.specs.Cache.{IsKept, KeepsSeat, entries_of, held_by}
 use Rattle.vr_resident.specs.Resident.{seen_through}
 use Rattle.vr_resident.specs.declared.place.Buffer.{Buffer}
 use Rattle.vr_resident.specs.declared.place.Place.TheVariants.{Taken}

@@ -1,25 +1,22 @@
 -- What a further frame of the pool, and a block that leaves, make of the frames.
-use Rattle.std.proofs.Common.{rules, ◌≡◌, ◌≢◌, ◌⊎◌, inl, inr, ⊎_elim, ◌+◌, ◌<◌, ◌≤◌, ◌==◌, ℕ, Bool, true, false, cond, IsTrue, List, [], ◌∷◌, ◌++◌, refl, sym, ap, ◌∙◌, subst, arith, length, append-nil, Option, None, Some, IfNone, IsSome, MatchOption}
+use Rattle.std.proofs.Common.{rules, ◌≡◌, ◌⊎◌, ◌+◌, ◌<◌, ℕ, Bool, true, false, List, [], ◌∷◌, ◌++◌, refl, sym, ap, ◌∙◌, subst, arith, length, append-nil, Option, None, Some, IfNone, IsSome, MatchOption}
 use Rattle.std.specs.List.{AllByRecursion, flat_map}
 use Rattle.std.proofs.lemmas.List.Concat.{flat_map-append}
 use Rattle.std.proofs.lemmas.List.{length-append}
-use Rattle.lru.specs.LruCache.{lru_cache, LruCache}
-use Rattle.vr_frames.specs.Frames.{number_of, bytes_of, frames_of, frame_size, parts_of, IsFrameOf, IsSeatOf, IsSameSeat, Gets, FindsAllOut}
-use Rattle.vr_frames.specs.Keeper.{HoldsEach, others_of}
+use Rattle.lru.specs.LruCache.{LruCache}
+use Rattle.vr_frames.specs.Frames.{number_of, frames_of, parts_of, IsFrameOf, IsSeatOf, IsSameSeat, Gets, FindsAllOut}
 use Rattle.vr_frames.specs.Views.{times}
 use Rattle.vr_frames.specs.declared.frame.Frame.{Frame}
 use Rattle.vr_frames.specs.declared.seat.FrameSeat.{FrameSeat}
 use Rattle.vr_frames.proofs.CallerLemmas.{OneMore, one_more-between, holds_each-got, others_of-got}
 use Rattle.vr_types.specs.Seen.{Seen}
 use Rattle.vr_resident.specs.Held.{Held, IsHeld}
-use Rattle.vr_resident.specs.Table.{IsFit}
 use Rattle.vr_resident.specs.Places.{Entry, block_in, numbers_in, IsBufferOf, buffers_at, held_at, held_of, buffers_of, numbers_of, fits, AreNone, IsLast, count_of}
-use Rattle.vr_resident.specs.Cache.{entries_of, pool_of, held_by, with_entries, IsFramed, IsSeated, IsKept, TakesFrame, reseated, KeepsSeat, others, GetsFrame, LastLeaves, Leaves, MakesRoom, GetsNone, empty_count, bare_count}
+use Rattle.vr_resident.specs.Cache.{entries_of, pool_of, held_by, IsFramed, IsSeated, IsKept, TakesFrame, reseated, KeepsSeat, GetsFrame, LastLeaves, Leaves, GetsNone, empty_count, bare_count}
 use Rattle.vr_resident.specs.declared.place.Buffer.{Buffer}
-use Rattle.vr_resident.specs.declared.place.Buffer.TheVariants.{Own, Shared}
+use Rattle.vr_resident.specs.declared.place.Buffer.TheVariants.{Shared}
 use Rattle.vr_resident.specs.declared.place.Place.{Place}
 use Rattle.vr_resident.specs.declared.place.Place.TheVariants.{Bare, Empty, Taken}
-use Rattle.vr_resident.specs.declared.place.Sought.{Sought}
 use Rattle.vr_resident.specs.declared.place.Sought.TheVariants as sought
 use Rattle.vr_resident.specs.declared.frames.Frames.{Frames}
 use Rattle.vr_resident.proofs.Framing.{buffers_split, held_split}

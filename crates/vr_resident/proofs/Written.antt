@@ -1,12 +1,12 @@
 -- Lists of held blocks of which some are written.
-use Rattle.std.proofs.Common.{rules, ◌≡◌, ◌≢◌, ◌⊎◌, inl, inr, ⊎_elim, ◌+◌, ◌-◌, ◌<◌, ◌≤◌, ◌==◌, ◌&&◌, ◌||◌, ℕ, Bool, true, false, cond, IsTrue, List, [], ◌∷◌, ◌++◌, map, refl, sym, ap, ◌∙◌, subst, arith, length, true≢false, Contains, nat_lt, eq-eqb, ne_eqb, lt-ltb, le-ltb, zero, suc}
+use Rattle.std.proofs.Common.{◌≡◌, ◌⊎◌, inl, inr, ⊎_elim, ◌+◌, ◌-◌, ◌<◌, ◌≤◌, ◌==◌, ◌&&◌, ◌||◌, ℕ, Bool, true, false, cond, IsTrue, List, [], ◌∷◌, ◌++◌, refl, sym, ap, ◌∙◌, arith, length, true≢false, Contains, nat_lt, eq-eqb, ne_eqb, lt-ltb, le-ltb, zero, suc}
 use Rattle.std.proofs.Common.{slice_set, get_or, get_or-set_other}
 use Rattle.std.specs.Prelude.{count_by}
 use Rattle.std.specs.List.{AllByRecursion}
 use Rattle.std.proofs.lemmas.Bool.{cases_lt}
 use Rattle.std.proofs.lemmas.List.Sums.{sum_by-cons, sum_by-append}
 use Rattle.vr_types.specs.Image.{Block, Image, block_at}
-use Rattle.vr_resident.specs.Held.{Held, clean, IsOther, IsOnce, IsChanged, overlay, with_last, flushed, forced, is_listed, changed_count}
+use Rattle.vr_resident.specs.Held.{Held, clean, IsOther, IsChanged, overlay, with_last, forced, is_listed}
 
 abbrev mark_if : Bool → ℕ
 mark_if b = cond b 1 0

@@ -1,12 +1,10 @@
 -- How a cache begins. It is this project's own.
 use Rattle.std.specs.Prelude.{◌≡◌, ◌+◌, ◌<◌, ℕ, zero, suc, List, [], ◌∷◌, length}
-use Rattle.lru.specs.LruCache.{LruCache, lru_cache}
 use Rattle.vr_frames.specs.Frames.{IsSameSeat, IsSeatOf, frame_count, frames_of, parts_of, failed_claims}
 use Rattle.vr_frames.specs.declared.shared.Pool.{Pool}
 use Rattle.vr_frames.specs.declared.seat.FrameSeat.{FrameSeat}
 use Rattle.vr_resident.specs.Places.{Entry, buffers_of}
 use Rattle.vr_resident.specs.Cache.{entries_of, pool_of, held_by, empty_count, bare_count, others}
-use Rattle.vr_resident.specs.declared.place.Place.{Place}
 use Rattle.vr_resident.specs.declared.place.Place.TheVariants.{Bare}
 use Rattle.vr_resident.specs.declared.frames.Frames.{Frames}
 

@@ -1,13 +1,13 @@
 -- The laws of what is seen of a device's blocks through frames.
-use Rattle.std.proofs.Common.{take, replicate, ◌≡◌, ◌⊎◌, inl, inr, ⊎_elim, ◌<◌, ℕ, Bool, true, false, cond, IsTrue, List, [], ◌∷◌, ◌++◌, refl, sym, ap, ◌∙◌, subst, arith, length, slice_set, get_or-set_same, get_or-set_other, eq-eqb}
+use Rattle.std.proofs.Common.{replicate, ◌≡◌, ◌⊎◌, inl, inr, ⊎_elim, ◌<◌, ℕ, Bool, true, false, cond, List, [], ◌∷◌, ◌++◌, refl, sym, ap, ◌∙◌, subst, arith, length, slice_set, get_or-set_same, get_or-set_other}
 use mathlib.Core.Logic.{dite}
 use native.Mathlib.Decide.{ℕ_discrete}
 use Rattle.std.proofs.lemmas.List.{length-append, length-take, length-replicate, length-set}
-use Rattle.vr_types.specs.Image.{Block, Image, IsImage, block_at}
+use Rattle.vr_types.specs.Image.{Block, Image, block_at}
 use Rattle.vr_types.specs.Seen.{Seen, Left}
 use Rattle.vr_resident.specs.Held.{Held, overlay, IsChanged, over}
 use Rattle.vr_resident.specs.Places.{Entry, bytes_in, held_at, held_of, block_in}
-use Rattle.vr_resident.specs.Cache.{entries_of, held_by}
+use Rattle.vr_resident.specs.Cache.{entries_of}
 use Rattle.vr_resident.specs.Resident.{seen_through}
 use Rattle.vr_resident.specs.declared.place.Buffer.{Buffer}
 use Rattle.vr_resident.specs.declared.place.Place.{Place}
@@ -62,4 +62,3 @@ changed_size size (e ∷ entries) n block is = by_place e.1 (changed_size size e
 
 pub sized_through : (device : Seen) (frames : Frames) (n : ℕ) (block : Block) → (device.may n block → length block ≡ device.size) → (seen_through device frames).may n block → length block ≡ device.size
 sized_through device frames n block whole may = ⊎_elim whole (changed_size device.size (entries_of frames) n block) may
-

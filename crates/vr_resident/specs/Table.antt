@@ -1,5 +1,5 @@
 -- A place of the table. It is this project's own.
-use Rattle.std.specs.Prelude.{◌≡◌, ◌<◌, ◌∷◌, ◌++◌, ℕ, Bool, true, List, length}
+use Rattle.std.specs.Prelude.{◌≡◌, ◌<◌, ◌∷◌, ◌++◌, ℕ, true, List, length}
 use Rattle.vr_resident.specs.Places.{Entry, buffers_at, fits}
 use Rattle.vr_resident.specs.declared.place.Place.{Place}
 use Rattle.vr_resident.specs.declared.place.Sought.{Sought}

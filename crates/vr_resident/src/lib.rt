@@ -14,7 +14,6 @@ mod making;
 mod moving;
 mod opening;
 mod place;
-
 mod room;
 mod table;
 mod why;
@@ -22,5 +21,5 @@ mod write_back;
 mod writing;
 
 pub use opening::{resident, resident_own};
-pub use write_back::Resident;
 pub use why::{ResidentNo, ResidentWhy};
+pub use write_back::Resident;

@@ -9,8 +9,8 @@ ghost use Rattle.vr_resident.specs.declared.why.ResidentWhy.TheVariants.{Memory}
 use crate::frames::Frames;
 use crate::giving::give_all;
 use crate::making::{bare_table, own_sixteen, take_sixteen};
-use crate::write_back::Resident;
 use crate::why::{ResidentNo, ResidentWhy};
+use crate::write_back::Resident;
 use std::alloc::Global;
 use std::sync::Arc;
 use vr_device::BlockDevice;

@@ -111,10 +111,7 @@ pub(crate) fn flush<D: BlockDevice>(
 }
 
 /// Writes every changed block and syncs once, up to the first that fails.
-pub(crate) fn write_all<D: BlockDevice>(
-    device: &mut D,
-    frames: &mut Frames,
-) -> Option<DeviceFault>
+pub(crate) fn write_all<D: BlockDevice>(device: &mut D, frames: &mut Frames) -> Option<DeviceFault>
     requires { IsKept D.tells (D.seen device.old) frames.old }
     ensures kept { IsKept D.tells (D.seen device.new) frames.new }
     ensures seat { KeepsSeat frames.old frames.new }

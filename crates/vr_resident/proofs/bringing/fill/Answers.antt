@@ -1,19 +1,15 @@
-use Rattle.std.proofs.Common.{rules, ◌≡◌, ◌≤◌, ◌<◌, ◌⊎◌, OnOk, OnErr, ℕ, Bool, true, false, IsTrue, slice_set, List, [], ◌∷◌, ◌++◌, sym, ap, ◌∙◌, subst, refl, length, arith, inl, inr, ⊎_elim}
+use Rattle.std.proofs.Common.{◌≡◌, ◌≤◌, ℕ, true, IsTrue, slice_set, ◌∷◌, ◌++◌, sym, ap, ◌∙◌, subst, refl, length, arith, inl, inr, ⊎_elim}
 use Rattle.lru.specs.LruCache.{LruCache, lru_cache}
-use Rattle.vr_types.specs.Image.{Image, Block, block_at}
-use Rattle.vr_types.specs.Seen.{Seen, Left}
-use Rattle.vr_types.specs.Blocks.{Keeps, Puts}
-use Rattle.vr_resident.specs.Held.{Held, over, overlay, IsOther}
-use Rattle.vr_resident.specs.Places.{Entry, block_in, bytes_in, buffers_at, fits}
-use Rattle.vr_resident.specs.Cache.{IsKept, KeepsSeat, ReadsIn, FillsIn, CanFill, GetsBlock, PutsBlock, StaysEmpty, IsSameCache, IsFirst, Enters, Hits, Misses, held_by, entries_of, with_entries, pool_of, put_as}
-use Rattle.vr_resident.specs.declared.frames.Frames.{Frames}
-use Rattle.vr_resident.specs.declared.place.Buffer.{Buffer}
+use Rattle.vr_types.specs.Image.{Image, Block}
+use Rattle.vr_types.specs.Seen.{Left}
+use Rattle.vr_types.specs.Blocks.{Puts}
+use Rattle.vr_resident.specs.Held.{Held, over, overlay}
+use Rattle.vr_resident.specs.Places.{block_in, bytes_in, buffers_at}
+use Rattle.vr_resident.specs.Cache.{IsKept, KeepsSeat, FillsIn, Enters, Hits, held_by, entries_of, pool_of, put_as}
 use Rattle.vr_resident.specs.declared.place.Place.{Place}
 use Rattle.vr_resident.specs.declared.place.Place.TheVariants.{Bare, Empty, Taken}
-use Rattle.vr_resident.specs.declared.place.Sought.TheVariants as sought
-use Rattle.vr_resident.proofs.Framing.{twice, has_room, held_in}
-use Rattle.vr_resident.proofs.Taking.{empty_is}
-use Rattle.vr_resident.proofs.Entering.{none_other, room_other, same_buffer, buffer_in, one_of, front, is_first, entered, entered_seat, hit, hit_seat, refilled, refilled_cache, refilled_seat, read_kept, unread_kept, used_kept, put_again, put_new, reads_again, reads_new}
+use Rattle.vr_resident.proofs.Framing.{has_room, held_in}
+use Rattle.vr_resident.proofs.Entering.{buffer_in, one_of, front, entered, entered_seat, hit, hit_seat, put_again, put_new, reads_again, reads_new}
 use Rattle.vr_resident.proofs.bringing.fill.Goals as goal
 
 pub fill-requires : goal.fill-requires

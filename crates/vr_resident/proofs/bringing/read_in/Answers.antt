@@ -1,19 +1,14 @@
-use Rattle.std.proofs.Common.{rules, ◌≡◌, ◌≤◌, ◌<◌, ◌⊎◌, OnOk, OnErr, ℕ, Bool, true, false, IsTrue, List, [], ◌∷◌, ◌++◌, sym, ap, ◌∙◌, subst, refl, length, arith, inl, inr, ⊎_elim}
+use Rattle.std.proofs.Common.{rules, ◌≡◌, ℕ, false, ◌∷◌, ◌++◌, sym, ap, ◌∙◌, subst, refl}
 use Rattle.lru.specs.LruCache.{LruCache, lru_cache}
-use Rattle.vr_types.specs.Image.{Image, Block, block_at}
-use Rattle.vr_types.specs.Seen.{Seen, Left}
-use Rattle.vr_types.specs.Blocks.{Keeps, Puts}
-use Rattle.vr_resident.specs.Held.{Held, over, IsOther}
-use Rattle.vr_resident.specs.Places.{Entry, block_in, bytes_in, buffers_at, fits}
-use Rattle.vr_resident.specs.Cache.{IsKept, KeepsSeat, ReadsIn, FillsIn, CanFill, GetsBlock, PutsBlock, StaysEmpty, IsSameCache, IsFirst, Hits, Misses, held_by, entries_of, with_entries, pool_of, put_as}
-use Rattle.vr_resident.specs.declared.frames.Frames.{Frames}
+use Rattle.vr_types.specs.Blocks.{Keeps}
+use Rattle.vr_resident.specs.Held.{over}
+use Rattle.vr_resident.specs.Cache.{IsKept, KeepsSeat, ReadsIn, IsSameCache, held_by, entries_of, pool_of}
 use Rattle.vr_resident.specs.declared.place.Buffer.{Buffer}
 use Rattle.vr_resident.specs.declared.place.Place.{Place}
 use Rattle.vr_resident.specs.declared.place.Place.TheVariants.{Bare, Empty, Taken}
-use Rattle.vr_resident.specs.declared.place.Sought.TheVariants as sought
 use Rattle.vr_resident.proofs.Framing.{twice, has_room, held_in}
 use Rattle.vr_resident.proofs.Taking.{empty_is}
-use Rattle.vr_resident.proofs.Entering.{none_other, room_other, same_buffer, buffer_in, one_of, front, is_first, entered, entered_seat, hit, hit_seat, refilled, refilled_cache, refilled_seat, read_kept, unread_kept, used_kept, put_again, put_new}
+use Rattle.vr_resident.proofs.Entering.{buffer_in, one_of, is_first, entered, entered_seat, refilled_cache, refilled_seat, read_kept, unread_kept}
 use Rattle.vr_resident.proofs.bringing.read_in.Goals as goal
 
 pub read-requires-clause-room : goal.read-requires-clause-room
@@ -41,7 +36,10 @@ returns-in-Ok g c =
     let both = read_kept tells (seen c.args.device.now) (seen c.read.new.device) frames c.args.n c.args.number r.before r.after b c.read.new.self same c.requires.kept c.read.ensures.after was c.requires.block c.requires.not_held c.in-Ok.ensures.bytes (λ told image left. g.met.D.BlockDevice.images_may c.read.new.device image told left) in
     record {
       ok = subst (λ (x : LruCache ℕ Place). ReadsIn c.args.n frames (record frames { table = x })) (sym new) (record {
-        h = held_in frames c.args.n false c.read.new.self; it_is = refl; unchanged = refl; not_held = c.requires.not_held;
+        h = held_in frames c.args.n false c.read.new.self;
+        it_is = refl;
+        unchanged = refl;
+        not_held = c.requires.not_held;
         enters = entered frames c.args.n c.args.number r.before r.after b c.read.new.self false same was;
         first = is_first frames c.args.n c.args.number r.before r.after b c.read.new.self false same;
       });

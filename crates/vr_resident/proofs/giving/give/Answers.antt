@@ -1,9 +1,9 @@
-use Rattle.std.proofs.Common.{◌≡◌, ◌∷◌, ◌++◌, [], List, ℕ, true≢false, sym, ap, ◌∙◌, subst, refl}
-use Rattle.lru.specs.LruCache.{LruCache, lru_cache}
+use Rattle.std.proofs.Common.{◌∷◌, [], ℕ, true≢false, sym, ap, ◌∙◌, subst}
+use Rattle.lru.specs.LruCache.{LruCache}
 use Rattle.vr_frames.specs.declared.shared.Pool.{Pool}
 use Rattle.vr_frames.specs.Frames.{IsSeatOf, IsFrameOf}
-use Rattle.vr_resident.specs.Places.{Entry, is_shared, buffers_at}
-use Rattle.vr_resident.specs.Cache.{IsSeated, KeepsSeat, entries_of, pool_of}
+use Rattle.vr_resident.specs.Places.{is_shared}
+use Rattle.vr_resident.specs.Cache.{IsSeated, KeepsSeat, entries_of}
 use Rattle.vr_resident.specs.declared.place.Buffer.{Buffer}
 use Rattle.vr_resident.specs.declared.place.Place.{Place}
 use Rattle.vr_resident.proofs.Entering.{one_of}

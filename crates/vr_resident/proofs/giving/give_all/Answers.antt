@@ -1,9 +1,6 @@
-use Rattle.std.proofs.Common.{◌≡◌, ◌<◌, ◌∙◌, arith}
-use Rattle.vr_resident.specs.Cache.{entries_of}
-use Rattle.vr_resident.proofs.Steps.{seat_none, seat_then}
-use Rattle.vr_resident.proofs.Flushing.{fit_of_last}
-use Rattle.vr_resident.proofs.Returning.{all_home, fewer_shared}
-use Rattle.vr_resident.specs.declared.place.Sought.TheVariants as sought
+use Rattle.std.proofs.Common.{◌∙◌}
+use Rattle.vr_resident.proofs.Steps.{seat_then}
+use Rattle.vr_resident.proofs.Returning.{all_home}
 use Rattle.vr_resident.proofs.giving.give_all.Goals as goal
 
 pub returns-clause-home : goal.returns-clause-home

@@ -1,5 +1,4 @@
-use Rattle.std.proofs.Common.{◌≡◌, ◌≤◌, ◌-◌, min, length, List, ℕ, ap, refl, arith}
-use Rattle.vr_resident.specs.Places.{Entry, buffers_of, count_of}
+use Rattle.std.proofs.Common.{arith}
 use Rattle.vr_resident.specs.Cache.{entries_of}
 use Rattle.vr_resident.specs.declared.place.Sought.TheVariants as sought
 use Rattle.vr_resident.proofs.Moves.{count_none}

@@ -1,4 +1,4 @@
-use Rattle.std.proofs.Common.{◌≡◌, sym, ap, ◌∙◌, List, ℕ, nat_eq}
+use Rattle.std.proofs.Common.{sym, ap, ◌∙◌, List, ℕ, nat_eq}
 use Rattle.lru.specs.LruCache.{LruCache, lru_cache, put_entries}
 use Rattle.vr_resident.specs.Places.{Entry}
 use Rattle.vr_resident.specs.declared.place.Place.{Place}

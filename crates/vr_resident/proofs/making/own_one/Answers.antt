@@ -1,6 +1,5 @@
-use Rattle.std.proofs.Common.{◌≡◌, ◌≤◌, ◌∷◌, ◌++◌, sym, ap, ◌∙◌, subst, List, ℕ, length, arith}
-use Rattle.lru.specs.LruCache.{LruCache, lru_cache}
-use Rattle.vr_resident.specs.Places.{Entry}
+use Rattle.std.proofs.Common.{◌≡◌, ◌≤◌, ◌∷◌, ◌++◌, sym, ap, ◌∙◌, subst, ℕ, length, arith}
+use Rattle.lru.specs.LruCache.{LruCache}
 use Rattle.vr_resident.specs.Cache.{IsSeated, KeepsSeat, entries_of}
 use Rattle.vr_resident.specs.Making.{IsTaken}
 use Rattle.vr_resident.specs.declared.place.Place.{Place}

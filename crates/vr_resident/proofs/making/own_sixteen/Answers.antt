@@ -1,6 +1,5 @@
-use Rattle.std.proofs.Common.{◌≡◌, ap, arith}
-use Rattle.vr_resident.proofs.Steps.{seat_none, seat_then}
-use Rattle.vr_resident.proofs.Beginning.{taken_none, taken_then}
+use Rattle.vr_resident.proofs.Steps.{seat_then}
+use Rattle.vr_resident.proofs.Beginning.{taken_then}
 use Rattle.vr_resident.proofs.making.own_sixteen.Goals as goal
 
 pub loop-got-preserved : goal.loop-got-preserved

@@ -1,10 +1,7 @@
-use Rattle.std.proofs.Common.{◌≡◌, ◌≤◌, ◌<◌, sym, ap, ◌∙◌, ℕ, subst, refl, arith}
-use Rattle.vr_frames.specs.Frames.{failed_claims}
-use Rattle.vr_frames.specs.declared.seat.FrameSeat.{FrameSeat}
-use Rattle.vr_resident.specs.Cache.{TakesFrame, GetsNone, KeepsSeat}
-use Rattle.vr_resident.specs.Making.{IsTaken}
-use Rattle.vr_resident.proofs.Steps.{seat_none, seat_then}
-use Rattle.vr_resident.proofs.Beginning.{if_is_none, if_is_some, taken_none, taken_then, taken_one, out_then}
+use Rattle.std.proofs.Common.{arith}
+use Rattle.vr_resident.specs.Cache.{TakesFrame, GetsNone}
+use Rattle.vr_resident.proofs.Steps.{seat_then}
+use Rattle.vr_resident.proofs.Beginning.{if_is_none, if_is_some, taken_then, taken_one, out_then}
 use Rattle.vr_resident.proofs.making.take_sixteen.Goals as goal
 
 pub returns-then-is_none-clause-out : goal.returns-then-is_none-clause-out

@@ -1,18 +1,13 @@
-use Rattle.std.proofs.Common.{rules, Result, Ok, Err, IsOk, is_err, true≢false, ◌≡◌, ◌≤◌, ◌<◌, OnOk, OnErr, ℕ, Bool, true, false, IsTrue, List, [], ◌∷◌, ◌++◌, sym, ap, ◌∙◌, subst, refl, slice_set, length, arith}
+use Rattle.std.proofs.Common.{rules, Result, Ok, Err, IsOk, is_err, true≢false, ◌≡◌, ℕ, Bool, true, false, List, ◌∷◌, ◌++◌, sym, ap, ◌∙◌, subst, refl, slice_set, length}
 use Rattle.lru.specs.LruCache.{LruCache, lru_cache}
-use Rattle.vr_types.specs.Image.{Image}
-use Rattle.vr_types.specs.Seen.{Seen, Left}
 use Rattle.vr_types.specs.Blocks.{Keeps, Puts}
-use Rattle.vr_types.specs.Faults.{CountsWrite}
 use Rattle.vr_resident.specs.Held.{over}
-use Rattle.vr_resident.specs.Places.{Entry, block_in, fits}
-use Rattle.vr_resident.specs.Table.{IsFit}
-use Rattle.vr_resident.specs.Cache.{IsKept, Leaves, IsWritten, held_by, entries_of, with_entries, pool_of}
+use Rattle.vr_resident.specs.Places.{Entry}
+use Rattle.vr_resident.specs.Cache.{IsKept, held_by, entries_of, with_entries, pool_of}
 use Rattle.vr_resident.specs.declared.place.Place.{Place}
 use Rattle.vr_resident.specs.declared.place.Place.TheVariants.{Bare, Empty, Taken}
-use Rattle.vr_resident.specs.declared.place.Sought.TheVariants.{Changed, Held}
 use Rattle.vr_resident.specs.Seeing.{length-block_in}
-use Rattle.vr_resident.proofs.Framing.{twice, has_room, block_below, buffer_is, left_any, failed_write, written_clean}
+use Rattle.vr_resident.proofs.Framing.{twice, has_room, block_below, buffer_is, left_any, failed_write}
 use Rattle.vr_resident.proofs.moving.evict.Goals as goal
 
 must : (b : Bool) → (b ≡ false → ⊥) → b ≡ true

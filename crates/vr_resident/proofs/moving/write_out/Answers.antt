@@ -1,20 +1,17 @@
-use Rattle.std.proofs.Common.{rules, Result, Ok, Err, is_err, ◌≡◌, ◌≤◌, ◌<◌, OnOk, OnErr, ℕ, Bool, true, false, IsTrue, List, [], ◌∷◌, ◌++◌, sym, ap, ◌∙◌, subst, refl, slice_set, length, arith}
+use Rattle.std.proofs.Common.{rules, Result, Ok, Err, is_err, ◌≡◌, OnOk, OnErr, ℕ, Bool, true, IsTrue, List, ◌∷◌, ◌++◌, sym, ap, ◌∙◌, subst, refl, slice_set, length}
 use Rattle.lru.specs.LruCache.{LruCache, lru_cache}
-use Rattle.vr_types.specs.Image.{Image}
-use Rattle.vr_types.specs.Seen.{Seen, Left}
+use Rattle.vr_types.specs.Seen.{Seen}
 use Rattle.vr_types.specs.Blocks.{Keeps, Puts}
-use Rattle.vr_types.specs.Faults.{CountsWrite}
 use Rattle.vr_resident.specs.Held.{over}
 use Rattle.vr_resident.specs.Places.{Entry, block_in, fits}
-use Rattle.vr_resident.specs.Table.{IsFit}
-use Rattle.vr_resident.specs.Cache.{IsKept, WritesAt, IsWritten, held_by, entries_of, with_entries, pool_of}
+use Rattle.vr_resident.specs.Cache.{IsKept, WritesAt, held_by, entries_of, pool_of}
 use Rattle.vr_resident.specs.declared.place.Place.{Place}
-use Rattle.vr_resident.specs.declared.place.Place.TheVariants.{Bare, Empty, Taken}
-use Rattle.vr_resident.specs.declared.place.Sought.TheVariants.{Changed, Held}
+use Rattle.vr_resident.specs.declared.place.Place.TheVariants.{Bare, Taken}
+use Rattle.vr_resident.specs.declared.place.Sought.TheVariants.{Changed}
 use Rattle.vr_resident.specs.declared.place.Buffer.{Buffer}
 use Rattle.vr_resident.specs.declared.frames.Frames.{Frames}
 use Rattle.vr_resident.specs.Seeing.{length-block_in}
-use Rattle.vr_resident.proofs.Framing.{twice, has_room, block_below, buffer_is, left_any, failed_write, written_clean}
+use Rattle.vr_resident.proofs.Framing.{twice, has_room, block_below, buffer_is, failed_write, written_clean}
 use Rattle.vr_resident.proofs.moving.write_out.Goals as goal
 
 marked_by : (block : ℕ) (mark : Bool) (buffer : Buffer) (place : Place) → place ≡ Taken block mark buffer → fits Changed place ≡ true → mark ≡ true

@@ -1,7 +1,6 @@
-use Rattle.std.proofs.Common.{◌≡◌, ◌<◌, ℕ, ap, sym, ◌∙◌, subst, arith}
-use Rattle.vr_frames.specs.Frames.{failed_claims}
-use Rattle.vr_resident.specs.Cache.{entries_of, pool_of}
-use Rattle.vr_resident.specs.Making.{IsNew, IsBack}
+use Rattle.std.proofs.Common.{sym, subst}
+use Rattle.vr_resident.specs.Cache.{pool_of}
+use Rattle.vr_resident.specs.Making.{IsNew}
 use Rattle.vr_resident.specs.declared.frames.Frames.{Frames}
 use Rattle.vr_resident.proofs.Beginning.{is_new, is_back}
 use Rattle.vr_resident.proofs.opening.resident_own.Goals as goal

@@ -1,13 +1,11 @@
-use Rattle.std.proofs.Common.{rules, ◌≡◌, ◌∷◌, ◌++◌, ℕ, List, OnOk, refl, sym, ap, ◌∙◌, subst, inl, inr}
+use Rattle.std.proofs.Common.{ℕ, List, refl, sym, subst, inl, inr}
 use Rattle.lru.specs.LruCache.{LruCache}
-use Rattle.vr_types.specs.Seen.{Seen}
 use Rattle.vr_resident.specs.Places.{AreNone}
 use Rattle.vr_resident.specs.declared.place.Place.{Place}
 use Rattle.vr_resident.specs.declared.place.Sought.TheVariants.{Empty}
 use Rattle.vr_types.specs.Blocks.{Keeps}
-use Rattle.vr_types.proofs.CallerLemmas.{keeps-then, keeps-none}
 use Rattle.vr_resident.specs.Held.{Held, over}
-use Rattle.vr_resident.specs.Cache.{MakesRoom, held_by, GetsFrame, LastLeaves}
+use Rattle.vr_resident.specs.Cache.{held_by}
 use Rattle.vr_resident.proofs.Over.{no_call}
 use Rattle.vr_resident.proofs.Taking.{last_left, some_held, kept_taken, kept_none}
 use Rattle.vr_resident.proofs.room.room.Goals as goal

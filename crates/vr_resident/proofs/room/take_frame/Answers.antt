@@ -1,17 +1,13 @@
-use Rattle.std.proofs.Common.{◌≡◌, ◌∷◌, ◌++◌, ℕ, List, Option, Some, None, OnSome, IfSome, IfNone, refl, sym, ap, ◌∙◌, subst, inl, inr}
-use Rattle.lru.specs.LruCache.{LruCache, lru_cache}
-use Rattle.vr_frames.specs.declared.seat.FrameSeat.{FrameSeat}
+use Rattle.std.proofs.Common.{◌≡◌, ◌∷◌, ◌++◌, ℕ, refl, sym, ap, ◌∙◌, subst, inl}
+use Rattle.lru.specs.LruCache.{LruCache}
 use Rattle.vr_frames.specs.declared.shared.Pool.{Pool}
 use Rattle.vr_frames.specs.Frames.{IsSeatOf, IsFrameOf}
-use Rattle.vr_resident.specs.Places.{Entry}
-use Rattle.vr_resident.specs.Table.{IsFit}
-use Rattle.vr_resident.specs.Cache.{IsSeated, TakesFrame, KeepsSeat, GetsFrame, GetsNone, entries_of, with_entries}
-use Rattle.vr_resident.specs.declared.place.Buffer.TheVariants.{Shared}
+use Rattle.vr_resident.specs.Cache.{IsSeated, KeepsSeat, entries_of}
 use Rattle.vr_resident.specs.declared.place.Place.{Place}
-use Rattle.vr_resident.specs.declared.place.Place.TheVariants.{Bare, Empty, Taken}
+use Rattle.vr_resident.specs.declared.place.Place.TheVariants.{Bare}
 use Rattle.vr_resident.specs.declared.place.Sought.TheVariants as sought
 use Rattle.vr_resident.proofs.Moves.{count_none}
-use Rattle.vr_resident.proofs.Taking.{seated_got, seat_got, frame_got, seated_none, if_none, bare_is}
+use Rattle.vr_resident.proofs.Taking.{seated_got, seat_got, seated_none, if_none, bare_is}
 use Rattle.vr_resident.proofs.room.take_frame.Goals as goal
 
 pub returns-in_err-number-clause-none : goal.returns-in_err-number-clause-none
@@ -26,7 +22,11 @@ returns-clause-got c =
     let r = c.in_ok-number.ensures in
     let was : entries_of frames ≡ r.before ++ (c.in_ok-number.number, Bare) ∷ r.after = r.split ∙ ap (λ (p : Place). r.before ++ (c.in_ok-number.number, p) ∷ r.after) (bare_is r.place r.it_fits) in
     record {
-      number = c.in_ok-number.number; before = r.before; after = r.after; frame = c.in_ok-frame.frame; was = was;
+      number = c.in_ok-number.number;
+      before = r.before;
+      after = r.after;
+      frame = c.in_ok-frame.frame;
+      was = was;
       is = ap (λ (x : LruCache ℕ Place). record frames { table = x; seat = c.take.new.seat }) (c.change.ensures r.before r.after Bare was).1;
       got = c.in_ok-frame.ensures.some;
     }

@@ -1,4 +1,4 @@
-use Rattle.std.proofs.Common.{◌≡◌, ◌≤◌, length, arith}
+use Rattle.std.proofs.Common.{◌≤◌, length, arith}
 use Rattle.vr_resident.specs.Places.{buffers_of}
 use Rattle.vr_resident.proofs.Returning.{buffers_few}
 use Rattle.vr_resident.proofs.table.buffer_count.Goals as goal

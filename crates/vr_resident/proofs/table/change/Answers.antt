@@ -1,4 +1,4 @@
-use Rattle.std.proofs.Common.{◌≡◌, ◌∷◌, ◌++◌, List, Option, ℕ, Some, None, IsSome, MutBor, nat_eq, ap, sym, ◌∙◌, subst, refl}
+use Rattle.std.proofs.Common.{◌≡◌, ◌∷◌, ◌++◌, List, Option, Some, None, IsSome, MutBor, nat_eq, ap, ◌∙◌, subst}
 use Rattle.lru.specs.LruCache.{lru_cache}
 use Rattle.vr_resident.specs.Places.{Entry}
 use Rattle.vr_resident.specs.declared.place.Place.{Place}
@@ -24,12 +24,11 @@ unwrap-requires c =
 
 pub returns : goal.returns
 returns c before after place split =
-    let distinct : IsDistinct nat_eq (keys_of (before ++ (c.args.number, place) ∷ after)) = subst (λ (es : List Entry). IsDistinct nat_eq (keys_of es)) split c.len.ensures.valid.0 in
-    (
+    let distinct : IsDistinct nat_eq (keys_of (before ++ (c.args.number, place) ∷ after)) = subst (λ (es : List Entry). IsDistinct nat_eq (keys_of es)) split c.len.ensures.valid.0 in (
       c.replace.ensures.value ∙ held_there c.peek_mut.result c.unwrap.result place c.unwrap.ensures
-      (c.peek_mut.ensures.value ∙ ap (lookup (nat_eq c.args.number)) split ∙ value_found c.args.number place after before distinct),
+          (c.peek_mut.ensures.value ∙ ap (lookup (nat_eq c.args.number)) split ∙ value_found c.args.number place after before distinct),
       ap (λ (es : List Entry). lru_cache es c.args.table.now.cap)
-      (ap (λ (to : Place). set_value (nat_eq c.args.number) c.args.table.now.entries to) c.replace.ensures.after
-      ∙ ap (λ (es : List Entry). set_value (nat_eq c.args.number) es c.args.to) split
-      ∙ changed c.args.number place after c.args.to before distinct),
+          (ap (λ (to : Place). set_value (nat_eq c.args.number) c.args.table.now.entries to) c.replace.ensures.after
+          ∙ ap (λ (es : List Entry). set_value (nat_eq c.args.number) es c.args.to) split
+          ∙ changed c.args.number place after c.args.to before distinct),
     )

@@ -1,5 +1,4 @@
-use Rattle.std.proofs.Common.{◌≡◌, sym, ◌∙◌, false, true}
-use Rattle.vr_resident.specs.Places.{fits}
+use Rattle.std.proofs.Common.{sym, ◌∙◌}
 use Rattle.vr_resident.proofs.Entries.{kept_more, found_more}
 use Rattle.vr_resident.proofs.table.last_fit.Goals as goal
 

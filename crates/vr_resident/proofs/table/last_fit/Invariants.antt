@@ -1,6 +1,6 @@
 use Rattle.std.proofs.Common.{MatchOption, map}
 use Rattle.std.specs.Map.Iter.{deref_pair}
-use Rattle.vr_resident.specs.Places.{Entry, AreNone, IsLast}
+use Rattle.vr_resident.specs.Places.{AreNone, IsLast}
 use Rattle.vr_resident.proofs.table.last_fit.Given as goal
 
 abbrev pub invariant-loop-number : goal.invariant-loop-number

@@ -1,9 +1,8 @@
-use Rattle.std.proofs.Common.{◌≡◌, ◌∷◌, ◌++◌, List, ℕ, Some, nat_eq, ap, sym, ◌∙◌, subst, refl}
+use Rattle.std.proofs.Common.{◌∷◌, ◌++◌, List, nat_eq, ap, ◌∙◌, subst, refl}
 use Rattle.lru.specs.LruCache.{lru_cache, promoted}
 use Rattle.std.specs.Map.{keys_of}
 use Rattle.std.specs.List.{IsDistinct}
 use Rattle.vr_resident.specs.Places.{Entry}
-use Rattle.vr_resident.specs.declared.place.Place.{Place}
 use Rattle.vr_resident.proofs.Entries.{found, removed}
 use Rattle.vr_resident.proofs.table.use_place.Goals as goal
 

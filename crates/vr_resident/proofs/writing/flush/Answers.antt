@@ -1,10 +1,9 @@
-use Rattle.std.proofs.Common.{◌≡◌, ◌≤◌, ◌<◌, min, ◌∷◌, ◌++◌, [], List, ℕ, take, sym, ap, ◌∙◌, subst, refl, arith}
+use Rattle.std.proofs.Common.{◌≤◌, sym, ◌∙◌, refl, arith}
 use Rattle.vr_types.proofs.CallerLemmas.{keeps-then}
-use Rattle.vr_resident.specs.Held.{Held, over, changed_count}
-use Rattle.vr_resident.specs.Cache.{IsFlushed, WritesAt, held_by, entries_of}
+use Rattle.vr_resident.specs.Held.{over, changed_count}
+use Rattle.vr_resident.specs.Cache.{WritesAt, held_by}
 use Rattle.vr_resident.proofs.Steps.{got_ok, still, seat_none, seat_then}
-use Rattle.vr_resident.proofs.Flushing.{fit_of_last, flushes_none, flushes_one, still_changed, all_flushed, written_seat}
-use Rattle.vr_resident.specs.declared.place.Sought.TheVariants as sought
+use Rattle.vr_resident.proofs.Flushing.{flushes_none, flushes_one, still_changed, all_flushed, written_seat}
 use Rattle.vr_resident.proofs.writing.flush.Goals as goal
 
 pub loop-written-init : goal.loop-written-init

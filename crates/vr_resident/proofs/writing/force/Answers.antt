@@ -1,6 +1,6 @@
-use Rattle.std.proofs.Common.{◌≡◌, ◌<◌, ◌∷◌, ◌++◌, [], List, ℕ, take, length, sym, ap, ◌∙◌, subst, refl, arith, ⊎_elim, take_all}
+use Rattle.std.proofs.Common.{◌<◌, List, ℕ, length, sym, ap, ◌∙◌, subst, arith, ⊎_elim, take_all}
 use Rattle.vr_types.specs.Image.{Block, Image, block_at}
-use Rattle.vr_resident.specs.Held.{Held, over, overlay, IsChanged, forced}
+use Rattle.vr_resident.specs.Held.{Held, IsChanged}
 use Rattle.vr_resident.specs.Cache.{IsForced, held_by}
 use Rattle.vr_resident.proofs.Steps.{kept_after}
 use Rattle.vr_resident.proofs.Written.{forced_clean, overlay-unchanged, listed_contains}

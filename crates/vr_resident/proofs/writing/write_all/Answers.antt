@@ -1,7 +1,7 @@
-use Rattle.std.proofs.Common.{◌≡◌, ◌<◌, ◌∙◌, sym, ap, subst, ℕ, min}
+use Rattle.std.proofs.Common.{◌<◌, ◌∙◌, sym, ap, subst, ℕ, min}
 use Rattle.vr_types.specs.Image.{Image, block_at}
-use Rattle.vr_resident.specs.Held.{over, overlay, changed_count}
-use Rattle.vr_resident.specs.Cache.{held_by, entries_of}
+use Rattle.vr_resident.specs.Held.{changed_count}
+use Rattle.vr_resident.specs.Cache.{held_by}
 use Rattle.vr_resident.proofs.Steps.{kept_after}
 use Rattle.vr_resident.proofs.Flushing.{all_clean, overlay_clean}
 use Rattle.vr_resident.proofs.writing.write_all.Goals as goal

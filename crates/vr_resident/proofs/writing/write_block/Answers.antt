@@ -1,5 +1,4 @@
-use Rattle.std.proofs.Common.{◌≡◌, ◌∷◌, [], sym, subst}
-use Rattle.vr_resident.specs.Held.{Held, over}
+use Rattle.std.proofs.Common.{◌∷◌, []}
 use Rattle.vr_resident.specs.Cache.{IsForced, WritesAt, held_by, entries_of}
 use Rattle.vr_resident.proofs.Steps.{on_ok, still}
 use Rattle.vr_resident.proofs.Flushing.{fit_of_changed, forces_one, forces_none}

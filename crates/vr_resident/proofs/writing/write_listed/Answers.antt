@@ -1,7 +1,7 @@
-use Rattle.std.proofs.Common.{◌≡◌, ◌∷◌, ◌++◌, [], List, ℕ, take, sym, ap, ◌∙◌, subst, refl, arith}
+use Rattle.std.proofs.Common.{List, ℕ, take, sym, ◌∙◌, subst, refl}
 use Rattle.std.proofs.lemmas.List.{take_more}
 use Rattle.vr_types.proofs.CallerLemmas.{keeps-then}
-use Rattle.vr_resident.specs.Held.{Held, over}
+use Rattle.vr_resident.specs.Held.{over}
 use Rattle.vr_resident.specs.Cache.{IsForced, held_by}
 use Rattle.vr_resident.proofs.Steps.{got_ok, still, seat_none, seat_then}
 use Rattle.vr_resident.proofs.Flushing.{forces_nothing, forces_more}

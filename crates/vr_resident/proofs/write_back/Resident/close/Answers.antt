@@ -1,4 +1,4 @@
-use Rattle.std.proofs.Common.{◌≡◌, List, sym, subst, inl}
+use Rattle.std.proofs.Common.{List, sym, subst, inl}
 use Rattle.vr_resident.specs.Held.{Held, over}
 use Rattle.vr_resident.proofs.Steps.{same_held}
 use Rattle.vr_resident.proofs.write_back.Resident.close.Goals as goal

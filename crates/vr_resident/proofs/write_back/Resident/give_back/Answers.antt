@@ -1,4 +1,4 @@
-use Rattle.std.proofs.Common.{◌≡◌, ◌∙◌, IsTrue}
+use Rattle.std.proofs.Common.{◌∙◌}
 use Rattle.vr_resident.proofs.Steps.{keeps_through}
 use Rattle.vr_resident.proofs.Given.{given_kept, given_after}
 use Rattle.vr_resident.proofs.write_back.Resident.give_back.Goals as goal

@@ -1,4 +1,3 @@
-use Rattle.std.proofs.Common.{◌≡◌, IsTrue}
 use Rattle.vr_resident.proofs.Steps.{forced_through}
 use Rattle.vr_resident.proofs.write_back.ResidentBlocks.force.Goals as goal
 

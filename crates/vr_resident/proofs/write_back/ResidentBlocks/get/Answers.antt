@@ -1,4 +1,4 @@
-use Rattle.std.proofs.Common.{◌≡◌, IsTrue, List, length, sym, ap, ◌∙◌, subst, refl}
+use Rattle.std.proofs.Common.{List, length, sym, ap, ◌∙◌, refl}
 use Rattle.vr_types.specs.Image.{Image, block_at}
 use Rattle.vr_types.proofs.CallerLemmas.{cause-ok}
 use Rattle.vr_resident.specs.Seeing.{length-block_in}
@@ -17,10 +17,14 @@ returns-in-Ok g c =
     let f = c.in-Ok.ensures.first in
     let bytes = c.first.ensures f.number f.changed f.buffer f.rest f.split in
     rw (← c.self.view_is) (
-      (refl, (λ _. tt), (
-        keeps_through tells (seen old.device) (seen device) old.frames new c.self.invariant.size_is e.kept.size_is e.after,
-        cause-ok (g.D.BlockDevice.faults old.device) (g.D.BlockDevice.faults device) c.first.result c.in-Ok.ensures.cause.ok,
-      )),
+      (
+        refl,
+        (λ _. tt),
+        (
+          keeps_through tells (seen old.device) (seen device) old.frames new c.self.invariant.size_is e.kept.size_is e.after,
+          cause-ok (g.D.BlockDevice.faults old.device) (g.D.BlockDevice.faults device) c.first.result c.in-Ok.ensures.cause.ok,
+        ),
+      ),
       record {
         content = λ told. bytes
             ∙ (sym (first_content tells (seen device) new c.args.n f.number f.changed f.buffer f.rest e.kept f.split told (g.met.D.BlockDevice.cur_may device told).length_is)
