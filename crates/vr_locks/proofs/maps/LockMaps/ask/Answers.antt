@@ -8,6 +8,8 @@ use Rattle.vr_locks.proofs.maps.LockMaps.ask.Goals as goal
 
 pub grant-requires-clause-free : goal.grant-requires-clause-free
 grant-requires-clause-free c = λ m name within n lock there.
-    none-listed (conflicts c.args.unit c.args.mode (get_or c.args.names.now m name)) (lock_at c.args.self.now) n c.args.self.now.next lock
+    none-listed (conflicts c.args.unit c.args.mode (get_or c.args.names.now m name))
+    (lock_at c.args.self.now) n c.args.self.now.next lock
     (live-below c.requires n lock there) there
-    (granted-each (locks_in c.args.self.now) c.args.unit c.args.mode c.args.names.now m name c.in_ok-refuse.ensures.granted within)
+    (granted-each (locks_in c.args.self.now) c.args.unit c.args.mode c.args.names.now m name
+    c.in_ok-refuse.ensures.granted within)

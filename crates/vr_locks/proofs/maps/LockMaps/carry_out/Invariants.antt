@@ -13,8 +13,10 @@ invariant-loop-step l = record {
   next : l.self.next ≡ l.fn.self.next;
   kept : IsConsistent l.self l.self.next;
   last : AreBelow (lock_at l.self) (l.first + l.place);
-  steps : AreStepsFor l.self l.unit (drop l.place l.names) (l.first + l.place) (into_iter_items l.step-iterator);
-  free : (m : ℕ) (name : LockName) → m < length l.names → NoneAgainst l.self l.unit l.mode (get_or l.names m name);
+  steps : AreStepsFor l.self l.unit (drop l.place l.names) (l.first + l.place)
+      (into_iter_items l.step-iterator);
+  free : (m : ℕ) (name : LockName) → m < length l.names
+      → NoneAgainst l.self l.unit l.mode (get_or l.names m name);
   room : length l.names ≤ spare l.self.locks + l.place;
   locks : locks_in l.self ≡ with_locks l.unit l.mode (locks_in l.fn.self) (take l.place l.names);
 }

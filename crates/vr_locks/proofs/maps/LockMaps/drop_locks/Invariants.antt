@@ -9,7 +9,9 @@ use Rattle.vr_locks.proofs.maps.LockMaps.drop_locks.Given as goal
 abbrev pub invariant-loop-number : goal.invariant-loop-number
 invariant-loop-number l = record {
   next : l.self.next ≡ l.fn.self.next;
-  locks : (n : ℕ) → lock_at l.self n ≡ cond (list_any (nat_eq n) (take l.number-index l.numbers)) None (lock_at l.fn.self n);
-  names : IsFiled lock_name_eq (λ (lock : Lock). lock.name) (lock_at l.self) l.self.next (of_name l.self);
+  locks : (n : ℕ) → lock_at l.self n ≡ cond
+      (list_any (nat_eq n) (take l.number-index l.numbers)) None (lock_at l.fn.self n);
+  names : IsFiled lock_name_eq (λ (lock : Lock). lock.name) (lock_at l.self) l.self.next
+      (of_name l.self);
   units : l.self.units ≡ l.fn.self.units;
 }

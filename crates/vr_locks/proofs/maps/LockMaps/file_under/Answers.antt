@@ -6,7 +6,8 @@ use Rattle.vr_types.specs.declared.lock_name.LockName.{LockName}
 use Rattle.vr_types.specs.declared.unit.Unit as units
 use Rattle.vr_locks.specs.Conflict.{same_unit}
 use Rattle.vr_locks.specs.Filed.{numbers_in}
-use Rattle.vr_locks.proofs.FilingLemmas.{filed-added, filed-later, filed-same, number-filed, others-filed}
+use Rattle.vr_locks.proofs.FilingLemmas.{filed-added, filed-later, filed-same, number-filed}
+use Rattle.vr_locks.proofs.FilingLemmas.{others-filed}
 use Rattle.vr_locks.proofs.maps.LockMaps.file_under.Goals as goal
 
 pub returns-in_err-file-clause-kept : goal.returns-in_err-file-clause-kept
@@ -32,7 +33,8 @@ returns-in_err-file-2-clause-kept c =
     let names_new = λ (q : LockName). numbers_in (get lock_name_eq c.file-2.new.map q) in
     record {
       names = filed-same c.requires.kept.names names_new c.in_err-file-2.ensures.err;
-      units = filed-added c.requires.kept.units units_new c.args.unit c.in_ok-file.ensures.ok c.requires.kept.below;
+      units = filed-added c.requires.kept.units units_new c.args.unit c.in_ok-file.ensures.ok
+          c.requires.kept.below;
       below = λ n above. c.requires.kept.below n (omega arith);
       sound = c.requires.kept.sound;
       room = omega arith;
@@ -42,8 +44,11 @@ pub returns-in_err-file-2-clause-others : goal.returns-in_err-file-2-clause-othe
 returns-in_err-file-2-clause-others c = λ n other less filed.
     let units_new = λ (q : units.Unit). numbers_in (get same_unit c.file.new.map q) in
     record {
-      name_alone = λ q. ap (list_any (nat_eq n)) (c.in_err-file-2.ensures.err q) ∙ filed.name_alone q;
-      unit_alone = λ q. others-filed c.requires.kept.units units_new c.args.unit c.in_ok-file.ensures.ok q n (λ one. omega arith) ∙ filed.unit_alone q;
+      name_alone = λ q. ap (list_any (nat_eq n)) (c.in_err-file-2.ensures.err q)
+          ∙ filed.name_alone q;
+      unit_alone =
+          λ q. others-filed c.requires.kept.units units_new c.args.unit c.in_ok-file.ensures.ok q n
+          (λ one. omega arith) ∙ filed.unit_alone q;
     }
 
 pub returns-clause-kept : goal.returns-clause-kept
@@ -51,8 +56,10 @@ returns-clause-kept c =
     let units_new = λ (q : units.Unit). numbers_in (get same_unit c.file.new.map q) in
     let names_new = λ (q : LockName). numbers_in (get lock_name_eq c.file-2.new.map q) in
     record {
-      names = filed-added c.requires.kept.names names_new c.args.name c.in_ok-file-2.ensures.ok c.requires.kept.below;
-      units = filed-added c.requires.kept.units units_new c.args.unit c.in_ok-file.ensures.ok c.requires.kept.below;
+      names = filed-added c.requires.kept.names names_new c.args.name c.in_ok-file-2.ensures.ok
+          c.requires.kept.below;
+      units = filed-added c.requires.kept.units units_new c.args.unit c.in_ok-file.ensures.ok
+          c.requires.kept.below;
       below = λ n above. c.requires.kept.below n (omega arith);
       sound = c.requires.kept.sound;
       room = omega arith;
@@ -63,8 +70,12 @@ returns-clause-others c = λ n other less filed.
     let units_new = λ (q : units.Unit). numbers_in (get same_unit c.file.new.map q) in
     let names_new = λ (q : LockName). numbers_in (get lock_name_eq c.file-2.new.map q) in
     record {
-      name_alone = λ q. others-filed c.requires.kept.names names_new c.args.name c.in_ok-file-2.ensures.ok q n (λ one. omega arith) ∙ filed.name_alone q;
-      unit_alone = λ q. others-filed c.requires.kept.units units_new c.args.unit c.in_ok-file.ensures.ok q n (λ one. omega arith) ∙ filed.unit_alone q;
+      name_alone =
+          λ q. others-filed c.requires.kept.names names_new c.args.name c.in_ok-file-2.ensures.ok q
+          n (λ one. omega arith) ∙ filed.name_alone q;
+      unit_alone =
+          λ q. others-filed c.requires.kept.units units_new c.args.unit c.in_ok-file.ensures.ok q n
+          (λ one. omega arith) ∙ filed.unit_alone q;
     }
 
 pub returns-clause-filed : goal.returns-clause-filed
@@ -72,6 +83,7 @@ returns-clause-filed c =
     let units_new = λ (q : units.Unit). numbers_in (get same_unit c.file.new.map q) in
     let names_new = λ (q : LockName). numbers_in (get lock_name_eq c.file-2.new.map q) in
     record {
-      name_alone = number-filed c.requires.kept.names names_new c.args.name c.in_ok-file-2.ensures.ok;
+      name_alone =
+          number-filed c.requires.kept.names names_new c.args.name c.in_ok-file-2.ensures.ok;
       unit_alone = number-filed c.requires.kept.units units_new c.args.unit c.in_ok-file.ensures.ok;
     }

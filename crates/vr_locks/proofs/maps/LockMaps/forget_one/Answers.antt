@@ -17,11 +17,15 @@ returns-clause-kept c =
     let names_new = λ (q : LockName). numbers_in (get lock_name_eq c.drop_number.new.map q) in
     let units_new = λ (q : units.Unit). numbers_in (get same_unit c.drop_number-2.new.map q) in
     record {
-      names = filed-less c.requires.kept.names names_new at c.args.number (λ n. unused-less at c.args.number n c.requires.unused)
-          (λ q. kept-or-cut (lock_name_eq c.args.name.now q) (filter (λ (n : ℕ). not (nat_eq n c.args.number)) (of_name c.args.self.now q))
+      names = filed-less c.requires.kept.names names_new at c.args.number
+          (λ n. unused-less at c.args.number n c.requires.unused)
+          (λ q. kept-or-cut (lock_name_eq c.args.name.now q)
+          (filter (λ (n : ℕ). not (nat_eq n c.args.number)) (of_name c.args.self.now q))
           (of_name c.args.self.now q) (names_new q) (c.drop_number.ensures q));
-      units = filed-less c.requires.kept.units units_new at c.args.number (λ n. unused-less at c.args.number n c.requires.unused)
-          (λ q. kept-or-cut (same_unit c.args.unit q) (filter (λ (n : ℕ). not (nat_eq n c.args.number)) (of_unit c.args.self.now q))
+      units = filed-less c.requires.kept.units units_new at c.args.number
+          (λ n. unused-less at c.args.number n c.requires.unused)
+          (λ q. kept-or-cut (same_unit c.args.unit q)
+          (filter (λ (n : ℕ). not (nat_eq n c.args.number)) (of_unit c.args.self.now q))
           (of_unit c.args.self.now q) (units_new q) (c.drop_number-2.ensures q));
       below = c.requires.kept.below;
       sound = c.requires.kept.sound;
@@ -35,12 +39,14 @@ returns-clause-others c = λ n other apart filed.
     record {
       name_alone = λ q.
           number-kept c.requires.kept.names names_new c.args.number n apart
-          (λ r. kept-or-cut (lock_name_eq c.args.name.now r) (filter (λ (j : ℕ). not (nat_eq j c.args.number)) (of_name c.args.self.now r))
+          (λ r. kept-or-cut (lock_name_eq c.args.name.now r)
+          (filter (λ (j : ℕ). not (nat_eq j c.args.number)) (of_name c.args.self.now r))
           (of_name c.args.self.now r) (names_new r) (c.drop_number.ensures r)) q
           ∙ filed.name_alone q;
       unit_alone = λ q.
           number-kept c.requires.kept.units units_new c.args.number n apart
-          (λ r. kept-or-cut (same_unit c.args.unit r) (filter (λ (j : ℕ). not (nat_eq j c.args.number)) (of_unit c.args.self.now r))
+          (λ r. kept-or-cut (same_unit c.args.unit r)
+          (filter (λ (j : ℕ). not (nat_eq j c.args.number)) (of_unit c.args.self.now r))
           (of_unit c.args.self.now r) (units_new r) (c.drop_number-2.ensures r)) q
           ∙ filed.unit_alone q;
     }

@@ -10,13 +10,18 @@ pub returns-then-is_of : goal.returns-then-is_of
 returns-then-is_of c = (
   c.in-Some.lock.now,
   sym c.in-Some.ensures.value,
-  and_from (lock_name_eq c.args.name.now c.in-Some.lock.now.name) (same_unit c.args.unit c.in-Some.lock.now.unit)
-      (name-at c.requires c.args.name.now (λ (lock : Lock). same_unit c.args.unit lock.unit) c.numbers-number-items.result.now
-      c.loop-number.number-index c.in-Some.lock.now c.numbers-number-items.ensures c.loop-number-test.true (sym c.in-Some.ensures.value))
+  and_from (lock_name_eq c.args.name.now c.in-Some.lock.now.name)
+      (same_unit c.args.unit c.in-Some.lock.now.unit)
+      (name-at c.requires c.args.name.now (λ (lock : Lock). same_unit c.args.unit lock.unit)
+      c.numbers-number-items.result.now
+      c.loop-number.number-index c.in-Some.lock.now c.numbers-number-items.ensures
+      c.loop-number-test.true (sym c.in-Some.ensures.value))
       (sym c.if-is_of.ensures),
 )
 
 pub returns : goal.returns
 returns c =
-    any-none c.requires c.args.name.now (λ (lock : Lock). same_unit c.args.unit lock.unit) c.numbers-number-items.result.now
-    c.loop-number.number-index c.numbers-number-items.ensures c.loop-number-test.false c.loop-number.invariant
+    any-none c.requires c.args.name.now (λ (lock : Lock). same_unit c.args.unit lock.unit)
+    c.numbers-number-items.result.now
+    c.loop-number.number-index c.numbers-number-items.ensures c.loop-number-test.false
+    c.loop-number.invariant

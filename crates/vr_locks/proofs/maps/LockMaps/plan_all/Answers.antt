@@ -7,7 +7,8 @@ use Rattle.vr_locks.proofs.maps.LockMaps.plan_all.Goals as goal
 pub loop-i-preserved : goal.loop-i-preserved
 loop-i-preserved c =
     let before = take c.loop-i.i c.args.names.now in
-    let ends : c.args.first + c.loop-i.i ≡ c.args.first + length before = omega (arith, length-take c.loop-i.i c.args.names.now) in
+    let ends : c.args.first + c.loop-i.i ≡ c.args.first + length before =
+    omega (arith, length-take c.loop-i.i c.args.names.now) in
     let more : take (c.loop-i.i + 1) c.args.names.now ≡ before ++ c.index-names-i.result ∷ [] =
     take_more c.args.names.now c.loop-i.i c.index-names-i.result c.loop-i-test.true
     ∙ ap (λ (name : LockName). before ++ name ∷ []) (sym c.index-names-i.is) in
@@ -17,6 +18,8 @@ loop-i-preserved c =
       next = c.in_ok-step.ensures.next ∙ c.loop-i.invariant.next;
       kept = rw after c.in_ok-step.ensures.kept;
       steps = rw (more, c.in_ok-push.ensures.items)
-          (plans-push c.loop-i.self c.plan.new.self c.args.unit (c.args.first + c.loop-i.i) c.in_ok-step.ensures.locks c.in_ok-step.ensures.others
-          c.args.first before c.loop-i.steps.items c.index-names-i.result c.in_ok-step.step ends c.loop-i.invariant.steps c.in_ok-step.ensures.step);
+          (plans-push c.loop-i.self c.plan.new.self c.args.unit
+          (c.args.first + c.loop-i.i) c.in_ok-step.ensures.locks c.in_ok-step.ensures.others
+          c.args.first before c.loop-i.steps.items c.index-names-i.result c.in_ok-step.step ends
+          c.loop-i.invariant.steps c.in_ok-step.ensures.step);
     }
