@@ -1,0 +1,6 @@
+pub mod Way
+pub mod Room
+pub mod Whence
+pub mod Keyed
+pub mod Split
+pub mod Part

@@ -1,0 +1,13 @@
+//! What every record part of a volume is, whatever its kind: the traits `Part` and `Kept`, and what
+//! their implementations and callers share.
+#![tactic(auto)]
+
+mod kept;
+mod part;
+mod room;
+mod whence;
+
+pub use kept::{Kept, NoneKept};
+pub use part::Part;
+pub use room::Room;
+pub use whence::Whence;
