@@ -21,10 +21,10 @@ abbrev pub MayFind : (ℕ → Block → Type 0) → Option (List ℕ) → Way �
 MayFind may item (Found found) = item ≡ found
 MayFind may item (Reads n next) = (block : Block) × may n block × MayFind may item (next block)
 
--- each block that the way may read, whatever is allowed of those before it, is below the count
-abbrev pub IsWithin : ℕ → (ℕ → Block → Type 0) → Way → Type 0
-IsWithin count may (Found found) = Unit {0}
-IsWithin count may (Reads n next) = (n < count) × ((block : Block) → may n block → IsWithin count may (next block))
+-- each block that the way may read, whatever is allowed of those before it, is one of these
+abbrev pub IsWithin : (ℕ → Type 0) → (ℕ → Block → Type 0) → Way → Type 0
+IsWithin region may (Found found) = Unit {0}
+IsWithin region may (Reads n next) = region n × ((block : Block) → may n block → IsWithin region may (next block))
 
 -- what a crash may leave once the listed blocks are forced
 abbrev pub MayOnceForced : List ℕ → Seen → ℕ → Block → Type 0
