@@ -1,3 +1,5 @@
 pub mod Ways
 pub mod Places
 pub mod KeyedContent
+pub mod KeyedSound
+pub mod Adding

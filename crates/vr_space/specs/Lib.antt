@@ -4,3 +4,4 @@ pub mod Whence
 pub mod Keyed
 pub mod Split
 pub mod Part
+pub mod Composed

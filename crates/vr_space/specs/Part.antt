@@ -12,12 +12,15 @@ use Rattle.std.specs.declared.cmp.Ordering.TheVariants.{Less}
 use Rattle.vr_types.specs.Content.{place_cmp}
 use Rattle.vr_types.specs.declared.unit.PartNo.{PartNo}
 use Rattle.vr_types.specs.declared.unit.StageKind.{StageKind}
+use Rattle.vr_types.specs.declared.unit.StageKind.TheVariants.{CaClaim, Post}
+use Rattle.vr_types.specs.Space.{least_free}
+use Rattle.std.specs.Prelude.{slice_set}
 use Rattle.vr_space.specs.declared.whence.Whence.{Whence}
 use Rattle.vr_space.specs.declared.room.Room.{Room}
 use Rattle.vr_space.specs.declared.room.Room.TheVariants.{Ready, Stage}
 use Rattle.vr_space.specs.Whence.{allows}
 use Rattle.vr_space.specs.Room.{Lengths, length_at}
-use Rattle.vr_space.specs.Split.{SplitNow, keyed_room, keyed_stage}
+use Rattle.vr_space.specs.Split.{SplitNow, keyed_room, keyed_stage, keyed_fits}
 use Rattle.vr_space.specs.Keyed.{Keyed, keyed_way, KeyedStandsFor, IsKeyedSound, IsKeyedAtRest, KeepsRoom, IsValid, key_of}
 
 -- Where a part is on its blocks and how they are spelled, by its kind.
@@ -135,17 +138,33 @@ IsFirm shape now place = (item : Option (List ℕ)) → MayHold shape now.may pl
 
 -- ---- what calls answer
 
--- what stands in the way of a record of this length at this place, with this kept
-abbrev pub room_of : Shape → Option SplitNow → Image → Lengths → List ℕ → ℕ → Room
-room_of (KeyedShape part) split image kept place n = keyed_room part split image kept place n
+-- what stands in the way of a record of this length at this place, with so many free areas and with
+-- this kept
+abbrev pub room_of : Shape → Option SplitNow → Image → ℕ → Lengths → List ℕ → ℕ → Room
+room_of (KeyedShape part) split image free kept place n = keyed_room part split image kept place n
+
+-- a record of this length has room beside what stands there and what is kept
+abbrev pub fits_at : Shape → Image → Lengths → List ℕ → ℕ → Bool
+fits_at (KeyedShape part) image kept place n = keyed_fits part image kept place n
 
 -- the stage of a split under way that comes before any change at the place
 abbrev pub stage_of : Shape → Option SplitNow → Image → List ℕ → Option StageKind
 stage_of (KeyedShape part) split image place = keyed_stage part split image place
 
 -- a stage comes before such a record
-abbrev pub IsStageDue : Shape → Option SplitNow → Image → Lengths → List ℕ → ℕ → Type 0
-IsStageDue shape split image kept place n = (kind : StageKind) × (room_of shape split image kept place n ≡ Stage kind)
+abbrev pub IsStageDue : Shape → Option SplitNow → Image → ℕ → Lengths → List ℕ → ℕ → Type 0
+IsStageDue shape split image free kept place n =
+    (kind : StageKind) × (room_of shape split image free kept place n ≡ Stage kind)
+
+-- the part got the least free area
+abbrev pub IsClaimed : PartNo → List (Option PartNo) → List (Option PartNo) → Type 0
+IsClaimed part old new = (area : ℕ) × (least_free old ≡ Some area) × (new ≡ slice_set old area (Some part))
+
+-- what a stage leaves of the owners of areas
+abbrev pub OwnersAfter : PartNo → StageKind → List (Option PartNo) → List (Option PartNo) → Type 0
+OwnersAfter part CaClaim old new = IsClaimed part old new
+OwnersAfter part Post old new = (new ≡ old) ⊎ IsClaimed part old new
+OwnersAfter part stage old new = new ≡ old
 
 abbrev pub given : Option (Bor (List ℕ)) → Option (List ℕ)
 given None = None
@@ -155,13 +174,18 @@ given (Some bytes) = Some bytes.now
 abbrev pub IsGiven : Shape → List ℕ → Option (Bor (List ℕ)) → Type 0
 IsGiven shape place bytes = IfSome (given bytes) (IsRecordOf shape place)
 
--- A record may be set where it has room, or where one at least as long is kept for the place; one
--- may always be taken away. In the last two cases no stage is left there.
-abbrev pub CanSet : Shape → Option SplitNow → Image → Lengths → List ℕ → Option (List ℕ) → Type 0
-CanSet shape split image kept place None = stage_of shape split image place ≡ None
-CanSet shape split image kept place (Some bytes) =
-    (room_of shape split image kept place (length bytes) ≡ Ready)
-    ⊎ ((stage_of shape split image place ≡ None) × (n : ℕ) × (length_at kept place ≡ Some n) × (length bytes ≤ n))
+-- There is room for what is given: it has room at its place, or one at least as long is kept there,
+-- or a record is taken away.
+abbrev pub HasRoomFor : Shape → Image → Lengths → List ℕ → Option (List ℕ) → Type 0
+HasRoomFor shape image kept place None = Unit {0}
+HasRoomFor shape image kept place (Some bytes) =
+    IsTrue (fits_at shape image kept place (length bytes))
+    ⊎ ((n : ℕ) × (length_at kept place ≡ Some n) × (length bytes ≤ n))
+
+-- It may be set: no stage of a split is left at its place, and there is room for it.
+pub record CanSet (shape : Shape) (split : Option SplitNow) (image : Image) (kept : Lengths) (place : List ℕ) (item : Option (List ℕ)) : Type 0 where
+  pub no_stage : stage_of shape split image place ≡ None
+  pub room : HasRoomFor shape image kept place item
 
 -- The place is the least with a record that the search may find.
 pub record IsNextPlace (shape : Shape) (image : Image) (from : Whence) (place : List ℕ) : Type 0 where

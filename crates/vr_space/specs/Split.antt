@@ -59,16 +59,19 @@ stage_in split (Some found) = stage_at split found.1
 abbrev pub keyed_stage : Keyed → Option SplitNow → Image → List ℕ → Option StageKind
 keyed_stage part split image place = stage_in split (entry_for None (entries_of (block_at image part.head)) place)
 
-abbrev pub room_in : Keyed → Option SplitNow → Image → Lengths → List ℕ → ℕ → Option (Range × Entry) → answer.Room
-room_in part split image kept place n None = NoSpace 1 0
-room_in part split image kept place n (Some found) =
-    room_after (stage_at split found.1)
-    (room_by (have_room part.size (with_length (lengths_of part kept found.0 (block_at image (entry_block part found.1))) place n))
-    (room_by_split split (free_interval part (block_at image part.head))))
+-- a record of this length has room in the interval of its place
+abbrev pub fits_in : Keyed → Image → Lengths → List ℕ → ℕ → Option (Range × Entry) → Bool
+fits_in part image kept place n None = false
+fits_in part image kept place n (Some found) =
+    have_room part.size (with_length (lengths_of part kept found.0 (block_at image (entry_block part found.1))) place n)
+
+abbrev pub keyed_fits : Keyed → Image → Lengths → List ℕ → ℕ → Bool
+keyed_fits part image kept place n = fits_in part image kept place n (entry_for None (entries_of (block_at image part.head)) place)
 
 -- What stands in the way of a record of this length at this place: a stage of a split of its
 -- interval; the next stage of a split, where the interval lacks room; or nothing. Where no interval
 -- is free, an area is needed, and a part of one area has none.
 abbrev pub keyed_room : Keyed → Option SplitNow → Image → Lengths → List ℕ → ℕ → answer.Room
 keyed_room part split image kept place n =
-    room_in part split image kept place n (entry_for None (entries_of (block_at image part.head)) place)
+    room_after (keyed_stage part split image place)
+    (room_by (keyed_fits part image kept place n) (room_by_split split (free_interval part (block_at image part.head))))

@@ -2,11 +2,13 @@
 //! their implementations and callers share.
 #![tactic(auto)]
 
+mod composed;
 mod kept;
 mod part;
 mod room;
 mod whence;
 
+pub use composed::{Turn, take_turn};
 pub use kept::{Kept, NoneKept};
 pub use part::Part;
 pub use room::Room;

@@ -5,6 +5,7 @@ ghost use Rattle.std.specs.Borrow.{sem};
 ghost use Rattle.std.specs.Io.BufRead.{Rests};
 ghost use Rattle.vr_types.specs.Blocks.{Keeps};
 ghost use Rattle.vr_types.specs.Faults.{HasCause};
+ghost use Rattle.vr_types.specs.Space.{free_count};
 ghost use Rattle.vr_types.specs.declared.unit.StageKind.{StageKind};
 ghost use Rattle.vr_space.specs.declared.room.Room.TheVariants as answers;
 ghost use Rattle.vr_space.specs.Split.{SplitNow};
@@ -22,6 +23,7 @@ ghost use Rattle.vr_space.specs.Part.{
   IsAtRest,
   HasKeptRoom,
   IsStageDue,
+  OwnersAfter,
   CanSet,
   given,
   AddsTo,
@@ -36,7 +38,7 @@ ghost use Rattle.vr_space.specs.Part.{
 use crate::kept::Kept;
 use crate::room::Room;
 use crate::whence::Whence;
-use vr_types::{Blocks, DeviceFault, Place, PlaceBuffer, StageKind};
+use vr_types::{Blocks, DeviceFault, Place, PlaceBuffer, Space, StageKind};
 
 /// Records at ascending places, on blocks. Where the device reports its contents, a clause names the
 /// record at a place, what a crash may leave there, and what a call adds to that. No call takes
@@ -92,6 +94,7 @@ pub trait Part {
     fn room<B: Blocks, K: Kept>(
         &mut self,
         blocks: &mut B,
+        space: &Space,
         kept: &K,
         place: &Place,
         length: u32,
@@ -102,7 +105,7 @@ pub trait Part {
         requires stands { IsTrue B.tells → Stands (shape self.old) (B.seen blocks.old).cur }
         ensures answer { IsTrue B.tells → IfOk result (λ room. room
             ≡ room_of (shape self.old) (split self.old) (B.seen blocks.old).cur
-            (K.kept kept.now (part_no (shape self.old))) place.now length) }
+            (free_count space.now) (K.kept kept.now (part_no (shape self.old))) place.now length) }
         ensures keeps { Keeps B.tells (B.seen blocks.old) (B.seen blocks.new) }
         ensures cause { HasCause (B.faults blocks.old) (B.faults blocks.new) result }
         ensures shape { shape self.new ≡ shape self.old }
@@ -112,6 +115,7 @@ pub trait Part {
     fn advance<B: Blocks, K: Kept>(
         &mut self,
         blocks: &mut B,
+        space: &mut Space,
         kept: &K,
         place: &Place,
         length: u32,
@@ -123,10 +127,13 @@ pub trait Part {
         requires room { IsTrue B.tells → HasKeptRoom (shape self.old)
             (K.kept kept.now (part_no (shape self.old))) (B.seen blocks.old) }
         requires due { IsTrue B.tells → IsStageDue (shape self.old) (split self.old)
-            (B.seen blocks.old).cur (K.kept kept.now (part_no (shape self.old))) place.now length }
+            (B.seen blocks.old).cur (free_count space.old)
+            (K.kept kept.now (part_no (shape self.old))) place.now length }
         ensures stage { IsTrue B.tells → IfOk result (λ kind. answers.Stage kind
             ≡ room_of (shape self.old) (split self.old) (B.seen blocks.old).cur
-            (K.kept kept.now (part_no (shape self.old))) place.now length) }
+            (free_count space.old) (K.kept kept.now (part_no (shape self.old))) place.now length) }
+        ensures owners { IfOk result (λ kind.
+            OwnersAfter (part_no (shape self.old)) kind space.old space.new) }
         // At every moment, whether it fails or not.
         ensures adds { IsTrue B.tells → AddsTo (shape self.old) Nothing
             (B.seen blocks.old) (B.seen blocks.new) }

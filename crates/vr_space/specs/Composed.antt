@@ -1,0 +1,38 @@
+-- What a run of calls of a part leaves: the example of how its promises compose. The rules are this
+-- project's own.
+use Rattle.std.specs.Prelude.{◌≡◌, ◌≢◌, ◌⊎◌, ℕ, Bool, true, false, List, [], Option, Some, None}
+use Rattle.vr_types.specs.Content.{Content, record_at}
+use Rattle.vr_types.specs.Image.{Image}
+use Rattle.vr_types.specs.Seen.{Seen}
+use Rattle.vr_space.specs.declared.composed.Turn.{Turn}
+use Rattle.vr_space.specs.declared.composed.Turn.TheVariants as turns
+use Rattle.vr_space.specs.Part.{Shape, StandsFor, item_of, SameRecords, SetsOne, DueMore, HasOnly, IsFirm}
+
+-- One call set a record, did a stage, or found no room.
+abbrev pub IsTurn : Shape → List ℕ → List ℕ → List ℕ → Turn → Seen → Seen → Type 0
+IsTurn shape place bytes put turns.Set old new = SetsOne shape place (Some bytes) old.cur new.cur × DueMore shape put old new
+IsTurn shape place bytes put turns.Staged old new = SameRecords shape old.cur new.cur × DueMore shape [] old new
+IsTurn shape place bytes put turns.Full old new = SameRecords shape old.cur new.cur × DueMore shape [] old new
+
+-- one record at one place
+pub record Given : Type 0 where
+  pub place : List ℕ
+  pub bytes : List ℕ
+
+-- the place has what it had, or one of the records that are given for it
+abbrev pub HadOrGiven : Shape → Image → Given → Given → List ℕ → Option (List ℕ) → Type 0
+HadOrGiven shape old one other place item =
+    (item ≡ item_of shape old place) ⊎ (((place ≡ one.place) × (item ≡ Some one.bytes)) ⊎ ((place ≡ other.place) × (item ≡ Some other.bytes)))
+
+-- each place has what is read there now
+abbrev pub AsRead : Shape → Image → List ℕ → Option (List ℕ) → Type 0
+AsRead shape now place item = item ≡ item_of shape now place
+
+-- a crash leaves the current record alone at each place
+abbrev pub AllFirm : Shape → Seen → Type 0
+AllFirm shape now = (place : List ℕ) → IsFirm shape now place
+
+-- whether it was set at last
+abbrev pub IsSetOr : Shape → List ℕ → List ℕ → List ℕ → Bool → Seen → Seen → Type 0
+IsSetOr shape place bytes put true old new = IsTurn shape place bytes put turns.Set old new
+IsSetOr shape place bytes put false old new = IsTurn shape place bytes put turns.Full old new
