@@ -3,3 +3,4 @@ pub mod Places
 pub mod KeyedContent
 pub mod KeyedSound
 pub mod Adding
+pub mod Composing

@@ -1,5 +1,5 @@
-use Rattle.std.proofs.Common.{◌≡◌, IsTrue, []}
-use Rattle.vr_space.specs.Part.{IsAtRest, HasKeptRoom, AddsTo, Nothing, SameRecords, DueMore, part_no}
+use Rattle.std.proofs.Common.{◌≡◌, IsTrue, [], Some}
+use Rattle.vr_space.specs.Part.{IsAtRest, HasKeptRoom, AddsTo, Just, SameRecords, DueMore, part_no}
 use Rattle.vr_space.proofs.composed.set_after_stages.Given as goal
 
 abbrev pub invariant-loop-turn : goal.invariant-loop-turn
@@ -9,7 +9,7 @@ invariant-loop-turn g l =
     let first = B.seen l.fn.blocks in
     let now = B.seen l.blocks in
     record {
-      adds : IsTrue B.tells → AddsTo shape Nothing first now;
+      adds : IsTrue B.tells → AddsTo shape (Just l.place (Some l.bytes)) first now;
       same : IsTrue B.tells → SameRecords shape first.cur now.cur;
       due : IsTrue B.tells → DueMore shape [] first now;
       rests : IsTrue B.tells → IsAtRest shape now;
