@@ -1,12 +1,14 @@
 -- Turns over a part, one after another.
-use Rattle.std.proofs.Common.{◌≡◌, ◌⊎◌, ⊎_elim, ℕ, Bool, IsTrue, List, [], Some, Option, subst}
-use Rattle.vr_types.specs.Image.{Image}
+use Rattle.std.proofs.Common.{◌≡◌, ◌⊎◌, inl, sym, ⊎_elim, ◌<◌, ◌++◌, ℕ, Bool, IsTrue, List, [], Some, Option, subst, ap, ◌∙◌, arith}
+use Rattle.std.proofs.lemmas.List.Elements.{All-contains, Contains-append_cases, Contains-append_left, Contains-append_right}
+use Rattle.vr_types.specs.Blocks.{Keeps, Forced}
+use Rattle.vr_types.specs.Image.{Image, block_at}
 use Rattle.vr_types.specs.Seen.{Seen, Left}
 use Rattle.vr_types.proofs.CallerLemmas.{keeps-none}
 use Rattle.vr_space.specs.declared.composed.Turn.{Turn}
 use Rattle.vr_space.specs.declared.composed.Turn.TheVariants as turns
-use Rattle.vr_space.specs.Part.{Shape, AddsTo, Just, Nothing, SameRecords, DueMore, IsSound}
-use Rattle.vr_space.specs.Composed.{IsTurn}
+use Rattle.vr_space.specs.Part.{Shape, AddsTo, Just, Nothing, SameRecords, SetsOne, DueMore, IsSound}
+use Rattle.vr_space.specs.Composed.{IsTurn, Given, OneOfTwo, SetsBoth, AreSet}
 use Rattle.vr_space.proofs.Adding.{adds-then, adds-weaken, keeps-adds, sets-after, records-then, due-then}
 
 -- what a turn did, by the part's shape from the start
@@ -33,3 +35,40 @@ set-then shape place bytes put a b c same due did = (sets-after shape place (Som
 
 pub staged-then : (shape : Shape) (place bytes put : List ℕ) (a b c : Seen) → SameRecords shape a.cur b.cur → DueMore shape [] a b → IsTurn shape place bytes put turns.Staged b c → IsTurn shape place bytes put turns.Staged a c
 staged-then shape place bytes put a b c same due did = (records-then shape a.cur b.cur c.cur same did.0, due-then shape [] a b c due did.1)
+
+-- two forces, one after the other
+pub forced-both : (tells : Bool) (told : IsTrue tells) (one other : List ℕ) (a b c : Seen) → Rattle.std.specs.Prelude.All (λ (n : ℕ). n < a.count) one → Keeps tells a b → Keeps tells b c → Forced one a.cur b.may → Forced other b.cur c.may → Forced (one ++ other) a.cur c.may
+forced-both tells told one other a b c below first second one-forced other-forced n block listed may = ⊎_elim
+    (λ there. one-forced n block there (second.adds_none told n block (omega (arith, All-contains (λ (m : ℕ). m < a.count) one n below there, first.count_same)) may))
+    (λ there. other-forced n block there may ∙ ap (λ (image : Image). block_at image n) (first.content told))
+    (Contains-append_cases one other n listed)
+
+-- ---- two records
+
+pub one-of-two : (shape : Shape) (one other : Given) (a b : Seen) → AddsTo shape (Just one.place (Some one.bytes)) a b → AddsTo shape (OneOfTwo one other) a b
+one-of-two shape one other a b call = adds-weaken shape (Just one.place (Some one.bytes)) (OneOfTwo one other) a b call (λ place item. inl)
+
+pub both-of-two : (shape later : Shape) (one other : Given) (a b c : Seen) → later ≡ shape → AddsTo shape (Just one.place (Some one.bytes)) a b → AddsTo later (Just other.place (Some other.bytes)) b c → AddsTo shape (OneOfTwo one other) a c
+both-of-two shape later one other a b c same first second =
+    adds-then shape (Just one.place (Some one.bytes)) (Just other.place (Some other.bytes)) a b c first
+    (subst (λ (s : Shape). AddsTo s (Just other.place (Some other.bytes)) b c) same second)
+
+sets-both : (shape : Shape) (one other : Given) (a b c : Image) → SetsOne shape one.place (Some one.bytes) a b → SetsOne shape other.place (Some other.bytes) b c → SetsBoth shape one other a c
+sets-both shape one other a b c first second = record {
+  last = second.here;
+  first = λ apart. second.others one.place apart ∙ first.here;
+  others = λ place from_one from_other. second.others place from_other ∙ first.others place from_one;
+}
+
+due-both : (shape : Shape) (listed put : List ℕ) (a b c : Seen) → DueMore shape listed a b → DueMore shape put b c → DueMore shape (listed ++ put) a c
+due-both shape listed put a b c first second all place due within =
+    second all place (first all place due (λ n there. within n (Contains-append_left listed put n there))) (λ n there. within n (Contains-append_right listed put n there))
+
+pub are-set : (shape later : Shape) (one other : Given) (noted listed put : List ℕ) (a b c : Seen) → later ≡ shape → noted ≡ listed
+    → IsTurn shape one.place one.bytes listed turns.Set a b → IsTurn later other.place other.bytes put turns.Set b c → AreSet shape one other noted put a c
+are-set shape later one other noted listed put a b c same note first second =
+    let then = subst (λ (s : Shape). IsTurn s other.place other.bytes put turns.Set b c) same second in
+    record {
+      both = sets-both shape one other a.cur b.cur c.cur first.0 then.0;
+      due = subst (λ (list : List ℕ). DueMore shape (list ++ put) a c) (sym note) (due-both shape listed put a b c first.1 then.1);
+    }

@@ -1,9 +1,10 @@
 -- What a run of calls of a part leaves: the example of how its promises compose. The rules are this
 -- project's own.
-use Rattle.std.specs.Prelude.{◌≡◌, ◌≢◌, ◌⊎◌, ℕ, Bool, true, false, List, [], Option, Some, None}
+use Rattle.std.specs.Prelude.{◌≡◌, ◌≢◌, ◌⊎◌, ◌++◌, ℕ, Bool, true, false, List, [], Option, Some, None}
 use Rattle.vr_types.specs.Content.{Content, record_at}
 use Rattle.vr_types.specs.Image.{Image}
 use Rattle.vr_types.specs.Seen.{Seen}
+use Rattle.vr_space.specs.declared.pair.NewRecord.{NewRecord}
 use Rattle.vr_space.specs.declared.composed.Turn.{Turn}
 use Rattle.vr_space.specs.declared.composed.Turn.TheVariants as turns
 use Rattle.vr_space.specs.Part.{Shape, StandsFor, item_of, SameRecords, SetsOne, DueMore, HasOnly, IsFirm}
@@ -36,3 +37,23 @@ AllFirm shape now = (place : List ℕ) → IsFirm shape now place
 abbrev pub IsSetOr : Shape → List ℕ → List ℕ → List ℕ → Bool → Seen → Seen → Type 0
 IsSetOr shape place bytes put true old new = IsTurn shape place bytes put turns.Set old new
 IsSetOr shape place bytes put false old new = IsTurn shape place bytes put turns.Full old new
+
+-- what sets one of two records may add
+abbrev pub OneOfTwo : Given → Given → List ℕ → Option (List ℕ) → Type 0
+OneOfTwo one other place item =
+    ((place ≡ one.place) × (item ≡ Some one.bytes)) ⊎ ((place ≡ other.place) × (item ≡ Some other.bytes))
+
+-- Both were set, the other one last, and each other place has what it had.
+pub record SetsBoth (shape : Shape) (one other : Given) (old new : Image) : Type 0 where
+  pub last : item_of shape new other.place ≡ Some other.bytes
+  pub first : one.place ≢ other.place → item_of shape new one.place ≡ Some one.bytes
+  pub others : (place : List ℕ) → place ≢ one.place → place ≢ other.place → item_of shape new place ≡ item_of shape old place
+
+-- Both were set: the first list, and the one of the last call, name what has to be forced.
+pub record AreSet (shape : Shape) (one other : Given) (listed put : List ℕ) (old new : Seen) : Type 0 where
+  pub both : SetsBoth shape one other old.cur new.cur
+  pub due : DueMore shape (listed ++ put) old new
+
+-- the record that a caller hands in
+abbrev pub given_by : NewRecord → Given
+given_by new = record { place = new.place.now; bytes = new.bytes.now }

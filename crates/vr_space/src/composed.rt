@@ -1,9 +1,11 @@
 //! A run of calls of a part, by the clauses of `Part` alone: how its promises compose.
 ghost use Rattle.std.specs.Prelude.{◌≡◌, ◌<◌, ◌^◌, ℕ, List, [], Some, IsTrue, true, false, length};
-ghost use Rattle.std.specs.Prelude.{IfOk, OnOk};
+ghost use Rattle.std.specs.Prelude.{IfOk, OnOk, All};
+ghost use Rattle.vr_space.specs.declared.composed.Turn.TheVariants as turns;
 ghost use Rattle.vr_types.specs.Faults.{HasCause};
 ghost use Rattle.vr_space.specs.Part.{
   IsOn,
+  InPart,
   IsPlaceOf,
   IsRecordOf,
   IsAtRest,
@@ -93,6 +95,8 @@ pub fn take_turn<B: Blocks, P: Part, K: Kept>(
         (B.seen blocks.old) (B.seen blocks.new) }
     ensures turn { IsTrue B.tells → IfOk result (λ turn. IsTurn (P.shape part.old) place.now
         bytes.now (P.put part.new) turn (B.seen blocks.old) (B.seen blocks.new)) }
+    ensures put { IfOk result (λ turn. turn ≡ turns.Set
+        → All (InPart (P.shape part.old)) (P.put part.new)) }
     ensures rests { IsTrue B.tells → OnOk result
         (IsAtRest (P.shape part.old) (B.seen blocks.new)) }
     ensures room { IsTrue B.tells → HasKeptRoom (P.shape part.old)
@@ -137,6 +141,8 @@ pub fn set_after_stages<B: Blocks, P: Part, K: Kept>(
         (B.seen blocks.old) (B.seen blocks.new) }
     ensures set { IsTrue B.tells → IfOk result (λ set. IsSetOr (P.shape part.old) place.now
         bytes.now (P.put part.new) set (B.seen blocks.old) (B.seen blocks.new)) }
+    ensures put { IfOk result (λ set. IsTrue set
+        → All (InPart (P.shape part.old)) (P.put part.new)) }
     ensures rests { IsTrue B.tells → OnOk result
         (IsAtRest (P.shape part.old) (B.seen blocks.new)) }
     ensures room { IsTrue B.tells → HasKeptRoom (P.shape part.old)

@@ -4,12 +4,14 @@
 
 mod composed;
 mod kept;
+mod pair;
 mod part;
 mod room;
 mod whence;
 
-pub use composed::{Turn, take_turn};
+pub use composed::{Turn, set_after_stages, take_turn};
 pub use kept::{Kept, NoneKept};
+pub use pair::NewRecord;
 pub use part::Part;
 pub use room::Room;
 pub use whence::Whence;

@@ -1,6 +1,6 @@
 //! The contract of every part of a volume.
 ghost use Rattle.std.specs.Prelude.{◌≡◌, ◌≤◌, ℕ, List, Option, [], None, Some, IsTrue, length};
-ghost use Rattle.std.specs.Prelude.{IfOk, OnOk, MatchOption};
+ghost use Rattle.std.specs.Prelude.{IfOk, OnOk, MatchOption, All};
 ghost use Rattle.std.specs.Borrow.{sem};
 ghost use Rattle.std.specs.Io.BufRead.{Rests};
 ghost use Rattle.vr_types.specs.Blocks.{Keeps};
@@ -16,6 +16,7 @@ ghost use Rattle.vr_space.specs.Part.{
   item_of,
   room_of,
   IsOn,
+  InPart,
   IsPlaceOf,
   IsLengthOf,
   IsGiven,
@@ -67,6 +68,7 @@ pub trait Part {
             (λ s. item_of (shape part.old) (B.seen blocks.old).cur place.now ≡ Some s.now)) }
         ensures shape { shape part.new ≡ shape part.old }
         ensures split { split part.new ≡ split part.old }
+        ensures put { put part.new ≡ put part.old }
         ensures* after { sem 𝓛 (Rests B.row blocks.entry (λ new.
             Keeps B.tells (B.seen blocks.old) (B.seen new)
             × HasCause (B.faults blocks.old) (B.faults new) result)) };
@@ -87,7 +89,8 @@ pub trait Part {
         ensures keeps { Keeps B.tells (B.seen blocks.old) (B.seen blocks.new) }
         ensures cause { HasCause (B.faults blocks.old) (B.faults blocks.new) result }
         ensures shape { shape self.new ≡ shape self.old }
-        ensures split { split self.new ≡ split self.old };
+        ensures split { split self.new ≡ split self.old }
+        ensures put { put self.new ≡ put self.old };
 
     /// Whether a record of this length has room at the place, beside what stands there and what is
     /// kept.
@@ -109,9 +112,11 @@ pub trait Part {
         ensures keeps { Keeps B.tells (B.seen blocks.old) (B.seen blocks.new) }
         ensures cause { HasCause (B.faults blocks.old) (B.faults blocks.new) result }
         ensures shape { shape self.new ≡ shape self.old }
-        ensures split { split self.new ≡ split self.old };
+        ensures split { split self.new ≡ split self.old }
+        ensures put { put self.new ≡ put self.old };
 
     /// Does the stage that comes before such a record, and answers it. Each place keeps its record.
+    /// The caller asks `room` again.
     fn advance<B: Blocks, K: Kept>(
         &mut self,
         blocks: &mut B,
@@ -174,6 +179,7 @@ pub trait Part {
             (given bytes.entry) (B.seen blocks.old).cur (B.seen blocks.new).cur) }
         ensures due { IsTrue B.tells → OnOk result
             (DueMore (shape self.old) (put self.new) (B.seen blocks.old) (B.seen blocks.new)) }
+        ensures put { OnOk result (All (InPart (shape self.old)) (put self.new)) }
         ensures rests { IsTrue B.tells → OnOk result
             (IsAtRest (shape self.old) (B.seen blocks.new)) }
         ensures room { IsTrue B.tells → HasKeptRoom (shape self.old)
@@ -184,7 +190,7 @@ pub trait Part {
         ensures shape { shape self.new ≡ shape self.old }
         ensures split { split self.new ≡ split self.old };
 
-    /// The blocks that the last `set` put.
+    /// The blocks that the last `set` put, until the next call that may change the part.
     fn put_blocks(&self) -> &[u32]
         ensures { result.now ≡ put self.now };
 }
