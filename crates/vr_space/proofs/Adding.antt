@@ -22,7 +22,7 @@ use Rattle.vr_space.proofs.KeyedSound.{keyed-within, keyed-image, keyed-less, ea
 
 -- ---- one after another
 
-only-weaken : (shape : Shape) (O P : List ℕ → Option (List ℕ) → Type 0) → ((place : List ℕ) (item : Option (List ℕ)) → O place item → P place item)
+pub only-weaken : (shape : Shape) (O P : List ℕ → Option (List ℕ) → Type 0) → ((place : List ℕ) (item : Option (List ℕ)) → O place item → P place item)
     → (image : Image) → HasOnly shape O image → HasOnly shape P image
 only-weaken shape O P wider image has = record {
   content = has.content;

@@ -1,5 +1,5 @@
 -- Turns over a part, one after another.
-use Rattle.std.proofs.Common.{◌≡◌, ◌⊎◌, inl, sym, ⊎_elim, ◌<◌, ◌++◌, ℕ, Bool, IsTrue, List, [], Some, Option, subst, ap, ◌∙◌, arith}
+use Rattle.std.proofs.Common.{◌≡◌, ◌⊎◌, inl, inr, sym, ⊎_elim, ◌<◌, ◌++◌, ℕ, Bool, IsTrue, List, [], Some, Option, subst, ap, ◌∙◌, arith}
 use Rattle.std.proofs.lemmas.List.Elements.{All-contains, Contains-append_cases, Contains-append_left, Contains-append_right}
 use Rattle.vr_types.specs.Blocks.{Keeps, Forced}
 use Rattle.vr_types.specs.Image.{Image, block_at}
@@ -7,9 +7,12 @@ use Rattle.vr_types.specs.Seen.{Seen, Left}
 use Rattle.vr_types.proofs.CallerLemmas.{keeps-none}
 use Rattle.vr_space.specs.declared.composed.Turn.{Turn}
 use Rattle.vr_space.specs.declared.composed.Turn.TheVariants as turns
-use Rattle.vr_space.specs.Part.{Shape, AddsTo, Just, Nothing, SameRecords, SetsOne, DueMore, IsSound}
-use Rattle.vr_space.specs.Composed.{IsTurn, Given, OneOfTwo, SetsBoth, AreSet}
-use Rattle.vr_space.proofs.Adding.{adds-then, adds-weaken, keeps-adds, sets-after, records-then, due-then}
+use Rattle.vr_space.specs.Part.{Shape, KeyedShape, InPart, IsOn, HasOnly, MayHold, MayAlsoHold, item_of, AddsTo, Just, Nothing, SameRecords, SetsOne, DueMore, IsSound}
+use Rattle.vr_space.specs.Composed.{IsTurn, Given, OneOfTwo, SetsBoth, AreSet, HadOrGiven, AllFirm, AsRead}
+use Rattle.vr_types.specs.Regions.{Touches, IsImageOn}
+use Rattle.vr_types.proofs.CallerLemmas.{touches-weaken}
+use Rattle.std.specs.Prelude.{All}
+use Rattle.vr_space.proofs.Adding.{only-weaken, forced-firm, firm-due, sound-image, adds-then, adds-weaken, keeps-adds, sets-after, records-then, due-then}
 
 -- what a turn did, by the part's shape from the start
 pub turn-is : (shape other : Shape) (place bytes put : List ℕ) (turn wanted : Turn) (old new : Seen) → other ≡ shape → turn ≡ wanted → IsTurn other place bytes put turn old new → IsTurn shape place bytes put wanted old new
@@ -72,3 +75,30 @@ are-set shape later one other noted listed put a b c same note first second =
       both = sets-both shape one other a.cur b.cur c.cur first.0 then.0;
       due = subst (λ (list : List ℕ). DueMore shape (list ++ put) a c) (sym note) (due-both shape listed put a b c first.1 then.1);
     }
+
+-- ---- from firm places to firm places
+
+module _ (shape : Shape) (one other : Given) where
+  -- each image has what each place had, or a record that is given for it
+  pub had-or-given : (a b : Seen) → AllFirm shape a → AddsTo shape (OneOfTwo one other) a b → Touches (InPart shape) (HasOnly shape (HadOrGiven shape a.cur one other)) a b
+  had-or-given a b firm call = touches-weaken (InPart shape) _ _ a b call.touches
+      (only-weaken shape (MayAlsoHold shape a.may (OneOfTwo one other)) (HadOrGiven shape a.cur one other) (λ place item. ⊎_elim (λ old. inl (firm place item old)) (λ new. inr new)))
+
+  pub all-firm : (tells : Bool) (told : IsTrue tells) (listed put : List ℕ) (a b c : Seen) → AllFirm shape a → IsSound shape a → IsSound shape b → AreSet shape one other listed put a b
+      → Keeps tells b c → Forced (listed ++ put) b.cur c.may → AllFirm shape c
+  all-firm tells told listed put a b c firm sound now set call forced place =
+      forced-firm tells told shape (listed ++ put) place b c call forced now (set.due (listed ++ put) place (firm-due shape (listed ++ put) place a sound (firm place)) (λ n there. there))
+
+-- a crash leaves what is read, where it leaves each place's record alone
+pub as-read : (shape : Shape) (now : Seen) → IsSound shape now → AllFirm shape now → (image : Image) → Left now image → HasOnly shape (AsRead shape now.cur) image
+as-read shape now sound firm image left =
+    only-weaken shape (MayHold shape now.may) (AsRead shape now.cur) firm image (sound-image shape now sound image (record { each = λ n below is. left.each n below }))
+
+below-part : (shape : Shape) (now : Seen) (n : ℕ) → IsOn shape now → InPart shape n → n < now.count
+below-part (KeyedShape part) now n on is = omega (arith, on.0, is.1)
+
+-- blocks of the part are there
+pub all-below : (shape other : Shape) (now : Seen) (ns : List ℕ) → other ≡ shape → IsOn shape now → All (InPart other) ns → All (λ n. n < now.count) ns
+all-below shape other now ns same on all k d within =
+    let n = Rattle.std.specs.Prelude.slice_index_or ns k d in
+    below-part shape now n on (subst (λ (s : Shape). InPart s n) same (all k d within))

@@ -11,7 +11,7 @@ mod whence;
 
 pub use composed::{Turn, set_after_stages, take_turn};
 pub use kept::{Kept, NoneKept};
-pub use pair::NewRecord;
+pub use pair::{NewRecord, set_pair};
 pub use part::Part;
 pub use room::Room;
 pub use whence::Whence;

@@ -103,3 +103,56 @@ fn set_both<B: Blocks, P: Part, K: Kept>(
     }
     Ok(Some(count))
 }
+
+/// Sets two records, each once the stages that come before it are done, and forces what was put. It
+/// answers false where one has no room, or more than `turns` turns, or `listed` is too short for
+/// the blocks of the first.
+///
+/// Where a crash leaves each place's record alone at first: in every image of every moment, whether
+/// the call fails or not, the blocks stand for a content, and each place of it has the record that
+/// it had, or the one that is given for it. Once it is done, a crash leaves both and what was there.
+pub fn set_pair<B: Blocks, P: Part, K: Kept>(
+    blocks: &mut B,
+    part: &mut P,
+    space: &mut Space,
+    kept: &K,
+    one: NewRecord<'_>,
+    other: NewRecord<'_>,
+    turns: u32,
+    listed: &mut [u32],
+) -> Result<bool, DeviceFault>
+    requires on { IsOn (P.shape part.old) (B.seen blocks.old) }
+    requires places { IsPlaceOf (P.shape part.old) one.place.now
+        × IsPlaceOf (P.shape part.old) other.place.now }
+    requires records { IsRecordOf (P.shape part.old) one.place.now one.bytes.now
+        × IsRecordOf (P.shape part.old) other.place.now other.bytes.now }
+    requires short { (length one.bytes.now < 2 ^ 32) × (length other.bytes.now < 2 ^ 32) }
+    requires rests { IsTrue B.tells → IsAtRest (P.shape part.old) (B.seen blocks.old) }
+    requires room { IsTrue B.tells → HasKeptRoom (P.shape part.old)
+        (K.kept kept.now (part_no (P.shape part.old))) (B.seen blocks.old) }
+    requires firm { IsTrue B.tells → AllFirm (P.shape part.old) (B.seen blocks.old) }
+    ensures any_moment { IsTrue B.tells → Touches (InPart (P.shape part.old))
+        (HasOnly (P.shape part.old) (HadOrGiven (P.shape part.old) (B.seen blocks.old).cur
+            (given_by one.entry) (given_by other.entry)))
+        (B.seen blocks.old) (B.seen blocks.new) }
+    ensures set { IsTrue B.tells → IfOk result (λ set. IsTrue set
+        → SetsBoth (P.shape part.old) (given_by one.entry) (given_by other.entry)
+          (B.seen blocks.old).cur (B.seen blocks.new).cur) }
+    ensures firm { IsTrue B.tells → IfOk result (λ set. IsTrue set
+        → AllFirm (P.shape part.old) (B.seen blocks.new)) }
+    ensures left { IsTrue B.tells → IfOk result (λ set. IsTrue set
+        → (image : Image) → Left (B.seen blocks.new) image
+        → HasOnly (P.shape part.old) (AsRead (P.shape part.old) (B.seen blocks.new).cur) image) }
+    ensures rests { IsTrue B.tells → OnOk result
+        (IsAtRest (P.shape part.old) (B.seen blocks.new)) }
+    ensures cause { HasCause (B.faults blocks.old) (B.faults blocks.new) result }
+    ensures shape { P.shape part.new ≡ P.shape part.old }
+{
+    match set_both(blocks, part, space, kept, one, other, turns, listed)? {
+        None => Ok(false),
+        Some(count) => {
+            force_both(blocks, &listed[..count], part.put_blocks())?;
+            Ok(true)
+        }
+    }
+}
