@@ -4,3 +4,4 @@ pub mod KeyedContent
 pub mod KeyedSound
 pub mod Adding
 pub mod Composing
+pub mod Rising

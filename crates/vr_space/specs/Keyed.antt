@@ -1,7 +1,9 @@
 -- The blocks of a keyed part of one area: its head, which is a sequence-set record of one entry or
 -- more, and its control intervals (DFSMS Using Data Sets, key-sequenced data sets). Which content
 -- they stand for, and what a crash may leave of them, are this project's own rules.
-use Rattle.std.specs.Prelude.{◌≡◌, ℕ, ◌+◌, ◌<◌, ◌≤◌, true, false, IsTrue, List, [], ◌∷◌, ◌++◌, length, take, drop, map, filter, All, Option, Some, None, slice_index, replicate, if◌then◌else◌}
+use Rattle.std.specs.Prelude.{◌≡◌, ℕ, ◌+◌, ◌<◌, ◌≤◌, true, false, IsTrue, List, [], ◌∷◌, ◌++◌}
+use Rattle.std.specs.Prelude.{length, take, drop, map, filter, All, Option, Some, None, slice_index}
+use Rattle.std.specs.Prelude.{replicate, if◌then◌else◌}
 use Rattle.std.specs.List.{flat_map}
 use Rattle.std.specs.List.Sorted.{IsStrictlySortedBy}
 use Rattle.std.specs.Ordering.{is_le}
@@ -77,7 +79,8 @@ pub record IsHead (part : Keyed) (top : Block) : Type 0 where
   pub index : (record_in top).top ≡ 0
   pub index_area : (record_in top).index_area ≡ None
   pub single : All (λ (entry : Entry). length entry.intervals ≡ 1) (entries_of top)
-  pub last : (before : List Entry) (entry : Entry) → entries_of top ≡ before ++ entry ∷ [] → entry.high ≡ replicate part.key 255
+  pub last : (before : List Entry) (entry : Entry) → entries_of top ≡ before ++ entry ∷ []
+      → entry.high ≡ replicate part.key 255
 
 -- a record in an interval: live, and valid
 pub record IsKept (part : Keyed) (item : ci.Item) : Type 0 where
@@ -87,11 +90,18 @@ pub record IsKept (part : Keyed) (item : ci.Item) : Type 0 where
 -- The block is an interval of the range: records in the order of their keys, and none beyond the
 -- range unless it is busy.
 pub record HoldsRange (part : Keyed) (range : Range) (block : Block) : Type 0 where
-  pub spelled : ci.IsInterval Plain block (record { shape = shapes.Records; items = items_of block; busy = is_busy block })
+  pub spelled : ci.IsInterval Plain block (record {
+    shape = shapes.Records;
+    items =
+        items_of block;
+    busy = is_busy block;
+  })
   pub size : length block ≡ part.size
   pub kept : All (IsKept part) (items_of block)
-  pub ascends : IsStrictlySortedBy place_cmp (map (λ (item : ci.Item). key_of part item.bytes) (items_of block))
-  pub within : is_busy block ≡ false → All (λ (item : ci.Item). IsTrue (is_in range (key_of part item.bytes))) (items_of block)
+  pub ascends : IsStrictlySortedBy place_cmp
+      (map (λ (item : ci.Item). key_of part item.bytes) (items_of block))
+  pub within : is_busy block ≡ false
+      → All (λ (item : ci.Item). IsTrue (is_in range (key_of part item.bytes))) (items_of block)
 
 -- each entry's range begins where the one before ends
 abbrev pub range_of : Option (List ℕ) → Entry → Range
@@ -101,17 +111,20 @@ range_of low entry = record { low = low; high = entry.high }
 abbrev pub HoldRanges : Keyed → Image → Option (List ℕ) → List Entry → Type 0
 HoldRanges part image low [] = Unit {0}
 HoldRanges part image low (entry ∷ entries) =
-    HoldsRange part (range_of low entry) (block_at image (entry_block part entry)) × HoldRanges part image (Some entry.high) entries
+    HoldsRange part (range_of low entry) (block_at image (entry_block part entry))
+    × HoldRanges part image (Some entry.high) entries
 
 -- the records of a block in a range
 abbrev pub records_in : Keyed → Range → Block → Content
-records_in part range block = filter (λ (entry : Placed). is_in range entry.0) (records_of part block)
+records_in part range block =
+    filter (λ (entry : Placed). is_in range entry.0) (records_of part block)
 
 -- entry by entry, the records of its interval in its range
 abbrev pub content_from : Keyed → Image → Option (List ℕ) → List Entry → Content
 content_from part image low [] = []
 content_from part image low (entry ∷ entries) =
-    records_in part (range_of low entry) (block_at image (entry_block part entry)) ++ content_from part image (Some entry.high) entries
+    records_in part (range_of low entry) (block_at image (entry_block part entry))
+    ++ content_from part image (Some entry.high) entries
 
 -- The blocks stand for the content.
 pub record KeyedStandsFor (part : Keyed) (image : Image) (content : Content) : Type 0 where
@@ -125,11 +138,13 @@ pub record KeyedStandsFor (part : Keyed) (image : Image) (content : Content) : T
 abbrev pub entry_for : Option (List ℕ) → List Entry → List ℕ → Option (Range × Entry)
 entry_for low [] place = None
 entry_for low (entry ∷ entries) place =
-    if is_le (place_cmp place entry.high) then Some (range_of low entry, entry) else entry_for (Some entry.high) entries place
+    if is_le (place_cmp place entry.high) then Some (range_of low entry, entry) else entry_for
+    (Some entry.high) entries place
 
 abbrev pub way_in : Keyed → List ℕ → Option (Range × Entry) → Way
 way_in part place None = Found None
-way_in part place (Some found) = Reads (entry_block part found.1) (λ block. Found (record_at (records_of part block) place))
+way_in part place (Some found) =
+    Reads (entry_block part found.1) (λ block. Found (record_at (records_of part block) place))
 
 -- by way of this head
 abbrev pub way_under : Keyed → List ℕ → Block → Way
@@ -142,18 +157,21 @@ keyed_way part place = Reads part.head (way_under part place)
 -- ---- what a crash may leave
 
 -- Each content that a crash may leave of the interval of each entry has Q of its range.
-abbrev pub EachMayLeave : Keyed → Seen → Option (List ℕ) → List Entry → (Range → Block → Type 0) → Type 0
+abbrev pub EachMayLeave : Keyed → Seen → Option (List ℕ) → List Entry → (Range → Block → Type 0)
+    → Type 0
 EachMayLeave part now low [] Q = Unit {0}
 EachMayLeave part now low (entry ∷ entries) Q =
-    Only now (entry_block part entry) (Q (range_of low entry)) × EachMayLeave part now (Some entry.high) entries Q
+    Only now (entry_block part entry) (Q (range_of low entry))
+    × EachMayLeave part now (Some entry.high) entries Q
 
--- A crash leaves heads of the part alone, and of each interval that one of them leads to contents of
--- its range.
+-- A crash leaves heads of the part alone, and of each interval that one of them leads to contents
+-- of its range.
 pub record IsKeyedSound (part : Keyed) (now : Seen) : Type 0 where
   pub area : part.head + part.area < now.count
   pub size : now.size ≡ part.size
   pub heads : (top : Block) → now.may part.head top → IsHead part top
-  pub intervals : (top : Block) → now.may part.head top → EachMayLeave part now None (entries_of top) (HoldsRange part)
+  pub intervals : (top : Block) → now.may part.head top
+      → EachMayLeave part now None (entries_of top) (HoldsRange part)
 
 -- Between two events: it leaves the current head alone.
 pub record IsKeyedAtRest (part : Keyed) (now : Seen) : Type 0 where
@@ -168,8 +186,11 @@ length_of (place, Standing bytes) = (place, length bytes)
 length_of (place, Rattle.vr_types.specs.Content.Item.Withdrawn n) = (place, n)
 
 abbrev pub lengths_of : Keyed → Lengths → Range → Block → Lengths
-lengths_of part kept range block = with_lengths (map length_of (records_in part range block)) (lengths_in range kept)
+lengths_of part kept range block =
+    with_lengths (map length_of (records_in part range block)) (lengths_in range kept)
 
 -- Whatever a crash leaves of an interval, what is kept for its range has room beside it.
 pub record KeepsRoom (part : Keyed) (kept : Lengths) (now : Seen) : Type 0 where
-  pub each : (top : Block) → now.may part.head top → EachMayLeave part now None (entries_of top) (λ range block. HaveRoom part.size (lengths_of part kept range block))
+  pub each : (top : Block) → now.may part.head top
+      → EachMayLeave part now None (entries_of top)
+      (λ range block. HaveRoom part.size (lengths_of part kept range block))

@@ -1,6 +1,7 @@
 -- A part of a volume on its blocks: what they stand for, which items each place may hold in the
 -- images that a crash may leave, and what a call adds to that. The rules are this project's own.
-use Rattle.std.specs.Prelude.{◌≡◌, ◌≢◌, ◌⊎◌, ◌<◌, ◌≤◌, ◌+◌, ℕ, Bool, List, Option, Some, None, Contains, length}
+use Rattle.std.specs.Prelude.{◌≡◌, ◌≢◌, ◌⊎◌, ◌<◌, ◌≤◌, ◌+◌, ℕ, Bool, List, Option, Some, None}
+use Rattle.std.specs.Prelude.{Contains, length}
 use Rattle.vr_types.specs.Content.{Content, record_at}
 use Rattle.vr_types.specs.Image.{Block, Image}
 use Rattle.vr_types.specs.Seen.{Seen}
@@ -17,11 +18,12 @@ use Rattle.vr_types.specs.Space.{least_free}
 use Rattle.std.specs.Prelude.{slice_set}
 use Rattle.vr_space.specs.declared.whence.Whence.{Whence}
 use Rattle.vr_space.specs.declared.room.Room.{Room}
-use Rattle.vr_space.specs.declared.room.Room.TheVariants.{Ready, Stage}
+use Rattle.vr_space.specs.declared.room.Room.TheVariants.{Stage}
 use Rattle.vr_space.specs.Whence.{allows}
 use Rattle.vr_space.specs.Room.{Lengths, length_at}
 use Rattle.vr_space.specs.Split.{SplitNow, keyed_room, keyed_stage, keyed_fits}
-use Rattle.vr_space.specs.Keyed.{Keyed, keyed_way, KeyedStandsFor, IsKeyedSound, IsKeyedAtRest, KeepsRoom, IsValid, key_of}
+use Rattle.vr_space.specs.Keyed.{Keyed, keyed_way, KeyedStandsFor, IsKeyedSound, IsKeyedAtRest}
+use Rattle.vr_space.specs.Keyed.{KeepsRoom, IsValid, key_of}
 
 -- Where a part is on its blocks and how they are spelled, by its kind.
 pub data Shape : Type 0 where
@@ -96,11 +98,13 @@ abbrev pub Just : List ℕ → Option (List ℕ) → List ℕ → Option (List �
 Just at new place item = (place ≡ at) × (item ≡ new)
 
 -- what might be held before, and also what A allows
-abbrev pub MayAlsoHold : Shape → (ℕ → Block → Type 0) → (List ℕ → Option (List ℕ) → Type 0) → List ℕ → Option (List ℕ) → Type 0
+abbrev pub MayAlsoHold : Shape → (ℕ → Block → Type 0) → (List ℕ → Option (List ℕ) → Type 0)
+    → List ℕ → Option (List ℕ) → Type 0
 MayAlsoHold shape may A place item = MayHold shape may place item ⊎ A place item
 
 -- The image stands for some content, and each place of it has what O allows.
-pub record HasOnly (shape : Shape) (O : List ℕ → Option (List ℕ) → Type 0) (image : Image) : Type 0 where
+pub record HasOnly (shape : Shape) (O : List ℕ → Option (List ℕ)
+    → Type 0) (image : Image) : Type 0 where
   pub content : Content
   pub stands : StandsFor shape image content
   pub each : (place : List ℕ) → O place (record_at content place)
@@ -108,9 +112,11 @@ pub record HasOnly (shape : Shape) (O : List ℕ → Option (List ℕ) → Type 
 -- Calls that put into the part's blocks alone made `new` of `old`, and added at most what A allows
 -- to what its places may hold: in each image of each of their moments, whether they failed or not,
 -- and from then on.
-pub record AddsTo (shape : Shape) (A : List ℕ → Option (List ℕ) → Type 0) (old new : Seen) : Type 0 where
+pub record AddsTo (shape : Shape) (A : List ℕ → Option (List ℕ)
+    → Type 0) (old new : Seen) : Type 0 where
   pub touches : Touches (InPart shape) (HasOnly shape (MayAlsoHold shape old.may A)) old new
-  pub rest : (place : List ℕ) (item : Option (List ℕ)) → MayHold shape new.may place item → MayAlsoHold shape old.may A place item
+  pub rest : (place : List ℕ) (item : Option (List ℕ)) → MayHold shape new.may place item
+      → MayAlsoHold shape old.may A place item
   pub sound : IsSound shape new
 
 -- each place has the record that it had
@@ -118,14 +124,16 @@ abbrev pub SameRecords : Shape → Image → Image → Type 0
 SameRecords shape old new = (place : List ℕ) → item_of shape new place ≡ item_of shape old place
 
 -- this place has this record, or none, and each other what it had
-pub record SetsOne (shape : Shape) (at : List ℕ) (item : Option (List ℕ)) (old new : Image) : Type 0 where
-  pub here : item_of shape new at ≡ item
-  pub others : (place : List ℕ) → place ≢ at → item_of shape new place ≡ item_of shape old place
+pub record SetsOne (shape : Shape) (at : List ℕ) (item : Option (List ℕ)) (old new : Image) : Type 0
+  where
+    pub here : item_of shape new at ≡ item
+    pub others : (place : List ℕ) → place ≢ at → item_of shape new place ≡ item_of shape old place
 
 -- Once the listed blocks are forced, a crash leaves the current record alone at the place.
 abbrev pub IsDueTo : Shape → List ℕ → Seen → List ℕ → Type 0
 IsDueTo shape listed now place =
-    (item : Option (List ℕ)) → MayFind (MayOnceForced listed now) item (way_to shape place) → item ≡ item_of shape now.cur place
+    (item : Option (List ℕ)) → MayFind (MayOnceForced listed now) item (way_to shape place)
+    → item ≡ item_of shape now.cur place
 
 -- What has to be forced for a place is what had to be, and these blocks.
 abbrev pub DueMore : Shape → List ℕ → Seen → Seen → Type 0
@@ -134,7 +142,8 @@ DueMore shape put old new = (listed : List ℕ) (place : List ℕ) → IsDueTo s
 
 -- A crash leaves the current record alone at the place.
 abbrev pub IsFirm : Shape → Seen → List ℕ → Type 0
-IsFirm shape now place = (item : Option (List ℕ)) → MayHold shape now.may place item → item ≡ item_of shape now.cur place
+IsFirm shape now place = (item : Option (List ℕ)) → MayHold shape now.may place item
+    → item ≡ item_of shape now.cur place
 
 -- ---- what calls answer
 
@@ -158,7 +167,8 @@ IsStageDue shape split image free kept place n =
 
 -- the part got the least free area
 abbrev pub IsClaimed : PartNo → List (Option PartNo) → List (Option PartNo) → Type 0
-IsClaimed part old new = (area : ℕ) × (least_free old ≡ Some area) × (new ≡ slice_set old area (Some part))
+IsClaimed part old new = (area : ℕ) × (least_free old ≡ Some area)
+    × (new ≡ slice_set old area (Some part))
 
 -- what a stage leaves of the owners of areas
 abbrev pub OwnersAfter : PartNo → StageKind → List (Option PartNo) → List (Option PartNo) → Type 0
@@ -183,19 +193,23 @@ HasRoomFor shape image kept place (Some bytes) =
     ⊎ ((n : ℕ) × (length_at kept place ≡ Some n) × (length bytes ≤ n))
 
 -- It may be set: no stage of a split is left at its place, and there is room for it.
-pub record CanSet (shape : Shape) (split : Option SplitNow) (image : Image) (kept : Lengths) (place : List ℕ) (item : Option (List ℕ)) : Type 0 where
+pub record CanSet (shape : Shape) (split : Option SplitNow) (image : Image) (kept : Lengths)
+    (place : List ℕ) (item : Option (List ℕ)) : Type 0 where
   pub no_stage : stage_of shape split image place ≡ None
   pub room : HasRoomFor shape image kept place item
 
 -- The place is the least with a record that the search may find.
-pub record IsNextPlace (shape : Shape) (image : Image) (from : Whence) (place : List ℕ) : Type 0 where
-  pub allowed : IsTrue (allows from place)
-  pub some : item_of shape image place ≢ None
-  pub least : (other : List ℕ) → IsTrue (allows from other) → place_cmp other place ≡ Less → item_of shape image other ≡ None
+pub record IsNextPlace (shape : Shape) (image : Image) (from : Whence) (place : List ℕ) : Type 0
+  where
+    pub allowed : IsTrue (allows from place)
+    pub some : item_of shape image place ≢ None
+    pub least : (other : List ℕ) → IsTrue (allows from other) → place_cmp other place ≡ Less
+        → item_of shape image other ≡ None
 
 -- there is no such place
 abbrev pub HasNoNext : Shape → Image → Whence → Type 0
-HasNoNext shape image from = (place : List ℕ) → IsTrue (allows from place) → item_of shape image place ≡ None
+HasNoNext shape image from = (place : List ℕ) → IsTrue (allows from place)
+    → item_of shape image place ≡ None
 
 abbrev pub NextIs : Shape → Image → Whence → Bool → List ℕ → Type 0
 NextIs shape image from true place = IsNextPlace shape image from place

@@ -1,6 +1,8 @@
 -- Room for what stands in an interval and what is kept for its places: the longer of both at each
 -- place, and three bytes. The rules are this project's own.
-use Rattle.std.specs.Prelude.{◌≡◌, ℕ, ◌+◌, ◌-◌, ◌*◌, ◌<◌, ◌≤◌, Bool, true, false, List, [], ◌∷◌, Option, Some, None, max, filter, map, length, ◌&&◌, if◌then◌else◌, nat_eq, nat_le}
+use Rattle.std.specs.Prelude.{◌≡◌, ℕ, ◌+◌, ◌-◌, ◌*◌, ◌<◌, ◌≤◌, Bool, true, false, List, [], ◌∷◌}
+use Rattle.std.specs.Prelude.{Option, Some, None, max, filter, map, length, ◌&&◌, if◌then◌else◌}
+use Rattle.std.specs.Prelude.{nat_eq, nat_le}
 use Rattle.std.specs.List.Sorted.{IsStrictlySortedBy}
 use Rattle.std.specs.declared.cmp.Ordering.{Ordering}
 use Rattle.std.specs.declared.cmp.Ordering.TheVariants.{Less, Equal, Greater}
@@ -26,7 +28,8 @@ length_by Greater here further = further
 -- the length at a place
 abbrev pub length_at : Lengths → List ℕ → Option ℕ
 length_at [] place = None
-length_at (entry ∷ lengths) place = length_by (place_cmp place entry.0) entry.1 (length_at lengths place)
+length_at (entry ∷ lengths) place =
+    length_by (place_cmp place entry.0) entry.1 (length_at lengths place)
 
 abbrev pub lengthen_by : Ordering → List ℕ → ℕ → List ℕ × ℕ → Lengths → Lengths → Lengths
 lengthen_by Less place n entry lengths further = (place, n) ∷ entry ∷ lengths

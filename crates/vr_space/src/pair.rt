@@ -133,11 +133,11 @@ pub fn set_pair<B: Blocks, P: Part, K: Kept>(
     requires firm { IsTrue B.tells → AllFirm (P.shape part.old) (B.seen blocks.old) }
     ensures any_moment { IsTrue B.tells → Touches (InPart (P.shape part.old))
         (HasOnly (P.shape part.old) (HadOrGiven (P.shape part.old) (B.seen blocks.old).cur
-            (given_by one.entry) (given_by other.entry)))
+        (given_by one.entry) (given_by other.entry)))
         (B.seen blocks.old) (B.seen blocks.new) }
     ensures set { IsTrue B.tells → IfOk result (λ set. IsTrue set
         → SetsBoth (P.shape part.old) (given_by one.entry) (given_by other.entry)
-          (B.seen blocks.old).cur (B.seen blocks.new).cur) }
+        (B.seen blocks.old).cur (B.seen blocks.new).cur) }
     ensures firm { IsTrue B.tells → IfOk result (λ set. IsTrue set
         → AllFirm (P.shape part.old) (B.seen blocks.new)) }
     ensures left { IsTrue B.tells → IfOk result (λ set. IsTrue set
