@@ -5,7 +5,7 @@ use Rattle.std.proofs.Common.{arith, append-nil}
 use Rattle.std.proofs.lemmas.Grind.{flat_map-append}
 use Rattle.std.proofs.lemmas.List.{take-append-drop}
 use Rattle.vr_types.specs.declared.bound.Bound.{Bound}
-use Rattle.vr_job.specs.declared.entry.Entry.{Entry}
+use Rattle.vr_history.specs.declared.entry.Entry.{Entry}
 use Rattle.vr_job.specs.State.{State}
 use Rattle.vr_job.specs.Step.{Step, state_after}
 use Rattle.vr_job.specs.History.{IsLegal, state_of, IsStamped, last_stamp, asked_by, part_of_deck}

@@ -1,4 +1,5 @@
 pub mod Gaps
+pub mod FirstRefusals
 pub mod Histories
 pub mod Runs
 pub mod Codes

@@ -11,9 +11,9 @@ use Rattle.vr_types.specs.declared.reply.Reply.{Reply}
 use Rattle.vr_types.specs.declared.reply.Reply.TheVariants.{Done, Refused}
 use Rattle.vr_types.specs.Content.{Content}
 use Rattle.vr_types.specs.declared.bound.Bound.{Bound}
-use Rattle.vr_job.specs.declared.entry.Entry.{Entry}
+use Rattle.vr_history.specs.declared.entry.Entry.{Entry}
 use Rattle.vr_job.specs.State.{State, opening_state}
-use Rattle.vr_job.specs.declared.entry.What.TheVariants.{Asked}
+use Rattle.vr_history.specs.declared.entry.What.TheVariants.{Asked}
 use Rattle.vr_job.specs.declared.positions.FilePosition.{FilePosition}
 use Rattle.vr_types.specs.Position.{unheld}
 use Rattle.vr_job.specs.Positions.{position_of, without_held, without_deck}

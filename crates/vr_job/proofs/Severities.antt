@@ -20,9 +20,9 @@ use Rattle.vr_deck.specs.declared.text.Order.{Order}
 use Rattle.vr_deck.specs.declared.text.Order.TheVariants.{Put as PutOrder, Get as GetOrder}
 use Rattle.vr_deck.specs.declared.text.DeckText.{DeckText}
 use Rattle.vr_deck.specs.Bound.{key_asked, bound_order, last_commit, bound_requests}
-use Rattle.vr_job.specs.declared.entry.Entry.{Entry}
-use Rattle.vr_job.specs.declared.entry.What.{What}
-use Rattle.vr_job.specs.declared.entry.What.TheVariants.{Asked, Undone, Claimed, Split, Faulted}
+use Rattle.vr_history.specs.declared.entry.Entry.{Entry}
+use Rattle.vr_history.specs.declared.entry.What.{What}
+use Rattle.vr_history.specs.declared.entry.What.TheVariants.{Asked, Undone, Claimed, Split, Faulted}
 use Rattle.vr_job.specs.State.{State}
 use Rattle.vr_job.specs.Refusals.{if_empty, not_allowed, bad_length, not_found, duplicate, first_of}
 use Rattle.vr_job.specs.Refusals.{first_refusal, if_absent, if_present}

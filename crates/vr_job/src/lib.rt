@@ -10,8 +10,6 @@
 mod answer;
 mod code;
 mod command_words;
-mod entry;
-mod history;
 mod input;
 mod job;
 mod job_end;
@@ -21,8 +19,6 @@ mod record_file;
 mod run;
 
 pub use command_words::plan;
-pub use entry::{Entry, What};
-pub use history::History;
 pub use job::run_job;
 pub use job_end::{JobEnd, KeptJob, Plan, Trace};
 pub use positions::Positions;

@@ -1,7 +1,7 @@
 use Rattle.std.proofs.Common.{◌≡◌, ℕ, ◌+◌, List, ◌∷◌, [], ◌++◌, ap, ◌∙◌, subst}
 use Rattle.vr_types.specs.declared.request.Request.{Request}
-use Rattle.vr_job.specs.declared.entry.Entry.{Entry}
-use Rattle.vr_job.specs.declared.entry.What.TheVariants.{Asked}
+use Rattle.vr_history.specs.declared.entry.Entry.{Entry}
+use Rattle.vr_history.specs.declared.entry.What.TheVariants.{Asked}
 use Rattle.vr_job.specs.History.{last_stamp}
 use Rattle.vr_job.specs.Step.{slot_of}
 use Rattle.vr_job.specs.Run.{next_number, files_begun, files_ended}
