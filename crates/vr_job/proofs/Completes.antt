@@ -8,13 +8,12 @@ use Rattle.vr_deck.specs.declared.text.TextFault.{TextFault}
 use Rattle.vr_deck.specs.JobText.{IsJobText, IsFirstFault}
 use Rattle.vr_history.specs.declared.entry.Entry.{Entry}
 use Rattle.vr_job.specs.declared.job_end.Trace.{Trace}
-use Rattle.vr_job.specs.State.{opening_state}
-use Rattle.vr_job.specs.History.{IsLegal}
 use Rattle.vr_job.specs.Ending.{Ending, NoCommand, ReadFailed, TooLong, NoMemory, NotAJob, Ran}
 use Rattle.vr_job.specs.Ending.{ending_of_text, ending_of, HasFixedLine}
 use Rattle.vr_job.specs.JobEnd.{KeepsNothing, IsOfText, Asks, IsStatusOf, IsWhole, statuses}
 use Rattle.vr_job.specs.JobEnd.{RefusedText}
 use Rattle.vr_job.specs.Ends.{IsInputEnd, PrintsAs}
+use Rattle.vr_job.proofs.Runs.{no_history}
 
 -- the statuses of an input's end
 abbrev pub input_statuses : List ℕ
@@ -36,7 +35,6 @@ pub early_end : (left left' : Option (List ℕ)) (faults faults' n status : ℕ)
 early_end left left' faults faults' n status trace is nothing text asks ending whole known large
     rose steady =
     let P : ℕ → Type 0 = λ s. IsInputEnd left left' faults faults' s trace in
-    let L : List Entry → Type 0 = IsLegal opening_state in
     let T : Option TextFault → Type 0 = λ fault. IsOfText (ending_of n fault) left left' trace in
     let A : Option TextFault → Type 0 = λ fault. Asks (ending_of n fault) trace in
     let S : Option TextFault → Type 0 = λ fault. IsStatusOf (ending_of n fault) trace n in
@@ -46,7 +44,7 @@ early_end left left' faults faults' n status trace is nothing text asks ending w
       text = subst T none text;
       asks = subst A none asks;
       ending = subst S none ending;
-      legal = subst L (sym nothing.no_entry) tt;
+      history = no_history trace.history.entries nothing.no_entry;
       code = (λ e. absurd (omega (arith, e, large)), λ e. absurd (omega (arith, e, large)));
       whole = subst W none whole;
       known = known;

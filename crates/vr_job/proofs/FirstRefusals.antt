@@ -14,7 +14,7 @@ use Rattle.vr_catalog.specs.Definition.{first_definition, key_of}
 use Rattle.vr_deck.specs.Bound.{add_request, first_file, get_request}
 use Rattle.vr_types.specs.Content.{Content, Standing, record_at, with_item}
 use Rattle.vr_types.specs.LogSpace.{before_length, end_length, log_size}
-use Rattle.vr_types.specs.Locks.{Lock}
+use Rattle.vr_types.specs.Locks.{Lock, conflict_on, conflicts, is_exclusive, same_unit, stands_against}
 use Rattle.vr_types.specs.declared.geometry.Geometry.{Geometry}
 use Rattle.vr_types.specs.declared.lock_name.LockName.{LockName}
 use Rattle.vr_types.specs.declared.memory.OutOfMemory.{OutOfMemory}
@@ -31,7 +31,7 @@ use Rattle.vr_history.specs.Case.{Case, new_record}
 use Rattle.vr_history.specs.Change.{PairMove, move_of, moves_at, moves_key, pair_moves, place_added, place_changed, record_held}
 use Rattle.vr_history.specs.LogSpace.{Logging, base_logging, log_need, loggings, loggings_at, need_for, new_loggings, pair_loggings}
 use Rattle.vr_history.specs.Found.{Candidate, found, place_in, place_read}
-use Rattle.vr_history.specs.Names.{change_names, conflict_on, conflicts}
+use Rattle.vr_history.specs.Names.{change_names}
 use Rattle.vr_history.specs.Opened.{Opened, Cluster, definition_in, opened, opened_base, opened_file}
 use Rattle.vr_history.specs.RefusedFile.{bad_length, changed_catalog, is_catalog_changing, no_file, not_allowed, refused_if, stopped}
 use Rattle.vr_history.specs.RefusedFile.{bad_slot, goes_with_kind, is_slot_zero, is_unknown, length_wrong, shown_length}
@@ -40,7 +40,7 @@ use Rattle.vr_history.specs.RefusedRecord.{length_changed, no_get, no_position, 
 use Rattle.vr_history.specs.RefusedRoom.{free_areas, lacks, log_full, need_at, no_space}
 use Rattle.vr_history.specs.Replies.{MayReply, all_refusals, answer_of, done_by, feedback_if, first_of, has_later}
 use Rattle.vr_history.specs.Replies.{is_shared, read_feedback, refused_or}
-use Rattle.vr_history.specs.State.{Logged, State, is_live, is_logged, is_unit}
+use Rattle.vr_history.specs.State.{Logged, State, is_live, is_logged}
 use Rattle.vr_history.specs.Step.{case_of}
 use Rattle.vr_job.specs.Serve.{HasLogRoom, IsStage, Serves, or_refused, own_unit}
 
@@ -51,29 +51,30 @@ own_apart true false c own = refl
 own_apart false b c own = absurd (cc)
 
 own_free : (number : ℕ) (mode : Mode) (name : LockName) (locks : List Lock)
-    → AllByRecursion (λ lock. is_unit (own_unit number) lock.unit ≡ true) locks
+    → AllByRecursion (λ lock. same_unit (own_unit number) lock.unit ≡ true) locks
     → find (conflicts (own_unit number) mode name) locks ≡ None
+unfolding stands_against
 own_free number mode name [] own = refl
 own_free number mode name (lock ∷ locks) own =
     ap (λ (b : Bool). cond b (Some lock) (find (conflicts (own_unit number) mode name) locks))
-    (own_apart (is_unit (own_unit number) lock.unit) _ _ own.0)
+    (own_apart (same_unit (own_unit number) lock.unit) _ _ own.0)
     ∙ own_free number mode name locks own.1
 
-pub no_conflict : (state : State) (number : ℕ) (mode : Mode) (names : List LockName)
-    → AllByRecursion (λ lock. is_unit (own_unit number) lock.unit ≡ true) state.locks
-    → conflict_on state (own_unit number) mode names ≡ None
-no_conflict state number mode [] own = refl
-no_conflict state number mode (name ∷ names) own =
-    ap (λ (o : Option Lock). option_or o (conflict_on state (own_unit number) mode names))
-    (own_free number mode name state.locks own)
-    ∙ no_conflict state number mode names own
+pub no_conflict : (number : ℕ) (mode : Mode) (names : List LockName) (locks : List Lock)
+    → AllByRecursion (λ lock. same_unit (own_unit number) lock.unit ≡ true) locks
+    → conflict_on locks (own_unit number) mode names ≡ None
+no_conflict number mode [] locks own = refl
+no_conflict number mode (name ∷ names) locks own =
+    ap (λ (o : Option Lock). option_or o (conflict_on locks (own_unit number) mode names))
+    (own_free number mode name locks own)
+    ∙ no_conflict number mode names locks own
 
 -- the deck's own unit doesn't change the catalog
 own_deck : (deck : ℕ) (a b : Bool) → (1 == deck && a) ≡ true → (deck == 0 && b) ≡ false
 own_deck deck a b own = grind (arith, nat_tests, own)
 
 own_changes : (number : ℕ) (logged : List Logged)
-    → AllByRecursion (λ log. is_unit (own_unit number) log.unit ≡ true) logged
+    → AllByRecursion (λ log. same_unit (own_unit number) log.unit ≡ true) logged
     → list_any changed_catalog logged ≡ false
 own_changes number [] own = refl
 own_changes number (log ∷ logged) own =
@@ -282,7 +283,7 @@ module _ (geometry : Geometry) (state : State) (number : ℕ) (content : Content
       ∙ skip (gone add) (add_rest 8) refl ∙ skip (key_changed add) (add_rest 9) refl
       ∙ skip (length_changed add) (add_rest 10) refl
       ∙ skip (held add) (add_rest 11)
-      (ap (option_map held_by) (no_conflict state number Exclusive (change_names add) stage.own_locks))
+      (ap (option_map held_by) (no_conflict number Exclusive (change_names add) state.locks stage.own_locks))
       ∙ skip (absent add) (add_rest 12) refl
 
   duplicate_is : duplicate add ≡ refused_if (is_some (record_at content key_added)) (Duplicate (record { 0 = 1 }))

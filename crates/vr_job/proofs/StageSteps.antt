@@ -12,7 +12,7 @@ use Rattle.vr_catalog.specs.declared.entry.CatEntry.{CatEntry}
 use Rattle.vr_deck.specs.Bound.{add_request, first_file, get_request}
 use Rattle.vr_types.specs.Content.{Content, Standing, with_item}
 use Rattle.vr_types.specs.LogSpace.{end_length, log_size}
-use Rattle.vr_types.specs.Locks.{Lock}
+use Rattle.vr_types.specs.Locks.{Lock, same_unit}
 use Rattle.vr_types.specs.Position.{unheld}
 use Rattle.vr_types.specs.declared.geometry.Geometry.{Geometry}
 use Rattle.vr_types.specs.declared.lock_name.LockName.{LockName}
@@ -34,17 +34,17 @@ use Rattle.vr_history.specs.Found.{Candidate, found}
 use Rattle.vr_history.specs.LogSpace.{Logging, log_need, new_loggings}
 use Rattle.vr_history.specs.Names.{is_own, lock_names, raised, raises, with_lock, with_locks}
 use Rattle.vr_history.specs.Opened.{catalog_of}
-use Rattle.vr_history.specs.State.{Logged, Owned, State, is_live, is_logged, is_unit}
+use Rattle.vr_history.specs.State.{Logged, Owned, State, is_live, is_logged}
 use Rattle.vr_history.specs.Step.{after_asked, case_of, makes, read_on, stand_lost, stand_refused, stands_after}
 use Rattle.vr_job.specs.Serve.{HasLogRoom, IsStage, LogsFew, own_unit}
 use Rattle.vr_job.specs.Stage.{IsReplyTo, MayRefuse, most_logged}
 use Rattle.vr_job.proofs.FirstRefusals.{few_bytes, key_added, key_placed, loggings_are, logging_added}
 
 abbrev AreOwnLocks : ℕ → List Lock → Type 0
-AreOwnLocks number locks = AllByRecursion (λ lock. is_unit (own_unit number) lock.unit ≡ true) locks
+AreOwnLocks number locks = AllByRecursion (λ lock. same_unit (own_unit number) lock.unit ≡ true) locks
 
 abbrev AreOwnLogged : ℕ → List Logged → Type 0
-AreOwnLogged number logged = AllByRecursion (λ log. is_unit (own_unit number) log.unit ≡ true) logged
+AreOwnLogged number logged = AllByRecursion (λ log. same_unit (own_unit number) log.unit ≡ true) logged
 
 -- A refusal of this stage moves no file.
 stand_stays : (request : Request) (refusal : Refusal) → MayRefuse request refusal → stand_lost request ≡ None
@@ -111,11 +111,11 @@ after_done_add geometry state number content bytes feedback at shown stage =
     (key_placed geometry state number content stage bytes)
 
 -- locks that a unit takes are its own
-own_raised : (number : ℕ) (name : LockName) (mode : Mode) (lock : Lock) → is_unit (own_unit number) lock.unit ≡ true
-    → is_unit (own_unit number) (raises (own_unit number) name mode lock).unit ≡ true
+own_raised : (number : ℕ) (name : LockName) (mode : Mode) (lock : Lock) → same_unit (own_unit number) lock.unit ≡ true
+    → same_unit (own_unit number) (raises (own_unit number) name mode lock).unit ≡ true
 own_raised number name mode lock own = by_test (is_own (own_unit number) name lock)
   where
-    by_test : (test : Bool) → is_unit (own_unit number) (cond test (record lock { mode = raised lock.mode mode }) lock).unit ≡ true
+    by_test : (test : Bool) → same_unit (own_unit number) (cond test (record lock { mode = raised lock.mode mode }) lock).unit ≡ true
     by_test true = own
     by_test false = own
 
@@ -125,7 +125,7 @@ own_raises number name mode [] own = tt
 own_raises number name mode (lock ∷ locks) own =
     (own_raised number name mode lock own.0, own_raises number name mode locks own.1)
 
-own_self : (number : ℕ) → is_unit (own_unit number) (own_unit number) ≡ true
+own_self : (number : ℕ) → same_unit (own_unit number) (own_unit number) ≡ true
 own_self number = grind (arith, nat_tests)
 
 own_more : (number : ℕ) (name : LockName) (mode : Mode) (locks : List Lock) → AreOwnLocks number locks
@@ -178,10 +178,10 @@ no_log_left number (log ∷ logged) own =
     ap (λ (b : Bool). cond b (log ∷ rest) rest) (other_of_own _ own.0) ∙ no_log_left number logged own.1
 
 -- How much of the log is used.
-live_of : (number : ℕ) (first : Logged) (rest : List Logged) → is_unit (own_unit number) first.unit ≡ true
-    → list_any (λ (log : Logged). is_unit (own_unit number) log.unit) (first ∷ rest) ≡ true
+live_of : (number : ℕ) (first : Logged) (rest : List Logged) → same_unit (own_unit number) first.unit ≡ true
+    → list_any (λ (log : Logged). same_unit (own_unit number) log.unit) (first ∷ rest) ≡ true
 live_of number first rest own =
-    ap (λ (b : Bool). b || list_any (λ (log : Logged). is_unit (own_unit number) log.unit) rest) own
+    ap (λ (b : Bool). b || list_any (λ (log : Logged). same_unit (own_unit number) log.unit) rest) own
 
 end_or_none : (b : Bool) → cond b 0 end_length ≤ 9
 end_or_none true = omega arith
@@ -199,7 +199,7 @@ module _ (state : State) (number i : ℕ) (content : Content) (stage : IsStage s
       fits (first ∷ rest) is =
           let own : AreOwnLogged number (first ∷ rest) = subst (AreOwnLogged number) is stage.own_logged in
           let live : is_live state (own_unit number) ≡ true =
-          ap (λ (l : List Logged). list_any (λ (log : Logged). is_unit (own_unit number) log.unit) l) is ∙ live_of number first rest own.0 in
+          ap (λ (l : List Logged). list_any (λ (log : Logged). same_unit (own_unit number) log.unit) l) is ∙ live_of number first rest own.0 in
           let no_end : cond (is_live state (own_unit number)) 0 end_length ≡ 0 = ap (λ (b : Bool). cond b 0 end_length) live in
           let few = logs.few in
           omega (arith, no_end, few)
@@ -219,7 +219,7 @@ module _ (state : State) (number i : ℕ) (content : Content) (stage : IsStage s
         let logging = logging_added geometry state number content stage bytes in
         let test : Logging → Bool = λ log. not (is_logged state (own_unit number) log.part log.place) in
         ap (λ (l : List Logging). filter test l) (loggings_are geometry state number content stage bytes)
-        ∙ ap (λ (l : List Logged). cond (not (list_any (λ log. is_unit (own_unit number) log.unit
+        ∙ ap (λ (l : List Logged). cond (not (list_any (λ log. same_unit (own_unit number) log.unit
         && (log.part == 1 && bytes_eq logging.place log.place)) l)) (logging ∷ []) []) none
 
     some_logged : (state.logged ++ map (as_logged (own_unit number)) (new_loggings add) ≡ []) → ⊥

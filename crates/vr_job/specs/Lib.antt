@@ -1,5 +1,6 @@
 pub mod Positions
 pub mod Stage
+pub mod FirstVolume
 pub mod Parts
 pub mod Serve
 pub mod Run

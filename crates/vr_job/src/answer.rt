@@ -3,7 +3,7 @@ ghost use Rattle.std.specs.Prelude.{◌≡◌, IfOk, OnErr, min, length, ◌^◌
 ghost use Rattle.vr_deck.specs.Bound.{get_request, add_request};
 ghost use Rattle.vr_catalog.specs.Definition.{first_definition, key_of};
 ghost use Rattle.vr_job.specs.Stage.{IsOffered, IsReplyTo};
-ghost use Rattle.vr_job.specs.Serve.{Serves, or_refused};
+ghost use Rattle.vr_job.specs.Serve.{Serves, key_named, or_refused};
 
 use crate::record_file::{KEY_LENGTH, RecordFile, key};
 use std::alloc::Global;
@@ -23,16 +23,23 @@ pub fn answer(alloc: Global, file: &mut RecordFile, request: &Request) -> Reply
     ensures reply { IsReplyTo request.now result }
 {
     match request {
-        Request::Get {
-            find: Find::Equal(sought),
-            ..
-        } => or_memory(reply_to_get(alloc, file, sought.as_slice())),
+        Request::Get { find, .. } => or_memory(reply_to_get(alloc, file, key_named(find))),
         Request::Add { bytes, .. } => or_memory(reply_to_add(alloc, file, bytes)),
         _ => Reply::Done {
             feedback: 0,
             place: None,
             bytes: None,
         },
+    }
+}
+
+/// The key that a request names, empty where it names none.
+fn key_named(find: &Find) -> &[u8]
+    ensures { result.now ≡ key_named find.now }
+{
+    match find {
+        Find::Equal(place) | Find::AtLeast(place) => place.as_slice(),
+        Find::Next => b"",
     }
 }
 

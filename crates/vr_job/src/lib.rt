@@ -13,6 +13,7 @@ mod command_words;
 mod input;
 mod job;
 mod job_end;
+mod laws;
 mod listing;
 mod positions;
 mod record_file;
@@ -20,5 +21,6 @@ mod run;
 
 pub use command_words::plan;
 pub use job::run_job;
+pub use laws::a_volume_has_first;
 pub use job_end::{JobEnd, KeptJob, Plan, Trace};
 pub use positions::Positions;
