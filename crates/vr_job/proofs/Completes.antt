@@ -6,7 +6,6 @@ use Rattle.std.proofs.lemmas.Bool.Decides.{nat_tests}
 use Rattle.vr_deck.specs.declared.text.JobText.{JobText}
 use Rattle.vr_deck.specs.declared.text.TextFault.{TextFault}
 use Rattle.vr_deck.specs.JobText.{IsJobText, IsFirstFault}
-use Rattle.vr_history.specs.declared.entry.Entry.{Entry}
 use Rattle.vr_job.specs.declared.job_end.Trace.{Trace}
 use Rattle.vr_job.specs.Ending.{Ending, NoCommand, ReadFailed, TooLong, NoMemory, NotAJob, Ran}
 use Rattle.vr_job.specs.Ending.{ending_of_text, ending_of, HasFixedLine}
@@ -283,13 +282,13 @@ pub run_end : (left left' : Option (List ℕ)) (faults faults' status : ℕ) (te
     → IsInputEnd left left' faults faults' status trace
 run_end left left' faults faults' status text trace all run asks ending history code whole known
     steady = record {
-  text = text_of_run (ending_of status trace.fault) left left' text trace all run;
-  asks = asks;
-  ending = ending;
-  history = history;
-  code = code;
-  whole = whole;
-  known = known_input status known.0 known.1 known.2;
-  source = λ is. absurd (not_24_at status known.0 known.1 known.2 is);
-  steady = λ _. steady;
-}
+      text = text_of_run (ending_of status trace.fault) left left' text trace all run;
+      asks = asks;
+      ending = ending;
+      history = history;
+      code = code;
+      whole = whole;
+      known = known_input status known.0 known.1 known.2;
+      source = λ is. absurd (not_24_at status known.0 known.1 known.2 is);
+      steady = λ _. steady;
+    }

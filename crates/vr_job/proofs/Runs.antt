@@ -1,10 +1,10 @@
 -- The run of a deck, one request after another.
 use Rattle.std.proofs.Common.{◌≡◌, ℕ, ◌+◌, ◌<◌, ◌≤◌, ◌^◌, List, [], ◌∷◌, ◌++◌, ◌==◌, ◌&&◌}
-use Rattle.std.proofs.Common.{if◌then◌else◌, Option, Some, None, length, take, get_or, refl, sym, ap}
+use Rattle.std.proofs.Common.{if◌then◌else◌, length, take, get_or, refl, sym, ap}
 use Rattle.std.proofs.Common.{◌∙◌, subst, arith, inl}
 use Rattle.std.proofs.lemmas.Bool.Decides.{nat_tests}
 use Rattle.std.proofs.lemmas.List.{take_more}
-use Rattle.vr_deck.specs.Bound.{add_request, first_file, get_request}
+use Rattle.vr_deck.specs.Bound.{add_request, get_request}
 use Rattle.vr_types.specs.Content.{Content}
 use Rattle.vr_types.specs.LogSpace.{log_size}
 use Rattle.vr_types.specs.Position.{unheld}
@@ -17,26 +17,27 @@ use Rattle.vr_types.specs.declared.request.Request.{Request}
 use Rattle.vr_types.specs.declared.request.Request.TheVariants.{Get, Point, Add, Update, Erase}
 use Rattle.vr_types.specs.declared.request.Request.TheVariants.{EndReq, Commit, Backout}
 use Rattle.vr_history.specs.declared.entry.Entry.{Entry}
-use Rattle.vr_history.specs.Legal.{AreSteps, state_of}
+use Rattle.vr_history.specs.Legal.{state_of}
 use Rattle.vr_history.specs.Merged.{last_stamp}
 use Rattle.vr_history.specs.State.{Owned, State, opening_state}
-use Rattle.vr_history.specs.Step.{after_asked, case_of, state_after}
+use Rattle.vr_history.specs.Step.{after_asked, case_of}
 use Rattle.vr_history.proofs.CallerLemmas.{last_stamp-append, state_of-append, steps-append}
 use Rattle.vr_job.specs.declared.positions.FilePosition.{FilePosition}
 use Rattle.vr_job.specs.Positions.{position_of, without_held, without_deck}
 use Rattle.vr_job.specs.Parts.{of_deck}
 use Rattle.vr_job.specs.Stage.{HasFirst, IsOffered, IsReplyTo, most_logged}
 use Rattle.vr_job.specs.Ends.{IsJobHistory}
-use Rattle.vr_job.specs.Serve.{HasLogRoom, IsStage, LogsFew, Serves, own_unit}
+use Rattle.vr_job.specs.Serve.{HasLogRoom, Serves, own_unit}
 use Rattle.vr_job.specs.Run.{IsHere, IsPositioned, files_begun, files_ended, next_number, slot_of}
 use Rattle.vr_job.specs.Run.{Enters, IsStageAt, Running, RunsOn, entry_of}
-use Rattle.vr_job.proofs.Histories.{entered-append, legal_of, numbered, of_deck-append, of_deck-nil}
+use Rattle.vr_job.proofs.Histories.{entered-append, legal_of, of_deck-append, of_deck-nil}
 use Rattle.vr_job.proofs.Histories.{part_of_deck-append}
 use Rattle.vr_job.proofs.Servings.{offered_add, offered_get}
 use Rattle.vr_job.proofs.Severities.{coded-append, coded_reply}
 use Rattle.vr_job.proofs.StageSteps.{after_done_add, after_get, after_refused_add, begun}
-use Rattle.vr_job.proofs.StageSteps.{change_added, ended, log_fits, logs_begun, logs_ended, logs_made, made}
-use Rattle.vr_job.proofs.StageSteps.{number_ended, positions_ended, stage_begun, stage_ended, stage_made}
+use Rattle.vr_job.proofs.StageSteps.{ended, log_fits, logs_begun, logs_ended, logs_made, made}
+use Rattle.vr_job.proofs.StageSteps.{number_ended, positions_ended, stage_begun, stage_ended}
+use Rattle.vr_job.proofs.StageSteps.{stage_made}
 
 -- what a file, or a deck, holds is dropped among the positions that were set
 without_held-of : (deck slot : ℕ) (files : List FilePosition) (d s : ℕ)
@@ -157,7 +158,8 @@ module _ (geometry : Geometry) (state : State) (number i : ℕ) (content content
 
   next_at : (request : Request) (reply : Reply) → IsOffered request → IsNext reply request
   next_at request reply offered =
-      by_request (IsNext reply) (next_get reply) (next_add reply) (next_commit reply) request offered
+      by_request (IsNext reply) (next_get reply) (next_add reply) (next_commit reply) request
+      offered
 
 next_number-le : (request : Request) (reply : Reply) (number : ℕ)
     → next_number request reply number ≤ number + 1
@@ -253,7 +255,8 @@ Running-step requests i bound entries entries' content content' files files' num
     let P : List Entry → Type 0 = λ es. Running requests (i + 1) es content' files' next in
     let below : i < 2 ^ 26 + 1 = omega (arith, few, inside) in
     subst P (sym enters.entered) (record {
-      runs = λ geometry contents owned first. runs_on geometry (opening_state contents owned) entries
+      runs = λ geometry contents owned first. runs_on geometry (opening_state contents owned)
+          entries
           bound number next i stamp content content' files files' enters.reply first.log below here
           enters.served enters.replied enters.counted enters.positioned
           (running.runs geometry contents owned first);

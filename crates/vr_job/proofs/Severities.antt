@@ -1,6 +1,6 @@
 -- What replies make of their step's code.
-use Rattle.std.proofs.Common.{◌≡◌, ◌≢◌, ◌⊎◌, inl, inr, ℕ, max, List, [], ◌∷◌, ◌++◌, map, Option, Some}
-use Rattle.std.proofs.Common.{None, All, length, replicate, refl, sym, ap, ◌∙◌, arith}
+use Rattle.std.proofs.Common.{◌≡◌, ◌⊎◌, inl, inr, ℕ, List, [], ◌∷◌, ◌++◌, map, Option, Some}
+use Rattle.std.proofs.Common.{None, All, length, refl, arith}
 use Rattle.std.specs.List.{AllByRecursion}
 use Rattle.std.proofs.lemmas.List.Elements.{All-from_recursion}
 use Rattle.std.proofs.lemmas.Bool.Decides.{nat_tests}
@@ -22,7 +22,7 @@ use Rattle.vr_deck.specs.Bound.{key_asked, bound_order, last_commit, bound_reque
 use Rattle.vr_history.specs.declared.entry.Entry.{Entry}
 use Rattle.vr_job.specs.Stage.{IsReplyTo, MayRefuse, NamesEmpty}
 use Rattle.vr_job.specs.Run.{IsHere}
-use Rattle.vr_job.specs.Code.{severity_of, reply_severity, severity, step_code}
+use Rattle.vr_job.specs.Code.{reply_severity, severity}
 use Rattle.vr_job.specs.JobEnd.{Coded, IsWant, WantsMemory}
 use Rattle.vr_job.proofs.Codes.{step_code-append}
 

@@ -1,3 +1,5 @@
+-- Return and condition codes. The return codes are those of Using Data Sets; the condition codes of
+-- deck steps are this project's own.
 use Rattle.std.specs.Prelude.{ℕ, max, List, [], ◌∷◌}
 use Rattle.vr_types.specs.declared.reply.Refusal.{Refusal}
 use Rattle.vr_types.specs.declared.reply.Refusal.TheVariants.{EndOfData, Duplicate, NotFound}
@@ -12,9 +14,6 @@ use Rattle.vr_types.specs.Refusal.{feedback_code}
 use Rattle.vr_history.specs.declared.entry.Entry.{Entry}
 use Rattle.vr_history.specs.declared.entry.What.{What}
 use Rattle.vr_history.specs.declared.entry.What.TheVariants.{Asked, Undone, Claimed, Split, Faulted}
-
--- Return and condition codes. The return codes are those of Using Data Sets; the condition codes of
--- deck steps are this project's own.
 
 -- 12 for a fault of the device, 8 for a request that was refused for another cause
 abbrev pub refused_code : Refusal → ℕ

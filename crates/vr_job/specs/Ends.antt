@@ -1,3 +1,4 @@
+-- What the parts of the top call know of a job's end, for the private functions that they are.
 use Rattle.std.specs.Prelude.{◌≡◌, ◌≢◌, ◌⊎◌, ℕ, ◌<◌, List, [], ◌∷◌, Option, None, Some, Contains}
 use Rattle.vr_deck.specs.declared.text.JobText.{JobText}
 use Rattle.vr_deck.specs.declared.text.DeckText.{DeckText}
@@ -11,8 +12,6 @@ use Rattle.vr_job.specs.Ending.{Ending, NoCommand, ReadFailed, TooLong, NoMemory
 use Rattle.vr_job.specs.Ending.{ending_of, HasFixedLine}
 use Rattle.vr_job.specs.JobEnd.{KeepsNothing, KeepsJob, KeepsFault, IsOfText, Asks, HasCode, Coded}
 use Rattle.vr_job.specs.JobEnd.{IsStatusOf, IsWhole}
-
--- What the parts of the top call know of a job's end, for the private functions that they are.
 
 -- the trace is that of a text, by the way in which it ended
 abbrev pub IsRunOf : Ending → List ℕ → Trace → Type 0

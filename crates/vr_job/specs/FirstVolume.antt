@@ -1,5 +1,6 @@
--- A volume that has an empty VRM.FIRST and nothing else. Its shape and what it states of space are this project's own.
-use Rattle.std.specs.Prelude.{ℕ, ◌==◌, false, if◌then◌else◌, List, [], ◌∷◌, Some, None, codes}
+-- A volume that has an empty VRM.FIRST and nothing else. Its shape and what it states of space are
+-- this project's own.
+use Rattle.std.specs.Prelude.{ℕ, ◌==◌, false, if◌then◌else◌, [], ◌∷◌, Some, None, codes}
 use Rattle.vr_catalog.specs.Definition.{catalog_definition, key_of}
 use Rattle.vr_catalog.specs.Record.{spelling}
 use Rattle.vr_catalog.specs.declared.entry.CatEntry.{CatEntry}
@@ -40,7 +41,8 @@ first_entry = record {
 
 -- the catalog, part 0, has its record, and every other part is empty
 abbrev pub first_catalog : Content
-first_catalog = (key_of catalog_definition (spelling first_entry), Standing (spelling first_entry)) ∷ []
+first_catalog =
+    (key_of catalog_definition (spelling first_entry), Standing (spelling first_entry)) ∷ []
 
 abbrev pub first_contents : ℕ → Content
 first_contents part = if part == 0 then first_catalog else []

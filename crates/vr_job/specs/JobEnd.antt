@@ -1,3 +1,4 @@
+-- What is known of a job by the way in which it ended. The statuses are this project's own.
 use Rattle.std.specs.Prelude.{◌≡◌, ◌⊎◌, ℕ, ◌^◌, ◌<◌, List, [], ◌∷◌, codes, length, Option, None}
 use Rattle.std.specs.Prelude.{Some, IfSome}
 use Rattle.vr_types.specs.declared.reply.Refusal.TheVariants.{Memory as NoMemoryLeft}
@@ -17,8 +18,6 @@ use Rattle.vr_job.specs.Parts.{of_deck, on_volume_0, IsPrefixOf}
 use Rattle.vr_job.specs.Code.{step_code}
 use Rattle.vr_job.specs.Input.{IsAll}
 use Rattle.vr_job.specs.Ending.{Ending, NoCommand, ReadFailed, TooLong, NoMemory, NotAJob, Ran}
-
--- What is known of a job by the way in which it ended. The statuses are this project's own.
 
 -- the three words that are a command
 abbrev pub run_words : List (List ℕ)

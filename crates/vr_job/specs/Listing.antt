@@ -1,3 +1,4 @@
+-- The listing. Its lines are this project's own.
 use Rattle.std.specs.Prelude.{ℕ, List, [], ◌∷◌, ◌++◌, codes, Option, Some, None}
 use Rattle.std.specs.List.{flat_map}
 use Rattle.std.specs.Fmt.{decimal}
@@ -16,8 +17,6 @@ use Rattle.vr_job.specs.declared.job_end.Trace.{Trace}
 use Rattle.vr_job.specs.Code.{return_code, feedback_of, step_code}
 use Rattle.vr_job.specs.Ending.{Ending, NoCommand, ReadFailed, TooLong, NoMemory, NotAJob, Ran}
 use Rattle.vr_job.specs.Ending.{ending_of}
-
--- The listing. Its lines are this project's own.
 
 -- the verb of a request, as a deck has it
 abbrev pub verb_of : Request → List ℕ

@@ -1,3 +1,4 @@
+-- The run of deck 1 on volume 0, request by request: what its private functions know on the way.
 use Rattle.std.specs.Prelude.{◌≡◌, ℕ, ◌+◌, ◌≤◌, List, [], ◌∷◌, ◌++◌, take, Option, Some, None}
 use Rattle.std.specs.Option.{option_map}
 use Rattle.vr_types.specs.declared.geometry.Geometry.{Geometry}
@@ -21,8 +22,6 @@ use Rattle.vr_job.specs.JobEnd.{Coded}
 use Rattle.vr_job.specs.Parts.{AreParts}
 use Rattle.vr_job.specs.Serve.{IsStage, LogsFew, Serves, own_unit}
 use Rattle.vr_job.specs.Stage.{AreEntered, HasFirst, IsOffered, IsReplyTo, NamesEmpty}
-
--- The run of deck 1 on volume 0, request by request: what its private functions know on the way.
 
 -- a request that there is, of volume 0, and the place that it names isn't empty
 pub record IsHere (bound : Bound) : Type 0 where

@@ -1,3 +1,4 @@
+-- What a request on VRM.FIRST does, by the content alone: for the private functions that answer it.
 use Rattle.std.specs.Prelude.{◌≡◌, ℕ, ◌+◌, ◌≤◌, true, cond, List, [], Result, Ok, Err, Some, None}
 use Rattle.std.specs.List.{AllByRecursion}
 use Rattle.vr_catalog.specs.Catalog.{alternates_over, definition_of}
@@ -20,14 +21,12 @@ use Rattle.vr_history.specs.Replies.{MayReply}
 use Rattle.vr_history.specs.State.{State, is_live}
 use Rattle.vr_history.specs.Step.{case_of, after_asked}
 
--- What a request on VRM.FIRST does, by the content alone: for the private functions that answer it.
-
 -- the unit of recovery of the one deck
 abbrev pub own_unit : ℕ → UnitOfRecovery
 own_unit number = record { deck = 1; number = number }
 
--- A state that this stage comes to: the catalog has VRM.FIRST, the volume goes on, and all locks and log records are of
--- the deck's unit.
+-- A state that this stage comes to: the catalog has VRM.FIRST, the volume goes on, and all locks
+-- and log records are of the deck's unit.
 pub record IsStage (state : State) (number : ℕ) (content : Content) : Type 0 where
   pub defined : definition_of (catalog_of state) 1 ≡ Some first_definition
   pub alone : alternates_over (catalog_of state) 1 ≡ []
@@ -47,8 +46,8 @@ abbrev pub HasLogRoom : Geometry → State → ℕ → Type 0
 HasLogRoom geometry state number =
     state.used + (28 + cond (is_live state (own_unit number)) 0 end_length) ≤ log_size geometry
 
--- In each such state with the old content the reply is one that the request may have, and the state after it has the new
--- content.
+-- In each such state with the old content the reply is one that the request may have, and the state
+-- after it has the new content.
 abbrev pub Serves : Request → Reply → Content → Content → Type 0
 Serves request reply old new =
     (geometry : Geometry) (state : State) (number : ℕ) → IsStage state number old

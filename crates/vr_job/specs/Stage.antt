@@ -1,6 +1,6 @@
--- What this stage offers of the record file (vr_history): three requests on VRM.FIRST, in which no device, no lock and no lack
--- of room takes part. Which requests there are is this project's own.
-use Rattle.std.specs.Prelude.{◌≡◌, ℕ, ◌+◌, ◌*◌, ◌^◌, ◌≤◌, false, List, [], length, Option, Some, None}
+-- What this stage offers of the record file (vr_history): three requests on VRM.FIRST, in which no
+-- device, no lock and no lack of room takes part. Which requests there are is this project's own.
+use Rattle.std.specs.Prelude.{◌≡◌, ℕ, ◌+◌, ◌*◌, ◌^◌, ◌≤◌, false, List, [], length, Some, None}
 use Rattle.std.specs.List.{AllByRecursion}
 use Rattle.vr_catalog.specs.Catalog.{alternates_over, definition_of, entries_in}
 use Rattle.vr_catalog.specs.Definition.{first_definition}
@@ -92,13 +92,13 @@ IsEntered (Faulted fault) = ⊥
 abbrev pub AreEntered : List Entry → Type 0
 AreEntered entries = AllByRecursion (λ entry. IsEntered entry.what) entries
 
--- The log bytes that so many requests take at most: for each the before record of a new place of 8 bytes, and the end of
--- their unit.
+-- The log bytes that so many requests take at most: for each the before record of a new place of 8
+-- bytes, and the end of their unit.
 abbrev pub most_logged : ℕ → ℕ
 most_logged requests = 28 * requests + end_length
 
--- A volume that has an empty VRM.FIRST, INDEXED KEYS(8 0) RECORDSIZE(80 80), as part 1, and no alternate index over it. Its log
--- has room for as many requests as a job text of 64 MiB can have.
+-- A volume that has an empty VRM.FIRST, INDEXED KEYS(8 0) RECORDSIZE(80 80), as part 1, and no
+-- alternate index over it. Its log has room for as many requests as a job text of 64 MiB can have.
 pub record HasFirst (geometry : Geometry) (contents : ℕ → Content) : Type 0 where
   pub defined : definition_of (entries_in (contents 0)) 1 ≡ Some first_definition
   pub alone : alternates_over (entries_in (contents 0)) 1 ≡ []

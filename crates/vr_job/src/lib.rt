@@ -21,6 +21,6 @@ mod run;
 
 pub use command_words::plan;
 pub use job::run_job;
-pub use laws::a_volume_has_first;
 pub use job_end::{JobEnd, KeptJob, Plan, Trace};
+pub use laws::a_volume_has_first;
 pub use positions::Positions;

@@ -1,5 +1,6 @@
 //! The run of a deck.
-ghost use Rattle.std.specs.Prelude.{◌≡◌, ◌<◌, ◌≤◌, ◌^◌, ◌+◌, ◌-◌, [], IfOk, OnOk, OnErr, All, length};
+ghost use Rattle.std.specs.Prelude.{◌≡◌, ◌<◌, ◌≤◌, ◌^◌, ◌+◌, ◌-◌, [], IfOk, OnOk, OnErr, All};
+ghost use Rattle.std.specs.Prelude.{length};
 ghost use Rattle.vr_history.specs.Merged.{last_stamp};
 ghost use Rattle.vr_job.specs.Parts.{AreParts, ArePrefixes};
 ghost use Rattle.vr_job.specs.Ends.{IsJobHistory};

@@ -1,9 +1,8 @@
-use Rattle.std.proofs.Common.{◌≡◌, ℕ, List, Some, None, IfOk, sym, ap, ◌∙◌, subst, arith}
+use Rattle.std.proofs.Common.{◌≡◌, ℕ, List, IfOk, sym, subst}
 use Rattle.vr_deck.specs.Bound.{add_request, get_request}
 use Rattle.vr_types.specs.declared.reply.Reply.{Reply}
 use Rattle.vr_types.specs.declared.request.Request.{Request}
 use Rattle.vr_job.specs.Serve.{Serves, key_named}
-use Rattle.vr_job.specs.Stage.{IsReplyTo}
 use Rattle.vr_job.proofs.Servings.{add_served, get_served, offered_add, offered_find}
 use Rattle.vr_job.proofs.Servings.{serves_other}
 use Rattle.vr_job.proofs.answer.answer.Goals as goal

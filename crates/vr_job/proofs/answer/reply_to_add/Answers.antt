@@ -1,6 +1,6 @@
-use Rattle.std.proofs.Common.{◌≡◌, ℕ, true, false, ◌&&◌, ◌^◌, ◌-◌, min, List, length, nat_le, Some, None, sym, ap}
+use Rattle.std.proofs.Common.{◌≡◌, ℕ, true, false, ◌&&◌, ◌^◌, ◌-◌, min, List, length, nat_le, Some}
+use Rattle.std.proofs.Common.{None, sym, ap}
 use Rattle.std.proofs.Common.{◌∙◌, subst, arith}
-use Rattle.std.specs.Option.{option_copied}
 use Rattle.std.proofs.lemmas.Bool.Decides.{nat_tests}
 use Rattle.vr_catalog.specs.Definition.{first_definition, key_of}
 use Rattle.vr_deck.specs.Bound.{add_request}

@@ -25,7 +25,8 @@ loop-bound-preserved c =
     let at : bound ≡ get_or requests i bound =
     subst G c.as_slice-bound-items.ensures c.bound-item.is in
     let here : IsHere bound = subst IsHere (sym at) (c.requires.here i bound inside) in
-    Running-step requests i bound _ _ _ _ _ _ _ _ c.requires.few inside at here c.loop-bound.invariant
+    Running-step requests i bound _ _ _ _ _ _ _ _ c.requires.few inside at here
+    c.loop-bound.invariant
     c.in_ok-number.ensures.ok
 
 pub returns-in_err-number-clause-prefix : goal.returns-in_err-number-clause-prefix
