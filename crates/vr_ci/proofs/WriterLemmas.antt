@@ -16,7 +16,7 @@ use Rattle.vr_ci_match.specs.declared.rdf.Rdf.TheVariants.{Single, Run, Segment}
 use Rattle.vr_ci.specs.declared.writer.CiWriter.{CiWriter}
 use Rattle.vr_types.specs.BlockSize.{IsBlockSize}
 use Rattle.vr_ci_match.specs.Rdf.{Mark, marks, spans, rdf_bytes, control}
-use Rattle.vr_ci_match.specs.Rdf.{run_length, MayFollow, IsChain}
+use Rattle.vr_ci_match.specs.Rdf.{MayFollow, IsChain}
 use Rattle.vr_ci_match.specs.Rdf.{last_from, shape_of}
 use Rattle.vr_ci.specs.Interval.{Item, Interval, IsItem, bytes_of, mark_of, room, FitsBlock, Fits}
 use Rattle.vr_ci.specs.Interval.{IsInterval}
