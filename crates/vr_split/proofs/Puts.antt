@@ -1,17 +1,20 @@
 -- A put into one block of a keyed part: what it owes, and what it adds to what places may hold.
-use Rattle.std.proofs.Common.{◌≡◌, ◌≢◌, ◌⊎◌, inl, inr, ⊎_elim, ◌<◌, ◌≤◌, ◌+◌, ℕ, Bool, IsTrue, true, false, List, [], ◌∷◌, Option, Some, None, refl, sym, ap, subst, ◌∙◌, arith, true≢false}
-use Rattle.vr_types.specs.Content.{record_at}
+use Rattle.std.proofs.Common.{◌≡◌, ◌≢◌, ◌⊎◌, inl, inr, ⊎_elim, ◌<◌, ◌≤◌, ◌+◌, ℕ, Bool, IsTrue, true, false, List, [], ◌∷◌, Option, Some, None, refl, sym, ap, subst, ◌∙◌, arith, true≢false, is_some, length}
+use Rattle.std.specs.Prelude.{cond, unwrap_or}
+use Rattle.std.specs.Ordering.{is_le}
+use Rattle.std.proofs.lemmas.Bool.{cases_lt}
+use Rattle.vr_types.specs.Content.{record_at, place_cmp}
 use Rattle.vr_types.specs.Image.{Block, Image, IsImage, MayAlso, block_at}
 use Rattle.vr_types.specs.Seen.{Seen, Left, Only}
 use Rattle.vr_types.specs.Blocks.{Puts}
 use Rattle.vr_types.specs.Regions.{IsImageOn, Touches}
-use Rattle.vr_types.proofs.CallerLemmas.{puts-touches}
+use Rattle.vr_types.proofs.CallerLemmas.{puts-touches, cur-elsewhere, cur-put}
 use Rattle.vr_seqset.specs.Entry.{Entry}
 use Rattle.vr_space.specs.Way.{Way, Found, Reads, found_on, MayFind, IsWithin}
 use Rattle.vr_space.specs.Room.{Range}
-use Rattle.vr_space.specs.Keyed.{Keyed, IsHead, HoldsRange, EachMayLeave, IsKeyedSound, IsKeyedAtRest, entries_of, entry_block, records_of, range_of, entry_for, way_in, keyed_way}
-use Rattle.vr_space.specs.Part.{Shape, KeyedShape, InPart, HasOnly, MayHold, MayAlsoHold, AddsTo, Nothing, Just, item_of}
-use Rattle.vr_space.proofs.Ways.{find-more, within-less}
+use Rattle.vr_space.specs.Keyed.{Keyed, IsHead, HoldsRange, EachMayLeave, IsKeyedSound, IsKeyedAtRest, entries_of, entry_block, records_of, range_of, entry_for, way_in, way_under, keyed_way}
+use Rattle.vr_space.specs.Part.{Shape, KeyedShape, InPart, HasOnly, MayHold, MayAlsoHold, AddsTo, Nothing, Just, SameRecords, SetsOne, item_of}
+use Rattle.vr_space.proofs.Ways.{found-may, find-more, within-less}
 use Rattle.vr_space.proofs.KeyedSound.{keyed-within, keyed-image, keyed-less, IsBlock}
 use Rattle.vr_space.proofs.Adding.{only-weaken}
 
@@ -98,3 +101,101 @@ module _ (part : Keyed) (a : Seen) (n : ℕ) (bytes : Block) where
   abbrev pub KeepsOthers : List ℕ → Option (List ℕ) → Type 0
   KeepsOthers at new = (place : List ℕ) (found : Range × Entry) → entry_for None now-entries place ≡ Some found → entry_block part found.1 ≡ n
       → (record_at (records_of part bytes) place ≡ item_of (KeyedShape part) a.cur place) ⊎ ((place ≡ at) × (record_at (records_of part bytes) place ≡ new))
+
+-- ---- how entries lead
+
+no_some : (o : Option (Range × Entry)) (at : Range × Entry) → o ≡ None → o ≡ Some at → ⊥
+no_some o at none some = true≢false (ap is_some (sym some ∙ none))
+
+-- an entry that leads to the block has a range with P
+pub of-found : (part : Keyed) (n : ℕ) (low : Option (List ℕ)) (entries : List Entry) (P : Range → Type 0) (place : List ℕ) (at : Range × Entry) → OfBlock part n low entries P
+    → entry_for low entries place ≡ Some at → entry_block part at.1 ≡ n → P at.0
+of-found part n low [] P place at of is here = absurd (no_some None at refl is)
+of-found part n low (entry ∷ entries) P place at of is here =
+    reached (is_le (place_cmp place entry.high)) is (λ further. of-found part n (Some entry.high) entries P place at of.1 further here)
+  where
+    reached : (b : Bool) → cond b (Some (range_of low entry, entry)) (entry_for (Some entry.high) entries place) ≡ Some at → (entry_for (Some entry.high) entries place ≡ Some at → P at.0) → P at.0
+    reached true same more =
+        let found : (let pair : Range × Entry = (range_of low entry, entry) in pair) ≡ at = ap (λ (o : Option (Range × Entry)). unwrap_or o at) same in
+        subst (λ (f : Range × Entry). entry_block part f.1 ≡ n → P f.0) found of.0 here
+    reached false same more = more same
+
+-- ---- what a put into an interval adds
+
+module _ (part : Keyed) (tells : Bool) (told : IsTrue tells) (a b : Seen) (n : ℕ) (bytes : Block) where
+  -- what is read may be held
+  pub current-held : IsKeyedSound part a → Left a a.cur → (place : List ℕ) → MayHold (KeyedShape part) a.may place (item_of (KeyedShape part) a.cur place)
+  current-held sound left place = found-may (IsBlock part a) a.may a.cur (λ k is. left.each k is.0) (keyed_way part place) (keyed-within part a sound place)
+
+  -- an interval is written with the records that it has
+  pub rewrite-adds : IsKeyedAtRest part a → Left a a.cur → Puts tells n bytes a b → n ≢ part.head → InPart (KeyedShape part) n
+      → OfBlock part n None (now-entries part a n bytes) (λ range. HoldsRange part range bytes) → KeepsRecords part a n bytes → AddsTo (KeyedShape part) Nothing a b
+  rewrite-adds rests left call other inside of keeps =
+      puts-adds part tells Nothing n bytes a b told call inside (interval-sound part a n bytes rests other of)
+      (λ place item holds. ⊎_elim
+      (λ old. inl old)
+      (λ new. inl (subst (MayHold (KeyedShape part) a.may place) (sym (new.3 ∙ keeps place new.0 new.1 new.2)) (current-held rests.sound left place)))
+      (interval-hold part a n bytes rests other place item holds))
+
+  -- it is written with one record changed
+  pub set-adds : (at : List ℕ) (new : Option (List ℕ)) → IsKeyedAtRest part a → Left a a.cur → Puts tells n bytes a b → n ≢ part.head → InPart (KeyedShape part) n
+      → OfBlock part n None (now-entries part a n bytes) (λ range. HoldsRange part range bytes) → KeepsOthers part a n bytes at new → AddsTo (KeyedShape part) (Just at new) a b
+  set-adds at new rests left call other inside of keeps =
+      puts-adds part tells (Just at new) n bytes a b told call inside (interval-sound part a n bytes rests other of)
+      (λ place item holds. ⊎_elim
+      (λ old. inl old)
+      (λ led. ⊎_elim
+      (λ same. inl (subst (MayHold (KeyedShape part) a.may place) (sym (led.3 ∙ same)) (current-held rests.sound left place)))
+      (λ here. inr (here.0, led.3 ∙ here.1))
+      (keeps place led.0 led.1 led.2))
+      (interval-hold part a n bytes rests other place item holds))
+
+  -- no entry leads to the block
+  abbrev pub IsFreeBlock : Type 0
+  IsFreeBlock = OfBlock part n None (now-entries part a n bytes) (λ range. ⊥)
+
+  -- a free interval is written
+  pub free-adds : IsKeyedAtRest part a → Left a a.cur → Puts tells n bytes a b → n ≢ part.head → InPart (KeyedShape part) n → IsFreeBlock → AddsTo (KeyedShape part) Nothing a b
+  free-adds rests left call other inside free =
+      rewrite-adds rests left call other inside (of-none None (now-entries part a n bytes) free)
+      (λ place at is here. absurd (of-found part n None (now-entries part a n bytes) (λ range. ⊥) place at free is here))
+    where
+      of-none : (low : Option (List ℕ)) (entries : List Entry) → OfBlock part n low entries (λ range. ⊥) → OfBlock part n low entries (λ range. HoldsRange part range bytes)
+      of-none low [] free = tt
+      of-none low (entry ∷ entries) free = (λ here. absurd (free.0 here), of-none (Some entry.high) entries free.1)
+
+  -- ---- what is read afterwards
+
+  equal_or : (k m : ℕ) → (k ≡ m) ⊎ (k ≢ m)
+  equal_or k m = ⊎_elim (λ less. inr (λ same. omega (arith, less, same))) (λ most. ⊎_elim (λ less. inr (λ same. omega (arith, less, same))) (λ least. inl (omega (arith, most, least))) (cases_lt m k)) (cases_lt k m)
+
+  head-still : Puts tells n bytes a b → n ≢ part.head → block_at b.cur part.head ≡ block_at a.cur part.head
+  head-still call other = cur-elsewhere tells a b part.head n bytes told (λ same. other (sym same)) call
+
+  -- by way of the same entries
+  still-found : (place : List ℕ) (found : Option (Range × Entry)) → Puts tells n bytes a b → ((at : Range × Entry) → found ≡ Some at → entry_block part at.1 ≡ n → record_at (records_of part (block_at b.cur n)) place ≡ record_at (records_of part (block_at a.cur n)) place)
+      → found_on b.cur (way_in part place found) ≡ found_on a.cur (way_in part place found)
+  still-found place None call here = refl
+  still-found place (Some at) call here = ⊎_elim
+      (λ same. ap (λ (k : ℕ). record_at (records_of part (block_at b.cur k)) place) same ∙ here at refl same ∙ ap (λ (k : ℕ). record_at (records_of part (block_at a.cur k)) place) (sym same))
+      (λ apart. ap (λ (block : Block). record_at (records_of part block) place) (cur-elsewhere tells a b (entry_block part at.1) n bytes told apart call))
+      (equal_or (entry_block part at.1) n)
+
+  -- the block has what it had, or the bytes
+  pub after-put : Puts tells n bytes a b → n < a.count → length a.cur ≡ a.count → (block_at b.cur n ≡ block_at a.cur n) ⊎ (block_at b.cur n ≡ bytes)
+  after-put call below long = ⊎_elim
+      (λ same. inl (ap (λ (image : Image). block_at image n) same))
+      (λ set. inr (cur-put a n bytes below long b.cur set))
+      (call.content told)
+
+  led-is : (place : List ℕ) (at : Range × Entry) → entry_for None (now-entries part a n bytes) place ≡ Some at → item_of (KeyedShape part) a.cur place ≡ record_at (records_of part (block_at a.cur (entry_block part at.1))) place
+  led-is place at is = ap (λ (found : Option (Range × Entry)). found_on a.cur (way_in part place found)) is
+
+  -- each place has its record, whether the put failed or not
+  pub rewrite-same : Puts tells n bytes a b → n ≢ part.head → n < a.count → length a.cur ≡ a.count → KeepsRecords part a n bytes → SameRecords (KeyedShape part) a.cur b.cur
+  rewrite-same call other below long keeps place =
+      ap (λ (top : Block). found_on b.cur (way_under part place top)) (head-still call other)
+      ∙ still-found place (entry_for None (now-entries part a n bytes) place) call (λ at is here. ⊎_elim
+      (λ same. ap (λ (block : Block). record_at (records_of part block) place) same)
+      (λ new. ap (λ (block : Block). record_at (records_of part block) place) new ∙ keeps place at is here ∙ led-is place at is ∙ ap (λ (k : ℕ). record_at (records_of part (block_at a.cur k)) place) here)
+      (after-put call below long))
