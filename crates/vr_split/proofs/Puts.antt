@@ -50,7 +50,7 @@ abbrev pub OfBlock : Keyed → ℕ → Option (List ℕ) → List Entry → (Ran
 OfBlock part n low [] P = Unit {0}
 OfBlock part n low (entry ∷ entries) P = (entry_block part entry ≡ n → P (range_of low entry)) × OfBlock part n (Some entry.high) entries P
 
-each-also : (part : Keyed) (a : Seen) (n : ℕ) (bytes : Block) (Q : Range → Block → Type 0) (low : Option (List ℕ)) (entries : List Entry) → EachMayLeave part a low entries Q → OfBlock part n low entries (λ range. Q range bytes)
+pub each-also : (part : Keyed) (a : Seen) (n : ℕ) (bytes : Block) (Q : Range → Block → Type 0) (low : Option (List ℕ)) (entries : List Entry) → EachMayLeave part a low entries Q → OfBlock part n low entries (λ range. Q range bytes)
     → EachMayLeave part (also a n bytes) low entries Q
 each-also part a n bytes Q low [] left of = tt
 each-also part a n bytes Q low (entry ∷ entries) left of =
@@ -166,14 +166,14 @@ module _ (part : Keyed) (tells : Bool) (told : IsTrue tells) (a b : Seen) (n : �
 
   -- ---- what is read afterwards
 
-  equal_or : (k m : ℕ) → (k ≡ m) ⊎ (k ≢ m)
+  pub equal_or : (k m : ℕ) → (k ≡ m) ⊎ (k ≢ m)
   equal_or k m = ⊎_elim (λ less. inr (λ same. omega (arith, less, same))) (λ most. ⊎_elim (λ less. inr (λ same. omega (arith, less, same))) (λ least. inl (omega (arith, most, least))) (cases_lt m k)) (cases_lt k m)
 
-  head-still : Puts tells n bytes a b → n ≢ part.head → block_at b.cur part.head ≡ block_at a.cur part.head
+  pub head-still : Puts tells n bytes a b → n ≢ part.head → block_at b.cur part.head ≡ block_at a.cur part.head
   head-still call other = cur-elsewhere tells a b part.head n bytes told (λ same. other (sym same)) call
 
   -- by way of the same entries
-  still-found : (place : List ℕ) (found : Option (Range × Entry)) → Puts tells n bytes a b → ((at : Range × Entry) → found ≡ Some at → entry_block part at.1 ≡ n → record_at (records_of part (block_at b.cur n)) place ≡ record_at (records_of part (block_at a.cur n)) place)
+  pub still-found : (place : List ℕ) (found : Option (Range × Entry)) → Puts tells n bytes a b → ((at : Range × Entry) → found ≡ Some at → entry_block part at.1 ≡ n → record_at (records_of part (block_at b.cur n)) place ≡ record_at (records_of part (block_at a.cur n)) place)
       → found_on b.cur (way_in part place found) ≡ found_on a.cur (way_in part place found)
   still-found place None call here = refl
   still-found place (Some at) call here = ⊎_elim
@@ -188,7 +188,7 @@ module _ (part : Keyed) (tells : Bool) (told : IsTrue tells) (a b : Seen) (n : �
       (λ set. inr (cur-put a n bytes below long b.cur set))
       (call.content told)
 
-  led-is : (place : List ℕ) (at : Range × Entry) → entry_for None (now-entries part a n bytes) place ≡ Some at → item_of (KeyedShape part) a.cur place ≡ record_at (records_of part (block_at a.cur (entry_block part at.1))) place
+  pub led-is : (place : List ℕ) (at : Range × Entry) → entry_for None (now-entries part a n bytes) place ≡ Some at → item_of (KeyedShape part) a.cur place ≡ record_at (records_of part (block_at a.cur (entry_block part at.1))) place
   led-is place at is = ap (λ (found : Option (Range × Entry)). found_on a.cur (way_in part place found)) is
 
   -- each place has its record, whether the put failed or not
