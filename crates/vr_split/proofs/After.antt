@@ -1,6 +1,7 @@
 -- A keyed part after a put into one of its intervals: at rest, with room, what has to be forced, and
 -- which record each place has.
 use Rattle.std.proofs.Common.{◌≡◌, ◌≢◌, ◌⊎◌, inl, inr, ⊎_elim, ◌<◌, ◌≤◌, ◌+◌, ℕ, Bool, IsTrue, List, [], ◌∷◌, Contains, Option, Some, None, refl, sym, ap, subst, ◌∙◌, arith, length, slice_set}
+use Rattle.std.specs.Prelude.{IfSome, slice_index}
 use Rattle.vr_types.specs.Content.{record_at}
 use Rattle.vr_types.specs.Image.{Block, Image, MayAlso, block_at}
 use Rattle.vr_types.specs.Seen.{Seen, Left, Only}
@@ -11,7 +12,7 @@ use Rattle.vr_space.specs.Way.{Way, Found, Reads, found_on, MayFind, MayOnceForc
 use Rattle.vr_space.specs.Room.{Lengths, Range, HaveRoom}
 use Rattle.vr_space.specs.Keyed.{Keyed, HoldsRange, EachMayLeave, IsKeyedSound, IsKeyedAtRest, KeepsRoom, lengths_of, entries_of, entry_block, records_of, entry_for, way_in, way_under, keyed_way}
 use Rattle.vr_space.specs.Part.{Shape, KeyedShape, InPart, SameRecords, SetsOne, IsDueTo, item_of}
-use Rattle.vr_space.proofs.KeyedSound.{each-less, head-in, IsBlock}
+use Rattle.vr_space.proofs.KeyedSound.{each-less, head-in, entry-in, IsBlock}
 use Rattle.vr_split.proofs.Puts.{also, OfBlock, each-also, now-entries, KeepsOthers, equal_or, head-still, still-found, led-is}
 
 module _ (part : Keyed) (tells : Bool) (told : IsTrue tells) (a b : Seen) (n : ℕ) (bytes : Block) where
@@ -70,3 +71,24 @@ module _ (part : Keyed) (tells : Bool) (told : IsTrue tells) (a b : Seen) (n : �
           let may : a.may (entry_block part at.1) is.0 = ⊎_elim (λ old. old) (λ new. absurd (apart new.0)) (call.adds told (entry_block part at.1) is.0 (below at refl) is.1.0) in
           due (is.0, (may, λ there. is.1.1 there ∙ still), is.2) ∙ sym (ap (λ (block : Block). record_at (records_of part block) place) still))
       (equal_or part tells told a b n bytes (entry_block part at.1) n)
+
+  below-some : (found : Option (Range × Entry)) (at : Range × Entry) → found ≡ Some at → IfSome found (λ f. slice_index f.1.intervals 0 < part.area) → slice_index at.1.intervals 0 < part.area
+  below-some found at is within = subst (λ (o : Option (Range × Entry)). IfSome o (λ f. slice_index f.1.intervals 0 < part.area)) is within
+
+  -- What had to be forced for a place has to be, where all that may be left of the block once it is
+  -- has the record that is read there.
+  pub due-put : (listed place : List ℕ) → IsKeyedAtRest part a → Left a a.cur → Puts tells n bytes a b → n ≢ part.head
+      → ((at : Range × Entry) → entry_for None (now-entries part a n bytes) place ≡ Some at → entry_block part at.1 ≡ n → (block : Block) → MayOnceForced listed b n block → record_at (records_of part block) place ≡ item_of (KeyedShape part) b.cur place)
+      → IsDueTo (KeyedShape part) listed a place → IsDueTo (KeyedShape part) listed b place
+  due-put listed place rests left call other leads due item is =
+      let now : Block = block_at a.cur part.head in
+      let may : a.may part.head now = left.each part.head (omega (arith, rests.sound.area)) in
+      let top : is.0 ≡ now = rests.one_head is.0 (head-before rests.sound call other is.0 is.1.0) in
+      let found : Option (Range × Entry) = entry_for None (entries_of now) place in
+      let within : IfSome found (λ f. slice_index f.1.intervals 0 < part.area) = entry-in part.area None (entries_of now) place (head-in part now (rests.sound.heads now may)) in
+      due-found listed place item found rests.sound.area call
+      (λ at some. omega (arith, rests.sound.area, below-some found at some within))
+      (λ at some here block once. leads at some here block once ∙ read-after call other place)
+      (λ find. due item (now, (may, λ there. refl), find))
+      (subst (λ (head : Block). MayFind (MayOnceForced listed b) item (way_under part place head)) top is.2)
+      ∙ sym (read-after call other place)

@@ -17,6 +17,7 @@ use Rattle.vr_space.specs.Part.{Shape, KeyedShape, InPart, HasOnly, MayHold, May
 use Rattle.vr_space.proofs.Ways.{found-may, find-more, within-less}
 use Rattle.vr_space.proofs.KeyedSound.{keyed-within, keyed-image, keyed-less, IsBlock}
 use Rattle.vr_space.proofs.Adding.{only-weaken}
+pub use Rattle.vr_split.specs.Switching.{OfBlock}
 
 -- what is seen, and what a put may leave beside it
 abbrev pub also : Seen → ℕ → Block → Seen
@@ -44,11 +45,6 @@ puts-adds part tells A n bytes a b told call inside sound allowed =
     }
 
 -- ---- a put into an interval
-
--- each entry, from this low place on, whose interval is block n has a range with P
-abbrev pub OfBlock : Keyed → ℕ → Option (List ℕ) → List Entry → (Range → Type 0) → Type 0
-OfBlock part n low [] P = Unit {0}
-OfBlock part n low (entry ∷ entries) P = (entry_block part entry ≡ n → P (range_of low entry)) × OfBlock part n (Some entry.high) entries P
 
 pub each-also : (part : Keyed) (a : Seen) (n : ℕ) (bytes : Block) (Q : Range → Block → Type 0) (low : Option (List ℕ)) (entries : List Entry) → EachMayLeave part a low entries Q → OfBlock part n low entries (λ range. Q range bytes)
     → EachMayLeave part (also a n bytes) low entries Q
