@@ -5,8 +5,8 @@ use Rattle.vr_types.specs.Image.{Block, Image, block_at}
 use Rattle.vr_types.specs.Seen.{Seen, Only}
 use Rattle.vr_seqset.specs.Entry.{Entry}
 use Rattle.vr_space.specs.Room.{Lengths, Range, HaveRoom}
-use Rattle.vr_space.specs.Keyed.{Keyed, IsHead, HoldsRange, EachMayLeave, lengths_of, entries_of, entry_block, entry_for, records_of, range_of, way_under}
-use Rattle.vr_space.specs.Part.{KeyedShape, item_of}
+use Rattle.vr_space.specs.Keyed.{Keyed, IsHead, HoldsRange, EachMayLeave, IsKeyedAtRest, KeepsRoom, lengths_of, entries_of, entry_block, entry_for, records_of, range_of, way_under}
+use Rattle.vr_space.specs.Part.{KeyedShape, AddsTo, Nothing, SameRecords, DueMore, item_of}
 
 -- a block of an interval of the part
 pub record IsIntervalBlock (part : Keyed) (n : ℕ) : Type 0 where
@@ -48,3 +48,25 @@ pub record CanSwitch (part : Keyed) (kept : Lengths) (top : Block) (now : Seen) 
   pub holds : EachMayLeave part now None (entries_of top) (HoldsRange part)
   pub room : EachMayLeave part now None (entries_of top) (λ range block. HaveRoom part.size (lengths_of part kept range block))
   pub places : (place : List ℕ) → SwitchesAt part top now place
+
+-- At rest, with room for what is kept.
+pub record IsResting (part : Keyed) (kept : Lengths) (now : Seen) : Type 0 where
+  pub rests : IsKeyedAtRest part now
+  pub room : KeepsRoom part kept now
+
+-- A stage made `new` of `old`, whether it failed or not: it adds nothing to what places may hold, each
+-- has the record that it had, and there is room for what is kept.
+pub record KeepsPart (part : Keyed) (kept : Lengths) (old new : Seen) : Type 0 where
+  pub adds : AddsTo (KeyedShape part) Nothing old new
+  pub same : SameRecords (KeyedShape part) old.cur new.cur
+  pub room : KeepsRoom part kept new
+
+-- It is done: the part is at rest, and nothing more has to be forced than before.
+pub record IsStageDone (part : Keyed) (old new : Seen) : Type 0 where
+  pub rests : IsKeyedAtRest part new
+  pub due : DueMore (KeyedShape part) [] old new
+
+-- Whatever a crash leaves of the block has the record of each place that leads there.
+abbrev pub IsSettledAt : Keyed → ℕ → Seen → Type 0
+IsSettledAt part n now = (place : List ℕ) (at : Range × Entry) → entry_for None (read_entries part now.cur) place ≡ Some at → entry_block part at.1 ≡ n
+    → Only now n (λ block. record_at (records_of part block) place ≡ item_of (KeyedShape part) now.cur place)

@@ -2,7 +2,9 @@
 #![tactic(auto)]
 
 mod cut;
+mod stages;
 mod weights;
 
 pub use cut::plan_cut;
+pub use stages::{clean_interval, switch_head};
 pub use weights::Weights;
