@@ -92,3 +92,8 @@ module _ (part : Keyed) (tells : Bool) (told : IsTrue tells) (a b : Seen) (n : �
       (λ find. due item (now, (may, λ there. refl), find))
       (subst (λ (head : Block). MayFind (MayOnceForced listed b) item (way_under part place head)) top is.2)
       ∙ sym (read-after call other place)
+
+-- where no entry leads to the block, what is said of those that do is so
+pub of-nothing : (part : Keyed) (n : ℕ) (P : Range → Type 0) (low : Option (List ℕ)) (entries : List Entry) → OfBlock part n low entries (λ range. ⊥) → OfBlock part n low entries P
+of-nothing part n P low [] none = tt
+of-nothing part n P low (entry ∷ entries) none = (λ here. absurd (none.0 here), of-nothing part n P (Some entry.high) entries none.1)

@@ -6,5 +6,5 @@ mod stages;
 mod weights;
 
 pub use cut::plan_cut;
-pub use stages::{clean_interval, switch_head};
+pub use stages::{clean_interval, copy_interval, switch_head};
 pub use weights::Weights;
