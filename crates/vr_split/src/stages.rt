@@ -42,11 +42,7 @@ pub fn switch_head<B: Blocks>(blocks: &mut B, head: u32, top: &[u8]) -> Result<(
 
 /// Writes an interval without the records that went to another. What it had is stable, and whatever
 /// a crash leaves of it has the records of the places that lead there; so it need not be forced.
-pub fn clean_interval<B: Blocks>(
-    blocks: &mut B,
-    n: u32,
-    lower: &[u8],
-) -> Result<(), DeviceFault>
+pub fn clean_interval<B: Blocks>(blocks: &mut B, n: u32, lower: &[u8]) -> Result<(), DeviceFault>
     requires below { n < (B.seen blocks.old).count }
     requires whole { length lower.now ≡ (B.seen blocks.old).size }
     ensures keeps { IsTrue B.tells → (part : Keyed) (kept : Lengths) → IsIntervalBlock part n
@@ -54,7 +50,7 @@ pub fn clean_interval<B: Blocks>(
         → IsSettledAt part n (B.seen blocks.old)
         → CanReplace part kept (B.seen blocks.old).cur n lower.now
         → KeepsPart part kept (B.seen blocks.old) (B.seen blocks.new)
-          × IsStageDone part (B.seen blocks.old) (B.seen blocks.new) }
+        × IsStageDone part (B.seen blocks.old) (B.seen blocks.new) }
     ensures put { IsTrue B.tells → OnOk result
         (block_at (B.seen blocks.new).cur n ≡ lower.now) }
     ensures count { (B.seen blocks.new).count ≡ (B.seen blocks.old).count }
@@ -71,7 +67,7 @@ fn write_free<B: Blocks>(blocks: &mut B, n: u32, upper: &[u8]) -> Result<(), Dev
     ensures keeps { IsTrue B.tells → (part : Keyed) (kept : Lengths) → IsIntervalBlock part n
         → IsResting part kept (B.seen blocks.old) → IsFree part (B.seen blocks.old).cur n
         → KeepsPart part kept (B.seen blocks.old) (B.seen blocks.new)
-          × IsStageDone part (B.seen blocks.old) (B.seen blocks.new) }
+        × IsStageDone part (B.seen blocks.old) (B.seen blocks.new) }
     ensures put { IsTrue B.tells → OnOk result
         (block_at (B.seen blocks.new).cur n ≡ upper.now) }
     ensures elsewhere { IsTrue B.tells → (m : ℕ) → m ≢ n
@@ -84,12 +80,7 @@ fn write_free<B: Blocks>(blocks: &mut B, n: u32, upper: &[u8]) -> Result<(), Dev
 }
 
 /// Writes an interval with the records that it has, and forces it and another block.
-fn rewrite<B: Blocks>(
-    blocks: &mut B,
-    n: u32,
-    whole: &[u8],
-    beside: u32,
-) -> Result<(), DeviceFault>
+fn rewrite<B: Blocks>(blocks: &mut B, n: u32, whole: &[u8], beside: u32) -> Result<(), DeviceFault>
     requires below { n < (B.seen blocks.old).count }
     requires beside_below { beside < (B.seen blocks.old).count }
     requires apart { beside ≢ n }
