@@ -74,17 +74,3 @@ is_in range place = is_above range.low place && is_le (place_cmp place range.hig
 -- those of a range
 abbrev pub lengths_in : Range → Lengths → Lengths
 lengths_in range lengths = filter (λ (entry : List ℕ × ℕ). is_in range entry.0) lengths
-
--- The cut of an interval that is split (own): before the last place, where that is the new one and
--- the interval is the last of the data set; else after the least first places that have half of the
--- weight, and never after the last.
-abbrev pub IsHalf : Lengths → ℕ → Type 0
-IsHalf lengths n = weight lengths ≤ 2 * weight (Rattle.std.specs.Prelude.take n lengths)
-
-pub record IsCutByWeight (lengths : Lengths) (cut : ℕ) : Type 0 where
-  pub some : 0 < cut
-  pub before_last : cut < length lengths
-  -- no fewer have half of it
-  pub least : (n : ℕ) → n < cut → IsHalf lengths n → ⊥
-  -- and they have it, or are all but the last
-  pub half : cut + 1 < length lengths → IsHalf lengths cut
