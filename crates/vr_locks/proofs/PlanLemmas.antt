@@ -2,19 +2,14 @@
 use Rattle.std.proofs.Common.{◌≡◌, ◌≢◌, ℕ, suc, ◌+◌, ◌<◌, ◌≤◌, nat_eq, List, [], ◌∷◌, ◌++◌, length}
 use Rattle.std.proofs.Common.{get_or, drop, sym, ap, subst, ◌∙◌, arith, ⊎_elim, length-append}
 use Rattle.std.specs.HashMap.{get}
-use Rattle.std.specs.List.{list_any}
 use Rattle.std.proofs.Math.ListN.{get_or-append}
 use Rattle.std.proofs.lemmas.Bool.{cases_lt}
 use Rattle.std.proofs.lemmas.List.{drop_more, get_or_push, length-drop}
 use Rattle.vr_types.specs.declared.lock_name.LockName.{LockName}
 use Rattle.vr_types.specs.declared.unit.Unit as units
-use Rattle.vr_types.specs.LockName.{lock_name_eq}
 use Rattle.vr_locks.specs.declared.maps.LockMaps.{LockMaps}
 use Rattle.vr_locks.specs.declared.planning.Step.{Step}
 use Rattle.vr_locks.specs.declared.planning.Step.TheVariants.{Raise, Take}
-use Rattle.vr_locks.specs.Conflict.{same_unit}
-use Rattle.vr_locks.specs.Filed.{numbers_in}
-use Rattle.vr_locks.specs.Maps.{KeepsFiled}
 use Rattle.vr_locks.specs.Plan.{AreStepsFor, IsFiledFor, IsOwnAt, IsStepFor}
 
 module _ (old new : LockMaps) (unit : units.Unit) (bound : ℕ) (locks : new.locks ≡ old.locks)
@@ -87,17 +82,6 @@ module _ (maps : LockMaps) (unit : units.Unit) (name : LockName) (names : List L
         let here : number + suc m ≡ number + 1 + m = omega arith in
         rw here at (plans.each (suc m) other one (omega arith));
   }
-
--- a number stays filed where the maps of names and units stay
-pub filed-kept : (old new : LockMaps) (unit : units.Unit) → KeepsFiled old new
-    → (n : ℕ) (other : LockName) → IsFiledFor old unit other n → IsFiledFor new unit other n
-filed-kept old new unit filed n other is = record {
-  name_alone =
-      λ q. ap (λ map. list_any (nat_eq n) (numbers_in (get lock_name_eq map q))) filed.names
-      ∙ is.name_alone q;
-  unit_alone = λ q. ap (λ map. list_any (nat_eq n) (numbers_in (get same_unit map q))) filed.units
-      ∙ is.unit_alone q;
-}
 
 module _ (old new : LockMaps) (unit : units.Unit) (number : ℕ)
     (others : (n : ℕ) (other : LockName) → n ≢ number → IsFiledFor old unit other n
