@@ -1,13 +1,12 @@
 -- An entry is read back from its record.
-use Rattle.std.proofs.Common.{◌≡◌, ◌<◌, ◌≤◌, ◌+◌, ◌-◌, ◌^◌, ◌++◌, ◌&&◌, ◌∙◌, ℕ, suc, min, Bool}
-use Rattle.std.proofs.Common.{true, false, List, [], ◌∷◌, length, take, drop, get_or, refl, sym, ap}
+use Rattle.std.proofs.Common.{◌≡◌, ◌<◌, ◌≤◌, ◌+◌, ◌-◌, ◌^◌, ◌++◌, ◌&&◌, ◌∙◌, ℕ, suc, min}
+use Rattle.std.proofs.Common.{true, List, [], length, take, drop, get_or, refl, sym, ap}
 use Rattle.std.proofs.Common.{subst, arith, append_assoc, length-append}
-use Rattle.std.specs.Prelude.{Some, None, Option, IsTrue, not, is_none, is_some, ◌==◌, slice_index}
-use Rattle.std.specs.Prelude.{if◌then◌else◌, bit_and}
-use Rattle.std.specs.List.{concat, before_first, list_any}
+use Rattle.std.specs.Prelude.{Some, None, Option, IsTrue, is_none, ◌==◌, slice_index}
+use Rattle.std.specs.Prelude.{bit_and}
+use Rattle.std.specs.List.{concat, list_any}
 use Rattle.std.proofs.lemmas.Bool.Decides.{nat_tests}
-use Rattle.std.proofs.lemmas.Bool.{not-true, and_parts, ltb-true, leb-true, eq-eqb, ne_eqb}
-use Rattle.std.proofs.lemmas.Grind.{common_steps}
+use Rattle.std.proofs.lemmas.Bool.{not-true, and_parts, ne_eqb}
 use Rattle.std.proofs.lemmas.List.{get_or-take, get_or-drop}
 use Rattle.std.proofs.lemmas.Nat.{from_be_bytes-to_be_bytes_2, from_be_bytes-to_be_bytes_4}
 use Rattle.vr_types.specs.Fields.{two, four, two_at, four_at}
@@ -22,9 +21,9 @@ use Rattle.vr_catalog.specs.declared.entry.SpaceUnit.{SpaceUnit}
 use Rattle.vr_catalog.specs.declared.entry.SpaceUnit.TheVariants.{Unstated, Cylinders, Tracks}
 use Rattle.vr_catalog.specs.declared.entry.SpaceUnit.TheVariants.{Records}
 use Rattle.vr_catalog.specs.Entry.{is_name, is_name_or_none, are_names, is_entry, is_allowed}
-use Rattle.vr_catalog.specs.Entry.{is_cluster, is_alternate, is_path, is_of_kind, has_data}
-use Rattle.vr_catalog.specs.Entry.{has_no_data, are_keys_of, is_space, is_part, is_related}
-use Rattle.vr_catalog.specs.Entry.{is_area_or_none, is_class_or_none, fits_four}
+use Rattle.vr_catalog.specs.Entry.{is_cluster, is_alternate, is_path, is_of_kind}
+use Rattle.vr_catalog.specs.Entry.{are_keys_of, is_space, is_part, is_related}
+use Rattle.vr_catalog.specs.Entry.{is_area_or_none, is_class_or_none}
 use Rattle.vr_catalog.specs.Record.{spelling, entry_in, text_at, some_text, text_of, padded}
 use Rattle.vr_catalog.specs.Record.{part_field, part_of, area_field, area_of, kind_fields}
 use Rattle.vr_catalog.specs.Record.{part_fields, space_fields, name_fields, entry_kind_byte}

@@ -1,17 +1,13 @@
 -- A field of a record is read back as it was written.
-use Rattle.std.proofs.Common.{◌≡◌, ◌≢◌, ◌<◌, ◌≤◌, ◌+◌, ◌-◌, ◌++◌, ◌∙◌, ⊎_elim, ℕ, zero, suc, Bool}
-use Rattle.std.proofs.Common.{true, false, List, [], ◌∷◌, length, take, drop, get_or, refl, sym, ap}
-use Rattle.std.proofs.Common.{subst, arith, append_assoc}
+use Rattle.std.proofs.Common.{◌≡◌, ◌<◌, ◌≤◌, ◌+◌, ◌-◌, ◌++◌, ℕ, zero, suc, Bool}
+use Rattle.std.proofs.Common.{true, false, List, [], ◌∷◌, length, take, drop, get_or, refl}
+use Rattle.std.proofs.Common.{arith}
 use Rattle.std.specs.Prelude.{Some, None, Option, bit_and, ◌==◌, slice_index, if◌then◌else◌}
 use Rattle.std.specs.Prelude.{replicate}
-use Rattle.std.specs.List.{concat, before_first, position_or_len, All}
-use Rattle.std.specs.Int.{w16, w32, to_be_bytes, from_be_bytes}
+use Rattle.std.specs.List.{concat, before_first, position_or_len}
 use Rattle.std.proofs.Math.Seq.{take-append_seam, drop-append-add}
 use Rattle.std.proofs.lemmas.List.{length-append, take_all, get_or_append_left, get_or-append_right}
 use Rattle.std.proofs.lemmas.List.Sums.{position_or_len_is}
-use Rattle.std.proofs.lemmas.Grind.{common_steps}
-use Rattle.std.proofs.lemmas.Nat.{from_be_bytes-to_be_bytes_2, from_be_bytes-to_be_bytes_4}
-use Rattle.vr_types.specs.Fields.{two, four, two_at, four_at}
 use Rattle.vr_types.specs.declared.unit.Kind.{Kind}
 use Rattle.vr_types.specs.declared.unit.Kind.TheVariants.{Keyed, Entry, Relative}
 use Rattle.vr_catalog.specs.declared.entry.EntryKind.{EntryKind}

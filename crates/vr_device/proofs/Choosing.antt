@@ -1,5 +1,5 @@
 -- One step of the loops over a device's past.
-use Rattle.std.proofs.Common.{◌≡◌, ⊎_elim, ◌<◌, ◌≤◌, ◌-◌, ℕ, true, false, true≢false, Option, Some}
+use Rattle.std.proofs.Common.{◌≡◌, ⊎_elim, ◌<◌, ◌-◌, ℕ, false, true≢false, Option, Some}
 use Rattle.std.proofs.Common.{None, Bor, is_none, is_some, option_copied, slice_get, drop, take_all}
 use Rattle.std.proofs.Common.{length-drop, zero, suc, ◌+◌, List, [], ◌∷◌, ◌++◌, length, get_or}
 use Rattle.std.proofs.Common.{take, map, set, Vec, refl, sym, ap, subst, ◌∙◌, arith}
@@ -97,12 +97,3 @@ named (Some b) xs k is some = ⊎_elim (λ found. found.1) (λ past. absurd (som
   where
     some_none : Some b.now ≡ None → ⊥
     some_none e = true≢false (ap is_some e)
-
-pub unnamed : (r : Option (Bor (List ℕ))) (xs : List Block) (k : ℕ)
-    → option_copied r ≡ slice_get xs k → is_none r ≡ true → length xs ≤ k
-unnamed (Some b) xs k is none = absurd (true≢false (sym none))
-unnamed None xs k is none = ⊎_elim (λ found. absurd (none_some found.0 (is ∙ found.2)))
-    (λ past. past.0) (slice_get_cases xs k).1
-  where
-    none_some : (x : Block) → None ≡ Some x → ⊥
-    none_some x e = true≢false (sym (ap is_some e))

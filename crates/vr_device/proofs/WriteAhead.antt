@@ -1,10 +1,10 @@
 -- The steps of a replacement: after each call, what a crash may leave of the two blocks.
-use Rattle.std.proofs.Common.{◌≡◌, ◌≢◌, ◌⊎◌, ⊎_elim, inl, inr, ◌<◌, ℕ, ◌+◌, ◌≤◌, Bool, IsTrue, List}
+use Rattle.std.proofs.Common.{◌≡◌, ◌≢◌, ⊎_elim, inl, inr, ◌<◌, ℕ, ◌+◌, Bool, IsTrue, List}
 use Rattle.std.proofs.Common.{[], ◌∷◌, ◌++◌, length, take, get_or, All, Vec, subst, slice_set, Some}
 use Rattle.std.proofs.Common.{None, unwrap_or, sym, ap, ◌∙◌, refl, arith}
 use Rattle.std.proofs.lemmas.List.{get_or_default, get_or-map, length-map}
 use Rattle.std.specs.declared.alloc.Global.{Global}
-use Rattle.vr_types.specs.Image.{Block, Image, MayAlso, block_at}
+use Rattle.vr_types.specs.Image.{Block, Image, block_at}
 use Rattle.vr_types.specs.Seen.{Seen, Left, Only}
 use Rattle.vr_types.specs.Blocks.{Keeps, Puts}
 use Rattle.vr_types.specs.Regions.{IsImageOn, Touches}
