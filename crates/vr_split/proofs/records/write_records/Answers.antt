@@ -80,8 +80,7 @@ returns c value interval shape order within =
     ap (λ (n : ℕ). drop c.args.from (take n c.in-Ok.view.items)) last
     ∙ ap (λ (v : Interval). drop c.args.from (take c.args.to v.items)) (sym same) in
     let ended = c.end.ensures.interval (drop c.args.from (take c.loop-i.i c.in-Ok.view.items))
-    c.loop-i.invariant.holds in
-    let out : c.end.new.self.0 ≡ c.out-2-1.given.0 = search rules in (
+    c.loop-i.invariant.holds in (
       refl,
       subst (λ (block : List ℕ). IsInterval Plain block (record {
         shape =
@@ -89,7 +88,7 @@ returns c value interval shape order within =
         items = drop c.args.from (take c.args.to value.items);
         busy =
             c.args.busy;
-      })) out
+      })) (search rules)
           (as_meant (form_of c.loop-i.writer) (drop c.args.from (take c.loop-i.i c.in-Ok.view.items))
           (drop c.args.from (take c.args.to value.items)) c.args.busy c.loop-i.invariant.form items
           ended),
