@@ -1,17 +1,20 @@
 -- A part of the records of an interval, as it is written record by record.
-use Rattle.std.proofs.Common.{◌≡◌, ℕ, zero, suc, ◌+◌, ◌<◌, ◌≤◌, Bool, List, []}
+use Rattle.std.proofs.Common.{◌≡◌, ℕ, zero, suc, ◌+◌, ◌<◌, ◌≤◌, Bool, true, false, List, []}
 use Rattle.std.proofs.Common.{◌∷◌, ◌++◌, length, take, drop, map, Option, Some, refl, sym, ap}
 use Rattle.std.proofs.Common.{subst, ◌∙◌, arith, add-one, true≢false}
 use Rattle.std.specs.Prelude.{unwrap_or, is_some}
 use Rattle.std.specs.List.{AllByRecursion, slice_get}
-use Rattle.std.proofs.lemmas.List.{take-append-drop, drop-append-le, length-take}
+use Rattle.std.proofs.lemmas.List.{length-replicate, take-append-drop, drop-append-le, length-take}
 use Rattle.vr_ci_match.specs.declared.form.Form.{Form}
 use Rattle.vr_ci_match.specs.declared.form.Form.TheVariants.{Plain}
 use Rattle.vr_ci_match.specs.declared.form.Shape.TheVariants as shapes
 use Rattle.vr_ci.specs.Interval.{Item, IsItem, IsInterval, bytes_of, live_of, room}
 use Rattle.vr_ci.specs.Writer.{written}
 use Rattle.vr_ci.proofs.CallerLemmas.{room-append, written_item}
-use Rattle.vr_ci.proofs.WriterLemmas.{length-written}
+
+length-written : (bytes : List ℕ) (live : Bool) → length (written bytes live).bytes ≡ length bytes
+length-written bytes true = refl
+length-written bytes false = length-replicate (length bytes) 0
 
 -- the item of a number, as it was read
 record Read (items : List Item) (i : ℕ) (bytes : List ℕ) (live : Bool) : Type 0 where
