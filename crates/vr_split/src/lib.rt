@@ -6,9 +6,11 @@
 #![tactic(auto)]
 
 mod cut;
+mod records;
 mod stages;
 mod weights;
 
 pub use cut::plan_cut;
+pub use records::write_records;
 pub use stages::{clean_interval, copy_interval, switch_head};
 pub use weights::Weights;
