@@ -1,0 +1,24 @@
+//! The undo log of a volume: before-images of records and the ends of units of recovery, in blocks 1
+//! to L over any `Blocks`. It stands on vr_types.
+//!
+//! It promises what any crash leaves of it. In every image at every moment of every call, failing or
+//! not, the log's blocks spell at least the records that were forced and a prefix of all records of
+//! the generation, or the log before while no block of this one was forced, whose units have all
+//! ended. No other block is touched. `read_back` gives what the blocks spell, and `Damaged` exactly
+//! where they spell nothing.
+#![tactic(auto)]
+
+mod content;
+mod kept;
+mod live;
+mod no;
+
+mod record;
+mod tail;
+mod undo_log;
+
+pub use content::LogContent;
+pub use no::{LogNo, LogReadNo};
+
+pub use record::{Before, EndKind, LogPlace, LogRecord};
+pub use undo_log::UndoLog;
