@@ -1,5 +1,11 @@
 -- Where the blocks of a log are misspelled. The rules are this project's own.
 use Rattle.std.specs.Prelude.{◌≡◌, ◌⊎◌, ℕ, ◌+◌, ◌*◌, ◌/◌, ◌<◌, List, ◌++◌, length, All, true}
+use Rattle.std.specs.Prelude.{Result, Err, ◌≤◌}
+use Rattle.vr_types.specs.Faults.{Faults}
+use Rattle.vr_types.specs.declared.fault.DeviceFault.{DeviceFault}
+use Rattle.vr_types.specs.declared.fault.DeviceFault.TheVariants.{Read, Write}
+use Rattle.vr_log.specs.declared.no.LogReadNo.{LogReadNo}
+use Rattle.vr_log.specs.declared.no.LogReadNo.TheVariants.{Damaged, Fault, Memory}
 use Rattle.vr_types.specs.Fields.{AreZeros}
 use Rattle.vr_types.specs.Image.{Image, block_at}
 use Rattle.vr_types.specs.declared.geometry.Geometry.{Geometry}
@@ -42,3 +48,18 @@ pub record IsBadRecord (geometry : Geometry) (image : Image) (n : ℕ) : Type 0 
 pub record IsDamagedAt (geometry : Geometry) (image : Image) (n : ℕ) : Type 0 where
   pub none : (content : Content) → Spells geometry image content → ⊥
   pub first : IsBadFirst image n ⊎ IsBadBlock geometry image n ⊎ IsBadRecord geometry image n
+
+-- A damage that is answered is one that the blocks have.
+abbrev pub IsDamageOf : Geometry → Image → LogReadNo → Type 0
+IsDamageOf geometry image (Damaged block) = IsDamagedAt geometry image block
+IsDamageOf geometry image (Fault fault) = Unit {0}
+IsDamageOf geometry image Memory = Unit {0}
+
+-- Neither count falls, each fault is one that its count rose for, and neither rose where there is
+-- none.
+pub record HasReadCause {T : Type 0} (before now : Faults) (result : Result T LogReadNo) : Type 0 where
+  pub reads : before.reads ≤ now.reads
+  pub writes : before.writes ≤ now.writes
+  pub read : result ≡ Err (Fault Read) → before.reads < now.reads
+  pub write : result ≡ Err (Fault Write) → before.writes < now.writes
+  pub ok : ((fault : DeviceFault) → result ≡ Err (Fault fault) → ⊥) → now ≡ before

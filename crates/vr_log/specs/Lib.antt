@@ -9,3 +9,4 @@ pub mod LogNow
 pub mod Standing
 pub mod LiveUnits
 pub mod Memory
+pub mod Writing

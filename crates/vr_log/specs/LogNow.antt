@@ -1,6 +1,6 @@
 -- What a log is seen as, and which log an image may have. The rules are this project's own.
 use Rattle.std.specs.Prelude.{◌≡◌, ◌⊎◌, ℕ, ◌+◌, ◌-◌, ◌*◌, ◌/◌, ◌^◌, ◌<◌, ◌≤◌, List, [], ◌∷◌, ◌++◌, length, take, Option, Some}
-use Rattle.std.specs.Prelude.{None, IfSome, min, max, Bool, false}
+use Rattle.std.specs.Prelude.{None, IfSome, min, max, Bool, false, nat_eq, if◌then◌else◌}
 use Rattle.vr_types.specs.Image.{Image}
 use Rattle.vr_types.specs.Seen.{Seen}
 use Rattle.std.specs.Prelude.{Result, Err, OnOk, IsErrOf}
@@ -58,13 +58,14 @@ IsBehind log older = (older ≡ first_of log log.forced) ⊎ ((log.forced ≡ 0)
 abbrev pub with_record : LogNow → LogRecord → LogNow
 with_record log rec = record log { records = log.records ++ rec ∷ [] }
 
--- with all records forced, and no log before
-abbrev pub all_forced : LogNow → LogNow
-all_forced log = record log { forced = length log.records; behind = None }
-
 -- everything that was appended is forced
 abbrev pub IsForced : LogNow → Type 0
 IsForced log = log.forced ≡ length log.records
+
+-- With all records forced, and no log before. Where nothing was appended since the last time, it
+-- stays.
+abbrev pub forced_now : LogNow → LogNow
+forced_now log = if nat_eq log.forced (length log.records) then log else record log { forced = length log.records; behind = None }
 
 -- the log before the next generation: this one, or where no block of it was forced the one before
 abbrev pub left_by : Option Content → Content → Option Content

@@ -15,7 +15,6 @@ use Rattle.vr_log.specs.Live.{live_in, used_by}
 use Rattle.vr_log.specs.LiveUnits.{LiveUnits}
 use Rattle.vr_log.specs.LogBlock.{room_of}
 use Rattle.vr_log.specs.Records.{bytes_of, HasFields}
-use Rattle.vr_log.specs.LogNow.{last_index}
 
 -- the log that was on the blocks before
 abbrev pub older_in : Older → Content
@@ -29,15 +28,20 @@ behind_in begun older = if begun then None else Some (older_in older)
 pub record IsTail (geometry : Geometry) (bytes : List ℕ) (tail : Tail) : Type 0 where
   pub size : vec_len tail.block ≡ geometry.size
   pub blocks : tail.blocks ≡ geometry.log
-  pub index : tail.index ≡ last_index geometry bytes
+  pub index : tail.index < geometry.log
   pub used : tail.index * room_of geometry + tail.used ≡ length bytes
   pub fits : tail.used ≤ room_of geometry
   pub payload : take tail.used (drop 16 tail.block.items) ≡ drop (tail.index * room_of geometry) bytes
+
+-- a full buffer is that of the last block
+abbrev pub IsTurned : Geometry → Tail → Type 0
+IsTurned geometry tail = tail.used ≡ room_of geometry → tail.index + 1 ≡ geometry.log
 
 -- A log that isn't broken, in memory.
 pub record IsKept (geometry : Geometry) (records : List LogRecord) (forced : List LogRecord) (tail : Tail) (live : LiveUnits) (bytes forced_bytes : ℕ) : Type 0 where
   pub fields : All HasFields records
   pub last : IsTail geometry (bytes_of records) tail
+  pub turned : IsTurned geometry tail
   pub units : live.units ≡ live_in records
   pub room : log_size geometry ≤ 29 * live.room
   pub all : bytes ≡ length (bytes_of records)

@@ -9,15 +9,19 @@ use Rattle.vr_log.specs.Content.{Content}
 use Rattle.vr_log.specs.LogBlock.{generation_in, index_in, used_in, payload_in, is_next, room_of}
 use Rattle.vr_log.specs.Records.{SpellsRecords}
 
+-- The payload of a block that goes on with the log and has room for it, and where it is full what
+-- the blocks after it have.
+abbrev pub joined : Bool → Bool → Bool → List ℕ → List ℕ → List ℕ
+joined next fits full payload rest = if next && fits then payload ++ (if full then rest else []) else []
+
 -- The bytes of a log from the block of this index on, over at most `left` blocks: the payload of
 -- each block that goes on with the generation, as long as each block before it is full.
 abbrev pub bytes_from : ℕ → ℕ → ℕ → ℕ → Image → List ℕ
 bytes_from room generation index zero image = []
 bytes_from room generation index (suc left) image =
     let block = block_at image (1 + index) in
-    if is_next generation index block && nat_le (used_in block) room
-    then payload_in block ++ (if nat_eq (used_in block) room then bytes_from room generation (index + 1) left image else [])
-    else []
+    joined (is_next generation index block) (nat_le (used_in block) room) (nat_eq (used_in block) room) (payload_in block)
+    (bytes_from room generation (index + 1) left image)
 
 -- each block that goes on uses no more bytes than it has room for
 abbrev pub Fits : ℕ → ℕ → ℕ → ℕ → Image → Type 0

@@ -47,7 +47,7 @@ pub record IsLeft (log : LogNow) (bytes : List ℕ) (index : ℕ) (block : Block
 
 -- the block in which the log was begun is not forced yet
 abbrev pub IsOpen : LogNow → ℕ → Type 0
-IsOpen log index = IfSome log.behind (λ older. index ≡ last_index log.geometry (bytes_of log.records))
+IsOpen log index = (older : Content) × (log.behind ≡ Some older) × (index ≡ last_index log.geometry (bytes_of log.records))
 
 -- What a crash may leave of a log while at most these bytes were put: no block of a later
 -- generation, and in each block what the log needs. In the block in which it was begun, as long as

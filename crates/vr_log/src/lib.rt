@@ -13,12 +13,15 @@ mod kept;
 mod live;
 mod no;
 
+mod reading;
 mod record;
 mod tail;
-mod undo_log;
+mod log;
+mod writing;
 
 pub use content::LogContent;
 pub use no::{LogNo, LogReadNo};
 
+pub use reading::read_back;
 pub use record::{Before, EndKind, LogPlace, LogRecord};
-pub use undo_log::UndoLog;
+pub use log::{UndoLog, undo_log};

@@ -1,6 +1,33 @@
-//! The last block of a log, in memory.
-ghost use Rattle.std.specs.Prelude.{◌≡◌, ◌<◌, ◌≤◌, ◌+◌, length, vec_len, IsTrue, OnOk};
+//! The last block of a log, in memory, and how bytes are added to the log.
+ghost use Rattle.std.specs.Prelude.{
+  ◌≡◌,
+  ◌<◌,
+  ◌≤◌,
+  ◌+◌,
+  ◌-◌,
+  ◌*◌,
+  ◌++◌,
+  ℕ,
+  Bool,
+  true,
+  List,
+  length,
+  take,
+  drop,
+  min,
+  vec_len,
+  IsTrue,
+  OnOk,
+  IfOk,
+  slice_set,
+};
+ghost use Rattle.vr_types.specs.Blocks.{Keeps, Puts};
 ghost use Rattle.vr_types.specs.Faults.{HasWriteCause};
+ghost use Rattle.vr_types.specs.Regions.{Touches};
+ghost use Rattle.vr_log.specs.LogBlock.{generation_in, index_in, used_in, head_of};
+ghost use Rattle.vr_log.specs.LogNow.{LogNow};
+ghost use Rattle.vr_log.specs.Standing.{InLog};
+ghost use Rattle.vr_log.specs.Writing.{IsSafe, HasRoom, IsReady, IsPrefix, IsWriting, IsFound, IsSame, IsKeptBy, Follows};
 
 use vr_types::{Blocks, DeviceFault, put_eight, put_four};
 
@@ -14,4 +41,126 @@ pub(crate) struct Tail {
     pub(crate) index: u32,
     pub(crate) used: u32,
     pub(crate) begun: bool,
+}
+
+impl Tail {
+    /// Copies as many of the bytes as the block has room for, and answers how many these are.
+    pub(crate) fn fill(&mut self, bytes: &[u8]) -> usize
+        requires fits { self.old.used + 16 ≤ vec_len self.old.block }
+        requires small { vec_len self.old.block < 4294967296 }
+        ensures count { result ≡ min (length bytes.now) (vec_len self.old.block - 16 - self.old.used) }
+        ensures used { self.new.used ≡ self.old.used + result }
+        ensures block { self.new.block.items ≡ take (16 + self.old.used) self.old.block.items
+            ++ take result bytes.now ++ drop (16 + self.old.used + result) self.old.block.items }
+        ensures same { (self.new.generation ≡ self.old.generation)
+            × (self.new.blocks ≡ self.old.blocks) × (self.new.index ≡ self.old.index)
+            × (self.new.begun ≡ self.old.begun) }
+        ensures size { vec_len self.new.block ≡ vec_len self.old.block }
+    {
+        let start = 16 + self.used as usize;
+        let count = (self.block.len() - start).min(bytes.len());
+        self.block[start..start + count].copy_from_slice(&bytes[..count]);
+        self.used += count as u32;
+        count
+    }
+
+    /// Puts the block, with its head.
+    pub(crate) fn put<B: Blocks>(&mut self, blocks: &mut B) -> Result<(), DeviceFault>
+        requires safe { IsSafe self.old (B.seen blocks.old) }
+        ensures block { self.new.block.items
+            ≡ head_of self.old.generation self.old.index self.old.used ++ drop 16 self.old.block.items }
+        ensures size { vec_len self.new.block ≡ vec_len self.old.block }
+        ensures same { IsSame self.old self.new }
+        ensures put { IsTrue B.tells → OnOk result ((B.seen blocks.new).cur
+            ≡ slice_set (B.seen blocks.old).cur (1 + self.old.index) self.new.block.items) }
+        ensures after { Puts B.tells (1 + self.old.index) self.new.block.items
+            (B.seen blocks.old) (B.seen blocks.new) }
+        ensures cause { HasWriteCause (B.faults blocks.old) (B.faults blocks.new) result }
+    {
+        write_head(&mut self.block, self.generation, self.index, self.used);
+        blocks.put(1 + self.index, &self.block)
+    }
+
+    /// Puts a block that is full, and goes on to the next one, where there is one. The block in which
+    /// the log was begun is forced first.
+    pub(crate) fn turn<B: Blocks>(&mut self, blocks: &mut B) -> Result<(), DeviceFault>
+        requires safe { IsSafe self.old (B.seen blocks.old) }
+        ensures safe { OnOk result (IsSafe self.new (B.seen blocks.new)) }
+        ensures ready { OnOk result (IsReady self.new) }
+        ensures same { IsKeptBy self.old self.new }
+        ensures writing { (log : LogNow) (total written : List ℕ)
+            → IsWriting log total written self.old B.tells (B.seen blocks.old) → IsPrefix written total
+            → Follows B.tells log total written self.new (B.seen blocks.old) (B.seen blocks.new) result }
+        ensures cause { HasWriteCause (B.faults blocks.old) (B.faults blocks.new) result }
+    {
+        if (self.used as usize) + 16 < self.block.len() {
+            return Ok(());
+        }
+        self.put(blocks)?;
+        if self.index + 1 < self.blocks {
+            self.settle(blocks)?;
+            self.index += 1;
+            self.used = 0;
+        }
+        Ok(())
+    }
+
+    /// Forces the block, where it is the one in which the log was begun.
+    fn settle<B: Blocks>(&mut self, blocks: &mut B) -> Result<(), DeviceFault>
+        requires safe { IsSafe self.old (B.seen blocks.old) }
+    {
+        if !self.begun {
+            blocks.force(&[1 + self.index])?;
+            self.begun = true;
+        }
+        Ok(())
+    }
+
+    /// Adds bytes, and puts each block that they fill.
+    pub(crate) fn add<B: Blocks>(
+        &mut self,
+        blocks: &mut B,
+        bytes: &[u8],
+    ) -> Result<(), DeviceFault>
+        requires safe { IsSafe self.old (B.seen blocks.old) }
+        requires ready { IsReady self.old }
+        requires room { HasRoom self.old (length bytes.now) }
+        ensures safe { OnOk result (IsSafe self.new (B.seen blocks.new)) }
+        ensures ready { OnOk result (IsReady self.new) }
+        ensures room { OnOk result ((rest : ℕ) → HasRoom self.old (length bytes.now + rest) → HasRoom self.new rest) }
+        ensures writing { (log : LogNow) (total written : List ℕ)
+            → IsWriting log total written self.old B.tells (B.seen blocks.old) → IsPrefix (written ++ bytes.now) total
+            → Follows B.tells log total (written ++ bytes.now) self.new (B.seen blocks.old) (B.seen blocks.new) result }
+        ensures cause { HasWriteCause (B.faults blocks.old) (B.faults blocks.new) result }
+    {
+        let mut rest = bytes;
+        while !rest.is_empty() {
+            let count = self.fill(rest);
+            rest = &rest[count..];
+            self.turn(blocks)?;
+        }
+        Ok(())
+    }
+
+    /// Puts the last block, where the bytes that were added don't end at its end.
+    pub(crate) fn finish<B: Blocks>(&mut self, blocks: &mut B) -> Result<(), DeviceFault>
+        requires safe { IsSafe self.old (B.seen blocks.old) }
+        ensures cause { HasWriteCause (B.faults blocks.old) (B.faults blocks.new) result }
+    {
+        if self.used == 0 || self.used as usize + 16 == self.block.len() {
+            return Ok(());
+        }
+        self.put(blocks)
+    }
+}
+
+/// Writes the head of a block of the log.
+#[tactic(auto, using(crate::proofs::Heads::headed))]
+fn write_head(block: &mut [u8], generation: u64, index: u32, used: u32)
+    requires { 16 ≤ length block.old }
+    ensures { block.new ≡ head_of generation index used ++ drop 16 block.old }
+{
+    put_eight(block, 0, generation);
+    put_four(block, 8, index);
+    put_four(block, 12, used);
 }

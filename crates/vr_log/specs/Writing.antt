@@ -1,0 +1,79 @@
+-- A log while the bytes of a record are put.
+use Rattle.std.specs.Prelude.{◌≡◌, ◌⊎◌, ℕ, ◌+◌, ◌-◌, ◌*◌, ◌^◌, ◌<◌, ◌≤◌, List, ◌++◌, length, drop, Option, Some, None, Bool, IsTrue, true, false, if◌then◌else◌, vec_len}
+use Rattle.vr_types.specs.Image.{Image, Block, block_at}
+use Rattle.vr_types.specs.Seen.{Seen}
+use Rattle.vr_types.specs.declared.geometry.Geometry.{Geometry}
+use Rattle.vr_log.specs.declared.tail.Tail.{Tail}
+use Rattle.vr_log.specs.Content.{Content}
+use Rattle.vr_log.specs.LogBlock.{generation_in, index_in, used_in, room_of}
+use Rattle.vr_log.specs.LogNow.{LogNow, IsOf, last_index}
+use Rattle.vr_log.specs.Memory.{IsTail}
+use Rattle.vr_log.specs.Records.{bytes_of}
+use Rattle.vr_log.specs.Spells.{Spells, SpellsLog, Fits, log_bytes}
+use Rattle.std.specs.Prelude.{Result, OnOk}
+use Rattle.vr_types.specs.Regions.{Touches}
+use Rattle.vr_types.specs.declared.fault.DeviceFault.{DeviceFault}
+use Rattle.vr_log.specs.Standing.{InLog, Leaves, IsExact, forced_length}
+
+abbrev pub IsPrefix : List ℕ → List ℕ → Type 0
+IsPrefix start whole = (rest : List ℕ) × (start ++ rest ≡ whole)
+
+-- The buffer and the blocks go together.
+pub record IsSafe (tail : Tail) (seen : Seen) : Type 0 where
+  pub size : vec_len tail.block ≡ seen.size
+  pub small : seen.size < 2 ^ 32
+  pub head : 16 < seen.size
+  pub index : tail.index < tail.blocks
+  pub blocks : tail.blocks < seen.count
+  pub fits : tail.used + 16 ≤ seen.size
+
+-- there is room for that many bytes
+abbrev pub HasRoom : Tail → ℕ → Type 0
+HasRoom tail count = tail.index * (vec_len tail.block - 16) + tail.used + count ≤ tail.blocks * (vec_len tail.block - 16)
+
+-- a full buffer is that of the last block
+abbrev pub IsReady : Tail → Type 0
+IsReady tail = tail.used + 16 ≡ vec_len tail.block → tail.index + 1 ≡ tail.blocks
+
+-- the log once its first block was forced
+abbrev pub log_during : LogNow → Bool → LogNow
+log_during log begun = record log { behind = if begun then None else log.behind }
+
+-- While bytes are put: `total` are those of all records with the one that is appended, `written` those
+-- that are in the buffer or on the blocks.
+pub record IsWriting (log : LogNow) (total written : List ℕ) (tail : Tail) (told : Bool) (seen : Seen) : Type 0 where
+  pub shape : IsOf log.geometry seen
+  pub generation : tail.generation ≡ log.generation
+  pub some : 1 ≤ log.generation
+  pub buffer : IsTail log.geometry written tail
+  pub opened : tail.begun ≡ false → tail.index ≡ last_index log.geometry (bytes_of log.records)
+  pub stable : forced_length log ≤ length written
+  pub leaves : IsTrue told → Leaves (log_during log tail.begun) total seen.count seen.may
+  pub current : IsTrue told → (index : ℕ) → (index + 1) * room_of log.geometry ≤ length written → index < tail.index
+      → forced_length log < (index + 1) * room_of log.geometry
+      → IsExact (room_of log.geometry) log.generation total index (block_at seen.cur (1 + index))
+
+-- nothing but the content of the block changed
+abbrev pub IsSame : Tail → Tail → Type 0
+IsSame old new = (new.generation ≡ old.generation) × (new.blocks ≡ old.blocks) × (new.index ≡ old.index) × (new.used ≡ old.used) × (new.begun ≡ old.begun)
+
+-- what no call of a log changes
+abbrev pub IsKeptBy : Tail → Tail → Type 0
+IsKeptBy old new = (new.generation ≡ old.generation) × (new.blocks ≡ old.blocks) × (vec_len new.block ≡ vec_len old.block)
+
+-- An image has the log before, or bytes of this generation: at least those that were forced, and a
+-- prefix of all.
+pub record HasBytes (log : LogNow) (total : List ℕ) (image : Image) : Type 0 where
+  pub generation : generation_in (block_at image 1) ≡ log.generation
+  pub first : index_in (block_at image 1) ≡ 0
+  pub fits : Fits (room_of log.geometry) log.generation 0 log.geometry.log image
+  pub prefix : IsPrefix (log_bytes log.geometry log.generation image) total
+  pub least : forced_length log ≤ length (log_bytes log.geometry log.generation image)
+
+abbrev pub IsFound : LogNow → List ℕ → Image → Type 0
+IsFound log total image = ((older : Content) × (log.behind ≡ Some older) × Spells log.geometry image older) ⊎ HasBytes log total image
+
+-- Calls put bytes of the log, up to these where they were Ok.
+pub record Follows (told : Bool) (log : LogNow) (total written : List ℕ) (tail : Tail) (old new : Seen) {T : Type 0} (result : Result T DeviceFault) : Type 0 where
+  pub writing : OnOk result (IsWriting log total written tail told new)
+  pub touches : IsTrue told → Touches (InLog log.geometry) (IsFound log total) old new
