@@ -1,16 +1,14 @@
 -- The units of recovery that are live in a log, and the bytes of it that are in use. The rules are
 -- this project's own.
-use Rattle.std.specs.Prelude.{◌≡◌, ℕ, ◌+◌, ◌*◌, ◌<◌, List, [], ◌∷◌, ◌++◌, length, Bool, nat_eq, ◌&&◌}
+use Rattle.std.specs.Prelude.{◌≡◌, ℕ, ◌+◌, ◌*◌, ◌<◌, List, [], ◌∷◌, ◌++◌, length, Bool}
 use Rattle.std.specs.Prelude.{if◌then◌else◌, IsTrue}
 use Rattle.std.specs.List.{list_any}
+use Rattle.vr_types.specs.Locks.{same_unit}
 use Rattle.vr_types.specs.LogSpace.{end_length}
 use Rattle.vr_types.specs.declared.unit.Unit.{Unit as UnitOfRecovery}
 use Rattle.vr_log.specs.declared.record.LogRecord.{LogRecord}
 use Rattle.vr_log.specs.declared.record.LogRecord.TheVariants.{Before, End}
 use Rattle.vr_log.specs.Records.{record_bytes, bytes_of}
-
-abbrev pub same_unit : UnitOfRecovery → UnitOfRecovery → Bool
-same_unit one other = nat_eq one.deck other.deck && nat_eq one.number other.number
 
 abbrev pub is_in : UnitOfRecovery → List UnitOfRecovery → Bool
 is_in unit units = list_any (same_unit unit) units

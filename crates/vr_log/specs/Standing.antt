@@ -45,9 +45,17 @@ pub record IsLeft (log : LogNow) (bytes : List ℕ) (index : ℕ) (block : Block
   pub within : IsWithin (room_of log.geometry) log.generation bytes index block
   pub reaches : index * room_of log.geometry < forced_length log → Reaches (room_of log.geometry) log.generation (forced_length log) index block
 
--- the block in which the log was begun is not forced yet
+-- such a block that goes on with this log
+abbrev pub IsOurs : LogNow → List ℕ → ℕ → Block → Type 0
+IsOurs log bytes index block = (is_next log.generation index block ≡ true) × IsLeft log bytes index block
+
+-- the block to which the next bytes of the log go
+abbrev pub open_index : LogNow → ℕ
+open_index log = last_index log.geometry (bytes_of log.records)
+
+-- it is the block in which the log was begun, and isn't forced yet
 abbrev pub IsOpen : LogNow → ℕ → Type 0
-IsOpen log index = (older : Content) × (log.behind ≡ Some older) × (index ≡ last_index log.geometry (bytes_of log.records))
+IsOpen log index = (older : Content) × (log.behind ≡ Some older) × (index ≡ open_index log)
 
 -- What a crash may leave of a log while at most these bytes were put: no block of a later
 -- generation, and in each block what the log needs. In the block in which it was begun, as long as
@@ -56,16 +64,15 @@ pub record Leaves (log : LogNow) (bytes : List ℕ) (count : ℕ) (may : ℕ →
   pub young : (index : ℕ) (block : Block) → index < log.geometry.log → may (1 + index) block → generation_in block ≤ log.generation
   pub each : (index : ℕ) (block : Block) → index < log.geometry.log → ¬ (IsOpen log index) → may (1 + index) block → IsLeft log bytes index block
   pub first : log.behind ≡ None → (block : Block) → may 1 block → is_next log.generation 0 block ≡ true
-  pub older : IfSome log.behind (λ older. (image : Image) → IsImageOn (InLog log.geometry) count may image
-      → Spells log.geometry image older ⊎ (let index = last_index log.geometry (bytes_of log.records) in
-      (is_next log.generation index (block_at image (1 + index)) ≡ true) × IsLeft log bytes index (block_at image (1 + index))))
+  pub older : (older : Content) → log.behind ≡ Some older → (image : Image) → IsImageOn (InLog log.geometry) count may image
+      → Spells log.geometry image older ⊎ IsOurs log bytes (open_index log) (block_at image (1 + open_index log))
 
 -- The log stands on the blocks.
 pub record LogStands (log : LogNow) (seen : Seen) : Type 0 where
   pub shape : IsOf log.geometry seen
   pub fields : All HasFields log.records
-  pub behind : IfSome log.behind (IsBehind log)
-  pub begun : IfSome log.behind (λ older. last_index log.geometry (bytes_of log.records) * room_of log.geometry ≤ forced_length log)
+  pub behind : (older : Content) → log.behind ≡ Some older → IsBehind log older
+  pub begun : (older : Content) → log.behind ≡ Some older → open_index log * room_of log.geometry ≤ forced_length log
   pub leaves : Leaves log (bytes_of log.records) seen.count seen.may
   -- what is not forced yet is on the blocks as they are read
   pub current : (IsForced log → ⊥) → (index : ℕ) → index * room_of log.geometry < length (bytes_of log.records)
