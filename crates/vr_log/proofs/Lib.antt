@@ -1,3 +1,4 @@
 mod Heads
 mod Images
 mod Leaving
+mod Codec

@@ -70,7 +70,9 @@ pub record Leaves (log : LogNow) (bytes : List ℕ) (count : ℕ) (may : ℕ →
 -- The log stands on the blocks.
 pub record LogStands (log : LogNow) (seen : Seen) : Type 0 where
   pub shape : IsOf log.geometry seen
+  pub some : 1 ≤ log.generation
   pub fields : All HasFields log.records
+  pub forced : log.forced ≤ length log.records
   pub behind : (older : Content) → log.behind ≡ Some older → IsBehind log older
   pub begun : (older : Content) → log.behind ≡ Some older → open_index log * room_of log.geometry ≤ forced_length log
   pub leaves : Leaves log (bytes_of log.records) seen.count seen.may
