@@ -2,3 +2,4 @@ mod Heads
 mod Images
 mod Leaving
 mod Codec
+mod Putting

@@ -6,14 +6,14 @@ use Rattle.vr_types.specs.declared.geometry.Geometry.{Geometry}
 use Rattle.vr_log.specs.declared.tail.Tail.{Tail}
 use Rattle.vr_log.specs.Content.{Content}
 use Rattle.vr_log.specs.LogBlock.{generation_in, index_in, used_in, room_of}
-use Rattle.vr_log.specs.LogNow.{LogNow, IsOf, last_index}
+use Rattle.vr_log.specs.LogNow.{LogNow, IsOf}
 use Rattle.vr_log.specs.Memory.{IsTail}
-use Rattle.vr_log.specs.Records.{bytes_of}
+use Rattle.vr_types.specs.Geometry.{IsAllowed}
 use Rattle.vr_log.specs.Spells.{Spells, SpellsLog, Fits, log_bytes}
 use Rattle.std.specs.Prelude.{Result, OnOk}
 use Rattle.vr_types.specs.Regions.{Touches}
 use Rattle.vr_types.specs.declared.fault.DeviceFault.{DeviceFault}
-use Rattle.vr_log.specs.Standing.{InLog, Leaves, IsExact, forced_length}
+use Rattle.vr_log.specs.Standing.{InLog, Leaves, IsExact, open_index, forced_length}
 
 abbrev pub IsPrefix : List ℕ → List ℕ → Type 0
 IsPrefix start whole = (rest : List ℕ) × (start ++ rest ≡ whole)
@@ -42,16 +42,23 @@ log_during log begun = record log { behind = if begun then None else log.behind 
 -- While bytes are put: `total` are those of all records with the one that is appended, `written` those
 -- that are in the buffer or on the blocks.
 pub record IsWriting (log : LogNow) (total written : List ℕ) (tail : Tail) (told : Bool) (seen : Seen) : Type 0 where
+  pub allowed : IsAllowed log.geometry
   pub shape : IsOf log.geometry seen
   pub generation : tail.generation ≡ log.generation
-  pub some : 1 ≤ log.generation
+  pub young : log.generation < 2 ^ 64
   pub buffer : IsTail log.geometry written tail
-  pub opened : tail.begun ≡ false → tail.index ≡ last_index log.geometry (bytes_of log.records)
+  pub opened : tail.begun ≡ false → tail.index ≡ open_index log
   pub stable : forced_length log ≤ length written
+  pub most : length total ≤ log.geometry.log * room_of log.geometry
+  pub begun : (older : Content) → log.behind ≡ Some older → open_index log * room_of log.geometry ≤ forced_length log
   pub leaves : IsTrue told → Leaves (log_during log tail.begun) total seen.count seen.may
-  pub current : IsTrue told → (index : ℕ) → (index + 1) * room_of log.geometry ≤ length written → index < tail.index
-      → forced_length log < (index + 1) * room_of log.geometry
+  pub current : IsTrue told → (index : ℕ) → index < tail.index → forced_length log < (index + 1) * room_of log.geometry
       → IsExact (room_of log.geometry) log.generation total index (block_at seen.cur (1 + index))
+
+-- the blocks as they are read have all bytes from those that were forced on
+abbrev pub IsCurrent : LogNow → List ℕ → Seen → Type 0
+IsCurrent log total seen = (index : ℕ) → index * room_of log.geometry < length total → forced_length log < (index + 1) * room_of log.geometry
+    → IsExact (room_of log.geometry) log.generation total index (block_at seen.cur (1 + index))
 
 -- nothing but the content of the block changed
 abbrev pub IsSame : Tail → Tail → Type 0
@@ -60,6 +67,10 @@ IsSame old new = (new.generation ≡ old.generation) × (new.blocks ≡ old.bloc
 -- what no call of a log changes
 abbrev pub IsKeptBy : Tail → Tail → Type 0
 IsKeptBy old new = (new.generation ≡ old.generation) × (new.blocks ≡ old.blocks) × (vec_len new.block ≡ vec_len old.block)
+
+-- nothing but whether the log was begun changed
+abbrev pub IsSettledOf : Tail → Tail → Type 0
+IsSettledOf old new = (new.generation ≡ old.generation) × (new.blocks ≡ old.blocks) × (new.index ≡ old.index) × (new.used ≡ old.used) × (new.block ≡ old.block)
 
 -- An image has the log before, or bytes of this generation: at least those that were forced, and a
 -- prefix of all.
@@ -76,4 +87,10 @@ IsFound log total image = ((older : Content) × (log.behind ≡ Some older) × S
 -- Calls put bytes of the log, up to these where they were Ok.
 pub record Follows (told : Bool) (log : LogNow) (total written : List ℕ) (tail : Tail) (old new : Seen) {T : Type 0} (result : Result T DeviceFault) : Type 0 where
   pub writing : OnOk result (IsWriting log total written tail told new)
+  pub touches : IsTrue told → Touches (InLog log.geometry) (IsFound log total) old new
+
+-- The last of the bytes were put.
+pub record Ends (told : Bool) (log : LogNow) (total : List ℕ) (tail : Tail) (old new : Seen) {T : Type 0} (result : Result T DeviceFault) : Type 0 where
+  pub writing : OnOk result (IsWriting log total total tail told new)
+  pub current : IsTrue told → OnOk result (IsCurrent log total new)
   pub touches : IsTrue told → Touches (InLog log.geometry) (IsFound log total) old new

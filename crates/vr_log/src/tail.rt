@@ -18,16 +18,19 @@ ghost use Rattle.std.specs.Prelude.{
   vec_len,
   IsTrue,
   OnOk,
+  false,
   IfOk,
   slice_set,
 };
 ghost use Rattle.vr_types.specs.Blocks.{Keeps, Puts};
 ghost use Rattle.vr_types.specs.Faults.{HasWriteCause};
+ghost use Rattle.vr_types.specs.Image.{block_at};
 ghost use Rattle.vr_types.specs.Regions.{Touches};
+ghost use Rattle.vr_types.specs.Seen.{Only};
 ghost use Rattle.vr_log.specs.LogBlock.{generation_in, index_in, used_in, head_of};
 ghost use Rattle.vr_log.specs.LogNow.{LogNow};
 ghost use Rattle.vr_log.specs.Standing.{InLog};
-ghost use Rattle.vr_log.specs.Writing.{IsSafe, HasRoom, IsReady, IsPrefix, IsWriting, IsFound, IsSame, IsKeptBy, Follows};
+ghost use Rattle.vr_log.specs.Writing.{IsSafe, HasRoom, IsReady, IsPrefix, IsWriting, IsFound, IsSame, IsKeptBy, IsSettledOf, Follows, Ends};
 
 use vr_types::{Blocks, DeviceFault, put_eight, put_four};
 
@@ -93,26 +96,32 @@ impl Tail {
             → Follows B.tells log total written self.new (B.seen blocks.old) (B.seen blocks.new) result }
         ensures cause { HasWriteCause (B.faults blocks.old) (B.faults blocks.new) result }
     {
-        if (self.used as usize) + 16 < self.block.len() {
+        if (self.used as usize) + 16 < self.block.len() || self.index + 1 == self.blocks {
             return Ok(());
         }
         self.put(blocks)?;
-        if self.index + 1 < self.blocks {
-            self.settle(blocks)?;
-            self.index += 1;
-            self.used = 0;
-        }
+        self.settle(blocks)?;
+        self.index += 1;
+        self.used = 0;
         Ok(())
     }
 
     /// Forces the block, where it is the one in which the log was begun.
     fn settle<B: Blocks>(&mut self, blocks: &mut B) -> Result<(), DeviceFault>
         requires safe { IsSafe self.old (B.seen blocks.old) }
+        ensures begun { OnOk result (self.new.begun ≡ true) }
+        ensures same { IsSettledOf self.old self.new }
+        ensures keeps { Keeps B.tells (B.seen blocks.old) (B.seen blocks.new) }
+        ensures forced { IsTrue B.tells → self.old.begun ≡ false → OnOk result
+            (Only (B.seen blocks.new) (1 + self.old.index) (λ block.
+                block ≡ block_at (B.seen blocks.old).cur (1 + self.old.index))) }
+        ensures cause { HasWriteCause (B.faults blocks.old) (B.faults blocks.new) result }
     {
-        if !self.begun {
-            blocks.force(&[1 + self.index])?;
-            self.begun = true;
+        if self.begun {
+            return Ok(());
         }
+        blocks.force(&[1 + self.index])?;
+        self.begun = true;
         Ok(())
     }
 
@@ -142,12 +151,16 @@ impl Tail {
         Ok(())
     }
 
-    /// Puts the last block, where the bytes that were added don't end at its end.
+    /// Puts the last block, where there are bytes in it.
     pub(crate) fn finish<B: Blocks>(&mut self, blocks: &mut B) -> Result<(), DeviceFault>
         requires safe { IsSafe self.old (B.seen blocks.old) }
+        ensures same { IsKeptBy self.old self.new }
+        ensures ending { (log : LogNow) (total : List ℕ)
+            → IsWriting log total total self.old B.tells (B.seen blocks.old)
+            → Ends B.tells log total self.new (B.seen blocks.old) (B.seen blocks.new) result }
         ensures cause { HasWriteCause (B.faults blocks.old) (B.faults blocks.new) result }
     {
-        if self.used == 0 || self.used as usize + 16 == self.block.len() {
+        if self.used == 0 {
             return Ok(());
         }
         self.put(blocks)
