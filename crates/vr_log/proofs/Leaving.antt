@@ -89,7 +89,7 @@ none-some : {X : Type 0} (x : X) → None ≡ Some x → ⊥
 none-some x is = absurd cc
 
 -- a number that isn't 0 is a multiple that is below
-positive : (n room most : ℕ) → (0 ≡ n → ⊥) → 0 < room → n * room ≤ most → 0 * room < most
+pub positive : (n room most : ℕ) → (0 ≡ n → ⊥) → 0 < room → n * room ≤ most → 0 * room < most
 positive zero room most some roomy below = absurd (some refl)
 positive (suc n) room most some roomy below = omega (arith, roomy, below)
 

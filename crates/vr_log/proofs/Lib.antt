@@ -3,3 +3,4 @@ mod Images
 mod Leaving
 mod Codec
 mod Putting
+mod Turning

@@ -48,6 +48,7 @@ pub record IsWriting (log : LogNow) (total written : List ℕ) (tail : Tail) (to
   pub young : log.generation < 2 ^ 64
   pub buffer : IsTail log.geometry written tail
   pub opened : tail.begun ≡ false → tail.index ≡ open_index log
+  pub behind : tail.begun ≡ false → (older : Content) × (log.behind ≡ Some older)
   pub stable : forced_length log ≤ length written
   pub most : length total ≤ log.geometry.log * room_of log.geometry
   pub begun : (older : Content) → log.behind ≡ Some older → open_index log * room_of log.geometry ≤ forced_length log

@@ -73,7 +73,7 @@ fn end_bytes(unit: Unit, kind: EndKind) -> [u8; 9]
 }
 
 /// The bytes before an old record.
-#[tactic(auto, using(crate::proofs::Putting::exact))]
+#[tactic(auto, using(crate::proofs::Turning::turned))]
 fn old_head(length: u32) -> [u8; 5]
     ensures { result ≡ 1 ∷ four length }
 {
