@@ -4,3 +4,4 @@ mod Leaving
 mod Codec
 mod Putting
 mod Turning
+mod Filling

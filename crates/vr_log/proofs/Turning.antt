@@ -24,6 +24,12 @@ use Rattle.vr_log.proofs.Putting.{exact-more, log-room, log-inside, found-left, 
 between : (i n room : ℕ) → n ≤ i → i * room < (n + 1) * room → i ≡ n
 between i n room above under = ⊎_elim (λ (more : n < i). absurd (omega (arith, under, mul-le-mul_right {m = n + 1} {n = i} room (omega (arith, more))))) (λ (most : i ≤ n). omega (arith, above, most)) (cases_lt n i)
 
+-- where the last block has no bytes, those before it have all
+pub current-none : (told : Bool) (log : LogNow) (total : List ℕ) (tail : Tail) (a : Seen) → IsWriting log total total tail told a → tail.used ≡ 0 → IsTrue told → IsCurrent log total a
+current-none told log total tail a w empty is_told index some from =
+    let room = room_of log.geometry in
+    w.current is_told index (⊎_elim (λ (below : index < tail.index). below) (λ (above : tail.index ≤ index). absurd (omega (arith, some, w.buffer.used, empty, mul-le-mul_right {m = tail.index} {n = index} room above))) (cases_lt index tail.index)) from
+
 left-during : (log : LogNow) (total : List ℕ) (index : ℕ) (block : Block) → IsLeft log total index block → IsLeft (log_during log true) total index block
 left-during log total index block left = record { within = left.within; reaches = left.reaches }
 

@@ -27,9 +27,13 @@ pub record IsSafe (tail : Tail) (seen : Seen) : Type 0 where
   pub blocks : tail.blocks < seen.count
   pub fits : tail.used + 16 ≤ seen.size
 
--- there is room for that many bytes
+-- how many bytes the log has so far
+abbrev pub position : Tail → ℕ
+position tail = tail.index * (vec_len tail.block - 16) + tail.used
+
+-- there is room for that many bytes more
 abbrev pub HasRoom : Tail → ℕ → Type 0
-HasRoom tail count = tail.index * (vec_len tail.block - 16) + tail.used + count ≤ tail.blocks * (vec_len tail.block - 16)
+HasRoom tail count = position tail + count ≤ tail.blocks * (vec_len tail.block - 16)
 
 -- a full buffer is that of the last block
 abbrev pub IsReady : Tail → Type 0

@@ -30,7 +30,7 @@ ghost use Rattle.vr_types.specs.Seen.{Only};
 ghost use Rattle.vr_log.specs.LogBlock.{generation_in, index_in, used_in, head_of};
 ghost use Rattle.vr_log.specs.LogNow.{LogNow};
 ghost use Rattle.vr_log.specs.Standing.{InLog};
-ghost use Rattle.vr_log.specs.Writing.{IsSafe, HasRoom, IsReady, IsPrefix, IsWriting, IsFound, IsSame, IsKeptBy, IsSettledOf, Follows, Ends};
+ghost use Rattle.vr_log.specs.Writing.{IsSafe, position, HasRoom, IsReady, IsPrefix, IsWriting, IsFound, IsSame, IsKeptBy, IsSettledOf, Follows, Ends};
 
 use vr_types::{Blocks, DeviceFault, put_eight, put_four};
 
@@ -90,6 +90,7 @@ impl Tail {
         requires safe { IsSafe self.old (B.seen blocks.old) }
         ensures safe { OnOk result (IsSafe self.new (B.seen blocks.new)) }
         ensures ready { OnOk result (IsReady self.new) }
+        ensures position { OnOk result (position self.new ≡ position self.old) }
         ensures same { IsKeptBy self.old self.new }
         ensures writing { (log : LogNow) (total written : List ℕ)
             → IsWriting log total written self.old B.tells (B.seen blocks.old) → IsPrefix written total
@@ -125,6 +126,33 @@ impl Tail {
         Ok(())
     }
 
+    /// Adds as many of the bytes as the block has room for, and answers how many these are.
+    fn step<B: Blocks>(&mut self, blocks: &mut B, bytes: &[u8]) -> Result<usize, DeviceFault>
+        requires safe { IsSafe self.old (B.seen blocks.old) }
+        requires ready { IsReady self.old }
+        requires some { 0 < length bytes.now }
+        requires room { HasRoom self.old (length bytes.now) }
+        ensures some { IfOk result (λ count. 0 < count) }
+        ensures most { IfOk result (λ count. count ≤ length bytes.now) }
+        ensures safe { OnOk result (IsSafe self.new (B.seen blocks.new)) }
+        ensures ready { OnOk result (IsReady self.new) }
+        ensures position { IfOk result (λ count. position self.new ≡ position self.old + count) }
+        ensures same { IsKeptBy self.old self.new }
+        ensures writing { (log : LogNow) (total written : List ℕ)
+            → IsWriting log total written self.old B.tells (B.seen blocks.old)
+            → IsPrefix (written ++ bytes.now) total → IfOk result (λ count.
+            IsWriting log total (written ++ take count bytes.now) self.new B.tells (B.seen blocks.new)) }
+        ensures touches { (log : LogNow) (total written : List ℕ)
+            → IsWriting log total written self.old B.tells (B.seen blocks.old)
+            → IsPrefix (written ++ bytes.now) total → IsTrue B.tells
+            → Touches (InLog log.geometry) (IsFound log total) (B.seen blocks.old) (B.seen blocks.new) }
+        ensures cause { HasWriteCause (B.faults blocks.old) (B.faults blocks.new) result }
+    {
+        let count = self.fill(bytes);
+        self.turn(blocks)?;
+        Ok(count)
+    }
+
     /// Adds bytes, and puts each block that they fill.
     pub(crate) fn add<B: Blocks>(
         &mut self,
@@ -136,17 +164,18 @@ impl Tail {
         requires room { HasRoom self.old (length bytes.now) }
         ensures safe { OnOk result (IsSafe self.new (B.seen blocks.new)) }
         ensures ready { OnOk result (IsReady self.new) }
-        ensures room { OnOk result ((rest : ℕ) → HasRoom self.old (length bytes.now + rest) → HasRoom self.new rest) }
+        ensures position { OnOk result (position self.new ≡ position self.old + length bytes.now) }
+        ensures same { IsKeptBy self.old self.new }
         ensures writing { (log : LogNow) (total written : List ℕ)
-            → IsWriting log total written self.old B.tells (B.seen blocks.old) → IsPrefix (written ++ bytes.now) total
-            → Follows B.tells log total (written ++ bytes.now) self.new (B.seen blocks.old) (B.seen blocks.new) result }
+            → IsWriting log total written self.old B.tells (B.seen blocks.old)
+            → IsPrefix (written ++ bytes.now) total → Follows B.tells log total
+            (written ++ bytes.now) self.new (B.seen blocks.old) (B.seen blocks.new) result }
         ensures cause { HasWriteCause (B.faults blocks.old) (B.faults blocks.new) result }
     {
         let mut rest = bytes;
         while !rest.is_empty() {
-            let count = self.fill(rest);
+            let count = self.step(blocks, rest)?;
             rest = &rest[count..];
-            self.turn(blocks)?;
         }
         Ok(())
     }
@@ -154,6 +183,8 @@ impl Tail {
     /// Puts the last block, where there are bytes in it.
     pub(crate) fn finish<B: Blocks>(&mut self, blocks: &mut B) -> Result<(), DeviceFault>
         requires safe { IsSafe self.old (B.seen blocks.old) }
+        ensures position { position self.new ≡ position self.old }
+        ensures ready { IsReady self.old → IsReady self.new }
         ensures same { IsKeptBy self.old self.new }
         ensures ending { (log : LogNow) (total : List ℕ)
             → IsWriting log total total self.old B.tells (B.seen blocks.old)
@@ -163,7 +194,8 @@ impl Tail {
         if self.used == 0 {
             return Ok(());
         }
-        self.put(blocks)
+        self.put(blocks)?;
+        Ok(())
     }
 }
 
