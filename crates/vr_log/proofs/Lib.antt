@@ -5,3 +5,4 @@ mod Codec
 mod Putting
 mod Turning
 mod Filling
+mod Adding
