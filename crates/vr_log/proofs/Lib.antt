@@ -6,3 +6,4 @@ mod Putting
 mod Turning
 mod Filling
 mod Adding
+mod Lives

@@ -1,5 +1,6 @@
 //! The live units of a log.
-ghost use Rattle.std.specs.Prelude.{◌≡◌, ◌<◌, [], ◌∷◌, ◌++◌, length, IfOk};
+ghost use Rattle.std.specs.Prelude.{◌≡◌, ◌<◌, [], ◌∷◌, ◌++◌, length, IfOk, IfSome, IfNone};
+ghost use Rattle.std.specs.List.{remove};
 ghost use Rattle.vr_log.specs.Live.{is_in, without};
 
 use std::alloc::Global;
@@ -57,9 +58,22 @@ impl Live {
         ensures units { self.new.units ≡ without unit self.old.units }
         ensures room { self.new.room ≡ self.old.room }
     {
-        let place = self.units.iter().position(|other| unit == *other);
-        if let Some(place) = place {
+        if let Some(place) = find(&self.units, unit) {
             self.units.remove(place);
         }
     }
+}
+
+/// The first place at which the unit is.
+fn find(units: &[Unit], unit: Unit) -> Option<usize>
+    ensures within { IfSome result (λ place. place < length units.now) }
+    ensures found { IfSome result (λ place. remove units.now place ≡ without unit units.now) }
+    ensures none { IfNone result (without unit units.now ≡ units.now) }
+{
+    for (i, other) in units.iter().enumerate() {
+        if unit == *other {
+            return Some(i);
+        }
+    }
+    None
 }

@@ -1,16 +1,16 @@
 //! A record's bytes, added to the log.
-ghost use Rattle.std.specs.Prelude.{◌≡◌, ◌<◌, ◌≤◌, ◌+◌, ◌++◌, ◌∷◌, ℕ, List, length, IsTrue, OnOk, OnErr};
+ghost use Rattle.std.specs.Prelude.{◌≡◌, ◌<◌, ◌≤◌, ◌+◌, ◌++◌, ◌∷◌, ◌^◌, ℕ, List, length, IsTrue, OnOk, OnErr, IfSome};
 ghost use Rattle.vr_types.specs.Faults.{HasWriteCause};
 ghost use Rattle.vr_types.specs.Fields.{four, two};
 ghost use Rattle.vr_log.specs.Live.{live_after};
 ghost use Rattle.vr_log.specs.LogNow.{LogNow};
 ghost use Rattle.vr_log.specs.Records.{HasLengths, record_bytes, unit_bytes, end_number, old_bytes};
-ghost use Rattle.vr_log.specs.Writing.{IsSafe, HasRoom, IsReady, IsPrefix, IsWriting, IsKeptBy, Follows};
+ghost use Rattle.vr_log.specs.Writing.{IsSafe, position, HasRoom, IsReady, IsPrefix, IsWriting, IsKeptBy, Follows};
 
 use crate::live::Live;
 use crate::record::{EndKind, LogRecord};
 use crate::tail::Tail;
-use vr_types::{Blocks, DeviceFault, PartNo, Unit};
+use vr_types::{Blocks, Bytes, DeviceFault, PartNo, Unit};
 
 /// Adds a record, and puts each block that its bytes fall into.
 pub(crate) fn write_record<B: Blocks>(
@@ -22,6 +22,16 @@ pub(crate) fn write_record<B: Blocks>(
     requires ready { IsReady tail.old }
     requires lengths { HasLengths rec.now }
     requires room { HasRoom tail.old (length (record_bytes rec.now)) }
+    ensures safe { OnOk result (IsSafe tail.new (B.seen blocks.new)) }
+    ensures ready { OnOk result (IsReady tail.new) }
+    ensures position { OnOk result (position tail.new
+        ≡ position tail.old + length (record_bytes rec.now)) }
+    ensures same { IsKeptBy tail.old tail.new }
+    ensures writing { (log : LogNow) (total written : List ℕ)
+        → IsWriting log total written tail.old B.tells (B.seen blocks.old)
+        → IsPrefix (written ++ record_bytes rec.now) total → Follows B.tells log total
+        (written ++ record_bytes rec.now) tail.new (B.seen blocks.old) (B.seen blocks.new) result }
+    ensures cause { HasWriteCause (B.faults blocks.old) (B.faults blocks.new) result }
 {
     match rec {
         LogRecord::Before {
@@ -31,24 +41,71 @@ pub(crate) fn write_record<B: Blocks>(
             old,
         } => {
             let place = place.as_slice();
-            tail.add(blocks, &before_head(*unit, *part, place.len() as u16))?;
-            tail.add(blocks, place)?;
-            match old {
-                None => tail.add(blocks, &[0; 5])?,
-                Some(bytes) => {
-                    let bytes = bytes.as_slice();
-                    tail.add(blocks, &old_head(bytes.len() as u32))?;
-                    tail.add(blocks, bytes)?;
-                }
-            }
+            let head = before_head(*unit, *part, place.len() as u16);
+            add_both(tail, blocks, &head, place)?;
+            write_old(tail, blocks, old)
         }
-        LogRecord::End { unit, kind } => tail.add(blocks, &end_bytes(*unit, *kind))?,
+        LogRecord::End { unit, kind } => tail.add(blocks, &end_bytes(*unit, *kind)),
     }
-    tail.finish(blocks)
+}
+
+/// Adds what was at the place of a before-image.
+fn write_old<B: Blocks>(
+    tail: &mut Tail,
+    blocks: &mut B,
+    old: &Option<Bytes>,
+) -> Result<(), DeviceFault>
+    requires safe { IsSafe tail.old (B.seen blocks.old) }
+    requires ready { IsReady tail.old }
+    requires lengths { IfSome old.now (λ bytes. length bytes < 2 ^ 32) }
+    requires room { HasRoom tail.old (length (old_bytes old.now)) }
+    ensures safe { OnOk result (IsSafe tail.new (B.seen blocks.new)) }
+    ensures ready { OnOk result (IsReady tail.new) }
+    ensures position { OnOk result (position tail.new
+        ≡ position tail.old + length (old_bytes old.now)) }
+    ensures same { IsKeptBy tail.old tail.new }
+    ensures writing { (log : LogNow) (total written : List ℕ)
+        → IsWriting log total written tail.old B.tells (B.seen blocks.old)
+        → IsPrefix (written ++ old_bytes old.now) total → Follows B.tells log total
+        (written ++ old_bytes old.now) tail.new (B.seen blocks.old) (B.seen blocks.new) result }
+    ensures cause { HasWriteCause (B.faults blocks.old) (B.faults blocks.new) result }
+{
+    match old {
+        None => tail.add(blocks, &[0; 5]),
+        Some(bytes) => {
+            let bytes = bytes.as_slice();
+            add_both(tail, blocks, &old_head(bytes.len() as u32), bytes)
+        }
+    }
+}
+
+/// Adds bytes, and then others.
+fn add_both<B: Blocks>(
+    tail: &mut Tail,
+    blocks: &mut B,
+    first: &[u8],
+    second: &[u8],
+) -> Result<(), DeviceFault>
+    requires safe { IsSafe tail.old (B.seen blocks.old) }
+    requires ready { IsReady tail.old }
+    requires room { HasRoom tail.old (length first.now + length second.now) }
+    ensures safe { OnOk result (IsSafe tail.new (B.seen blocks.new)) }
+    ensures ready { OnOk result (IsReady tail.new) }
+    ensures position { OnOk result (position tail.new
+        ≡ position tail.old + length first.now + length second.now) }
+    ensures same { IsKeptBy tail.old tail.new }
+    ensures writing { (log : LogNow) (total written : List ℕ)
+        → IsWriting log total written tail.old B.tells (B.seen blocks.old)
+        → IsPrefix (written ++ first.now ++ second.now) total → Follows B.tells log total
+        (written ++ first.now ++ second.now) tail.new (B.seen blocks.old) (B.seen blocks.new) result }
+    ensures cause { HasWriteCause (B.faults blocks.old) (B.faults blocks.new) result }
+{
+    tail.add(blocks, first)?;
+    tail.add(blocks, second)
 }
 
 /// The bytes of a before-image before its place.
-#[tactic(auto, unfolding(crate::specs::Records::unit_bytes))]
+
 fn before_head(unit: Unit, part: PartNo, length: u16) -> [u8; 15]
     ensures { result ≡ 1 ∷ unit_bytes unit ++ four part.0 ++ two length }
 {
@@ -63,17 +120,23 @@ fn before_head(unit: Unit, part: PartNo, length: u16) -> [u8; 15]
 fn end_bytes(unit: Unit, kind: EndKind) -> [u8; 9]
     ensures { result ≡ end_number kind ∷ unit_bytes unit }
 {
-    let number = match kind {
-        EndKind::Committed => 2,
-        EndKind::BackedOut => 3,
-    };
+    let number = number_of(kind);
     let [a, b, c, d] = unit.deck.to_be_bytes();
     let [e, f, g, h] = unit.number.to_be_bytes();
     [number, a, b, c, d, e, f, g, h]
 }
 
+/// The number of an end record.
+fn number_of(kind: EndKind) -> u8
+    ensures { result ≡ end_number kind }
+{
+    match kind {
+        EndKind::Committed => 2,
+        EndKind::BackedOut => 3,
+    }
+}
+
 /// The bytes before an old record.
-#[tactic(auto, using(crate::proofs::Turning::turned))]
 fn old_head(length: u32) -> [u8; 5]
     ensures { result ≡ 1 ∷ four length }
 {
@@ -89,17 +152,27 @@ pub(crate) fn record_length(rec: &LogRecord) -> u64
 {
     match rec {
         LogRecord::Before { place, old, .. } => {
-            let record = match old {
-                None => 0,
-                Some(bytes) => bytes.len() as u64,
-            };
-            20 + place.as_slice().len() as u64 + record
+            let place = place.as_slice();
+            20 + place.len() as u64 + old_length(old)
         }
         LogRecord::End { .. } => 9,
     }
 }
 
+/// The bytes of an old record.
+fn old_length(old: &Option<Bytes>) -> u64
+    requires { IfSome old.now (λ bytes. length bytes < 2 ^ 32) }
+    ensures value { result + 5 ≡ length (old_bytes old.now) }
+    ensures most { result < 4294967296 }
+{
+    match old {
+        None => 0,
+        Some(bytes) => bytes.len() as u64,
+    }
+}
+
 /// The live units after a record.
+#[tactic(auto, unfolding(crate::specs::Live::live_after))]
 pub(crate) fn note_unit(live: &mut Live, rec: &LogRecord)
     requires { length live.old.units < live.old.room }
     ensures units { live.new.units ≡ live_after live.old.units rec.now }
