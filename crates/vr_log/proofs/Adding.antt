@@ -1,5 +1,5 @@
 -- A loop that adds bytes to a log.
-use Rattle.std.proofs.Common.{◌≡◌, ℕ, ◌+◌, ◌-◌, ◌*◌, ◌<◌, ◌≤◌, Bool, IsTrue, List, [], ◌++◌, length, take, drop, vec_len, refl, sym, ap, subst, ◌∙◌, arith}
+use Rattle.std.proofs.Common.{◌≡◌, ℕ, ◌+◌, ◌-◌, ◌*◌, ◌<◌, ◌≤◌, Bool, IsTrue, List, [], ◌++◌, length, take, drop, vec_len, Result, Ok, refl, sym, ap, subst, ◌∙◌, arith}
 use Rattle.std.proofs.lemmas.List.{append-nil, append_assoc, take-append-drop, drop-drop, length-drop, length-append, take_all}
 use Rattle.vr_types.specs.Regions.{Touches}
 use Rattle.vr_types.specs.Seen.{Seen}
@@ -7,7 +7,8 @@ use Rattle.vr_types.proofs.CallerLemmas.{touches-then}
 use Rattle.vr_log.specs.declared.tail.Tail.{Tail}
 use Rattle.vr_log.specs.LogNow.{LogNow}
 use Rattle.vr_log.specs.Standing.{InLog}
-use Rattle.vr_log.specs.Writing.{IsPrefix, IsWriting, IsFound, HasRoom, position}
+use Rattle.vr_log.specs.Writing.{IsPrefix, IsWriting, IsFound, Follows, HasRoom, position}
+use Rattle.vr_types.specs.declared.fault.DeviceFault.{DeviceFault}
 
 -- what the bytes added so far make of a log
 abbrev pub Adds : Bool → List ℕ → List ℕ → Tail → Tail → Seen → Seen → Type 0
@@ -56,3 +57,27 @@ pub room_left : (old next : Tail) (count left : ℕ) → next.blocks ≡ old.blo
 room_left old next count left blocks size moved room =
     let most : next.blocks * (vec_len next.block - 16) ≡ old.blocks * (vec_len old.block - 16) = ap (λ (n : ℕ). n * (vec_len next.block - 16)) blocks ∙ ap (λ (n : ℕ). old.blocks * (n - 16)) size in
     omega (arith, most, moved, room)
+
+-- the first bytes of a prefix are one
+pub prefix-left : (one other total : List ℕ) → IsPrefix (one ++ other) total → IsPrefix one total
+prefix-left one other total (rest, is) = (other ++ rest, sym (append_assoc one other rest) ∙ is)
+
+-- bytes that are added to a log
+abbrev pub Writes : {T : Type 0} → Bool → List ℕ → Tail → Tail → Seen → Seen → Result T DeviceFault → Type 0
+Writes told bytes start next first last result = (log : LogNow) (total written : List ℕ) → IsWriting log total written start told first → IsPrefix (written ++ bytes) total → Follows told log total (written ++ bytes) next first last result
+
+-- some, and then others
+pub writes_then : {T S : Type 0} (told : Bool) (one other : List ℕ) (start mid next : Tail) (first now last : Seen) (x : S) (result : Result T DeviceFault) → Writes {T = S} told one start mid first now (Ok x) → Writes told other mid next now last result → Writes told (one ++ other) start next first last result
+writes_then told one other start mid next first now last x result before after log total written w prefix =
+    let joined : written ++ (one ++ other) ≡ (written ++ one) ++ other = sym (append_assoc written one other) in
+    let whole : IsPrefix ((written ++ one) ++ other) total = subst (λ (bytes : List ℕ). IsPrefix bytes total) joined prefix in
+    let a = before log total written w (prefix-left (written ++ one) other total whole) in
+    let b = after log total (written ++ one) a.writing whole in
+    subst (λ (bytes : List ℕ). Follows told log total bytes next first last result) (sym joined) (record { writing = b.writing; touches = λ t. touches-then _ _ first now last (a.touches t) (b.touches t) })
+
+-- the first of them, where it failed
+pub writes_stop : {T : Type 0} (told : Bool) (one other : List ℕ) (start next : Tail) (first last : Seen) (result : Result T DeviceFault) → Writes told one start next first last result
+    → (log : LogNow) (total written : List ℕ) → IsWriting log total written start told first → IsPrefix (written ++ (one ++ other)) total → IsTrue told → Touches (InLog log.geometry) (IsFound log total) first last
+writes_stop told one other start next first last result before log total written w prefix is_told =
+    let whole : IsPrefix ((written ++ one) ++ other) total = subst (λ (bytes : List ℕ). IsPrefix bytes total) (sym (append_assoc written one other)) prefix in
+    (before log total written w (prefix-left (written ++ one) other total whole)).touches is_told

@@ -8,6 +8,7 @@ use Rattle.vr_types.specs.declared.unit.Unit.{Unit as UnitOfRecovery}
 use Rattle.vr_types.specs.declared.unit.PartNo.{PartNo}
 use Rattle.vr_types.proofs.CallerLemmas.{length-two, length-four}
 use Rattle.vr_log.specs.declared.record.EndKind.{EndKind}
+use Rattle.vr_log.specs.declared.record.LogRecord.{LogRecord}
 use Rattle.vr_log.specs.declared.record.LogRecord.TheVariants.{Before, End}
 use Rattle.vr_log.specs.Live.{without}
 use Rattle.vr_log.specs.Records.{record_bytes, unit_bytes, old_bytes, end_number}
@@ -58,3 +59,15 @@ length-before unit part place old =
 pub length-ended : (unit : UnitOfRecovery) (kind : EndKind) → length (record_bytes (End unit kind)) ≡ 9
 unfolding record_bytes
 length-ended unit kind = omega (arith, length-end unit)
+
+pub old-some : (old : Option (List ℕ)) (bytes head : List ℕ) → old ≡ Some bytes → head ≡ 1 ∷ four (length bytes) → old_bytes old ≡ head ++ bytes
+unfolding old_bytes
+old-some old bytes head is heads = ap old_bytes is ∙ ap (λ (x : List ℕ). x ++ bytes) (sym heads)
+
+pub before-is : (rec : LogRecord) (unit : UnitOfRecovery) (part : PartNo) (place : List ℕ) (old : Option (List ℕ)) (head : List ℕ) → rec ≡ Before unit part place old → head ≡ 1 ∷ unit_bytes unit ++ four part.0 ++ two (length place) → record_bytes rec ≡ (head ++ place) ++ old_bytes old
+unfolding record_bytes
+before-is rec unit part place old head is heads = ap record_bytes is ∙ ap (λ (x : List ℕ). (x ++ place) ++ old_bytes old) (sym heads)
+
+pub end-is : (rec : LogRecord) (unit : UnitOfRecovery) (kind : EndKind) (bytes : List ℕ) → rec ≡ End unit kind → bytes ≡ end_number kind ∷ unit_bytes unit → record_bytes rec ≡ bytes
+unfolding record_bytes
+end-is rec unit kind bytes is same = ap record_bytes is ∙ sym same

@@ -1,5 +1,5 @@
 //! A record's bytes, added to the log.
-ghost use Rattle.std.specs.Prelude.{◌≡◌, ◌<◌, ◌≤◌, ◌+◌, ◌++◌, ◌∷◌, ◌^◌, ℕ, List, length, IsTrue, OnOk, OnErr, IfSome};
+ghost use Rattle.std.specs.Prelude.{◌≡◌, ◌<◌, ◌≤◌, ◌+◌, ◌++◌, ◌∷◌, ◌^◌, ℕ, List, length, IsTrue, OnOk, OnErr, IfSome, None};
 ghost use Rattle.vr_types.specs.Faults.{HasWriteCause};
 ghost use Rattle.vr_types.specs.Fields.{four, two};
 ghost use Rattle.vr_log.specs.Live.{live_after};
@@ -71,7 +71,10 @@ fn write_old<B: Blocks>(
     ensures cause { HasWriteCause (B.faults blocks.old) (B.faults blocks.new) result }
 {
     match old {
-        None => tail.add(blocks, &[0; 5]),
+        None => {
+            let none = none_bytes();
+            tail.add(blocks, &none)
+        }
         Some(bytes) => {
             let bytes = bytes.as_slice();
             add_both(tail, blocks, &old_head(bytes.len() as u32), bytes)
@@ -88,16 +91,16 @@ fn add_both<B: Blocks>(
 ) -> Result<(), DeviceFault>
     requires safe { IsSafe tail.old (B.seen blocks.old) }
     requires ready { IsReady tail.old }
-    requires room { HasRoom tail.old (length first.now + length second.now) }
+    requires room { HasRoom tail.old (length (first.now ++ second.now)) }
     ensures safe { OnOk result (IsSafe tail.new (B.seen blocks.new)) }
     ensures ready { OnOk result (IsReady tail.new) }
     ensures position { OnOk result (position tail.new
-        ≡ position tail.old + length first.now + length second.now) }
+        ≡ position tail.old + length (first.now ++ second.now)) }
     ensures same { IsKeptBy tail.old tail.new }
     ensures writing { (log : LogNow) (total written : List ℕ)
         → IsWriting log total written tail.old B.tells (B.seen blocks.old)
-        → IsPrefix (written ++ first.now ++ second.now) total → Follows B.tells log total
-        (written ++ first.now ++ second.now) tail.new (B.seen blocks.old) (B.seen blocks.new) result }
+        → IsPrefix (written ++ (first.now ++ second.now)) total → Follows B.tells log total
+        (written ++ (first.now ++ second.now)) tail.new (B.seen blocks.old) (B.seen blocks.new) result }
     ensures cause { HasWriteCause (B.faults blocks.old) (B.faults blocks.new) result }
 {
     tail.add(blocks, first)?;
@@ -134,6 +137,14 @@ fn number_of(kind: EndKind) -> u8
         EndKind::Committed => 2,
         EndKind::BackedOut => 3,
     }
+}
+
+/// The bytes where there was no record.
+#[tactic(auto, unfolding(crate::specs::Records::old_bytes))]
+fn none_bytes() -> [u8; 5]
+    ensures { result ≡ old_bytes None }
+{
+    [0; 5]
 }
 
 /// The bytes before an old record.
