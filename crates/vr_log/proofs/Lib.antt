@@ -7,3 +7,4 @@ mod Turning
 mod Filling
 mod Adding
 mod Lives
+mod Entering

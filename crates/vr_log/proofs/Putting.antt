@@ -88,7 +88,7 @@ module _ (told : Bool) (is_told : IsTrue told) (log : LogNow) (total written : L
       let inside : log.geometry.log < a.count = omega (arith, log-inside log w.allowed, w.shape.count) in
       let least : forced_length log ≤ log.geometry.log * room_of log.geometry = omega (arith, w.stable, total-long, w.most) in
       during-found log total image tail.begun
-      (found_of During total a.count may image leaves w.allowed.some_log inside least on (during-begun log tail.begun w.begun) (omega (arith, log-room log w.allowed)))
+      (found_of During total a.count may image leaves w.allowed.some_log inside least on (during-begun log tail.begun (w.begun is_told)) (omega (arith, log-room log w.allowed)))
 
   -- the block is put
   module _ (block : Block) (b : Seen) (is : block ≡ head_of tail.generation tail.index tail.used ++ drop 16 tail.block.items) (put : Puts told (1 + tail.index) block a b) where

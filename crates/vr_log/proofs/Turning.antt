@@ -116,7 +116,7 @@ module _ (told : Bool) (log : LogNow) (total written : List ℕ) (tail : Tail) (
             (subst (λ (n : ℕ). Leaves (log_during log true) total n c.may) (sym kept.count_same)
             (leaves-settled log total b.count tail.index b.may c.may block tail.begun within w.allowed.some_log (λ n y inside may. kept.adds_none is_told n y inside may)
             (exact-left log written total tail.index block prefix w.stable (x is_told)) (x is_told).next w.opened (λ not y may. only is_told not y may ∙ cur-here is_told) (omega (arith, log-room log w.allowed))
-            (λ not. w.begun (w.behind not).0 (w.behind not).1) w.behind
+            (λ not. w.begun is_told (w.behind not).0 (w.behind not).1) w.behind
             (left-now told is_told log total written tail a w prefix block b is put)));
         current = λ is_told index under from. subst (λ (image : Image). IsExact room log.generation total index (block_at image (1 + index))) (sym (kept.content is_told)) (⊎_elim
             (λ (less : index < tail.index). exact-of is_told index less from)

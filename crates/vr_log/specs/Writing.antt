@@ -55,7 +55,7 @@ pub record IsWriting (log : LogNow) (total written : List ℕ) (tail : Tail) (to
   pub behind : tail.begun ≡ false → (older : Content) × (log.behind ≡ Some older)
   pub stable : forced_length log ≤ length written
   pub most : length total ≤ log.geometry.log * room_of log.geometry
-  pub begun : (older : Content) → log.behind ≡ Some older → open_index log * room_of log.geometry ≤ forced_length log
+  pub begun : IsTrue told → (older : Content) → log.behind ≡ Some older → open_index log * room_of log.geometry ≤ forced_length log
   pub leaves : IsTrue told → Leaves (log_during log tail.begun) total seen.count seen.may
   pub current : IsTrue told → (index : ℕ) → index < tail.index → forced_length log < (index + 1) * room_of log.geometry
       → IsExact (room_of log.geometry) log.generation total index (block_at seen.cur (1 + index))

@@ -197,10 +197,11 @@ impl UndoLog {
     {
         self.broken = true;
         write_record(&mut self.tail, blocks, rec)?;
-        self.broken = false;
+        self.tail.finish(blocks)?;
         self.bytes += record_length(rec);
         note_unit(&mut self.live, rec);
         self.records = Kept::After(Snapshot::of(&self.records), Snapshot::of(rec));
+        self.broken = false;
         Ok(())
     }
 
@@ -230,6 +231,7 @@ impl UndoLog {
     }
 
     /// The bytes that the log has.
+    #[tactic(auto, using(crate::proofs::Entering::stands_grown))]
     fn size(&self) -> u64
         ensures { result ≡ log_size self.now.geometry }
     {
