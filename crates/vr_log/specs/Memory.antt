@@ -43,7 +43,7 @@ pub record IsKept (geometry : Geometry) (records : List LogRecord) (forced : Lis
   pub last : IsTail geometry (bytes_of records) tail
   pub turned : IsTurned geometry tail
   pub units : live.units ≡ live_in records
-  pub room : log_size geometry ≤ 29 * live.room
+  pub room : log_size geometry < 29 * live.room
   pub all : bytes ≡ length (bytes_of records)
   pub stable : forced_bytes ≡ length (bytes_of forced)
   pub fits : used_by records ≤ log_size geometry

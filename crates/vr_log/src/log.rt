@@ -31,7 +31,7 @@ use crate::live::Live;
 use crate::no::LogNo;
 use crate::record::{EndKind, LogPlace, LogRecord};
 use crate::tail::Tail;
-use crate::writing::{note_unit, record_length, write_record};
+use crate::writing::{note_unit, put_record, record_length};
 use std::alloc::Global;
 use std::marker::Model;
 use std::snapshot::Snapshot;
@@ -196,8 +196,7 @@ impl UndoLog {
         ensures cause { HasWriteCause (B.faults blocks.old) (B.faults blocks.new) result }
     {
         self.broken = true;
-        write_record(&mut self.tail, blocks, rec)?;
-        self.tail.finish(blocks)?;
+        put_record(&mut self.tail, blocks, rec)?;
         self.bytes += record_length(rec);
         note_unit(&mut self.live, rec);
         self.records = Kept::After(Snapshot::of(&self.records), Snapshot::of(rec));
@@ -231,7 +230,6 @@ impl UndoLog {
     }
 
     /// The bytes that the log has.
-    #[tactic(auto, using(crate::proofs::Entering::stands_grown))]
     fn size(&self) -> u64
         ensures { result ≡ log_size self.now.geometry }
     {

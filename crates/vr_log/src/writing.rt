@@ -4,8 +4,8 @@ ghost use Rattle.vr_types.specs.Faults.{HasWriteCause};
 ghost use Rattle.vr_types.specs.Fields.{four, two};
 ghost use Rattle.vr_log.specs.Live.{live_after};
 ghost use Rattle.vr_log.specs.LogNow.{LogNow};
-ghost use Rattle.vr_log.specs.Records.{HasLengths, record_bytes, unit_bytes, end_number, old_bytes};
-ghost use Rattle.vr_log.specs.Writing.{IsSafe, position, HasRoom, IsReady, IsPrefix, IsWriting, IsKeptBy, Follows};
+ghost use Rattle.vr_log.specs.Records.{HasLengths, HasFields, IsUnit, record_bytes, unit_bytes, end_number, old_bytes};
+ghost use Rattle.vr_log.specs.Writing.{IsSafe, position, HasRoom, IsReady, IsPrefix, IsWriting, IsKeptBy, Follows, Ends};
 
 use crate::live::Live;
 use crate::record::{EndKind, LogRecord};
@@ -13,7 +13,7 @@ use crate::tail::Tail;
 use vr_types::{Blocks, Bytes, DeviceFault, PartNo, Unit};
 
 /// Adds a record, and puts each block that its bytes fall into.
-pub(crate) fn write_record<B: Blocks>(
+fn write_record<B: Blocks>(
     tail: &mut Tail,
     blocks: &mut B,
     rec: &LogRecord,
@@ -22,6 +22,7 @@ pub(crate) fn write_record<B: Blocks>(
     requires ready { IsReady tail.old }
     requires lengths { HasLengths rec.now }
     requires room { HasRoom tail.old (length (record_bytes rec.now)) }
+    ensures fields { HasFields rec.now }
     ensures safe { OnOk result (IsSafe tail.new (B.seen blocks.new)) }
     ensures ready { OnOk result (IsReady tail.new) }
     ensures position { OnOk result (position tail.new
@@ -47,6 +48,30 @@ pub(crate) fn write_record<B: Blocks>(
         }
         LogRecord::End { unit, kind } => tail.add(blocks, &end_bytes(*unit, *kind)),
     }
+}
+
+/// Adds a record, and puts every block that its bytes fall into.
+pub(crate) fn put_record<B: Blocks>(
+    tail: &mut Tail,
+    blocks: &mut B,
+    rec: &LogRecord,
+) -> Result<(), DeviceFault>
+    requires safe { IsSafe tail.old (B.seen blocks.old) }
+    requires ready { IsReady tail.old }
+    requires lengths { HasLengths rec.now }
+    requires room { HasRoom tail.old (length (record_bytes rec.now)) }
+    ensures fields { HasFields rec.now }
+    ensures ready { OnOk result (IsReady tail.new) }
+    ensures same { IsKeptBy tail.old tail.new }
+    ensures ending { (log : LogNow) (total written : List ℕ)
+        → IsWriting log total written tail.old B.tells (B.seen blocks.old)
+        → written ++ record_bytes rec.now ≡ total
+        → Ends B.tells log total tail.new (B.seen blocks.old) (B.seen blocks.new) result }
+    ensures cause { HasWriteCause (B.faults blocks.old) (B.faults blocks.new) result }
+{
+    write_record(tail, blocks, rec)?;
+    tail.finish(blocks)?;
+    Ok(())
 }
 
 /// Adds what was at the place of a before-image.
@@ -110,7 +135,9 @@ fn add_both<B: Blocks>(
 /// The bytes of a before-image before its place.
 
 fn before_head(unit: Unit, part: PartNo, length: u16) -> [u8; 15]
-    ensures { result ≡ 1 ∷ unit_bytes unit ++ four part.0 ++ two length }
+    ensures bytes { result ≡ 1 ∷ unit_bytes unit ++ four part.0 ++ two length }
+    ensures unit { IsUnit unit }
+    ensures part { part.0 < 4294967296 }
 {
     let [a, b, c, d] = unit.deck.to_be_bytes();
     let [e, f, g, h] = unit.number.to_be_bytes();
@@ -121,7 +148,8 @@ fn before_head(unit: Unit, part: PartNo, length: u16) -> [u8; 15]
 
 /// The bytes of an end record.
 fn end_bytes(unit: Unit, kind: EndKind) -> [u8; 9]
-    ensures { result ≡ end_number kind ∷ unit_bytes unit }
+    ensures bytes { result ≡ end_number kind ∷ unit_bytes unit }
+    ensures unit { IsUnit unit }
 {
     let number = number_of(kind);
     let [a, b, c, d] = unit.deck.to_be_bytes();
