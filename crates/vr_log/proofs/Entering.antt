@@ -93,7 +93,7 @@ start_writing told log total tail older seen known allowed shape young buffer tu
     }
 
 -- the log with one record more
-abbrev Grown : LogNow → LogRecord → Option Content → LogNow
+abbrev pub Grown : LogNow → LogRecord → Option Content → LogNow
 Grown log rec behind = record log { records = log.records ++ rec ∷ []; behind = behind }
 
 grown-forced : (log : LogNow) (rec : LogRecord) (behind : Option Content) → log.forced ≤ length log.records → forced_length (Grown log rec behind) ≡ forced_length log

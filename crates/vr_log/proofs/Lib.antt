@@ -8,3 +8,4 @@ mod Filling
 mod Adding
 mod Lives
 mod Entering
+mod Growing

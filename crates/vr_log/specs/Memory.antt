@@ -1,5 +1,5 @@
 -- How a log is kept in memory: the bytes of its last block, and its live units.
-use Rattle.std.specs.Prelude.{◌≡◌, ℕ, ◌+◌, ◌*◌, ◌/◌, ◌-◌, ◌<◌, ◌≤◌, List, length, take, drop, Option, Some, None, Bool, false, if◌then◌else◌, All, vec_len, slice_index}
+use Rattle.std.specs.Prelude.{◌≡◌, ℕ, ◌+◌, ◌*◌, ◌/◌, ◌-◌, ◌^◌, ◌<◌, ◌≤◌, List, length, take, drop, Option, Some, None, Bool, false, if◌then◌else◌, All, vec_len, slice_index}
 use Rattle.std.specs.Global.{Vec}
 use Rattle.vr_types.specs.Geometry.{IsAllowed}
 use Rattle.vr_types.specs.LogSpace.{log_size}
@@ -41,6 +41,7 @@ IsTurned geometry tail = tail.used ≡ room_of geometry → tail.index + 1 ≡ g
 pub record IsKept (geometry : Geometry) (records : List LogRecord) (forced : List LogRecord) (tail : Tail) (live : LiveUnits) (bytes forced_bytes : ℕ) : Type 0 where
   pub fields : All HasFields records
   pub last : IsTail geometry (bytes_of records) tail
+  pub young : tail.generation < 2 ^ 64
   pub turned : IsTurned geometry tail
   pub units : live.units ≡ live_in records
   pub room : log_size geometry < 29 * live.room
