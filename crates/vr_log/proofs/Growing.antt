@@ -5,7 +5,11 @@ use Rattle.std.proofs.lemmas.List.Elements.{All-push}
 use Rattle.vr_types.specs.Geometry.{IsAllowed}
 use Rattle.vr_types.specs.Image.{Image}
 use Rattle.vr_types.specs.Locks.{same_unit}
-use Rattle.vr_types.specs.LogSpace.{end_length}
+use Rattle.std.proofs.Math.Nat.{mul-le-mul}
+use Rattle.vr_types.specs.LogSpace.{log_size, end_length}
+use Rattle.vr_types.specs.Regions.{IsImageOn}
+use Rattle.vr_types.specs.declared.unit.PartNo.{PartNo}
+use Rattle.vr_log.specs.declared.record.EndKind.{EndKind}
 use Rattle.vr_types.specs.Regions.{Touches}
 use Rattle.vr_types.specs.Seen.{Seen}
 use Rattle.vr_types.specs.declared.geometry.Geometry.{Geometry}
@@ -24,7 +28,9 @@ use Rattle.vr_log.specs.Records.{record_bytes, bytes_of, old_bytes, HasFields}
 use Rattle.vr_log.specs.Standing.{InLog, LogStands, forced_length}
 use Rattle.vr_log.specs.Writing.{IsFound, IsReady}
 use Rattle.vr_log.proofs.Codec.{found_log}
-use Rattle.vr_log.proofs.Entering.{Grown, bytes-push}
+use Rattle.vr_log.proofs.Entering.{Grown, bytes-push, bytes-take}
+use Rattle.vr_log.proofs.Leaving.{found_of}
+use Rattle.vr_log.proofs.Putting.{log-room, log-inside}
 use Rattle.vr_log.proofs.Lives.{length-before, length-ended, length-old}
 
 live-push : (live : List UnitOfRecovery) (records : List LogRecord) (rec : LogRecord) → live_from live (records ++ rec ∷ []) ≡ live_after (live_from live records) rec
@@ -124,3 +130,33 @@ pub behind_kept : (was now : Bool) (older : Older) → (now ≡ false → (x : C
 behind_kept was true older some = inr refl
 behind_kept false false older some = inl refl
 behind_kept true false older some = let is = (some refl).1 in absurd cc
+
+-- the bytes that a log has are fewer than a number of four bytes counts
+pub size_small : (geometry : Geometry) → IsAllowed geometry → log_size geometry < 4294967296
+size_small geometry allowed = omega (arith, mul-le-mul {n₁ = geometry.log} {m₁ = geometry.size - 16} {n₂ = 65535} {m₂ = 32768} allowed.most_log (omega (arith, allowed.size.most)))
+
+pub need_before : (live : List UnitOfRecovery) (rec : LogRecord) (unit : UnitOfRecovery) (part : PartNo) (place : List ℕ) (old : Option (List ℕ)) (there : Bool) → rec ≡ Before unit part place old → there ≡ is_in unit live → length (record_bytes rec) + (if there then 0 else end_length) ≡ need_of live rec
+unfolding need_of
+need_before live rec unit part place old there is has =
+    ap (λ (r : LogRecord). length (record_bytes r) + (if there then 0 else end_length)) is ∙ ap (λ (b : Bool). length (record_bytes (Before unit part place old)) + (if b then 0 else end_length)) has ∙ sym (ap (need_of live) is)
+
+pub need_end : (live : List UnitOfRecovery) (rec : LogRecord) (unit : UnitOfRecovery) (kind : EndKind) → rec ≡ End unit kind → need_of live rec ≡ 0
+unfolding need_of
+need_end live rec unit kind is = ap (need_of live) is
+
+-- each image of a log that stands has a log of it
+pub stands_has : (log : LogNow) (seen : Seen) (image : Image) → IsAllowed log.geometry → length (bytes_of log.records) ≤ log_size log.geometry → LogStands log seen → IsImageOn (InLog log.geometry) seen.count seen.may image → HasLog log image
+stands_has log seen image allowed most stands on =
+    let least : forced_length log ≤ log.geometry.log * room_of log.geometry = omega (arith, bytes-take log.forced log.records, most) in
+    found_log log log.records image stands.some stands.fields stands.forced refl
+    (found_of log (bytes_of log.records) seen.count seen.may image stands.leaves allowed.some_log (omega (arith, log-inside log allowed, stands.shape.count)) least on stands.begun (omega (arith, log-room log allowed)))
+
+-- and so it may have one of it with a record more
+pub has_more : (log : LogNow) (rec : LogRecord) (image : Image) → HasLog log image → HasLog (with_record log rec) image
+has_more log rec image (content, spelled, inr behind) = (content, spelled, inr behind)
+has_more log rec image (content, spelled, inl prefix) = (content, spelled, inl (record {
+  count = prefix.count;
+  forced = prefix.forced;
+  all = omega (arith, prefix.all, length_push log.records rec);
+  is = prefix.is ∙ ap (λ (rs : List LogRecord). let c : Content = record { generation = log.generation; records = rs } in c) (sym (take-append-le prefix.count log.records (rec ∷ []) prefix.all));
+}))

@@ -9,3 +9,4 @@ mod Adding
 mod Lives
 mod Entering
 mod Growing
+mod Forcing

@@ -1,10 +1,10 @@
 //! The undo log.
 ghost use Rattle.std.specs.Prelude.{◌≡◌, ◌<◌, ◌≤◌, ◌+◌, [], ◌∷◌, ◌++◌, length, All, IsTrue, false, IfOk};
-ghost use Rattle.std.specs.Prelude.{OnOk, OnErr, IfErr};
+ghost use Rattle.std.specs.Prelude.{OnOk, OnErr, IfErr, if◌then◌else◌};
 ghost use Rattle.vr_types.specs.Blocks.{Keeps};
 ghost use Rattle.vr_types.specs.Faults.{HasWriteCause};
 ghost use Rattle.vr_types.specs.Geometry.{IsAllowed};
-ghost use Rattle.vr_types.specs.LogSpace.{log_size};
+ghost use Rattle.vr_types.specs.LogSpace.{log_size, end_length};
 ghost use Rattle.vr_types.specs.Regions.{Touches};
 ghost use Rattle.vr_log.specs.declared.record.LogRecord.TheVariants.{End};
 ghost use Rattle.vr_log.specs.Live.{live_in, used_by, need_of, is_in, EndsLive};
@@ -187,7 +187,9 @@ impl UndoLog {
         requires shape { IsOf self.old.geometry (B.seen blocks.old) }
         requires lengths { HasLengths rec.now }
         requires live { EndsLive (live_in self.old.records) rec.now }
-        requires room { used_by self.old.records + need_of (live_in self.old.records) rec.now ≤ log_size self.old.geometry }
+        requires room { used_by self.old.records ≤ log_size self.old.geometry
+            → used_by self.old.records + need_of (live_in self.old.records) rec.now
+            ≤ log_size self.old.geometry }
         requires stands { IsTrue B.tells → LogStands self.old (B.seen blocks.old) }
         ensures log { OnOk result (IsAppended self.old rec.now self.new) }
         ensures stands { IsTrue B.tells → OnOk result (LogStands self.new (B.seen blocks.new)) }
@@ -209,6 +211,8 @@ impl UndoLog {
         requires { self.now.broken ≡ false }
         ensures value { result ≡ used_by self.now.records }
         ensures most { result ≤ log_size self.now.geometry }
+        ensures small { result < 4294967296 }
+        ensures allowed { IsAllowed self.now.geometry }
     {
         self.bytes + 9 * self.live.len() as u64
     }
@@ -222,8 +226,8 @@ impl UndoLog {
     {
         match rec {
             LogRecord::Before { unit, .. } => {
-                let end = if self.live.has(*unit) { 0 } else { 9 };
-                record_length(rec) + end
+                let there = self.live.has(*unit);
+                record_length(rec) + end_room(there)
             }
             LogRecord::End { .. } => 0,
         }
@@ -246,6 +250,15 @@ impl UndoLog {
             at: 16 + self.tail.used,
         }
     }
+}
+
+/// The room that the end of a unit still needs.
+#[tactic(auto, using(crate::proofs::Forcing::stands_forced))]
+fn end_room(there: bool) -> u64
+    ensures value { result ≡ (if there then 0 else end_length) }
+    ensures most { result ≤ 9 }
+{
+    if there { 0 } else { 9 }
 }
 
 /// The log after the records of `content`, which stand on the blocks.
