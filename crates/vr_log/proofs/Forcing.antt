@@ -111,3 +111,15 @@ module _ (told : Bool) (is_told : IsTrue told) (log : LogNow) (tail : Tail) (a b
     };
     current = λ not. absurd (not refl);
   }
+
+-- whether everything is forced is seen by the bytes
+pub is_forced : (some records : List LogRecord) → some ≡ take (length some) records → length some ≤ length records → length (bytes_of some) ≡ length (bytes_of records) → length some ≡ length records
+is_forced some records part below same = ⊎_elim
+    (λ (less : length some < length records). absurd (omega (arith, bytes-fewer (length some) records less, ap (λ (rs : List LogRecord). length (bytes_of rs)) part, same)))
+    (λ (all : length records ≤ length some). omega (arith, all, below)) (cases_lt (length some) (length records))
+
+pub not_forced : (some records : List LogRecord) → some ≡ take (length some) records → (length (bytes_of some) ≡ length (bytes_of records) → ⊥) → length some ≡ length records → ⊥
+not_forced some records part other same = other (ap (λ (rs : List LogRecord). length (bytes_of rs)) (part ∙ take_all (length some) records (omega (arith, same))))
+
+pub forced_short : (room index used forced bytes : ℕ) → index * room + used ≡ bytes → used ≤ room → forced ≤ bytes → (forced ≡ bytes → ⊥) → forced < (index + 1) * room
+forced_short room index used forced bytes is fits most other = ⊎_elim (λ (less : forced < bytes). omega (arith, less, is, fits)) (λ (all : bytes ≤ forced). absurd (other (omega (arith, all, most)))) (cases_lt forced bytes)

@@ -10,3 +10,4 @@ mod Lives
 mod Entering
 mod Growing
 mod Forcing
+mod Listing

@@ -47,9 +47,15 @@ pub record IsKept (geometry : Geometry) (records : List LogRecord) (forced : Lis
   pub room : log_size geometry < 29 * live.room
   pub all : bytes ≡ length (bytes_of records)
   pub stable : forced_bytes ≡ length (bytes_of forced)
+  pub part : forced ≡ take (length forced) records
+  pub count : length forced ≤ length records
   pub fits : used_by records ≤ log_size geometry
+
+-- numbers from 1 on
+abbrev pub AreNumbered : List ℕ → Type 0
+AreNumbered numbers = (i : ℕ) → i < length numbers → slice_index numbers i ≡ 1 + i
 
 -- the numbers of the blocks of the log
 pub record AreNumbers (geometry : Geometry) (numbers : Vec ℕ) : Type 0 where
-  pub length : vec_len numbers ≡ geometry.log
-  pub each : (i : ℕ) → i < geometry.log → slice_index numbers.items i ≡ 1 + i
+  pub count : length numbers.items ≡ geometry.log
+  pub each : AreNumbered numbers.items

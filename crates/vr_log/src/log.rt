@@ -1,5 +1,5 @@
 //! The undo log.
-ghost use Rattle.std.specs.Prelude.{◌≡◌, ◌<◌, ◌≤◌, ◌+◌, [], ◌∷◌, ◌++◌, length, All, IsTrue, false, IfOk};
+ghost use Rattle.std.specs.Prelude.{◌≡◌, ◌<◌, ◌≤◌, ◌+◌, [], ◌∷◌, ◌++◌, length, All, Contains, ℕ, ◌*◌, IsTrue, false, IfOk};
 ghost use Rattle.std.specs.Prelude.{OnOk, OnErr, IfErr, if◌then◌else◌};
 ghost use Rattle.vr_types.specs.Blocks.{Keeps};
 ghost use Rattle.vr_types.specs.Faults.{HasWriteCause};
@@ -8,6 +8,7 @@ ghost use Rattle.vr_types.specs.LogSpace.{log_size, end_length};
 ghost use Rattle.vr_types.specs.Regions.{Touches};
 ghost use Rattle.vr_log.specs.declared.record.LogRecord.TheVariants.{End};
 ghost use Rattle.vr_log.specs.Live.{live_in, used_by, need_of, is_in, EndsLive};
+ghost use Rattle.vr_log.specs.Memory.{AreNumbered};
 ghost use Rattle.vr_log.specs.LogNow.{
   made,
   restarted,
@@ -55,7 +56,8 @@ pub struct UndoLog {
 impl Model for UndoLog {
     ghost use Rattle.std.specs.Prelude.{◌≡◌, false, length};
     ghost use Rattle.vr_types.specs.Geometry.{IsAllowed};
-    ghost use Rattle.vr_log.specs.LogNow.{LogNow};
+    ghost use Rattle.vr_log.specs.Memory.{AreNumbered};
+ghost use Rattle.vr_log.specs.LogNow.{LogNow};
     ghost use Rattle.vr_log.specs.Kept.{records_in};
     ghost use Rattle.vr_log.specs.Memory.{behind_in, IsKept, AreNumbers};
 
@@ -151,8 +153,8 @@ impl UndoLog {
         }
         self.broken = true;
         let room = self.tail.block.len() as u64 - 16;
-        let first = (self.forced / room) as usize;
-        blocks.force(&self.numbers[first..self.tail.index as usize + 1])?;
+        let list = from_block(&self.numbers, self.forced, room, self.tail.index);
+        blocks.force(list)?;
         self.broken = false;
         self.tail.begun = true;
         self.forced = self.bytes;
@@ -252,8 +254,21 @@ impl UndoLog {
     }
 }
 
+/// The numbers of the blocks of a log from that of a byte on, to the block of this index.
+fn from_block(numbers: &[u32], byte: u64, room: u64, last: u32) -> &[u32]
+    requires each { AreNumbered numbers.now }
+    requires room { 0 < room }
+    requires byte { byte < (last + 1) * room }
+    requires last { last < length numbers.now }
+    ensures below { (count : ℕ) → length numbers.now < count → All (λ n. n < count) result.now }
+    ensures found { (index : ℕ) → byte < (index + 1) * room → index ≤ last
+        → Contains result.now (1 + index) }
+{
+    let first = (byte / room) as usize;
+    &numbers[first..last as usize + 1]
+}
+
 /// The room that the end of a unit still needs.
-#[tactic(auto, using(crate::proofs::Forcing::stands_forced))]
 fn end_room(there: bool) -> u64
     ensures value { result ≡ (if there then 0 else end_length) }
     ensures most { result ≤ 9 }

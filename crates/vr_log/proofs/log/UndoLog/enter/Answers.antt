@@ -1,5 +1,5 @@
 use Rattle.std.proofs.Common.{◌≡◌, ◌⊎◌, inl, inr, ⊎_elim, ℕ, ◌+◌, ◌-◌, ◌*◌, ◌<◌, ◌≤◌, List, [], ◌∷◌, ◌++◌, length, Option, Some, None, Bool, false, IsTrue, if◌then◌else◌, refl, sym, ap, subst, ◌∙◌, arith, rules, vec_len}
-use Rattle.std.proofs.lemmas.List.{length-append}
+use Rattle.std.proofs.lemmas.List.{length-append, take-append-le, length_push}
 use Rattle.std.proofs.lemmas.List.Elements.{All-push}
 use Rattle.vr_types.specs.LogSpace.{log_size}
 use Rattle.vr_types.specs.Regions.{Touches}
@@ -97,6 +97,8 @@ invariant_of-self-2 g c =
       room = omega (arith, kept.room, c.note_unit.ensures.room);
       all = omega (arith, kept.all, c.record_length.ensures.value, ap length (bytes-push log.records rec), length-append (bytes_of log.records) (record_bytes rec));
       stable = kept.stable;
+      part = kept.part ∙ sym (take-append-le (length (records_in i.forced_records.value)) log.records (rec ∷ []) kept.count);
+      count = omega (arith, kept.count, length_push log.records rec);
       fits = fits_grown log.records rec (log_size log.geometry) live room;
     }))
 
