@@ -9,7 +9,7 @@ use Rattle.vr_log.specs.Standing.{Leaves}
 use Rattle.vr_log.specs.Writing.{IsPrefix, IsWriting, log_during}
 
 -- the bytes of records in a block to which bytes were copied
-filled : (used : ℕ) (block x : List ℕ) (after : List ℕ) → 16 + used ≤ length block → take (used + length x) (drop 16 (take (16 + used) block ++ x ++ after)) ≡ take used (drop 16 block) ++ x
+pub filled : (used : ℕ) (block x : List ℕ) (after : List ℕ) → 16 + used ≤ length block → take (used + length x) (drop 16 (take (16 + used) block ++ x ++ after)) ≡ take used (drop 16 block) ++ x
 filled used block x after within =
     let front : length (take (16 + used) block) ≡ 16 + used = omega (arith, length-take (16 + used) block, within) in
     let head : drop 16 (take (16 + used) block) ≡ take used (drop 16 block) = drop-take 16 used block in

@@ -11,3 +11,4 @@ mod Entering
 mod Growing
 mod Forcing
 mod Listing
+mod Passing

@@ -27,6 +27,13 @@ pub record IsSafe (tail : Tail) (seen : Seen) : Type 0 where
   pub blocks : tail.blocks < seen.count
   pub fits : tail.used + 16 ≤ seen.size
 
+-- a buffer with its head, of a block that there is
+pub record IsSound (tail : Tail) : Type 0 where
+  pub small : vec_len tail.block < 2 ^ 32
+  pub head : 16 < vec_len tail.block
+  pub index : tail.index < tail.blocks
+  pub fits : tail.used + 16 ≤ vec_len tail.block
+
 -- how many bytes the log has so far
 abbrev pub position : Tail → ℕ
 position tail = tail.index * (vec_len tail.block - 16) + tail.used
@@ -72,6 +79,10 @@ IsSame old new = (new.generation ≡ old.generation) × (new.blocks ≡ old.bloc
 -- what no call of a log changes
 abbrev pub IsKeptBy : Tail → Tail → Type 0
 IsKeptBy old new = (new.generation ≡ old.generation) × (new.blocks ≡ old.blocks) × (vec_len new.block ≡ vec_len old.block)
+
+-- what bytes change that are not put
+abbrev pub IsPassedBy : Tail → Tail → Type 0
+IsPassedBy old new = (new.generation ≡ old.generation) × (new.blocks ≡ old.blocks) × (vec_len new.block ≡ vec_len old.block) × (new.begun ≡ old.begun)
 
 -- nothing but whether the log was begun changed
 abbrev pub IsSettledOf : Tail → Tail → Type 0

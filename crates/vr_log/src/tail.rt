@@ -30,7 +30,9 @@ ghost use Rattle.vr_types.specs.Seen.{Only};
 ghost use Rattle.vr_log.specs.LogBlock.{generation_in, index_in, used_in, head_of};
 ghost use Rattle.vr_log.specs.LogNow.{LogNow};
 ghost use Rattle.vr_log.specs.Standing.{InLog};
-ghost use Rattle.vr_log.specs.Writing.{IsSafe, position, HasRoom, IsReady, IsPrefix, IsWriting, IsFound, IsSame, IsKeptBy, IsSettledOf, Follows, Ends};
+ghost use Rattle.vr_log.specs.Memory.{IsTail};
+ghost use Rattle.vr_types.specs.declared.geometry.Geometry.{Geometry};
+ghost use Rattle.vr_log.specs.Writing.{IsSafe, IsSound, IsPassedBy, position, HasRoom, IsReady, IsPrefix, IsWriting, IsFound, IsSame, IsKeptBy, IsSettledOf, Follows, Ends};
 
 use vr_types::{Blocks, DeviceFault, put_eight, put_four};
 
@@ -178,6 +180,48 @@ impl Tail {
             rest = &rest[count..];
         }
         Ok(())
+    }
+
+    /// Passes over as many bytes that stand on the blocks as the block has room for.
+    fn pass_some(&mut self, bytes: &[u8]) -> usize
+        requires sound { IsSound self.old }
+        requires ready { IsReady self.old }
+        requires some { 0 < length bytes.now }
+        requires room { HasRoom self.old (length bytes.now) }
+        ensures some { 0 < result }
+        ensures most { result ≤ length bytes.now }
+        ensures sound { IsSound self.new }
+        ensures ready { IsReady self.new }
+        ensures position { position self.new ≡ position self.old + result }
+        ensures same { IsPassedBy self.old self.new }
+        ensures passed { (geometry : Geometry) (written : List ℕ) → IsTail geometry written self.old
+            → IsTail geometry (written ++ take result bytes.now) self.new }
+    {
+        let count = self.fill(bytes);
+        if (self.used as usize) + 16 == self.block.len() && self.index + 1 < self.blocks {
+            self.index += 1;
+            self.used = 0;
+        }
+        count
+    }
+
+    /// Passes over bytes that stand on the blocks.
+    pub(crate) fn pass(&mut self, bytes: &[u8])
+        requires sound { IsSound self.old }
+        requires ready { IsReady self.old }
+        requires room { HasRoom self.old (length bytes.now) }
+        ensures sound { IsSound self.new }
+        ensures ready { IsReady self.new }
+        ensures position { position self.new ≡ position self.old + length bytes.now }
+        ensures same { IsPassedBy self.old self.new }
+        ensures passed { (geometry : Geometry) (written : List ℕ) → IsTail geometry written self.old
+            → IsTail geometry (written ++ bytes.now) self.new }
+    {
+        let mut rest = bytes;
+        while !rest.is_empty() {
+            let count = self.pass_some(rest);
+            rest = &rest[count..];
+        }
     }
 
     /// Puts the last block, where there are bytes in it.

@@ -4,8 +4,10 @@ ghost use Rattle.vr_types.specs.Faults.{HasWriteCause};
 ghost use Rattle.vr_types.specs.Fields.{four, two};
 ghost use Rattle.vr_log.specs.Live.{live_after};
 ghost use Rattle.vr_log.specs.LogNow.{LogNow};
+ghost use Rattle.vr_log.specs.Memory.{IsTail};
+ghost use Rattle.vr_types.specs.declared.geometry.Geometry.{Geometry};
 ghost use Rattle.vr_log.specs.Records.{HasLengths, HasFields, IsUnit, record_bytes, unit_bytes, end_number, old_bytes};
-ghost use Rattle.vr_log.specs.Writing.{IsSafe, position, HasRoom, IsReady, IsPrefix, IsWriting, IsKeptBy, Follows, Ends};
+ghost use Rattle.vr_log.specs.Writing.{IsSafe, IsSound, IsPassedBy, position, HasRoom, IsReady, IsPrefix, IsWriting, IsKeptBy, Follows, Ends};
 
 use crate::live::Live;
 use crate::record::{EndKind, LogRecord};
@@ -130,6 +132,76 @@ fn add_both<B: Blocks>(
 {
     tail.add(blocks, first)?;
     tail.add(blocks, second)
+}
+
+/// Passes over a record that stands on the blocks.
+pub(crate) fn pass_record(tail: &mut Tail, rec: &LogRecord)
+    requires sound { IsSound tail.old }
+    requires ready { IsReady tail.old }
+    requires lengths { HasLengths rec.now }
+    requires room { HasRoom tail.old (length (record_bytes rec.now)) }
+    ensures sound { IsSound tail.new }
+    ensures ready { IsReady tail.new }
+    ensures position { position tail.new ≡ position tail.old + length (record_bytes rec.now) }
+    ensures same { IsPassedBy tail.old tail.new }
+    ensures passed { (geometry : Geometry) (written : List ℕ) → IsTail geometry written tail.old
+        → IsTail geometry (written ++ record_bytes rec.now) tail.new }
+{
+    match rec {
+        LogRecord::Before {
+            unit,
+            part,
+            place,
+            old,
+        } => {
+            let place = place.as_slice();
+            let head = before_head(*unit, *part, place.len() as u16);
+            pass_both(tail, &head, place);
+            pass_old(tail, old);
+        }
+        LogRecord::End { unit, kind } => tail.pass(&end_bytes(*unit, *kind)),
+    }
+}
+
+/// Passes over what was at the place of a before-image.
+fn pass_old(tail: &mut Tail, old: &Option<Bytes>)
+    requires sound { IsSound tail.old }
+    requires ready { IsReady tail.old }
+    requires lengths { IfSome old.now (λ bytes. length bytes < 2 ^ 32) }
+    requires room { HasRoom tail.old (length (old_bytes old.now)) }
+    ensures sound { IsSound tail.new }
+    ensures ready { IsReady tail.new }
+    ensures position { position tail.new ≡ position tail.old + length (old_bytes old.now) }
+    ensures same { IsPassedBy tail.old tail.new }
+    ensures passed { (geometry : Geometry) (written : List ℕ) → IsTail geometry written tail.old
+        → IsTail geometry (written ++ old_bytes old.now) tail.new }
+{
+    match old {
+        None => {
+            let none = none_bytes();
+            tail.pass(&none);
+        }
+        Some(bytes) => {
+            let bytes = bytes.as_slice();
+            pass_both(tail, &old_head(bytes.len() as u32), bytes);
+        }
+    }
+}
+
+/// Passes over bytes, and then over others.
+fn pass_both(tail: &mut Tail, first: &[u8], second: &[u8])
+    requires sound { IsSound tail.old }
+    requires ready { IsReady tail.old }
+    requires room { HasRoom tail.old (length (first.now ++ second.now)) }
+    ensures sound { IsSound tail.new }
+    ensures ready { IsReady tail.new }
+    ensures position { position tail.new ≡ position tail.old + length (first.now ++ second.now) }
+    ensures same { IsPassedBy tail.old tail.new }
+    ensures passed { (geometry : Geometry) (written : List ℕ) → IsTail geometry written tail.old
+        → IsTail geometry (written ++ (first.now ++ second.now)) tail.new }
+{
+    tail.pass(first);
+    tail.pass(second);
 }
 
 /// The bytes of a before-image before its place.
