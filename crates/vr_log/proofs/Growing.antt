@@ -66,12 +66,12 @@ live-one live (Before unit part place old) = by (is_in unit live)
   by false = omega (arith, long, length_push live unit)
 live-one live (End unit kind) = omega (arith, without-long unit live)
 
-live-bytes : (live : List UnitOfRecovery) (records : List LogRecord) → 20 * length (live_from live records) ≤ 20 * length live + length (bytes_of records)
+pub live-bytes : (live : List UnitOfRecovery) (records : List LogRecord) → 20 * length (live_from live records) ≤ 20 * length live + length (bytes_of records)
 live-bytes live [] = omega arith
 live-bytes live (r ∷ records) = omega (arith, live-one live r, live-bytes (live_after live r) records, length-append (record_bytes r) (bytes_of records))
 
 -- there is room for one more live unit
-pub live_below : (records : List LogRecord) (size room : ℕ) → used_by records ≤ size → size < 29 * room → length (live_in records) < room
+pub live_below : (records : List LogRecord) (size room : ℕ) → used_by records ≤ size → size < 20 * room → length (live_in records) < room
 live_below records size room fits most = omega (arith, live-bytes [] records, fits, most)
 
 some-live : (unit : UnitOfRecovery) (units : List UnitOfRecovery) → IsTrue (is_in unit units) → 1 ≤ length units

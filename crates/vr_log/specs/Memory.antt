@@ -44,7 +44,7 @@ pub record IsKept (geometry : Geometry) (records : List LogRecord) (forced : Lis
   pub young : tail.generation < 2 ^ 64
   pub turned : IsTurned geometry tail
   pub units : live.units ≡ live_in records
-  pub room : log_size geometry < 29 * live.room
+  pub room : log_size geometry < 20 * live.room
   pub all : bytes ≡ length (bytes_of records)
   pub stable : forced_bytes ≡ length (bytes_of forced)
   pub part : forced ≡ take (length forced) records

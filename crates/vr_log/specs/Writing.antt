@@ -1,5 +1,5 @@
 -- A log while the bytes of a record are put.
-use Rattle.std.specs.Prelude.{◌≡◌, ◌⊎◌, ℕ, ◌+◌, ◌-◌, ◌*◌, ◌^◌, ◌<◌, ◌≤◌, List, ◌++◌, length, drop, Option, Some, None, Bool, IsTrue, true, false, if◌then◌else◌, vec_len}
+use Rattle.std.specs.Prelude.{◌≡◌, ◌⊎◌, ℕ, ◌+◌, ◌-◌, ◌*◌, ◌^◌, ◌<◌, ◌≤◌, List, [], ◌++◌, length, drop, Option, Some, None, Bool, IsTrue, true, false, if◌then◌else◌, vec_len}
 use Rattle.vr_types.specs.Image.{Image, Block, block_at}
 use Rattle.vr_types.specs.Seen.{Seen}
 use Rattle.vr_types.specs.declared.geometry.Geometry.{Geometry}
@@ -83,6 +83,14 @@ IsKeptBy old new = (new.generation ≡ old.generation) × (new.blocks ≡ old.bl
 -- what bytes change that are not put
 abbrev pub IsPassedBy : Tail → Tail → Type 0
 IsPassedBy old new = (new.generation ≡ old.generation) × (new.blocks ≡ old.blocks) × (vec_len new.block ≡ vec_len old.block) × (new.begun ≡ old.begun)
+
+-- a buffer with no bytes, of the first block
+pub record IsNew (geometry : Geometry) (generation : ℕ) (tail : Tail) : Type 0 where
+  pub first : IsTail geometry [] tail
+  pub sound : IsSound tail
+  pub ready : tail.used ≡ 0
+  pub same : tail.generation ≡ generation
+  pub begun : tail.begun ≡ false
 
 -- nothing but whether the log was begun changed
 abbrev pub IsSettledOf : Tail → Tail → Type 0

@@ -17,6 +17,7 @@ mod reading;
 mod record;
 mod tail;
 mod log;
+mod making;
 mod writing;
 
 pub use content::LogContent;

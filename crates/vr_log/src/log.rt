@@ -31,6 +31,7 @@ use crate::kept::{Kept, Older};
 use crate::live::Live;
 use crate::no::LogNo;
 use crate::record::{EndKind, LogPlace, LogRecord};
+use crate::making::{new_live, new_tail, numbers_to, pass_records};
 use crate::tail::Tail;
 use crate::writing::{note_unit, put_record, record_length};
 use std::alloc::Global;
@@ -276,7 +277,9 @@ fn end_room(there: bool) -> u64
     if there { 0 } else { 9 }
 }
 
-/// The log after the records of `content`, which stand on the blocks.
+/// The log after the records of `content`, which stand on the blocks. Besides a block it takes 8
+/// bytes for each 20 of the log, for the live units that it may have, and 4 for each of its blocks,
+/// so that no other call takes memory.
 pub fn undo_log(
     alloc: Global,
     geometry: &Geometry,
@@ -287,5 +290,22 @@ pub fn undo_log(
     requires room { used_by content.now.records ≤ log_size geometry.now }
     ensures { IfOk result (λ log. log ≡ made geometry.now content.now) }
 {
-    Err(OutOfMemory)
+    let mut tail = new_tail(alloc, *geometry, content.generation().max(1))?;
+    let mut live = new_live(alloc, *geometry)?;
+    let numbers = numbers_to(alloc, geometry.log)?;
+    pass_records(*geometry, &mut tail, &mut live, content.records());
+    let bytes = tail.index as u64 * (geometry.size as u64 - 16) + tail.used as u64;
+    let records = Kept::Of(Snapshot::of(content));
+    Ok(UndoLog {
+        geometry: *geometry,
+        tail,
+        live,
+        numbers,
+        bytes,
+        forced: bytes,
+        broken: false,
+        forced_records: Snapshot::of(&records),
+        records,
+        older: Older::Made(Snapshot::of(content)),
+    })
 }
