@@ -136,7 +136,9 @@ stands_grown told is_told log rec tail before seen stood fields turned w current
     let opened : (older : Content) → behind ≡ Some older → open_index (Grown log rec behind) ≡ open_index log = λ older is.
         sym (last-is log.geometry total tail (omega (arith, log-room log w.allowed)) w.buffer turned) ∙ w.opened (was-behind log tail.begun older is).0 in
     record {
+      allowed = w.allowed;
       shape = w.shape;
+      fits = w.most;
       some = stood.some;
       fields = All-push HasFields log.records rec stood.fields fields;
       forced = omega (arith, stood.forced, length_push log.records rec);

@@ -98,8 +98,10 @@ module _ (told : Bool) (is_told : IsTrue told) (log : LogNow) (tail : Tail) (a b
   pub stands_forced : LogStands (All_forced log) b
   stands_forced = record {
     shape = record { count = kept.count_same ∙ stands.shape.count; size = kept.size_same ∙ stands.shape.size };
+    allowed = allowed;
     some = stands.some;
     fields = stands.fields;
+    fits = stands.fits;
     forced = omega arith;
     behind = λ older is. absurd cc;
     begun = λ older is. absurd cc;

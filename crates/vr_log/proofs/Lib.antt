@@ -12,3 +12,4 @@ mod Growing
 mod Forcing
 mod Listing
 mod Passing
+mod Ahead

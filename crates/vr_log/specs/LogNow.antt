@@ -1,7 +1,7 @@
 -- What a log is seen as, and which log an image may have. The rules are this project's own.
 use Rattle.std.specs.Prelude.{◌≡◌, ◌⊎◌, ℕ, ◌+◌, ◌-◌, ◌*◌, ◌/◌, ◌^◌, ◌<◌, ◌≤◌, List, [], ◌∷◌, ◌++◌, length, take, Option, Some}
 use Rattle.std.specs.Prelude.{None, IfSome, min, max, Bool, false, nat_eq, if◌then◌else◌}
-use Rattle.vr_types.specs.Image.{Image}
+use Rattle.vr_types.specs.Image.{Block, Image, block_at}
 use Rattle.vr_types.specs.Seen.{Seen}
 use Rattle.std.specs.Prelude.{Result, Err, OnOk, IsErrOf}
 use Rattle.vr_types.specs.LogSpace.{log_size, IsLogFull}
@@ -104,6 +104,14 @@ pub record IsAppended (old : LogNow) (rec : LogRecord) (new : LogNow) : Type 0 w
   pub forced : new.forced ≡ old.forced
   pub behind : (new.behind ≡ old.behind) ⊎ (new.behind ≡ None)
   pub sound : new.broken ≡ false
+
+-- the image's log is all records with this one
+abbrev pub HasRecord : LogNow → LogRecord → Image → Type 0
+HasRecord log rec image = Spells log.geometry image (record { generation = log.generation; records = log.records ++ rec ∷ [] })
+
+-- a block has what it had, or the image's log has the record
+abbrev pub IsLogged : LogNow → LogRecord → ℕ → Block → Image → Type 0
+IsLogged log rec home before image = (block_at image home ≡ before) ⊎ HasRecord log rec image
 
 -- the blocks are those of a volume of this shape
 pub record IsOf (geometry : Geometry) (seen : Seen) : Type 0 where

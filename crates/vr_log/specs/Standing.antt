@@ -1,6 +1,8 @@
 -- When a log stands on its blocks: what a crash may leave of each of them, block by block. The rules
 -- are this project's own.
 use Rattle.std.specs.Prelude.{◌≡◌, ◌⊎◌, ℕ, ◌+◌, ◌-◌, ◌*◌, ◌/◌, ◌<◌, ◌≤◌, List, length, take, drop, Option, Some, None, IfSome, min, true, All}
+use Rattle.vr_types.specs.Geometry.{IsAllowed}
+use Rattle.vr_types.specs.LogSpace.{log_size}
 use Rattle.vr_types.specs.Image.{Block, Image, block_at}
 use Rattle.vr_types.specs.Regions.{IsImageOn}
 use Rattle.vr_types.specs.Seen.{Seen}
@@ -69,9 +71,11 @@ pub record Leaves (log : LogNow) (bytes : List ℕ) (count : ℕ) (may : ℕ →
 
 -- The log stands on the blocks.
 pub record LogStands (log : LogNow) (seen : Seen) : Type 0 where
+  pub allowed : IsAllowed log.geometry
   pub shape : IsOf log.geometry seen
   pub some : 1 ≤ log.generation
   pub fields : All HasFields log.records
+  pub fits : length (bytes_of log.records) ≤ log_size log.geometry
   pub forced : log.forced ≤ length log.records
   pub behind : (older : Content) → log.behind ≡ Some older → IsBehind log older
   pub begun : (older : Content) → log.behind ≡ Some older → open_index log * room_of log.geometry ≤ forced_length log

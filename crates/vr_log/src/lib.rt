@@ -10,10 +10,10 @@
 
 mod content;
 mod kept;
+mod laws;
 mod live;
 mod no;
 
-mod reading;
 mod record;
 mod tail;
 mod log;
@@ -21,8 +21,8 @@ mod making;
 mod writing;
 
 pub use content::LogContent;
+pub use laws::{each_image_has_the_log, write_ahead};
 pub use no::{LogNo, LogReadNo};
 
-pub use reading::read_back;
 pub use record::{Before, EndKind, LogPlace, LogRecord};
 pub use log::{UndoLog, undo_log};

@@ -93,6 +93,7 @@ impl UndoLog {
         requires stands { IsTrue B.tells → LogStands self.old (B.seen blocks.old) }
         ensures place { IfOk result (IsNextPlace self.old) }
         ensures log { OnOk result (IsAppended self.old rec.now self.new) }
+        ensures shape { OnOk result (IsOf self.new.geometry (B.seen blocks.new)) }
         ensures stands { IsTrue B.tells → OnOk result (LogStands self.new (B.seen blocks.new)) }
         ensures moments { IsTrue B.tells → Touches (InLog self.old.geometry)
             (HasLog (with_record self.old rec.now)) (B.seen blocks.old) (B.seen blocks.new) }
@@ -127,6 +128,7 @@ impl UndoLog {
         requires live { IsTrue (is_in unit (live_in self.old.records)) }
         requires stands { IsTrue B.tells → LogStands self.old (B.seen blocks.old) }
         ensures log { OnOk result (IsAppended self.old (End unit kind) self.new) }
+        ensures shape { OnOk result (IsOf self.new.geometry (B.seen blocks.new)) }
         ensures stands { IsTrue B.tells → OnOk result (LogStands self.new (B.seen blocks.new)) }
         ensures moments { IsTrue B.tells → Touches (InLog self.old.geometry)
             (HasLog (with_record self.old (End unit kind))) (B.seen blocks.old) (B.seen blocks.new) }
@@ -195,6 +197,7 @@ impl UndoLog {
             ≤ log_size self.old.geometry }
         requires stands { IsTrue B.tells → LogStands self.old (B.seen blocks.old) }
         ensures log { OnOk result (IsAppended self.old rec.now self.new) }
+        ensures shape { OnOk result (IsOf self.new.geometry (B.seen blocks.new)) }
         ensures stands { IsTrue B.tells → OnOk result (LogStands self.new (B.seen blocks.new)) }
         ensures moments { IsTrue B.tells → Touches (InLog self.old.geometry)
             (HasLog (with_record self.old rec.now)) (B.seen blocks.old) (B.seen blocks.new) }

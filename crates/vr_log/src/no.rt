@@ -20,3 +20,12 @@ pub enum LogReadNo {
     Fault(DeviceFault),
     Memory,
 }
+
+impl From<DeviceFault> for LogNo {
+    fn from(fault: DeviceFault) -> LogNo {
+        match fault {
+            DeviceFault::Read => LogNo::Read,
+            DeviceFault::Write => LogNo::Write,
+        }
+    }
+}

@@ -182,3 +182,28 @@ returns-clause-moments g c told =
     let w = start_writing B.tells log total i.tail i.older a (record { generation = refl; behind = refl }) c.self.invariant.0 shape kept.young kept.last kept.turned (record_bytes rec, sym (bytes-push log.records rec)) most stands in
     subst (λ (v : LogNow). Touches (InLog v.geometry) (HasLog (with_record v rec)) a (B.seen c.put_record.new.blocks)) is
     (moments_grown log rec total a (B.seen c.put_record.new.blocks) (stands told) c.put_record.ensures.fields refl ((c.put_record.ensures.ending log total (bytes_of log.records) w (sym (bytes-push log.records rec))).touches told))
+
+pub returns-clause-shape : goal.returns-clause-shape
+returns-clause-shape g c =
+    let i = c.self.inside in
+    let B = g.B.Blocks in
+    let a = B.seen c.args.blocks.now in
+    let rec = c.args.rec.now in
+    let log : LogNow = record { geometry = i.geometry; generation = i.tail.generation; records = records_in i.records; forced = length (records_in i.forced_records.value); behind = behind_in i.tail.begun i.older; broken = i.broken } in
+    let is : log ≡ c.args.self.now = c.self.view_is in
+    let kept = c.self.invariant.2 (ap (λ (v : LogNow). v.broken) is ∙ c.requires.sound) in
+    let live : EndsLive (live_in log.records) rec = subst (λ (v : LogNow). EndsLive (live_in v.records) rec) (sym is) c.requires.live in
+    let room : used_by log.records + need_of (live_in log.records) rec ≤ log_size log.geometry = subst (λ (v : LogNow). used_by v.records ≤ log_size v.geometry → used_by v.records + need_of (live_in v.records) rec ≤ log_size v.geometry) (sym is) c.requires.room kept.fits in
+    let fits : length (bytes_of log.records) + length (record_bytes rec) ≤ log_size log.geometry = record_fits log.records rec (log_size log.geometry) live room in
+    let total = bytes_of (log.records ++ rec ∷ []) in
+    let stands = λ (told : IsTrue B.tells). subst (λ (v : LogNow). LogStands v a) (sym is) (c.requires.stands told) in
+    let shape : IsOf log.geometry a = subst (λ (v : LogNow). IsOf v.geometry a) (sym is) c.requires.shape in
+    let most : length total ≤ log_size log.geometry = omega (arith, fits, ap length (bytes-push log.records rec), length-append (bytes_of log.records) (record_bytes rec)) in
+    let w = start_writing B.tells log total i.tail i.older a (record { generation = refl; behind = refl }) c.self.invariant.0 shape kept.young kept.last kept.turned (record_bytes rec, sym (bytes-push log.records rec)) most stands in
+    let ends = c.in_ok-put_record.ensures.ending log total (bytes_of log.records) w (sym (bytes-push log.records rec)) in
+    let now = ends.writing in
+    let tail = c.put_record.new.tail in
+    let same = c.put_record.ensures.same in
+    let turned = turned_of log.geometry total tail (omega (arith, block_size_least log.geometry.size c.self.invariant.0.size)) now.buffer c.in_ok-put_record.ensures.ready in
+    let more : records_in c.of.result.value ++ c.of-2.result.value ∷ [] ≡ log.records ++ rec ∷ [] = ap (λ (k : _). records_in k ++ c.of-2.result.value ∷ []) c.of.ensures ∙ ap (λ (r : LogRecord). log.records ++ r ∷ []) c.of-2.ensures in
+    now.shape
