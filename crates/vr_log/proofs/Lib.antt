@@ -1,15 +1,15 @@
-mod Heads
-mod Images
-mod Leaving
-mod Codec
-mod Putting
-mod Turning
-mod Filling
-mod Adding
-mod Lives
-mod Entering
-mod Growing
-mod Forcing
-mod Listing
-mod Passing
-mod Ahead
+pub mod Heads
+pub mod Images
+pub mod Leaving
+pub mod Codec
+pub mod Putting
+pub mod Turning
+pub mod Filling
+pub mod Adding
+pub mod Lives
+pub mod Entering
+pub mod Growing
+pub mod Forcing
+pub mod Listing
+pub mod Passing
+pub mod Ahead

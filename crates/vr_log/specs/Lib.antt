@@ -2,7 +2,6 @@ pub mod Records
 pub mod Live
 pub mod LogBlock
 pub mod Spells
-pub mod Damage
 pub mod Content
 pub mod Kept
 pub mod LogNow

@@ -4,8 +4,7 @@
 //! It promises what any crash leaves of it. In every image at every moment of every call, failing or
 //! not, the log's blocks spell at least the records that were forced and a prefix of all records of
 //! the generation, or the log before while no block of this one was forced, whose units have all
-//! ended. No other block is touched. `read_back` gives what the blocks spell, and `Damaged` exactly
-//! where they spell nothing.
+//! ended. No other block is touched.
 #![tactic(auto)]
 
 mod content;
@@ -22,7 +21,7 @@ mod writing;
 
 pub use content::LogContent;
 pub use laws::{each_image_has_the_log, write_ahead};
-pub use no::{LogNo, LogReadNo};
+pub use no::LogNo;
 
 pub use record::{Before, EndKind, LogPlace, LogRecord};
 pub use log::{UndoLog, undo_log};
