@@ -30,7 +30,7 @@ none-cut = record {
   begins = refl;
 }
 
-All-none : {X : Type 0} (P : X → Type 0) → All P []
+pub All-none : {X : Type 0} (P : X → Type 0) → All P []
 All-none P i d below = absurd (omega (arith, below))
 
 All-one : {X : Type 0} (P : X → Type 0) (x : X) → P x → All P (x ∷ [])

@@ -13,3 +13,5 @@ pub mod Forcing
 pub mod Listing
 pub mod Passing
 pub mod Ahead
+pub mod Restarting
+pub mod Unique

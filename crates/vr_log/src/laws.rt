@@ -1,5 +1,5 @@
 //! Laws of a log, each the contract of a function that does nothing, and a block that is replaced under a log record.
-ghost use Rattle.std.specs.Prelude.{◌≡◌, ◌<◌, ◌≤◌, ◌+◌, ◌^◌, [], length, IsTrue, false, OnOk};
+ghost use Rattle.std.specs.Prelude.{◌≡◌, ◌<◌, ◌≤◌, ◌+◌, ◌^◌, [], length, ℕ, List, IsTrue, false, OnOk};
 ghost use Rattle.vr_types.specs.Faults.{HasWriteCause};
 ghost use Rattle.vr_types.specs.Image.{Image, block_at};
 ghost use Rattle.vr_types.specs.Moments.{Guards};
@@ -7,13 +7,20 @@ ghost use Rattle.vr_types.specs.Regions.{Outside};
 ghost use Rattle.vr_types.specs.Seen.{Left, Only};
 ghost use Rattle.vr_log.specs.Live.{live_in, EndsLive};
 ghost use Rattle.vr_log.specs.LogNow.{HasLog, IsForced, IsLogged, IsOf, restarted};
-ghost use Rattle.vr_log.specs.Records.{HasLengths};
+ghost use Rattle.vr_log.specs.Records.{HasLengths, SpellsRecords};
+ghost use Rattle.vr_log.specs.declared.record.LogRecord.{LogRecord as RecordOf};
 ghost use Rattle.vr_log.specs.Standing.{InLog, LogStands};
 
 use crate::log::UndoLog;
 use crate::no::LogNo;
 use crate::record::LogRecord;
-use vr_types::Blocks;
+use vr_types::{Blocks, DeviceFault};
+
+/// Bytes spell one list of records at most.
+pub fn one_list_of_records()
+    ensures { (bytes : List ℕ) (one other : List RecordOf) → SpellsRecords bytes one
+        → SpellsRecords bytes other → one ≡ other }
+{}
 
 /// Each image that a crash may leave of a log that stands on its blocks has the records that were forced and a prefix of
 /// all, or the log before while no block of this one was forced.
@@ -21,6 +28,25 @@ pub fn each_image_has_the_log<B: Blocks>(log: &UndoLog, blocks: &B)
     ensures { IsTrue B.tells → LogStands log.now (B.seen blocks.now)
         → (image : Image) → Left (B.seen blocks.now) image → HasLog log.now image }
 {}
+
+/// A log with records that stands on its blocks, all of them forced and no unit live, stands after `restart` too: what each
+/// image then has is the log before. The generation is below its greatest value, at which it stands still.
+pub fn restarted_log_stands<B: Blocks>(log: &UndoLog, blocks: &B)
+    ensures { IsTrue B.tells → LogStands log.now (B.seen blocks.now) → IsForced log.now
+        → live_in log.now.records ≡ [] → 0 < length log.now.records
+        → log.now.generation + 1 < 2 ^ 64 → LogStands (restarted log.now) (B.seen blocks.now) }
+{}
+
+/// A log stays standing while a block outside it is put, whether that fails or not.
+pub fn log_stands_while_others_put<B: Blocks>(log: &UndoLog, blocks: &mut B, home: u32, bytes: &[u8]) -> Result<(), DeviceFault>
+    requires home { home < (B.seen blocks.old).count }
+    requires outside { Outside (InLog log.now.geometry) home }
+    requires whole { length bytes.now ≡ (B.seen blocks.old).size }
+    requires stands { IsTrue B.tells → LogStands log.now (B.seen blocks.old) }
+    ensures stands { IsTrue B.tells → LogStands log.now (B.seen blocks.new) }
+{
+    blocks.put(home, bytes)
+}
 
 /// Replaces the content of a block outside the log: it appends the record, forces it, and then puts the block. In every
 /// image at every moment, and from then on, the block has its old content, or the image's log has the record.

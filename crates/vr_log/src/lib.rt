@@ -20,7 +20,10 @@ mod making;
 mod writing;
 
 pub use content::LogContent;
-pub use laws::{each_image_has_the_log, write_ahead};
+pub use laws::{
+    each_image_has_the_log, log_stands_while_others_put, one_list_of_records, restarted_log_stands,
+    write_ahead,
+};
 pub use no::LogNo;
 
 pub use record::{Before, EndKind, LogPlace, LogRecord};
