@@ -5,7 +5,13 @@ use Rattle.std.proofs.lemmas.List.Elements.{All-head, All-tail}
 use Rattle.vr_types.specs.Fields.{two, four, two_at, four_at, eight_at, AreZeros}
 use Rattle.vr_types.specs.declared.unit.PartNo.{PartNo}
 use Rattle.vr_types.specs.declared.unit.Unit.{Unit as UnitOfRecovery}
-use Rattle.vr_types.proofs.CallerLemmas.{two_at-two, four_at-four, drop-two, drop-four}
+use Rattle.std.proofs.lemmas.List.{replicate-append-replicate}
+use Rattle.vr_types.specs.Fields.{eight}
+use Rattle.vr_types.specs.Image.{Image, block_at}
+use Rattle.vr_types.specs.declared.geometry.Geometry.{Geometry}
+use Rattle.vr_types.proofs.CallerLemmas.{two_at-two, four_at-four, eight_at-eight, drop-two, drop-four, zeros_are}
+use Rattle.vr_log.specs.Content.{Content}
+use Rattle.vr_log.specs.Spells.{Spells, log_bytes}
 use Rattle.vr_log.specs.declared.record.EndKind.{EndKind}
 use Rattle.vr_log.specs.declared.record.EndKind.TheVariants.{Committed, BackedOut}
 use Rattle.vr_log.specs.declared.record.LogRecord.{LogRecord}
@@ -100,3 +106,21 @@ records-one (r ∷ one) (s ∷ other) cut rest fits under is has same =
 
 pub spelled_one : (bytes : List ℕ) (one other : List LogRecord) → SpellsRecords bytes one → SpellsRecords bytes other → one ≡ other
 spelled_one bytes one other first second = records-one one other first.cut second.cut first.fields second.fields first.is_cut second.is_cut (sym first.spelled ∙ second.spelled)
+
+zeros-generation : (block : List ℕ) → 8 ≤ length block → AreZeros block → eight_at 0 block ≡ 0
+unfolding eight
+zeros-generation block long zeros =
+    let n = length block - 8 in
+    let whole : 8 + n ≡ length block = omega (arith, long) in
+    let is : block ≡ eight 0 ++ replicate n 0 = zeros_are block zeros ∙ ap (λ (m : ℕ). replicate {A = ℕ} m 0) (sym whole) ∙ sym (replicate-append-replicate 8 n 0) in
+    ap (eight_at 0) is ∙ eight_at-eight 0 (replicate n 0) (omega arith)
+
+-- blocks spell one log at most
+pub one_log : (geometry : Geometry) (image : Image) (one other : Content) → 8 ≤ length (block_at image 1) → Spells geometry image one → Spells geometry image other → one ≡ other
+one_log geometry image one other long (inl first) (inl second) = first.none ∙ sym second.none
+one_log geometry image one other long (inl first) (inr second) = absurd (omega (arith, zeros-generation (block_at image 1) long first.zeros, second.generation, second.some))
+one_log geometry image one other long (inr first) (inl second) = absurd (omega (arith, zeros-generation (block_at image 1) long second.zeros, first.generation, first.some))
+one_log geometry image one other long (inr first) (inr second) =
+    let same : one.generation ≡ other.generation = sym first.generation ∙ second.generation in
+    let records : one.records ≡ other.records = spelled_one (log_bytes geometry other.generation image) one.records other.records (subst (λ (g : ℕ). SpellsRecords (log_bytes geometry g image) one.records) same first.records) second.records in
+    ap (λ (g : ℕ). let c : Content = record { generation = g; records = one.records } in c) same ∙ ap (λ (rs : List LogRecord). let c : Content = record { generation = other.generation; records = rs } in c) records

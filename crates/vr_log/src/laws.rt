@@ -9,6 +9,9 @@ ghost use Rattle.vr_log.specs.Live.{live_in, EndsLive};
 ghost use Rattle.vr_log.specs.LogNow.{HasLog, IsForced, IsLogged, IsOf, restarted};
 ghost use Rattle.vr_log.specs.Records.{HasLengths, SpellsRecords};
 ghost use Rattle.vr_log.specs.declared.record.LogRecord.{LogRecord as RecordOf};
+ghost use Rattle.vr_log.specs.Content.{Content};
+ghost use Rattle.vr_log.specs.Spells.{Spells};
+ghost use Rattle.vr_types.specs.declared.geometry.Geometry.{Geometry as GeometryOf};
 ghost use Rattle.vr_log.specs.Standing.{InLog, LogStands};
 
 use crate::log::UndoLog;
@@ -20,6 +23,13 @@ use vr_types::{Blocks, DeviceFault};
 pub fn one_list_of_records()
     ensures { (bytes : List ℕ) (one other : List RecordOf) → SpellsRecords bytes one
         → SpellsRecords bytes other → one ≡ other }
+{}
+
+/// Blocks spell one log at most.
+pub fn one_log_at_most()
+    ensures { (geometry : GeometryOf) (image : Image) (one other : Content)
+        → 8 ≤ length (block_at image 1) → Spells geometry image one → Spells geometry image other
+        → one ≡ other }
 {}
 
 /// Each image that a crash may leave of a log that stands on its blocks has the records that were forced and a prefix of

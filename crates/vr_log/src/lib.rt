@@ -21,8 +21,8 @@ mod writing;
 
 pub use content::LogContent;
 pub use laws::{
-    each_image_has_the_log, log_stands_while_others_put, one_list_of_records, restarted_log_stands,
-    write_ahead,
+    each_image_has_the_log, log_stands_while_others_put, one_list_of_records, one_log_at_most,
+    restarted_log_stands, write_ahead,
 };
 pub use no::LogNo;
 
