@@ -1,9 +1,8 @@
 -- The records of a log as clauses see them, which take no memory.
-use Rattle.std.specs.Prelude.{ℕ, List, [], ◌∷◌, ◌++◌, Option, Some, None}
+use Rattle.std.specs.Prelude.{List, [], ◌∷◌, ◌++◌}
 use Rattle.vr_log.specs.declared.record.LogRecord.{LogRecord}
 use Rattle.vr_log.specs.declared.kept.Kept.{Kept}
 use Rattle.vr_log.specs.declared.kept.Kept.TheVariants.{Nothing, Of, After'}
-use Rattle.vr_log.specs.Content.{Content}
 
 abbrev pub records_in : Kept → List LogRecord
 records_in Nothing = []

@@ -1,6 +1,6 @@
 -- The units of recovery that are live in a log, and the bytes of it that are in use. The rules are
 -- this project's own.
-use Rattle.std.specs.Prelude.{◌≡◌, ℕ, ◌+◌, ◌*◌, ◌<◌, List, [], ◌∷◌, ◌++◌, length, Bool}
+use Rattle.std.specs.Prelude.{ℕ, ◌+◌, ◌*◌, List, [], ◌∷◌, ◌++◌, length, Bool}
 use Rattle.std.specs.Prelude.{if◌then◌else◌, IsTrue}
 use Rattle.std.specs.List.{list_any}
 use Rattle.vr_types.specs.Locks.{same_unit}
@@ -38,7 +38,8 @@ used_by records = length (bytes_of records) + end_length * length (live_in recor
 -- What a record needs while these units are live: a before-image its bytes, and where it is the
 -- first of its unit the room of the unit's end. An end has its room already.
 unfoldable pub need_of : List UnitOfRecovery → LogRecord → ℕ
-need_of live (Before unit part place old) = length (record_bytes (Before unit part place old)) + (if is_in unit live then 0 else end_length)
+need_of live (Before unit part place old) =
+    length (record_bytes (Before unit part place old)) + (if is_in unit live then 0 else end_length)
 need_of live (End unit kind) = 0
 
 -- an end record ends a live unit

@@ -1,6 +1,7 @@
 -- What a log is seen as, and which log an image may have. The rules are this project's own.
-use Rattle.std.specs.Prelude.{◌≡◌, ◌⊎◌, ℕ, ◌+◌, ◌-◌, ◌*◌, ◌/◌, ◌^◌, ◌<◌, ◌≤◌, List, [], ◌∷◌, ◌++◌, length, take, Option, Some}
-use Rattle.std.specs.Prelude.{None, IfSome, min, max, Bool, false, nat_eq, if◌then◌else◌}
+use Rattle.std.specs.Prelude.{◌≡◌, ◌⊎◌, ℕ, ◌+◌, ◌-◌, ◌*◌, ◌/◌, ◌^◌, ◌<◌, ◌≤◌, List, [], ◌∷◌, ◌++◌}
+use Rattle.std.specs.Prelude.{length, take, Option, Some}
+use Rattle.std.specs.Prelude.{None, min, max, Bool, false, nat_eq, if◌then◌else◌}
 use Rattle.vr_types.specs.Image.{Block, Image, block_at}
 use Rattle.vr_types.specs.Seen.{Seen}
 use Rattle.std.specs.Prelude.{Result, Err, OnOk, IsErrOf}
@@ -52,7 +53,8 @@ HasLog log image = (content : Content) × Spells log.geometry image content × I
 
 -- the log before has forced records of this one alone, or is one whose units have all ended
 abbrev pub IsBehind : LogNow → Content → Type 0
-IsBehind log older = (older ≡ first_of log log.forced) ⊎ ((log.forced ≡ 0) × (live_in older.records ≡ []))
+IsBehind log older = (older ≡ first_of log log.forced)
+    ⊎ ((log.forced ≡ 0) × (live_in older.records ≡ []))
 
 -- with one record more
 abbrev pub with_record : LogNow → LogRecord → LogNow
@@ -65,7 +67,12 @@ IsForced log = log.forced ≡ length log.records
 -- With all records forced, and no log before. Where nothing was appended since the last time, it
 -- stays.
 abbrev pub forced_now : LogNow → LogNow
-forced_now log = if nat_eq log.forced (length log.records) then log else record log { forced = length log.records; behind = None }
+forced_now log =
+    if nat_eq log.forced (length log.records) then log else record log {
+      forced =
+          length log.records;
+      behind = None;
+    }
 
 -- the log before the next generation: this one, or where no block of it was forced the one before
 abbrev pub left_by : Option Content → Content → Option Content
@@ -107,7 +114,12 @@ pub record IsAppended (old : LogNow) (rec : LogRecord) (new : LogNow) : Type 0 w
 
 -- the image's log is all records with this one
 abbrev pub HasRecord : LogNow → LogRecord → Image → Type 0
-HasRecord log rec image = Spells log.geometry image (record { generation = log.generation; records = log.records ++ rec ∷ [] })
+HasRecord log rec image =
+    Spells log.geometry image (record {
+      generation = log.generation;
+      records = log.records
+          ++ rec ∷ [];
+    })
 
 -- a block has what it had, or the image's log has the record
 abbrev pub IsLogged : LogNow → LogRecord → ℕ → Block → Image → Type 0
@@ -121,12 +133,17 @@ pub record IsOf (geometry : Geometry) (seen : Seen) : Type 0 where
 -- the byte of a block's payload at which the next record begins, and its block
 abbrev pub IsNextPlace : LogNow → LogPlace → Type 0
 IsNextPlace log place = (place.block ≡ 1 + last_index log.geometry (bytes_of log.records))
-    × (place.at ≡ 16 + (length (bytes_of log.records) - last_index log.geometry (bytes_of log.records) * room_of log.geometry))
+    × (place.at ≡ 16 +
+    (length (bytes_of log.records) - last_index log.geometry (bytes_of log.records) * room_of
+    log.geometry))
 
 -- The answer is that the log is full, exactly where it is, with the three numbers.
-pub record IsFullWhere {T : Type 0} (log : LogNow) (need : ℕ) (result : Result T LogNo) : Type 0 where
-  pub full : IsLogFull log.geometry (used_by log.records) need → result ≡ Err (Full (used_by log.records) need (log_size log.geometry))
-  pub only : (used room size : ℕ) → result ≡ Err (Full used room size) → IsLogFull log.geometry (used_by log.records) need
+pub record IsFullWhere {T : Type 0} (log : LogNow) (need : ℕ) (result : Result T LogNo) : Type 0
+  where
+    pub full : IsLogFull log.geometry (used_by log.records) need
+        → result ≡ Err (Full (used_by log.records) need (log_size log.geometry))
+    pub only : (used room size : ℕ) → result ≡ Err (Full used room size)
+        → IsLogFull log.geometry (used_by log.records) need
 
 -- Neither count falls, no read is made, and `Write` comes only where the count of writes rose.
 pub record HasLogCause {T : Type 0} (before now : Faults) (result : Result T LogNo) : Type 0 where

@@ -1,10 +1,9 @@
 -- How a log is kept in memory: the bytes of its last block, and its live units.
-use Rattle.std.specs.Prelude.{◌≡◌, ℕ, ◌+◌, ◌*◌, ◌/◌, ◌-◌, ◌^◌, ◌<◌, ◌≤◌, List, length, take, drop, Option, Some, None, Bool, false, if◌then◌else◌, All, vec_len, slice_index}
+use Rattle.std.specs.Prelude.{◌≡◌, ℕ, ◌+◌, ◌*◌, ◌^◌, ◌<◌, ◌≤◌, List, length, take, drop, Option}
+use Rattle.std.specs.Prelude.{Some, None, Bool, if◌then◌else◌, All, vec_len, slice_index}
 use Rattle.std.specs.Global.{Vec}
-use Rattle.vr_types.specs.Geometry.{IsAllowed}
 use Rattle.vr_types.specs.LogSpace.{log_size}
 use Rattle.vr_types.specs.declared.geometry.Geometry.{Geometry}
-use Rattle.vr_types.specs.declared.unit.Unit.{Unit as UnitOfRecovery}
 use Rattle.vr_log.specs.declared.kept.Older.{Older}
 use Rattle.vr_log.specs.declared.kept.Older.TheVariants.{Made, Ended}
 use Rattle.vr_log.specs.declared.record.LogRecord.{LogRecord}
@@ -19,7 +18,8 @@ use Rattle.vr_log.specs.Records.{bytes_of, HasFields}
 -- the log that was on the blocks before
 abbrev pub older_in : Older → Content
 older_in (Made content) = content.value
-older_in (Ended generation records) = record { generation = generation; records = records_in records.value }
+older_in (Ended generation records) =
+    record { generation = generation; records = records_in records.value }
 
 abbrev pub behind_in : Bool → Older → Option Content
 behind_in begun older = if begun then None else Some (older_in older)
@@ -31,14 +31,16 @@ pub record IsTail (geometry : Geometry) (bytes : List ℕ) (tail : Tail) : Type 
   pub index : tail.index < geometry.log
   pub used : tail.index * room_of geometry + tail.used ≡ length bytes
   pub fits : tail.used ≤ room_of geometry
-  pub payload : take tail.used (drop 16 tail.block.items) ≡ drop (tail.index * room_of geometry) bytes
+  pub payload : take tail.used (drop 16 tail.block.items) ≡ drop (tail.index * room_of geometry)
+      bytes
 
 -- a full buffer is that of the last block
 abbrev pub IsTurned : Geometry → Tail → Type 0
 IsTurned geometry tail = tail.used ≡ room_of geometry → tail.index + 1 ≡ geometry.log
 
 -- A log that isn't broken, in memory.
-pub record IsKept (geometry : Geometry) (records : List LogRecord) (forced : List LogRecord) (tail : Tail) (live : LiveUnits) (bytes forced_bytes : ℕ) : Type 0 where
+pub record IsKept (geometry : Geometry) (records : List LogRecord) (forced : List LogRecord)
+    (tail : Tail) (live : LiveUnits) (bytes forced_bytes : ℕ) : Type 0 where
   pub fields : All HasFields records
   pub last : IsTail geometry (bytes_of records) tail
   pub young : tail.generation < 2 ^ 64

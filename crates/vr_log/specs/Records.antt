@@ -1,6 +1,6 @@
 -- The records of the undo log as bytes: before-images, and the ends of units of recovery. The bytes
 -- are this project's own.
-use Rattle.std.specs.Prelude.{◌≡◌, ℕ, ◌+◌, ◌^◌, ◌<◌, List, [], ◌∷◌, ◌++◌, length, All, Option, Some}
+use Rattle.std.specs.Prelude.{◌≡◌, ℕ, ◌^◌, ◌<◌, List, ◌∷◌, ◌++◌, length, All, Option, Some}
 use Rattle.std.specs.Prelude.{None, IfSome}
 use Rattle.std.specs.List.{flat_map}
 use Rattle.vr_types.specs.Fields.{two, four}
@@ -26,7 +26,8 @@ old_bytes None = 0 ∷ four 0
 old_bytes (Some bytes) = 1 ∷ four (length bytes) ++ bytes
 
 unfoldable pub record_bytes : LogRecord → List ℕ
-record_bytes (Before unit part place old) = 1 ∷ unit_bytes unit ++ four part.0 ++ two (length place) ++ place ++ old_bytes old
+record_bytes (Before unit part place old) = 1 ∷ unit_bytes unit ++ four part.0
+    ++ two (length place) ++ place ++ old_bytes old
 record_bytes (End unit kind) = end_number kind ∷ unit_bytes unit
 
 -- one record after another
@@ -39,7 +40,8 @@ pub record IsUnit (unit : UnitOfRecovery) : Type 0 where
   pub number : unit.number < 2 ^ 32
 
 -- a before-image whose fields have room for their numbers
-pub record IsBefore (unit : UnitOfRecovery) (part : PartNo) (place : List ℕ) (old : Option (List ℕ)) : Type 0 where
+pub record IsBefore (unit : UnitOfRecovery) (part : PartNo) (place : List ℕ) (old : Option (List ℕ))
+    : Type 0 where
   pub of_unit : IsUnit unit
   pub of_part : part.0 < 2 ^ 32
   pub at_place : length place < 2 ^ 16
@@ -52,7 +54,8 @@ HasFields (End unit kind) = IsUnit unit
 
 -- The lengths of a before-image have room in their fields.
 abbrev pub HasLengths : LogRecord → Type 0
-HasLengths (Before unit part place old) = (length place < 2 ^ 16) × IfSome old (λ bytes. length bytes < 2 ^ 32)
+HasLengths (Before unit part place old) = (length place < 2 ^ 16)
+    × IfSome old (λ bytes. length bytes < 2 ^ 32)
 HasLengths (End unit kind) = Unit {0}
 
 -- Bytes that begin a record and don't end it: what is left of a record that isn't whole.

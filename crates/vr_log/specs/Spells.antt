@@ -1,9 +1,9 @@
 -- Which generation and records the blocks of a log spell. The log is blocks 1 to L of a volume. The
 -- rules are this project's own.
-use Rattle.std.specs.Prelude.{◌≡◌, ◌⊎◌, ℕ, zero, suc, ◌+◌, ◌≤◌, List, [], ◌++◌, Bool, true, false, nat_eq}
+use Rattle.std.specs.Prelude.{◌≡◌, ◌⊎◌, ℕ, zero, suc, ◌+◌, ◌≤◌, List, [], ◌++◌, Bool, true, nat_eq}
 use Rattle.std.specs.Prelude.{nat_le, ◌&&◌, if◌then◌else◌}
 use Rattle.vr_types.specs.Fields.{AreZeros}
-use Rattle.vr_types.specs.Image.{Block, Image, block_at}
+use Rattle.vr_types.specs.Image.{Image, block_at}
 use Rattle.vr_types.specs.declared.geometry.Geometry.{Geometry}
 use Rattle.vr_log.specs.Content.{Content}
 use Rattle.vr_log.specs.LogBlock.{generation_in, index_in, used_in, payload_in, is_next, room_of}
@@ -12,7 +12,8 @@ use Rattle.vr_log.specs.Records.{SpellsRecords}
 -- The payload of a block that goes on with the log and has room for it, and where it is full what
 -- the blocks after it have.
 abbrev pub joined : Bool → Bool → Bool → List ℕ → List ℕ → List ℕ
-joined next fits full payload rest = if next && fits then payload ++ (if full then rest else []) else []
+joined next fits full payload rest = if next && fits then payload
+    ++ (if full then rest else []) else []
 
 -- The bytes of a log from the block of this index on, over at most `left` blocks: the payload of
 -- each block that goes on with the generation, as long as each block before it is full.
@@ -20,7 +21,8 @@ abbrev pub bytes_from : ℕ → ℕ → ℕ → ℕ → Image → List ℕ
 bytes_from room generation index zero image = []
 bytes_from room generation index (suc left) image =
     let block = block_at image (1 + index) in
-    joined (is_next generation index block) (nat_le (used_in block) room) (nat_eq (used_in block) room) (payload_in block)
+    joined (is_next generation index block) (nat_le (used_in block) room)
+    (nat_eq (used_in block) room) (payload_in block)
     (bytes_from room generation (index + 1) left image)
 
 -- each block that goes on uses no more bytes than it has room for

@@ -48,7 +48,12 @@ pub fn restarted_log_stands<B: Blocks>(log: &UndoLog, blocks: &B)
 {}
 
 /// A log stays standing while a block outside it is put, whether that fails or not.
-pub fn log_stands_while_others_put<B: Blocks>(log: &UndoLog, blocks: &mut B, home: u32, bytes: &[u8]) -> Result<(), DeviceFault>
+pub fn log_stands_while_others_put<B: Blocks>(
+    log: &UndoLog,
+    blocks: &mut B,
+    home: u32,
+    bytes: &[u8],
+) -> Result<(), DeviceFault>
     requires home { home < (B.seen blocks.old).count }
     requires outside { Outside (InLog log.now.geometry) home }
     requires whole { length bytes.now ≡ (B.seen blocks.old).size }

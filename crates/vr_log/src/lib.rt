@@ -11,12 +11,11 @@ mod content;
 mod kept;
 mod laws;
 mod live;
-mod no;
-
-mod record;
-mod tail;
 mod log;
 mod making;
+mod no;
+mod record;
+mod tail;
 mod writing;
 
 pub use content::LogContent;
@@ -24,7 +23,6 @@ pub use laws::{
     each_image_has_the_log, log_stands_while_others_put, one_list_of_records, one_log_at_most,
     restarted_log_stands, write_ahead,
 };
-pub use no::LogNo;
-
-pub use record::{Before, EndKind, LogPlace, LogRecord};
 pub use log::{UndoLog, undo_log};
+pub use no::LogNo;
+pub use record::{Before, EndKind, LogPlace, LogRecord};

@@ -29,9 +29,9 @@ ghost use Rattle.vr_log.specs.Standing.{InLog, LogStands};
 use crate::content::LogContent;
 use crate::kept::{Kept, Older};
 use crate::live::Live;
+use crate::making::{new_live, new_tail, numbers_to, pass_records};
 use crate::no::LogNo;
 use crate::record::{EndKind, LogPlace, LogRecord};
-use crate::making::{new_live, new_tail, numbers_to, pass_records};
 use crate::tail::Tail;
 use crate::writing::{note_unit, put_record, record_length};
 use std::alloc::Global;
@@ -58,25 +58,25 @@ impl Model for UndoLog {
     ghost use Rattle.std.specs.Prelude.{◌≡◌, false, length};
     ghost use Rattle.vr_types.specs.Geometry.{IsAllowed};
     ghost use Rattle.vr_log.specs.Memory.{AreNumbered};
-ghost use Rattle.vr_log.specs.LogNow.{LogNow};
+    ghost use Rattle.vr_log.specs.LogNow.{LogNow};
     ghost use Rattle.vr_log.specs.Kept.{records_in};
     ghost use Rattle.vr_log.specs.Memory.{behind_in, IsKept, AreNumbers};
 
     ghost Value = { LogNow };
 
     ghost view = { λ log. record {
-        geometry = log.geometry;
-        generation = log.tail.generation;
-        records = records_in log.records;
-        forced = length (records_in log.forced_records.value);
-        behind = behind_in log.tail.begun log.older;
-        broken = log.broken;
+      geometry = log.geometry;
+      generation = log.tail.generation;
+      records = records_in log.records;
+      forced = length (records_in log.forced_records.value);
+      behind = behind_in log.tail.begun log.older;
+      broken = log.broken;
     } };
 
     ghost invariant = { λ log. IsAllowed log.geometry
         × AreNumbers log.geometry log.numbers
         × (log.broken ≡ false → IsKept log.geometry (records_in log.records)
-            (records_in log.forced_records.value) log.tail log.live log.bytes log.forced) };
+        (records_in log.forced_records.value) log.tail log.live log.bytes log.forced) };
 }
 
 impl UndoLog {

@@ -117,7 +117,7 @@ impl Tail {
         ensures keeps { Keeps B.tells (B.seen blocks.old) (B.seen blocks.new) }
         ensures forced { IsTrue B.tells → self.old.begun ≡ false → OnOk result
             (Only (B.seen blocks.new) (1 + self.old.index) (λ block.
-                block ≡ block_at (B.seen blocks.old).cur (1 + self.old.index))) }
+            block ≡ block_at (B.seen blocks.old).cur (1 + self.old.index))) }
         ensures cause { HasWriteCause (B.faults blocks.old) (B.faults blocks.new) result }
     {
         if self.begun {
@@ -156,11 +156,7 @@ impl Tail {
     }
 
     /// Adds bytes, and puts each block that they fill.
-    pub(crate) fn add<B: Blocks>(
-        &mut self,
-        blocks: &mut B,
-        bytes: &[u8],
-    ) -> Result<(), DeviceFault>
+    pub(crate) fn add<B: Blocks>(&mut self, blocks: &mut B, bytes: &[u8]) -> Result<(), DeviceFault>
         requires safe { IsSafe self.old (B.seen blocks.old) }
         requires ready { IsReady self.old }
         requires room { HasRoom self.old (length bytes.now) }

@@ -11,7 +11,11 @@ no_unit = record { deck = 0; number = 0 }
 pub returns-then-eq-clause-found : goal.returns-then-eq-clause-found
 returns-then-eq-clause-found c =
     without-at c.args.unit c.args.units.now c.loop-i.i c.loop-i-test.true c.loop-i.invariant
-    (subst (λ (u : UnitOfRecovery). same_unit c.args.unit u ≡ true) (get_or_default c.args.units.now c.loop-i.i no_unit c.args.unit c.loop-i-test.true) (sym c.eq.ensures ∙ c.if-eq.true))
+    (subst (λ (u : UnitOfRecovery). same_unit c.args.unit u ≡ true)
+    (get_or_default c.args.units.now c.loop-i.i no_unit c.args.unit c.loop-i-test.true)
+    (sym c.eq.ensures ∙ c.if-eq.true))
 
 pub returns-clause-none : goal.returns-clause-none
-returns-clause-none c = without-none c.args.unit c.args.units.now (λ k below within. c.loop-i.invariant k (omega (arith, below, c.loop-i-test.false)) within)
+returns-clause-none c =
+    without-none c.args.unit c.args.units.now
+    (λ k below within. c.loop-i.invariant k (omega (arith, below, c.loop-i-test.false)) within)
