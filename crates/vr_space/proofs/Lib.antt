@@ -5,3 +5,4 @@ pub mod KeyedSound
 pub mod Adding
 pub mod Composing
 pub mod Rising
+pub mod CallerLemmas

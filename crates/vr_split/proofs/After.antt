@@ -16,7 +16,7 @@ use Rattle.vr_space.specs.Keyed.{Keyed, IsKeyedSound, IsKeyedAtRest}
 use Rattle.vr_space.specs.Keyed.{KeepsRoom, lengths_of, entries_of, entry_block, records_of}
 use Rattle.vr_space.specs.Keyed.{entry_for, way_in, way_under}
 use Rattle.vr_space.specs.Part.{KeyedShape, SetsOne, IsDueTo, item_of}
-use Rattle.vr_space.proofs.KeyedSound.{each-less, head-in, entry-in}
+use Rattle.vr_space.proofs.CallerLemmas.{each-less, head-in, entry-in}
 use Rattle.vr_split.proofs.Puts.{also, OfBlock, each-also, now-entries, KeepsOthers, equal_or}
 use Rattle.vr_split.proofs.Puts.{head-still, still-found, led-is}
 

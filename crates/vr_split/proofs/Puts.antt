@@ -18,9 +18,9 @@ use Rattle.vr_space.specs.Keyed.{IsKeyedAtRest, entries_of, entry_block, records
 use Rattle.vr_space.specs.Keyed.{entry_for, way_in, way_under, keyed_way}
 use Rattle.vr_space.specs.Part.{KeyedShape, InPart, HasOnly, MayHold, MayAlsoHold, AddsTo}
 use Rattle.vr_space.specs.Part.{Nothing, Just, SameRecords, item_of}
-use Rattle.vr_space.proofs.Ways.{found-may, find-more, within-less}
-use Rattle.vr_space.proofs.KeyedSound.{keyed-within, keyed-image, keyed-less, IsBlock}
-use Rattle.vr_space.proofs.Adding.{only-weaken}
+use Rattle.vr_space.proofs.CallerLemmas.{found-may, find-more, within-less}
+use Rattle.vr_space.proofs.CallerLemmas.{keyed-within, keyed-image, keyed-less, IsBlock}
+use Rattle.vr_space.proofs.CallerLemmas.{only-weaken}
 pub use Rattle.vr_split.specs.Switching.{OfBlock}
 
 -- what is seen, and what a put may leave beside it

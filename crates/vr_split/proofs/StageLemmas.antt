@@ -9,7 +9,7 @@ use Rattle.vr_space.specs.Room.{Lengths, HaveRoom}
 use Rattle.vr_space.specs.Keyed.{Keyed, HoldsRange, lengths_of, entries_of, records_of}
 use Rattle.vr_space.specs.Keyed.{entry_for}
 use Rattle.vr_space.specs.Part.{KeyedShape, Nothing, SameRecords}
-use Rattle.vr_space.proofs.Adding.{nothing-then, records-then, due-then}
+use Rattle.vr_space.proofs.CallerLemmas.{nothing-then, records-then, due-then}
 use Rattle.vr_split.specs.Switching.{OfBlock, IsIntervalBlock, IsResting, CanReplace, KeepsPart}
 use Rattle.vr_split.specs.Switching.{IsStageDone}
 use Rattle.vr_split.proofs.Puts.{rewrite-adds, rewrite-same}

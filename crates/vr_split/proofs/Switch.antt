@@ -16,7 +16,7 @@ use Rattle.vr_space.specs.Keyed.{IsKeyedAtRest, KeepsRoom, lengths_of, entries_o
 use Rattle.vr_space.specs.Keyed.{records_of, entry_for, way_in, way_under}
 use Rattle.vr_space.specs.Part.{KeyedShape, AddsTo, Nothing, MayHold, SameRecords}
 use Rattle.vr_space.specs.Part.{DueMore, item_of}
-use Rattle.vr_space.proofs.KeyedSound.{each-less, head-in, entry-in}
+use Rattle.vr_space.proofs.CallerLemmas.{each-less, head-in, entry-in}
 use Rattle.vr_split.specs.Switching.{OfBlock, SwitchesAt, CanSwitch}
 use Rattle.vr_split.proofs.Puts.{also, each-also, puts-adds, current-held}
 
