@@ -1,4 +1,4 @@
--- What the model's lists stand for.
+-- What the model's items stand for.
 use Rattle.vr_types.specs.Content.{Item, Standing as StandingItem, Withdrawn as WithdrawnItem}
 use Rattle.vr_model.specs.declared.content.Stored.{Stored}
 use Rattle.vr_model.specs.declared.content.Stored.TheVariants.{Standing, Withdrawn}

@@ -3,7 +3,10 @@
 //! definition, and then leaves the state that the definition gives. It is slow, and is for trying the definition out.
 #![tactic(auto)]
 
+mod look;
 mod machine;
+mod opened;
+mod request;
 mod content;
 mod shape;
 mod state;
