@@ -3,6 +3,7 @@
 //! definition, and then leaves the state that the definition gives. It is slow, and is for trying the definition out.
 #![tactic(auto)]
 
+mod found;
 mod look;
 mod machine;
 mod opened;
