@@ -182,7 +182,7 @@ impl PartContent {
 }
 
 /// The record at a place.
-fn record_in_slice<'a>(placed: &'a [PlacedItem], place: &Place) -> Option<&'a [u8]>
+pub(crate) fn record_in_slice<'a>(placed: &'a [PlacedItem], place: &Place) -> Option<&'a [u8]>
     ensures { option_copied result ≡ record_in placed.now place.now }
 {
     match placed {
@@ -195,7 +195,7 @@ fn record_in_slice<'a>(placed: &'a [PlacedItem], place: &Place) -> Option<&'a [u
 }
 
 /// What stands at a place.
-fn item_in_slice<'a>(placed: &'a [PlacedItem], place: &Place) -> Option<&'a Stored>
+pub(crate) fn item_in_slice<'a>(placed: &'a [PlacedItem], place: &Place) -> Option<&'a Stored>
     ensures { option_map item_of (option_copied result) ≡ item_in placed.now place.now }
 {
     match placed {
@@ -217,7 +217,7 @@ pub(crate) fn prepended<T: Drop>(first: T, rest: Vec<T>) -> Result<Vec<T>, OutOf
 }
 
 /// A copy of the items.
-fn copy_of_items(alloc: Global, placed: &[PlacedItem]) -> Result<Vec<PlacedItem>, OutOfMemory>
+pub(crate) fn copy_of_items(alloc: Global, placed: &[PlacedItem]) -> Result<Vec<PlacedItem>, OutOfMemory>
     ensures { IfOk result (λ copy. copy.items ≡ placed.now) }
 {
     let mut copy = Vec::new(alloc);

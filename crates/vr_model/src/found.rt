@@ -247,7 +247,7 @@ fn is_past(stand: &Stand, at: &Place) -> bool
 }
 
 /// The first bytes of a slice, at most n.
-fn first_bytes(all: &[u8], n: usize) -> &[u8]
+pub(crate) fn first_bytes(all: &[u8], n: usize) -> &[u8]
     ensures { result.now ≡ take n all.now }
 {
     if n < all.len() { &all[..n] } else { all }

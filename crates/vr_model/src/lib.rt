@@ -8,6 +8,8 @@ mod look;
 mod machine;
 mod opened;
 mod request;
+mod address;
+mod change;
 mod content;
 mod shape;
 mod state;

@@ -1,5 +1,5 @@
 //! The shape of a volume that may be formatted so.
-ghost use Rattle.std.specs.Prelude.{◌≡◌, ◌≤◌, IfSome};
+ghost use Rattle.std.specs.Prelude.{◌≡◌, ◌≤◌};
 
 use std::marker::Model;
 use vr_types::Geometry;
@@ -38,6 +38,22 @@ impl Shape {
         ensures allowed { IsAllowed result }
     {
         self.geometry
+    }
+
+    /// The bytes of a block.
+    pub fn size(&self) -> u64
+        ensures value { result ≡ self.now.size }
+        ensures least { 512 ≤ result }
+    {
+        self.geometry.size as u64
+    }
+
+    /// The intervals of an area.
+    pub fn intervals(&self) -> u64
+        ensures value { result ≡ self.now.area }
+        ensures least { 2 ≤ result }
+    {
+        self.geometry.area as u64
     }
 
     /// An equal value.
