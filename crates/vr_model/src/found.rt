@@ -5,7 +5,7 @@ ghost use Rattle.std.specs.Option.{option_copied};
 ghost use Rattle.vr_altkey.specs.Pairs as pairs;
 ghost use Rattle.vr_history.specs.Case as cases;
 ghost use Rattle.vr_history.specs.Found as founds;
-ghost use Rattle.vr_history.specs.State as states;
+ghost use Rattle.vr_types.specs.Locks.{same_unit};
 ghost use Rattle.vr_model.specs.Items.{item_of};
 ghost use Rattle.vr_model.specs.OpenedFiles.{as_opened};
 ghost use Rattle.vr_model.specs.Seen.{case_in, content_in, seen};

@@ -4,8 +4,10 @@
 #![tactic(auto)]
 
 mod found;
+mod log;
 mod look;
 mod machine;
+mod names;
 mod opened;
 mod request;
 mod address;

@@ -3,7 +3,7 @@ ghost use Rattle.std.specs.Prelude.{◌≡◌, ◌∷◌, [], IfOk, Some, None, 
 ghost use Rattle.std.specs.List.{list_any};
 ghost use Rattle.vr_history.specs.Case as cases;
 ghost use Rattle.vr_history.specs.Found as founds;
-ghost use Rattle.vr_history.specs.State as states;
+ghost use Rattle.vr_types.specs.Locks.{same_unit};
 ghost use Rattle.vr_model.specs.Seen.{case_in, content_in, number_in, position_in, seen};
 
 use crate::content::{PartContent, PlacedItem};
@@ -70,14 +70,14 @@ pub(crate) fn number_of_deck(numbers: &[(u32, u64)], deck: u32) -> u64
 
 /// Whether two names are of one unit of recovery.
 pub(crate) fn is_unit(unit: Unit, other: Unit) -> bool
-    ensures { result ≡ states.is_unit unit other }
+    ensures { result ≡ same_unit unit other }
 {
     unit.deck == other.deck && unit.number == other.number
 }
 
 /// Whether the log has a before record of a unit.
 pub(crate) fn is_live(logged: &[LoggedPlace], unit: Unit) -> bool
-    ensures { result ≡ list_any (λ log. states.is_unit unit log.unit) logged.now }
+    ensures { result ≡ list_any (λ log. same_unit unit log.unit) logged.now }
 {
     match logged {
         [] => false,
@@ -87,7 +87,7 @@ pub(crate) fn is_live(logged: &[LoggedPlace], unit: Unit) -> bool
 
 /// Whether the log has a before record of a place for a unit.
 pub(crate) fn is_logged(logged: &[LoggedPlace], unit: Unit, part: u32, place: &Place) -> bool
-    ensures { result ≡ list_any (λ log. states.is_unit unit log.unit
+    ensures { result ≡ list_any (λ log. same_unit unit log.unit
         && (log.part == part && bytes_eq place.now log.place)) logged.now }
 {
     match logged {
@@ -101,7 +101,7 @@ pub(crate) fn is_logged(logged: &[LoggedPlace], unit: Unit, part: u32, place: &P
 
 /// Whether a unit keeps a before-image of a place.
 pub(crate) fn is_kept(befores: &[KeptImage], unit: Unit, part: u32, place: &Place) -> bool
-    ensures { result ≡ list_any (λ kept. states.is_unit unit kept.unit
+    ensures { result ≡ list_any (λ kept. same_unit unit kept.unit
         && (kept.part == part && bytes_eq place.now kept.place)) befores.now }
 {
     match befores {
@@ -115,7 +115,7 @@ pub(crate) fn is_kept(befores: &[KeptImage], unit: Unit, part: u32, place: &Plac
 
 /// Whether a unit keeps any before-image.
 pub(crate) fn keeps_any(befores: &[KeptImage], unit: Unit) -> bool
-    ensures { result ≡ list_any (λ kept. states.is_unit unit kept.unit) befores.now }
+    ensures { result ≡ list_any (λ kept. same_unit unit kept.unit) befores.now }
 {
     match befores {
         [] => false,

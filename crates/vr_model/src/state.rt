@@ -1,7 +1,6 @@
 //! The state of a volume as plain lists.
 ghost use Rattle.std.specs.Prelude.{◌≡◌, ℕ, ◌∷◌, [], List, Bool, IfOk, Some, None};
 ghost use Rattle.std.specs.Option.{option_copied, option_map};
-ghost use Rattle.vr_history.specs.State as states;
 ghost use Rattle.vr_model.specs.Items.{item_of};
 
 use crate::content::{PartContent, Stored, prepended};
