@@ -118,6 +118,13 @@ impl PartContent {
         }
     }
 
+    /// The content of these items.
+    pub fn from_vec(placed: Vec<PlacedItem>) -> PartContent
+        ensures { result ≡ placed.items }
+    {
+        PartContent { placed }
+    }
+
     /// Adds an item at the end. If memory runs out, nothing changes.
     pub fn push(&mut self, placed: PlacedItem) -> Result<(), OutOfMemory>
         ensures ok { OnOk result (self.new ≡ self.old ++ placed ∷ []) }
@@ -140,43 +147,6 @@ impl PartContent {
     {
         Ok(PartContent {
             placed: copy_of_items(alloc, &self.placed)?,
-        })
-    }
-
-    /// The record at a place.
-    pub fn record_at(&self, place: &Place) -> Option<&[u8]>
-        ensures { option_copied result ≡ record_in self.now place.now }
-    {
-        record_in_slice(&self.placed, place)
-    }
-
-    /// What stands at a place.
-    pub fn item_at(&self, place: &Place) -> Option<&Stored>
-        ensures { option_map item_of (option_copied result) ≡ item_in self.now place.now }
-    {
-        item_in_slice(&self.placed, place)
-    }
-
-    /// The content without what stands at a place.
-    pub fn without_item(&self, alloc: Global, place: &Place) -> Result<PartContent, OutOfMemory>
-        ensures { IfOk result (λ new. new ≡ without_item_in self.now place.now) }
-    {
-        Ok(PartContent {
-            placed: without_item_in_slice(alloc, &self.placed, place)?,
-        })
-    }
-
-    /// The content with an item at a place.
-    pub fn with_item(
-        &self,
-        alloc: Global,
-        place: &Place,
-        item: Stored,
-    ) -> Result<PartContent, OutOfMemory>
-        ensures { IfOk result (λ new. new ≡ with_item_in self.now place.now (item_of item)) }
-    {
-        Ok(PartContent {
-            placed: with_item_in_slice(alloc, &self.placed, place, item)?,
         })
     }
 }
@@ -228,7 +198,7 @@ pub(crate) fn copy_of_items(alloc: Global, placed: &[PlacedItem]) -> Result<Vec<
 }
 
 /// The items with one at a place.
-fn with_item_in_slice(
+pub(crate) fn with_item_in_slice(
     alloc: Global,
     placed: &[PlacedItem],
     place: &Place,
@@ -251,7 +221,7 @@ fn with_item_in_slice(
 }
 
 /// The items but the one at a place.
-fn without_item_in_slice(
+pub(crate) fn without_item_in_slice(
     alloc: Global,
     placed: &[PlacedItem],
     place: &Place,

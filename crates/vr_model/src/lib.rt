@@ -3,12 +3,18 @@
 //! definition, and then leaves the state that the definition gives. It is slow, and is for trying the definition out.
 #![tactic(auto)]
 
+mod effects;
+mod endings;
 mod found;
 mod log;
 mod look;
 mod machine;
 mod names;
 mod opened;
+mod refused_file;
+mod refused_record;
+mod refused_room;
+mod replies;
 mod request;
 mod address;
 mod change;
