@@ -2,7 +2,7 @@
 use Rattle.std.proofs.Common.{◌≡◌, ℕ, ◌+◌, Bool, true, false, cond, eqb, ◌&&◌, List, [], ◌∷◌, map, filter, refl, sym, ap, ◌∙◌, arith}
 use Rattle.std.proofs.Math.Path.{fun_ext}
 use Rattle.std.proofs.lemmas.Bool.Decides.{nat_tests}
-use Rattle.vr_types.specs.Content.{Content, Placed}
+use Rattle.vr_types.specs.Content.{Content}
 use Rattle.vr_types.specs.Position.{first_position, unheld}
 use Rattle.vr_types.specs.declared.position.Position.{Position}
 use Rattle.vr_history.specs.Change.{Change}
@@ -72,10 +72,13 @@ pub positions_unheld : (deck : ℕ) (files : List FilePosition) → position_in 
 positions_unheld deck files = fun_ext (λ at. fun_ext (λ slot. unheld_one deck at slot files))
 
 -- the contents of some parts alone
+abbrev nothing : Content
+nothing = []
+
 kept_one : (parts : List ℕ) (contents : List (ℕ × Content)) (part : ℕ) → content_in (kept_in parts contents) part ≡ cond (has_part parts part) (content_in contents part) []
 kept_one parts [] part = by_test (has_part parts part)
   where
-    by_test : (test : Bool) → [] {A = Placed} ≡ cond test [] []
+    by_test : (test : Bool) → nothing ≡ cond test nothing nothing
     by_test true = refl
     by_test false = refl
 kept_one parts (held ∷ contents) part = by_test (has_part parts held.0) (eqb part held.0) refl refl (kept_one parts contents part)

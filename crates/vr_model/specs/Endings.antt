@@ -3,7 +3,9 @@ use Rattle.std.specs.Prelude.{ℕ, ◌+◌, Bool, ◌==◌, if◌then◌else◌,
 use Rattle.vr_types.specs.Content.{Content}
 use Rattle.vr_types.specs.Position.{unheld}
 use Rattle.vr_types.specs.declared.unit.Unit.{Unit as UnitOfRecovery}
-use Rattle.vr_history.specs.Effects.{has_part, is_other, used_after}
+use Rattle.vr_catalog.specs.Catalog.{parts_in}
+use Rattle.vr_history.specs.Effects.{has_part, is_other, parts_laid, used_after}
+use Rattle.vr_history.specs.Opened.{catalog_of}
 use Rattle.vr_history.specs.State.{State}
 use Rattle.vr_model.specs.declared.state.FilePosition.{FilePosition}
 
@@ -46,3 +48,13 @@ abbrev pub with_parts : List ℕ → State → State
 with_parts parts state = record state {
   contents = λ part. if has_part parts part then state.contents part else [];
 }
+
+-- the areas of some parts
+abbrev pub with_areas : List ℕ → State → State
+with_areas parts state =
+    record state { owned = filter (λ area. has_part parts area.part) state.owned }
+
+-- what the catalog hasn't goes
+abbrev pub given_back : State → State
+given_back state =
+    with_areas (parts_laid (catalog_of state)) (with_parts (parts_in (catalog_of state)) state)

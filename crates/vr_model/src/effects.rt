@@ -17,6 +17,7 @@ use crate::content::{
     PartContent, PlacedItem, Stored, item_in_slice, prepended, with_item_in_slice,
     without_item_in_slice,
 };
+use crate::copies::copy_of_befores;
 use crate::log::LogImage;
 use crate::look::{content_of_part, is_kept, is_unit, keeps_any, position_of_file};
 use crate::state::{FilePosition, FileState, HeldLock, KeptImage, LoggedPlace, OwnedArea, copy_of_stored};
@@ -43,7 +44,6 @@ fn with_file_at(
 }
 
 /// The state where a file stands at another place.
-#[tactic(auto, using(crate::proofs::Pointwise::position_moved))]
 pub(crate) fn stands_at(
     alloc: Global,
     state: FileState,
@@ -63,7 +63,6 @@ pub(crate) fn stands_at(
 }
 
 /// The state where a file holds the record at a place for update.
-#[tactic(auto, using(crate::proofs::Pointwise::position_moved))]
 pub(crate) fn holds_at(
     alloc: Global,
     state: FileState,
@@ -83,7 +82,6 @@ pub(crate) fn holds_at(
 }
 
 /// The state where a file holds nothing for update.
-#[tactic(auto, using(crate::proofs::Pointwise::position_moved))]
 fn holds_nothing(
     alloc: Global,
     state: FileState,
@@ -411,18 +409,6 @@ pub(crate) fn last_kept(
     let all = kept_of_unit(alloc, &state.befores, unit)?;
     let last = last_of(alloc, &all)?;
     Ok(last)
-}
-
-fn copy_of_befores(alloc: Global, befores: &[KeptImage]) -> Result<Vec<KeptImage>, OutOfMemory>
-    ensures { IfOk result (λ copy. copy.items ≡ befores.now) }
-{
-    match befores {
-        [] => Ok(Vec::new(alloc)),
-        [first, rest @ ..] => {
-            let others = copy_of_befores(alloc, rest)?;
-            Ok(prepended(first.copy(alloc)?, others)?)
-        }
-    }
 }
 
 /// The before-images without the unit's last.

@@ -143,7 +143,6 @@ fn unheld_in(
 }
 
 /// The deck's files drop what they hold.
-#[tactic(auto, using(crate::proofs::Pointwise::positions_unheld))]
 fn without_held(alloc: Global, state: FileState, deck: u32) -> Result<FileState, OutOfMemory>
     ensures { IfOk result (λ new. seen new ≡ endings.without_held deck (seen state)) }
 {
@@ -175,9 +174,9 @@ fn with_next(state: FileState, deck: u32) -> Result<FileState, OutOfMemory>
 fn without_unit(alloc: Global, state: FileState, unit: Unit) -> Result<FileState, OutOfMemory>
     ensures { IfOk result (λ new. seen new ≡ effects.without_unit unit (seen state)) }
 {
-    let state = without_lists(alloc, state, unit)?;
-    let state = without_held(alloc, state, unit.deck)?;
-    Ok(with_next(state, unit.deck)?)
+    let unlisted = without_lists(alloc, state, unit)?;
+    let unheld = without_held(alloc, unlisted, unit.deck)?;
+    Ok(with_next(unheld, unit.deck)?)
 }
 
 /// The numbers of the parts of some entries.
@@ -266,7 +265,6 @@ fn kept_contents(
 }
 
 /// The state with the contents of some parts alone.
-#[tactic(auto, using(crate::proofs::Pointwise::contents_kept))]
 fn with_parts(alloc: Global, state: FileState, parts: &[u32]) -> Result<FileState, OutOfMemory>
     ensures { IfOk result (λ new. seen new ≡ endings.with_parts parts.now (seen state)) }
 {
@@ -298,20 +296,36 @@ fn kept_areas(
     }
 }
 
+/// The state with the areas of some parts alone.
+fn with_areas(alloc: Global, state: FileState, parts: &[u32]) -> Result<FileState, OutOfMemory>
+    ensures { IfOk result (λ new. seen new ≡ endings.with_areas parts.now (seen state)) }
+{
+    let mut state = state;
+    let owned = kept_areas(alloc, &state.owned, parts)?;
+    state.owned = owned;
+    Ok(state)
+}
+
+/// What the catalog hasn't goes.
+fn given_back(alloc: Global, state: FileState) -> Result<FileState, OutOfMemory>
+    ensures { IfOk result (λ new. seen new ≡ endings.given_back (seen state)) }
+{
+    let entries = catalog_of(alloc, &state)?;
+    let parts = parts_in(alloc, &entries)?;
+    let laid = parts_laid(alloc, &entries)?;
+    let parted = with_parts(alloc, state, &parts)?;
+    Ok(with_areas(alloc, parted, &laid)?)
+}
+
 /// What the catalog hasn't goes, once no unit of the utilities is live.
 fn gives_back(alloc: Global, state: FileState) -> Result<FileState, OutOfMemory>
     ensures { IfOk result (λ new. seen new ≡ effects.gives_back (seen state)) }
 {
     if is_utility_live(&state.logged) {
-        return Ok(state);
+        Ok(state)
+    } else {
+        Ok(given_back(alloc, state)?)
     }
-    let entries = catalog_of(alloc, &state)?;
-    let parts = parts_in(alloc, &entries)?;
-    let laid = parts_laid(alloc, &entries)?;
-    let mut state = with_parts(alloc, state, &parts)?;
-    let owned = kept_areas(alloc, &state.owned, &laid)?;
-    state.owned = owned;
-    Ok(state)
 }
 
 /// The unit ends, and what the catalog hasn't goes.

@@ -3,12 +3,15 @@
 //! definition, and then leaves the state that the definition gives. It is slow, and is for trying the definition out.
 #![tactic(auto)]
 
+mod copies;
+mod deciding;
 mod effects;
 mod endings;
 mod found;
 mod log;
 mod look;
 mod machine;
+mod merging;
 mod names;
 mod opened;
 mod refused_file;
@@ -21,8 +24,10 @@ mod change;
 mod content;
 mod shape;
 mod state;
+mod steps;
 
 pub use machine::apply;
+pub use merging::{NumberedEntry, is_stamped, merge};
 pub use content::{PartContent, PlacedItem, Stored};
 pub use shape::Shape;
 pub use state::{FilePosition, FileState, HeldLock, KeptImage, LoggedPlace, OwnedArea};

@@ -1,16 +1,50 @@
 //! What a state has of a part, a file and a unit of recovery.
 ghost use Rattle.std.specs.Prelude.{◌≡◌, ◌∷◌, [], IfOk, Some, None, ◌==◌, ◌&&◌, ◌≤◌, bytes_eq, filter, length};
 ghost use Rattle.std.specs.List.{list_any};
+ghost use Rattle.std.specs.Option.{option_copied, option_map};
+ghost use Rattle.vr_types.specs.Content.{item_at};
 ghost use Rattle.vr_history.specs.Case as cases;
 ghost use Rattle.vr_history.specs.Found as founds;
 ghost use Rattle.vr_types.specs.Locks.{same_unit};
+ghost use Rattle.vr_model.specs.Items.{item_of};
 ghost use Rattle.vr_model.specs.Seen.{case_in, content_in, number_in, position_in, seen};
 
-use crate::content::{PartContent, PlacedItem};
+use crate::content::{PartContent, PlacedItem, Stored, item_in_slice};
 use crate::request::file_of;
 use crate::state::{FilePosition, FileState, KeptImage, LoggedPlace, OwnedArea};
 use std::alloc::Global;
 use vr_types::{OutOfMemory, Place, Position, Request, Stand, Unit};
+
+impl FileState {
+    /// The content of a part.
+    pub fn content(&self, part: u32) -> &[PlacedItem]
+        ensures { result.now ≡ (seen self.now).contents part }
+    {
+        content_of_part(&self.contents, part)
+    }
+
+    /// What stands at a place of a part.
+    pub fn item_at(&self, part: u32, place: &Place) -> Option<&Stored>
+        ensures { option_map item_of (option_copied result)
+            ≡ item_at ((seen self.now).contents part) place.now }
+    {
+        item_in_slice(self.content(part), place)
+    }
+
+    /// Where a file of a deck stands, and what it holds; fails only if memory runs out.
+    pub fn position(&self, alloc: Global, deck: u32, slot: u32) -> Result<Position, OutOfMemory>
+        ensures { IfOk result (λ position. position ≡ (seen self.now).positions deck slot) }
+    {
+        Ok(position_of_file(alloc, &self.positions, deck, slot)?)
+    }
+
+    /// The number of a deck's unit of recovery.
+    pub fn number(&self, deck: u32) -> u64
+        ensures { result ≡ (seen self.now).numbers deck }
+    {
+        number_of_deck(&self.numbers, deck)
+    }
+}
 
 /// The content of a part.
 pub(crate) fn content_of_part(contents: &[(u32, PartContent)], part: u32) -> &[PlacedItem]

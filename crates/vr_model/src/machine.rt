@@ -6,11 +6,14 @@ ghost use Rattle.vr_types.specs.Geometry.{IsAllowed};
 ghost use Rattle.vr_model.specs.Seen.{content_in, seen};
 
 use crate::content::PartContent;
+use crate::deciding::{is_last_kept, is_least_free, is_of_unit, may_reply};
+use crate::effects::{claims, stops};
 use crate::shape::Shape;
 use crate::state::{FileState, OwnedArea};
+use crate::steps::{after_asked, puts_back};
 use std::alloc::Global;
-use vr_history::Entry;
-use vr_types::{Geometry, OutOfMemory};
+use vr_history::{Entry, What};
+use vr_types::{DeviceFault, Geometry, OutOfMemory};
 
 impl FileState {
     /// A volume as it is opened: contents of its parts, and the areas that they own. It takes no memory.
@@ -62,7 +65,27 @@ pub fn apply(alloc: Global, state: &mut FileState, entry: &Entry) -> Result<bool
 fn may_enter(alloc: Global, state: &FileState, entry: &Entry) -> Result<bool, OutOfMemory>
     ensures { IfOk result (λ may. IsTrue may ↔ Step state.now.shape (seen state.now) entry.now) }
 {
-    Err(OutOfMemory)
+    let unit = entry.unit;
+    match &entry.what {
+        What::Asked { request, reply } => {
+            let may = may_reply(alloc, state, unit, request, reply)?;
+            Ok(is_of_unit(state, unit) && may)
+        }
+        What::Undone { part, place } => Ok(is_last_kept(alloc, state, unit, part.0, place)?),
+        What::Claimed { area, .. } => Ok(is_least_free(state, area.0)),
+        What::Split { .. } => Ok(true),
+        What::Faulted { fault } => Ok(is_write(*fault) && state.stopped.is_none()),
+    }
+}
+
+/// Whether a fault is one of a write.
+fn is_write(fault: DeviceFault) -> bool
+    ensures { IsTrue result ↔ (fault ≡ DeviceFault.Write) }
+{
+    match fault {
+        DeviceFault::Write => true,
+        DeviceFault::Read => false,
+    }
 }
 
 /// The state after an entry.
@@ -71,5 +94,29 @@ fn after_entry(alloc: Global, state: &FileState, entry: &Entry) -> Result<FileSt
         seen new ≡ state_after state.now.shape (seen state.now) entry.now) }
     ensures shape { IfOk result (λ new. new.shape ≡ state.now.shape) }
 {
-    Err(OutOfMemory)
+    let mut next = after_what(alloc, state, entry)?;
+    next.shape = state.shape.copy();
+    Ok(next)
+}
+
+/// What the entry leaves of the state.
+fn after_what(alloc: Global, state: &FileState, entry: &Entry) -> Result<FileState, OutOfMemory>
+    ensures { IfOk result (λ new.
+        seen new ≡ state_after state.now.shape (seen state.now) entry.now) }
+{
+    match &entry.what {
+        What::Asked { request, reply } => {
+            Ok(after_asked(alloc, state, entry.unit, request, reply)?)
+        }
+        What::Undone { .. } => Ok(puts_back(alloc, state, entry.unit)?),
+        What::Claimed { part, area } => {
+            let now = state.copy(alloc)?;
+            Ok(claims(now, area.0, part.0)?)
+        }
+        What::Split { .. } => Ok(state.copy(alloc)?),
+        What::Faulted { .. } => {
+            let now = state.copy(alloc)?;
+            Ok(stops(now, entry.stamp))
+        }
+    }
 }

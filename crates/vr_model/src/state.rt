@@ -146,6 +146,19 @@ pub struct FilePosition {
     pub position: Position,
 }
 
+impl FilePosition {
+    /// An equal value; fails only if memory runs out.
+    pub fn copy(&self, alloc: Global) -> Result<FilePosition, OutOfMemory>
+        ensures { IfOk result (λ copy. copy ≡ self.now) }
+    {
+        Ok(FilePosition {
+            deck: self.deck,
+            slot: self.slot,
+            position: self.position.copy(alloc)?,
+        })
+    }
+}
+
 /// The state of a volume: the contents of its parts, the locks, before-images and log records of units of recovery, the
 /// bytes of the log in use, where files stand, the number of each deck's unit, the areas that are owned, and the stamp of
 /// the write fault that stopped it. Of several contents of one part, positions of one file or numbers of one deck the
