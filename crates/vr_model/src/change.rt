@@ -172,7 +172,10 @@ pub(crate) fn record_held<'a>(
 }
 
 /// A copy of bytes that there may be.
-pub(crate) fn copy_of_bytes(alloc: Global, from: Option<&[u8]>) -> Result<Option<Bytes>, OutOfMemory>
+pub(crate) fn copy_of_bytes(
+    alloc: Global,
+    from: Option<&[u8]>,
+) -> Result<Option<Bytes>, OutOfMemory>
     ensures { IfOk result (λ copy. copy ≡ option_copied from.entry) }
 {
     match from {

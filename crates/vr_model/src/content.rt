@@ -187,7 +187,10 @@ pub(crate) fn prepended<T: Drop>(first: T, rest: Vec<T>) -> Result<Vec<T>, OutOf
 }
 
 /// A copy of the items.
-pub(crate) fn copy_of_items(alloc: Global, placed: &[PlacedItem]) -> Result<Vec<PlacedItem>, OutOfMemory>
+pub(crate) fn copy_of_items(
+    alloc: Global,
+    placed: &[PlacedItem],
+) -> Result<Vec<PlacedItem>, OutOfMemory>
     ensures { IfOk result (λ copy. copy.items ≡ placed.now) }
 {
     let mut copy = Vec::new(alloc);

@@ -43,10 +43,7 @@ fn copy_of_contents(
     }
 }
 
-fn copy_of_locks(
-    alloc: Global,
-    from: &[HeldLock],
-) -> Result<Vec<HeldLock>, OutOfMemory>
+fn copy_of_locks(alloc: Global, from: &[HeldLock]) -> Result<Vec<HeldLock>, OutOfMemory>
     ensures { IfOk result (λ copy. copy.items ≡ from.now) }
 {
     match from {
@@ -73,10 +70,7 @@ pub(crate) fn copy_of_befores(
     }
 }
 
-fn copy_of_logged(
-    alloc: Global,
-    from: &[LoggedPlace],
-) -> Result<Vec<LoggedPlace>, OutOfMemory>
+fn copy_of_logged(alloc: Global, from: &[LoggedPlace]) -> Result<Vec<LoggedPlace>, OutOfMemory>
     ensures { IfOk result (λ copy. copy.items ≡ from.now) }
 {
     match from {
@@ -88,10 +82,7 @@ fn copy_of_logged(
     }
 }
 
-fn copy_of_positions(
-    alloc: Global,
-    from: &[FilePosition],
-) -> Result<Vec<FilePosition>, OutOfMemory>
+fn copy_of_positions(alloc: Global, from: &[FilePosition]) -> Result<Vec<FilePosition>, OutOfMemory>
     ensures { IfOk result (λ copy. copy.items ≡ from.now) }
 {
     match from {
@@ -103,10 +94,7 @@ fn copy_of_positions(
     }
 }
 
-fn copy_of_numbers(
-    alloc: Global,
-    from: &[(u32, u64)],
-) -> Result<Vec<(u32, u64)>, OutOfMemory>
+fn copy_of_numbers(alloc: Global, from: &[(u32, u64)]) -> Result<Vec<(u32, u64)>, OutOfMemory>
     ensures { IfOk result (λ copy. copy.items ≡ from.now) }
 {
     match from {
@@ -118,10 +106,7 @@ fn copy_of_numbers(
     }
 }
 
-fn copy_of_owned(
-    alloc: Global,
-    from: &[OwnedArea],
-) -> Result<Vec<OwnedArea>, OutOfMemory>
+fn copy_of_owned(alloc: Global, from: &[OwnedArea]) -> Result<Vec<OwnedArea>, OutOfMemory>
     ensures { IfOk result (λ copy. copy.items ≡ from.now) }
 {
     match from {

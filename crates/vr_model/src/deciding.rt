@@ -15,7 +15,7 @@ use crate::effects::last_kept;
 use crate::look::{keeps_any, number_of_deck};
 use crate::opened::{definition_in, opened};
 use crate::refused_room::free_areas;
-use crate::replies::{answer, before_all, before_room, first_of, first_refusal};
+use crate::replies::{answer, before_all, first_before_room, first_of, first_refusal};
 use crate::request::new_record;
 use crate::state::{FileState, OwnedArea};
 use std::alloc::Global;
@@ -46,8 +46,7 @@ fn none_before_room(
     ensures { IfOk result (λ none. IsTrue none
         ↔ (replies.first_of (replies.before_room (case_in state.now unit request.now)) ≡ None)) }
 {
-    let all = before_room(alloc, state, unit, request)?;
-    let first = first_of(alloc, &all)?;
+    let first = first_before_room(alloc, state, unit, request)?;
     Ok(first.is_none())
 }
 
@@ -217,12 +216,19 @@ fn meets_fault(
     Ok(none && fault)
 }
 
+/// Whether the unit keeps no before-image.
+fn keeps_none(state: &FileState, unit: Unit, request: &Request) -> bool
+    ensures { result ≡ replies.keeps_none (case_in state.now unit request.now) }
+{
+    !keeps_any(&state.befores, unit)
+}
+
 /// Whether a BACKOUT has put all before-images back.
 fn can_end(state: &FileState, unit: Unit, request: &Request) -> bool
     ensures { IsTrue result ↔ replies.CanEnd (case_in state.now unit request.now) request.now }
 {
     match request {
-        Request::Backout => !keeps_any(&state.befores, unit),
+        Request::Backout => keeps_none(state, unit, request),
         Request::Get { .. } | Request::Point { .. } | Request::Add { .. } => true,
         Request::Update { .. } | Request::Erase { .. } | Request::EndReq { .. } => true,
         Request::Commit => true,

@@ -20,7 +20,9 @@ use crate::content::{
 use crate::copies::copy_of_befores;
 use crate::log::LogImage;
 use crate::look::{content_of_part, is_kept, is_unit, keeps_any, position_of_file};
-use crate::state::{FilePosition, FileState, HeldLock, KeptImage, LoggedPlace, OwnedArea, copy_of_stored};
+use crate::state::{
+    FilePosition, FileState, HeldLock, KeptImage, LoggedPlace, OwnedArea, copy_of_stored,
+};
 use std::alloc::Global;
 use vr_types::{FileRef, LockName, Mode, OutOfMemory, Place, Position, Stand, Unit};
 

@@ -17,11 +17,7 @@ use std::alloc::Global;
 use vr_catalog::{CatEntry, EntryKind};
 use vr_types::{OutOfMemory, Position, Unit};
 
-fn other_locks(
-    alloc: Global,
-    held: &[HeldLock],
-    unit: Unit,
-) -> Result<Vec<HeldLock>, OutOfMemory>
+fn other_locks(alloc: Global, held: &[HeldLock], unit: Unit) -> Result<Vec<HeldLock>, OutOfMemory>
     ensures { IfOk result (λ left.
         left.items ≡ filter (λ lock. effects.is_other unit lock.unit) held.now) }
 {
@@ -310,11 +306,28 @@ fn with_areas(alloc: Global, state: FileState, parts: &[u32]) -> Result<FileStat
 fn given_back(alloc: Global, state: FileState) -> Result<FileState, OutOfMemory>
     ensures { IfOk result (λ new. seen new ≡ endings.given_back (seen state)) }
 {
-    let entries = catalog_of(alloc, &state)?;
-    let parts = parts_in(alloc, &entries)?;
-    let laid = parts_laid(alloc, &entries)?;
+    let parts = parts_of(alloc, &state)?;
+    let laid = laid_of(alloc, &state)?;
     let parted = with_parts(alloc, state, &parts)?;
     Ok(with_areas(alloc, parted, &laid)?)
+}
+
+/// The parts of the catalog.
+fn parts_of(alloc: Global, state: &FileState) -> Result<Vec<u32>, OutOfMemory>
+    ensures { IfOk result (λ parts.
+        parts.items ≡ catalogs.parts_in (files.catalog_of (seen state.now))) }
+{
+    let entries = catalog_of(alloc, state)?;
+    Ok(parts_in(alloc, &entries)?)
+}
+
+/// The parts of the catalog that have areas.
+fn laid_of(alloc: Global, state: &FileState) -> Result<Vec<u32>, OutOfMemory>
+    ensures { IfOk result (λ parts.
+        parts.items ≡ effects.parts_laid (files.catalog_of (seen state.now))) }
+{
+    let entries = catalog_of(alloc, state)?;
+    Ok(parts_laid(alloc, &entries)?)
 }
 
 /// What the catalog hasn't goes, once no unit of the utilities is live.

@@ -3,6 +3,9 @@
 //! definition, and then leaves the state that the definition gives. It is slow, and is for trying the definition out.
 #![tactic(auto)]
 
+mod address;
+mod change;
+mod content;
 mod copies;
 mod deciding;
 mod effects;
@@ -19,15 +22,12 @@ mod refused_record;
 mod refused_room;
 mod replies;
 mod request;
-mod address;
-mod change;
-mod content;
 mod shape;
 mod state;
 mod steps;
 
+pub use content::{PartContent, PlacedItem, Stored};
 pub use machine::apply;
 pub use merging::{NumberedEntry, is_stamped, merge};
-pub use content::{PartContent, PlacedItem, Stored};
 pub use shape::Shape;
 pub use state::{FilePosition, FileState, HeldLock, KeptImage, LoggedPlace, OwnedArea};

@@ -141,7 +141,11 @@ pub(crate) fn lock_names(
         ≡ names.lock_names (case_in state.now unit request.now) request.now) }
 {
     match request {
-        Request::Get { update, integrity, .. } => {
+        Request::Get {
+            update,
+            integrity,
+            ..
+        } => {
             if locks_read(*update, *integrity) {
                 Ok(read_names(alloc, state, unit, request)?)
             } else {

@@ -44,7 +44,8 @@ fn is_sequential(request: &Request) -> bool
             Find::AtLeast(_) => false,
         },
         Request::Point { .. } | Request::Add { .. } | Request::Update { .. } => false,
-        Request::Erase { .. } | Request::EndReq { .. } | Request::Commit | Request::Backout => false,
+        Request::Erase { .. } | Request::EndReq { .. } | Request::Commit | Request::Backout =>
+            false,
     }
 }
 

@@ -13,7 +13,9 @@ ghost use Rattle.vr_model.specs.Seen.{case_in, seen};
 ghost use Rattle.vr_model.specs.Groups.{by_record, by_request};
 
 use crate::change::{KeyMove, pair_moves, place_changed};
-use crate::found::{FoundRecord, candidates_in, found, joined, key_of_pair, place_read, records_in};
+use crate::found::{
+    FoundRecord, candidates_in, found, joined, key_of_pair, place_read, records_in,
+};
 use crate::look::content_of_part;
 use crate::opened::{AlternateIndex, OpenedFile, opened};
 use crate::refused_file::{bad_length, bad_slot, no_file, not_allowed, stopped};
@@ -93,7 +95,14 @@ fn refusals_by_record(
     let absent = absent(alloc, state, unit, request)?;
     let duplicate = duplicate(alloc, state, unit, request)?;
     let duplicate_key = duplicate_key(alloc, state, unit, request)?;
-    let all = [key_changed, length_changed, held, absent, duplicate, duplicate_key];
+    let all = [
+        key_changed,
+        length_changed,
+        held,
+        absent,
+        duplicate,
+        duplicate_key,
+    ];
     let all = Vec::from_array(alloc, all)?;
     Ok(all)
 }
@@ -116,7 +125,7 @@ fn after_first(
 }
 
 /// All refusals but that of the log.
-pub(crate) fn before_room(
+fn before_room(
     alloc: Global,
     state: &FileState,
     unit: Unit,
@@ -131,7 +140,7 @@ pub(crate) fn before_room(
 }
 
 /// All refusals, that of the log last.
-pub(crate) fn all_refusals(
+fn all_refusals(
     alloc: Global,
     state: &FileState,
     unit: Unit,
@@ -346,6 +355,21 @@ pub(crate) fn answer(
         None => Ok(done_by(alloc, state, unit, request)?),
         Some(refusal) => Ok(Reply::Refused(refusal)),
     }
+}
+
+/// The first of all refusals but that of the log.
+pub(crate) fn first_before_room(
+    alloc: Global,
+    state: &FileState,
+    unit: Unit,
+    request: &Request,
+) -> Result<Option<Refusal>, OutOfMemory>
+    ensures { IfOk result (λ first. first
+        ≡ replies.first_of (replies.before_room (case_in state.now unit request.now))) }
+{
+    let all = before_room(alloc, state, unit, request)?;
+    let first = first_of(alloc, &all)?;
+    Ok(first)
 }
 
 /// The first refusal of all.

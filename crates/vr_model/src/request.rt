@@ -63,7 +63,8 @@ pub(crate) fn is_add(request: &Request) -> bool
     match request {
         Request::Add { .. } => true,
         Request::Get { .. } | Request::Point { .. } | Request::Update { .. } => false,
-        Request::Erase { .. } | Request::EndReq { .. } | Request::Commit | Request::Backout => false,
+        Request::Erase { .. } | Request::EndReq { .. } | Request::Commit | Request::Backout =>
+            false,
     }
 }
 
@@ -83,9 +84,14 @@ pub(crate) fn sees_kept(request: &Request) -> bool
     ensures { result ≡ cases.sees_kept request.now }
 {
     match request {
-        Request::Get { update, integrity, .. } => *update || is_consistent(*integrity),
+        Request::Get {
+            update,
+            integrity,
+            ..
+        } => *update || is_consistent(*integrity),
         Request::Point { .. } | Request::Add { .. } | Request::Update { .. } => false,
-        Request::Erase { .. } | Request::EndReq { .. } | Request::Commit | Request::Backout => false,
+        Request::Erase { .. } | Request::EndReq { .. } | Request::Commit | Request::Backout =>
+            false,
     }
 }
 

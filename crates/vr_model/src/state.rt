@@ -73,7 +73,10 @@ impl KeptImage {
 }
 
 /// A copy of what is stored, if something is.
-pub(crate) fn copy_of_stored(alloc: Global, stored: &Option<Stored>) -> Result<Option<Stored>, OutOfMemory>
+pub(crate) fn copy_of_stored(
+    alloc: Global,
+    stored: &Option<Stored>,
+) -> Result<Option<Stored>, OutOfMemory>
     ensures { IfOk result (λ copy. copy ≡ stored.now) }
 {
     match stored {

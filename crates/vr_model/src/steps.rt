@@ -197,10 +197,10 @@ fn makes(
     ensures { IfOk result (λ new. seen new
         ≡ steps.makes (case_in state.now unit request.now) change.now (seen now)) }
 {
-    let now = locked(alloc, state, unit, request, Mode::Exclusive, now)?;
-    let now = keeps_before(alloc, now, unit, change)?;
-    let now = logged(alloc, state, unit, request, now)?;
-    Ok(changes(alloc, now, change)?)
+    let locked = locked(alloc, state, unit, request, Mode::Exclusive, now)?;
+    let kept = keeps_before(alloc, locked, unit, change)?;
+    let with_log = logged(alloc, state, unit, request, kept)?;
+    Ok(changes(alloc, with_log, change)?)
 }
 
 /// The change of a request is made, if it has one.
