@@ -260,13 +260,52 @@ fn is_answered(
     ensures { IfOk result (λ is. IsTrue is
         ↔ replies.IsAnswered (case_in state.now unit request.now) reply.now) }
 {
-    let same = *reply == answer(alloc, state, unit, request)?;
+    let same = is_answer(alloc, state, unit, request, reply)?;
     let ends = ends_or_refused(alloc, state, unit, request)?;
     Ok(same && ends)
 }
 
+/// Whether a reply is the one where memory is ample, the device has no fault, and there is room.
+fn is_answer(
+    alloc: Global,
+    state: &FileState,
+    unit: Unit,
+    request: &Request,
+    reply: &Reply,
+) -> Result<bool, OutOfMemory>
+    ensures { IfOk result (λ is. IsTrue is
+        ↔ (reply.now ≡ replies.answer_of (case_in state.now unit request.now))) }
+{
+    let wanted = answer(alloc, state, unit, request)?;
+    let same = is_same(reply, &wanted);
+    Ok(same)
+}
+
+/// Whether two replies are equal.
+fn is_same(one: &Reply, other: &Reply) -> bool
+    ensures { IsTrue result ↔ (one.now ≡ other.now) }
+{
+    *one == *other
+}
+
+/// Whether a unit may ask for a request with a reply.
+pub(crate) fn may_ask(
+    alloc: Global,
+    state: &FileState,
+    unit: Unit,
+    request: &Request,
+    reply: &Reply,
+) -> Result<bool, OutOfMemory>
+    ensures { IfOk result (λ may. IsTrue may ↔ (steps.IsOfUnit (seen state.now) unit
+        × replies.MayReply (case_in state.now unit request.now) reply.now)) }
+{
+    let current = is_of_unit(state, unit);
+    let may = may_reply(alloc, state, unit, request, reply)?;
+    Ok(current && may)
+}
+
 /// Whether a request may have a reply.
-pub(crate) fn may_reply(
+fn may_reply(
     alloc: Global,
     state: &FileState,
     unit: Unit,
@@ -284,7 +323,7 @@ pub(crate) fn may_reply(
 }
 
 /// Whether a unit is its deck's current one.
-pub(crate) fn is_of_unit(state: &FileState, unit: Unit) -> bool
+fn is_of_unit(state: &FileState, unit: Unit) -> bool
     ensures { IsTrue result ↔ steps.IsOfUnit (seen state.now) unit }
 {
     unit.number as u64 == number_of_deck(&state.numbers, unit.deck)

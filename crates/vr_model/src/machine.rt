@@ -6,7 +6,7 @@ ghost use Rattle.vr_types.specs.Geometry.{IsAllowed};
 ghost use Rattle.vr_model.specs.Seen.{content_in, seen};
 
 use crate::content::PartContent;
-use crate::deciding::{is_last_kept, is_least_free, is_of_unit, may_reply};
+use crate::deciding::{is_last_kept, is_least_free, may_ask};
 use crate::effects::{claims, stops};
 use crate::shape::Shape;
 use crate::state::{FileState, OwnedArea};
@@ -67,10 +67,7 @@ fn may_enter(alloc: Global, state: &FileState, entry: &Entry) -> Result<bool, Ou
 {
     let unit = entry.unit;
     match &entry.what {
-        What::Asked { request, reply } => {
-            let may = may_reply(alloc, state, unit, request, reply)?;
-            Ok(is_of_unit(state, unit) && may)
-        }
+        What::Asked { request, reply } => Ok(may_ask(alloc, state, unit, request, reply)?),
         What::Undone { part, place } => Ok(is_last_kept(alloc, state, unit, part.0, place)?),
         What::Claimed { area, .. } => Ok(is_least_free(state, area.0)),
         What::Split { .. } => Ok(true),
