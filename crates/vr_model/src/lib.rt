@@ -16,6 +16,7 @@ mod look;
 mod machine;
 mod merging;
 mod names;
+mod opening;
 mod opened;
 mod refused_file;
 mod refused_record;

@@ -1,46 +1,21 @@
 //! The machine: whether an entry is a step, and the state after it.
-ghost use Rattle.std.specs.Prelude.{◌≡◌, ◌↔◌, IsTrue, true, false, IfOk, OnErr, [], ◌∷◌, List, ℕ};
-ghost use Rattle.vr_history.specs.State.{opening_state};
-ghost use Rattle.vr_history.specs.Step.{Step, state_after};
-ghost use Rattle.vr_types.specs.Geometry.{IsAllowed};
-ghost use Rattle.vr_model.specs.Seen.{content_in, seen};
+ghost use Rattle.std.specs.Prelude.{◌≡◌, ◌↔◌, IsTrue, false, IfOk, OnErr};
+ghost use Rattle.vr_history.specs.Replies.{MayReply};
+ghost use Rattle.vr_history.specs.Step.{
+  IsOfUnit,
+  Step,
+  after_asked as after_asked_of,
+  state_after,
+};
+ghost use Rattle.vr_model.specs.Seen.{case_in, seen};
 
-use crate::content::PartContent;
 use crate::deciding::{is_last_kept, is_least_free, may_ask};
 use crate::effects::{claims, stops};
-use crate::shape::Shape;
-use crate::state::{FileState, OwnedArea};
+use crate::state::FileState;
 use crate::steps::{after_asked, puts_back};
 use std::alloc::Global;
 use vr_history::{Entry, What};
-use vr_types::{DeviceFault, Geometry, OutOfMemory};
-
-impl FileState {
-    /// A volume as it is opened: contents of its parts, and the areas that they own. It takes no memory.
-    pub fn opening(
-        alloc: Global,
-        geometry: Geometry,
-        contents: Vec<(u32, PartContent)>,
-        owned: Vec<OwnedArea>,
-    ) -> FileState
-        requires { IsAllowed geometry }
-        ensures shape { result.shape ≡ geometry }
-        ensures state { seen result ≡ opening_state (content_in contents.items) owned.items }
-    {
-        FileState {
-            shape: Shape::new(geometry),
-            contents,
-            locks: Vec::new(alloc),
-            befores: Vec::new(alloc),
-            logged: Vec::new(alloc),
-            used: 0,
-            positions: Vec::new(alloc),
-            numbers: Vec::new(alloc),
-            owned,
-            stopped: None,
-        }
-    }
-}
+use vr_types::{DeviceFault, OutOfMemory, Reply, SharedRequest, Unit};
 
 /// Takes an entry where it is a step of the definition from the state, and makes the state the one after it. Answers
 /// whether it was; the state stays where it was not, and where memory ran out.
@@ -67,12 +42,42 @@ fn may_enter(alloc: Global, state: &FileState, entry: &Entry) -> Result<bool, Ou
 {
     let unit = entry.unit;
     match &entry.what {
-        What::Asked { request, reply } => Ok(may_ask(alloc, state, unit, request, reply)?),
+        What::Asked { request, reply } => Ok(may_share(alloc, state, unit, request, reply)?),
         What::Undone { part, place } => Ok(is_last_kept(alloc, state, unit, part.0, place)?),
         What::Claimed { area, .. } => Ok(is_least_free(state, area.0)),
         What::Split { .. } => Ok(true),
         What::Faulted { fault } => Ok(is_write(*fault) && state.stopped.is_none()),
     }
+}
+
+/// Whether a unit may ask for a request that its deck shares, with a reply.
+fn may_share(
+    alloc: Global,
+    state: &FileState,
+    unit: Unit,
+    request: &SharedRequest,
+    reply: &Reply,
+) -> Result<bool, OutOfMemory>
+    ensures { IfOk result (λ may. IsTrue may ↔ (IsOfUnit (seen state.now) unit
+        × MayReply (case_in state.now unit request.now) reply.now)) }
+{
+    let may = may_ask(alloc, state, unit, request.get(), reply)?;
+    Ok(may)
+}
+
+/// The state after a request that its deck shares, and its reply.
+fn after_shared(
+    alloc: Global,
+    state: &FileState,
+    unit: Unit,
+    request: &SharedRequest,
+    reply: &Reply,
+) -> Result<FileState, OutOfMemory>
+    ensures { IfOk result (λ new.
+        seen new ≡ after_asked_of (case_in state.now unit request.now) reply.now) }
+{
+    let new = after_asked(alloc, state, unit, request.get(), reply)?;
+    Ok(new)
 }
 
 /// Whether a fault is one of a write.
@@ -103,7 +108,7 @@ fn after_what(alloc: Global, state: &FileState, entry: &Entry) -> Result<FileSta
 {
     match &entry.what {
         What::Asked { request, reply } => {
-            Ok(after_asked(alloc, state, entry.unit, request, reply)?)
+            Ok(after_shared(alloc, state, entry.unit, request, reply)?)
         }
         What::Undone { .. } => Ok(puts_back(alloc, state, entry.unit)?),
         What::Claimed { part, area } => {

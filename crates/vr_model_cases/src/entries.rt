@@ -5,7 +5,7 @@ use crate::replies::reply_of;
 use crate::words::{file_of, parted, place_of, place_or_none, record_of, unit_of, word_of};
 use std::alloc::Global;
 use vr_history::{Entry, What};
-use vr_types::{AreaNo, DeviceFault, FileRef, Find, Integrity, PartNo, Request};
+use vr_types::{AreaNo, DeviceFault, FileRef, Find, Integrity, PartNo, Request, SharedRequest};
 
 /// The entry that a line spells, at a stamp.
 pub fn entry_of(alloc: Global, stamp: u64, line: &str) -> Result<Entry, Stop> {
@@ -30,6 +30,7 @@ fn what_of(alloc: Global, text: &str) -> Result<What, Stop> {
 fn asked_of(alloc: Global, asked: &str, answered: &str) -> Result<What, Stop> {
     let reply = reply_of(alloc, answered)?;
     let request = request_of(alloc, asked)?;
+    let request = SharedRequest::new(alloc, request)?;
     Ok(What::Asked { request, reply })
 }
 

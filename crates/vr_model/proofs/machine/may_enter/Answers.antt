@@ -19,8 +19,8 @@ entered : (geometry : Geometry) (state : State) (unit : UnitOfRecovery) (what : 
 entered geometry state unit what request reply test is may =
     subst (λ (entry : What). IsTrue test ↔ MayEnter geometry state unit entry) (sym is) may
 
-pub returns-in_ok-may_ask-in-Asked : goal.returns-in_ok-may_ask-in-Asked
-returns-in_ok-may_ask-in-Asked c =
+pub returns-in_ok-may_share-in-Asked : goal.returns-in_ok-may_share-in-Asked
+returns-in_ok-may_share-in-Asked c =
     entered c.args.state.now.shape (seen c.args.state.now) c.args.entry.now.unit
-    c.args.entry.now.what _ _ c.in_ok-may_ask-in-Asked.field-0 c.in-Asked.is
-    c.in_ok-may_ask-in-Asked.ensures
+    c.args.entry.now.what _ _ c.in_ok-may_share-in-Asked.field-0 c.in-Asked.is
+    c.in_ok-may_share-in-Asked.ensures
