@@ -11,9 +11,9 @@ use Rattle.vr_history.specs.Change.{Change}
 use Rattle.vr_history.specs.Effects.{has_part, moves_file, changes, placed_in}
 use Rattle.vr_history.specs.State.{State}
 use Rattle.vr_model.specs.Endings.{kept_in, unheld_in, unheld_of, with_next}
-use Rattle.vr_model.specs.Seen.{content_in, position_in}
+use Rattle.vr_model_state.specs.Seen.{content_in, position_in}
 use Rattle.vr_model.specs.Writes.{with_content, with_number, with_position}
-use Rattle.vr_model.specs.declared.state.FilePosition.{FilePosition}
+use Rattle.vr_model_state.specs.declared.state.FilePosition.{FilePosition}
 
 -- a value that was made of the function's own at a number, and one that is made at each number
 at_one : {X : Type 0} (at n : ℕ) (to : X → X) (f : ℕ → X)
@@ -45,7 +45,7 @@ pub position_moved : (deck slot : ℕ) (to : Position
     → with_position deck slot position state ≡ moves_file deck slot to state
 position_moved deck slot to position state same =
     rw same (ap (λ (positions : ℕ → ℕ → Position). let old = state in
-        record old { positions = positions })
+    record old { positions = positions })
     (fun_ext (λ n. fun_ext (λ m. at_two deck slot n m to state.positions))))
 
 -- a content that was made of the part's own is the change made

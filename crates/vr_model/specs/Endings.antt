@@ -7,7 +7,7 @@ use Rattle.vr_catalog.specs.Catalog.{parts_in}
 use Rattle.vr_history.specs.Effects.{has_part, is_other, parts_laid, used_after}
 use Rattle.vr_history.specs.Opened.{catalog_of}
 use Rattle.vr_history.specs.State.{State}
-use Rattle.vr_model.specs.declared.state.FilePosition.{FilePosition}
+use Rattle.vr_model_state.specs.declared.state.FilePosition.{FilePosition}
 
 -- its locks, before-images and log records go
 abbrev pub without_lists : UnitOfRecovery → State → State

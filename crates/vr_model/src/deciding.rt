@@ -7,18 +7,16 @@ ghost use Rattle.vr_history.specs.Opened as files;
 ghost use Rattle.vr_history.specs.Change as moves;
 ghost use Rattle.vr_history.specs.Replies as replies;
 ghost use Rattle.vr_history.specs.Step as steps;
-ghost use Rattle.vr_model.specs.OpenedFiles.{as_opened};
-ghost use Rattle.vr_model.specs.Seen.{case_in, seen};
+ghost use Rattle.vr_model_state.specs.OpenedFiles.{as_opened};
+ghost use Rattle.vr_model_state.specs.Seen.{case_in, seen};
 
-use crate::change::{KeyMove, pair_moves};
 use crate::effects::last_kept;
-use crate::look::{keeps_any, number_of_deck};
-use crate::opened::{definition_in, opened};
-use crate::refused_room::free_areas;
-use crate::replies::{answer, before_all, first_before_room, first_of, first_refusal};
-use crate::request::new_record;
-use crate::state::{FileState, OwnedArea};
 use std::alloc::Global;
+use vr_model_change::{KeyMove, pair_moves};
+use vr_model_reply::{answer, before_all, first_before_room, first_of, first_refusal, free_areas};
+use vr_model_state::{
+    FileState, OwnedArea, definition_in, keeps_any, new_record, number_of_deck, opened,
+};
 use vr_types::{Kind, OutOfMemory, Place, Refusal, Reply, Request, Unit};
 
 /// Whether no refusal that no fault of the device comes before has its cause.
@@ -87,7 +85,8 @@ fn fills_base(
     unit: Unit,
     request: &Request,
 ) -> Result<bool, OutOfMemory>
-    ensures { IfOk result (λ fills. fills ≡ replies.fills_base (case_in state.now unit request.now)) }
+    ensures { IfOk result (λ fills.
+        fills ≡ replies.fills_base (case_in state.now unit request.now)) }
 {
     let opened = opened(alloc, state, unit, request)?;
     match definition_in(&opened) {

@@ -7,23 +7,17 @@ ghost use Rattle.std.specs.List.{list_any};
 ghost use Rattle.vr_types.specs.Content.{item_at};
 ghost use Rattle.vr_types.specs.Locks.{same_unit};
 ghost use Rattle.vr_types.specs.Position.{unheld};
-ghost use Rattle.vr_model.specs.Items.{item_of};
-ghost use Rattle.vr_model.specs.Seen.{content_in, seen};
+ghost use Rattle.vr_model_state.specs.Items.{item_of};
+ghost use Rattle.vr_model_state.specs.Seen.{content_in, seen};
 ghost use Rattle.vr_model.specs.Writes.{with_content, with_position};
 
-use crate::address::plus;
-use crate::change::PlaceChange;
-use crate::content::{
-    PartContent, PlacedItem, Stored, item_in_slice, prepended, with_item_in_slice,
-    without_item_in_slice,
-};
-use crate::copies::copy_of_befores;
-use crate::log::LogImage;
-use crate::look::{content_of_part, is_kept, is_unit, keeps_any, position_of_file};
-use crate::state::{
-    FilePosition, FileState, HeldLock, KeptImage, LoggedPlace, OwnedArea, copy_of_stored,
-};
 use std::alloc::Global;
+use vr_model_change::{LogImage, PlaceChange, plus};
+use vr_model_state::{
+    FilePosition, FileState, HeldLock, KeptImage, LoggedPlace, OwnedArea, PartContent, PlacedItem,
+    Stored, content_of_part, copy_of_befores, copy_of_stored, is_kept, is_unit, item_in_slice,
+    keeps_any, position_of_file, prepended, with_item_in_slice, without_item_in_slice,
+};
 use vr_types::{FileRef, LockName, Mode, OutOfMemory, Place, Position, Stand, Unit};
 
 /// The state with a position of one file.

@@ -5,16 +5,16 @@ ghost use Rattle.vr_catalog.specs.Catalog as catalogs;
 ghost use Rattle.vr_history.specs.Effects as effects;
 ghost use Rattle.vr_history.specs.Opened as files;
 ghost use Rattle.vr_model.specs.Endings as endings;
-ghost use Rattle.vr_model.specs.Seen.{content_in, number_in, seen};
+ghost use Rattle.vr_model_state.specs.Seen.{content_in, number_in, seen};
 ghost use Rattle.vr_model.specs.Writes.{with_number};
 
-use crate::address::plus;
-use crate::content::{PartContent, prepended};
-use crate::look::{is_unit, number_of_deck};
-use crate::opened::catalog_of;
-use crate::state::{FilePosition, FileState, HeldLock, KeptImage, LoggedPlace, OwnedArea};
 use std::alloc::Global;
 use vr_catalog::{CatEntry, EntryKind};
+use vr_model_change::plus;
+use vr_model_state::{
+    FilePosition, FileState, HeldLock, KeptImage, LoggedPlace, OwnedArea, PartContent, catalog_of,
+    is_unit, number_of_deck, prepended,
+};
 use vr_types::{OutOfMemory, Position, Unit};
 
 fn other_locks(alloc: Global, held: &[HeldLock], unit: Unit) -> Result<Vec<HeldLock>, OutOfMemory>

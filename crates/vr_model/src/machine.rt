@@ -7,18 +7,18 @@ ghost use Rattle.vr_history.specs.Step.{
   after_asked as after_asked_of,
   state_after,
 };
-ghost use Rattle.vr_model.specs.Seen.{case_in, seen};
+ghost use Rattle.vr_model_state.specs.Seen.{case_in, seen};
 
 use crate::deciding::{is_last_kept, is_least_free, may_ask};
 use crate::effects::{claims, stops};
-use crate::state::FileState;
 use crate::steps::{after_asked, puts_back};
 use std::alloc::Global;
 use vr_history::{Entry, What};
+use vr_model_state::FileState;
 use vr_types::{DeviceFault, OutOfMemory, Reply, SharedRequest, Unit};
 
-/// Takes an entry where it is a step of the definition from the state, and makes the state the one after it. Answers
-/// whether it was; the state stays where it was not, and where memory ran out.
+/// Takes an entry where it is a step of the definition from the state, and makes the state the one
+/// after it. Answers whether it was; the state stays where it was not, and where memory ran out.
 pub fn apply(alloc: Global, state: &mut FileState, entry: &Entry) -> Result<bool, OutOfMemory>
     ensures taken { IfOk result (λ taken.
         IsTrue taken ↔ Step state.old.shape (seen state.old) entry.now) }

@@ -7,24 +7,21 @@ ghost use Rattle.vr_history.specs.Found as founds;
 ghost use Rattle.vr_history.specs.LogSpace as space;
 ghost use Rattle.vr_history.specs.Names as names;
 ghost use Rattle.vr_history.specs.Step as steps;
-ghost use Rattle.vr_model.specs.Items.{item_of};
-ghost use Rattle.vr_model.specs.Seen.{case_in, content_in, seen};
+ghost use Rattle.vr_model_state.specs.Items.{item_of};
+ghost use Rattle.vr_model_state.specs.Seen.{case_in, content_in, seen};
 
-use crate::address::length_of;
-use crate::change::{PlaceChange, change_of};
-use crate::content::{Stored, item_in_slice};
 use crate::effects::{
     changes, drops_held, holds_at, keeps_before, last_kept, logs, stands_at, takes_locks, takes_out,
 };
 use crate::endings::ends_unit;
-use crate::found::{found, place_read};
-use crate::log::{log_need, new_images};
-use crate::look::content_of_part;
-use crate::names::lock_names;
-use crate::opened::{catalog_of, definition_of};
-use crate::request::file_of;
-use crate::state::{FileState, KeptImage};
 use std::alloc::Global;
+use vr_model_change::{
+    PlaceChange, change_of, found, length_of, lock_names, log_need, new_images, place_read,
+};
+use vr_model_state::{
+    FileState, KeptImage, Stored, catalog_of, content_of_part, definition_of, file_of,
+    item_in_slice,
+};
 use vr_types::{
     FileRef, Find, Integrity, Kind, Mode, OutOfMemory, Place, Refusal, Reply, Request, Stand, Unit,
 };
@@ -365,7 +362,8 @@ fn withdrawn_at(
     state: &FileState,
     kept: &KeptImage,
 ) -> Result<Option<Stored>, OutOfMemory>
-    ensures { IfOk result (λ new. option_map item_of new ≡ steps.put_back (seen state.now) kept.now None) }
+    ensures { IfOk result (λ new.
+        option_map item_of new ≡ steps.put_back (seen state.now) kept.now None) }
 {
     let entries = catalog_of(alloc, state)?;
     match definition_of(&entries, kept.part) {

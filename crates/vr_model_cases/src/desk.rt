@@ -127,7 +127,8 @@ impl Desk {
         self.catalog(alloc, entry, out)
     }
 
-    /// `alternate NAME PART BASE KEYLENGTH KEYOFFSET unique|shared`: the catalog has the built alternate index.
+    /// `alternate NAME PART BASE KEYLENGTH KEYOFFSET unique|shared`: the catalog has the built
+    /// alternate index.
     pub fn alternate(&mut self, alloc: Global, text: &str, out: &mut String) -> Answer {
         let (name, rest) = parted(text);
         let (part, rest) = parted(rest);

@@ -5,7 +5,8 @@ use crate::words::{long_of, parted, place_of, place_or_none, record_or_none, sma
 use std::alloc::Global;
 use vr_types::{LockName, Mode, PartNo, Refusal, Reply};
 
-/// The reply that a text spells: `done FEEDBACK PLACE RECORD`, or the name of a refusal with its numbers.
+/// The reply that a text spells: `done FEEDBACK PLACE RECORD`, or the name of a refusal with its
+/// numbers.
 pub fn reply_of(alloc: Global, text: &str) -> Result<Reply, Stop> {
     let (verb, rest) = parted(text);
     if verb == "done" {

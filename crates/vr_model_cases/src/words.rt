@@ -27,8 +27,8 @@ pub fn small_of(word: &str) -> Result<u16, Stop> {
     u16::try_from(value).ok().ok_or(Stop::Line)
 }
 
-/// The bytes that a word spells: `#N` a number of four bytes, `=TEXT` a text, `TEXT+N` a text and N full stops after it,
-/// `NUMBER,TEXT+N` a number of four bytes before such a text, and `.` nothing.
+/// The bytes that a word spells: `#N` a number of four bytes, `=TEXT` a text, `TEXT+N` a text and N
+/// full stops after it, `NUMBER,TEXT+N` a number of four bytes before such a text, and `.` nothing.
 pub fn bytes_of(alloc: Global, word: &str) -> Result<Vec<u8>, Stop> {
     if word == "." {
         return Ok(Vec::new(alloc));
@@ -98,7 +98,8 @@ pub fn unit_of(word: &str) -> Result<Unit, Stop> {
     })
 }
 
-/// The file that `SLOT:BASE`, `SLOT:BASE:PATH` or, for a name that no catalog has, `?SLOT:BASE` spells.
+/// The file that `SLOT:BASE`, `SLOT:BASE:PATH` or, for a name that no catalog has, `?SLOT:BASE`
+/// spells.
 pub fn file_of(word: &str) -> Result<FileRef, Stop> {
     let (known, word) = match word.strip_prefix('?') {
         Some(rest) => (false, rest),

@@ -4,7 +4,7 @@ use Rattle.vr_history.specs.Effects as effects
 use Rattle.vr_history.specs.Opened as files
 use Rattle.vr_history.specs.State.{State}
 use Rattle.vr_model.specs.Endings as endings
-use Rattle.vr_model.specs.Seen.{seen}
+use Rattle.vr_model_state.specs.Seen.{seen}
 use Rattle.vr_model.proofs.endings.given_back.Goals as goal
 
 -- the two steps after one another

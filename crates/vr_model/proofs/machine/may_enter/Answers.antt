@@ -8,7 +8,7 @@ use Rattle.vr_history.specs.declared.entry.What.TheVariants.{Asked}
 use Rattle.vr_history.specs.Replies.{MayReply}
 use Rattle.vr_history.specs.State.{State}
 use Rattle.vr_history.specs.Step.{IsOfUnit, MayEnter, case_of}
-use Rattle.vr_model.specs.Seen.{seen}
+use Rattle.vr_model_state.specs.Seen.{seen}
 use Rattle.vr_model.proofs.machine.may_enter.Goals as goal
 
 -- a request of its unit with a reply that it may have is what may enter

@@ -7,7 +7,7 @@ use Rattle.vr_history.specs.LogSpace as space
 use Rattle.vr_history.specs.Names as names
 use Rattle.vr_history.specs.State.{State}
 use Rattle.vr_history.specs.Step as steps
-use Rattle.vr_model.specs.Seen.{case_in, seen}
+use Rattle.vr_model_state.specs.Seen.{case_in, seen}
 use Rattle.vr_model.proofs.steps.makes.Goals as goal
 
 -- the four steps after one another

@@ -1,5 +1,0 @@
-use Rattle.std.proofs.Common.{length}
-use Rattle.vr_model.proofs.content.+record_in_slice.Given as goal
-
-abbrev pub decreases-record_in_slice : goal.decreases-record_in_slice
-decreases-record_in_slice l = length l.placed.now

@@ -1,5 +1,0 @@
-use Rattle.std.proofs.Common.{length}
-use Rattle.vr_model.proofs.content.+without_item_in_slice.Given as goal
-
-abbrev pub decreases-without_item_in_slice : goal.decreases-without_item_in_slice
-decreases-without_item_in_slice l = length l.placed.now
