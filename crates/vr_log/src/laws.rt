@@ -1,5 +1,7 @@
-//! Laws of a log, each the contract of a function that does nothing, and a block that is replaced under a log record.
-ghost use Rattle.std.specs.Prelude.{◌≡◌, ◌<◌, ◌≤◌, ◌+◌, ◌^◌, [], length, ℕ, List, IsTrue, false, OnOk};
+//! Laws of a log, each the contract of a function that does nothing, and a block that is replaced
+//! under a log record.
+ghost use Rattle.std.specs.Prelude.{◌≡◌, ◌<◌, ◌≤◌, ◌+◌, ◌^◌, [], length, ℕ, List, IsTrue, false};
+ghost use Rattle.std.specs.Prelude.{OnOk};
 ghost use Rattle.vr_types.specs.Faults.{HasWriteCause};
 ghost use Rattle.vr_types.specs.Image.{Image, block_at};
 ghost use Rattle.vr_types.specs.Moments.{Guards};
@@ -32,15 +34,18 @@ pub fn one_log_at_most()
         → one ≡ other }
 {}
 
-/// Each image that a crash may leave of a log that stands on its blocks has the records that were forced and a prefix of
+/// Each image that a crash may leave of a log that stands on its blocks has the records that were
+/// forced and a prefix of
 /// all, or the log before while no block of this one was forced.
 pub fn each_image_has_the_log<B: Blocks>(log: &UndoLog, blocks: &B)
     ensures { IsTrue B.tells → LogStands log.now (B.seen blocks.now)
         → (image : Image) → Left (B.seen blocks.now) image → HasLog log.now image }
 {}
 
-/// A log with records that stands on its blocks, all of them forced and no unit live, stands after `restart` too: what each
-/// image then has is the log before. The generation is below its greatest value, at which it stands still.
+/// A log with records that stands on its blocks, all of them forced and no unit live, stands after
+/// `restart` too: what each
+/// image then has is the log before. The generation is below its greatest value, at which it stands
+/// still.
 pub fn restarted_log_stands<B: Blocks>(log: &UndoLog, blocks: &B)
     ensures { IsTrue B.tells → LogStands log.now (B.seen blocks.now) → IsForced log.now
         → live_in log.now.records ≡ [] → 0 < length log.now.records
@@ -63,8 +68,10 @@ pub fn log_stands_while_others_put<B: Blocks>(
     blocks.put(home, bytes)
 }
 
-/// Replaces the content of a block outside the log: it appends the record, forces it, and then puts the block. In every
-/// image at every moment, and from then on, the block has its old content, or the image's log has the record.
+/// Replaces the content of a block outside the log: it appends the record, forces it, and then puts
+/// the block. In every
+/// image at every moment, and from then on, the block has its old content, or the image's log has
+/// the record.
 pub fn write_ahead<B: Blocks>(
     log: &mut UndoLog,
     blocks: &mut B,

@@ -11,7 +11,8 @@ pub enum EndKind {
     BackedOut,
 }
 
-/// A record of the log: a before-image, which is what was at a place of a part before the unit first
+/// A record of the log: a before-image, which is what was at a place of a part before the unit
+/// first
 /// changed it, or the end of a unit.
 #[derive(Debug, Drop)]
 pub enum LogRecord {

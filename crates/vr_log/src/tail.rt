@@ -32,11 +32,14 @@ ghost use Rattle.vr_log.specs.LogNow.{LogNow};
 ghost use Rattle.vr_log.specs.Standing.{InLog};
 ghost use Rattle.vr_log.specs.Memory.{IsTail};
 ghost use Rattle.vr_types.specs.declared.geometry.Geometry.{Geometry};
-ghost use Rattle.vr_log.specs.Writing.{IsSafe, IsSound, IsPassedBy, position, HasRoom, IsReady, IsPrefix, IsWriting, IsFound, IsSame, IsKeptBy, IsSettledOf, Follows, Ends};
+ghost use Rattle.vr_log.specs.Writing.{IsSafe, IsSound, IsPassedBy, position, HasRoom, IsReady};
+ghost use Rattle.vr_log.specs.Writing.{IsPrefix, IsWriting, IsFound, IsSame, IsKeptBy, IsSettledOf};
+ghost use Rattle.vr_log.specs.Writing.{Follows, Ends};
 
 use vr_types::{Blocks, DeviceFault, put_eight, put_four};
 
-/// The block of the log to which the next bytes go: its content so far, its index, the bytes used of
+/// The block of the log to which the next bytes go: its content so far, its index, the bytes used
+/// of
 /// it, and the number of blocks of the log. `begun` once a block of the log was forced.
 #[derive(Debug, Drop)]
 pub(crate) struct Tail {
@@ -86,7 +89,8 @@ impl Tail {
         blocks.put(1 + self.index, &self.block)
     }
 
-    /// Puts a block that is full, and goes on to the next one, where there is one. The block in which
+    /// Puts a block that is full, and goes on to the next one, where there is one. The block in
+    /// which
     /// the log was begun is forced first.
     pub(crate) fn turn<B: Blocks>(&mut self, blocks: &mut B) -> Result<(), DeviceFault>
         requires safe { IsSafe self.old (B.seen blocks.old) }
@@ -95,7 +99,8 @@ impl Tail {
         ensures position { OnOk result (position self.new ≡ position self.old) }
         ensures same { IsKeptBy self.old self.new }
         ensures writing { (log : LogNow) (total written : List ℕ)
-            → IsWriting log total written self.old B.tells (B.seen blocks.old) → IsPrefix written total
+            → IsWriting log total written self.old B.tells (B.seen blocks.old)
+            → IsPrefix written total
             → Follows B.tells log total written self.new (B.seen blocks.old) (B.seen blocks.new) result }
         ensures cause { HasWriteCause (B.faults blocks.old) (B.faults blocks.new) result }
     {

@@ -1,13 +1,16 @@
 //! A record's bytes, added to the log.
-ghost use Rattle.std.specs.Prelude.{◌≡◌, ◌<◌, ◌≤◌, ◌+◌, ◌++◌, ◌∷◌, ◌^◌, ℕ, List, length, IsTrue, OnOk, OnErr, IfSome, None};
+ghost use Rattle.std.specs.Prelude.{◌≡◌, ◌<◌, ◌≤◌, ◌+◌, ◌++◌, ◌∷◌, ◌^◌, ℕ, List, length, IsTrue};
+ghost use Rattle.std.specs.Prelude.{OnOk, OnErr, IfSome, None};
 ghost use Rattle.vr_types.specs.Faults.{HasWriteCause};
 ghost use Rattle.vr_types.specs.Fields.{four, two};
 ghost use Rattle.vr_log.specs.Live.{live_after};
 ghost use Rattle.vr_log.specs.LogNow.{LogNow};
 ghost use Rattle.vr_log.specs.Memory.{IsTail};
 ghost use Rattle.vr_types.specs.declared.geometry.Geometry.{Geometry};
-ghost use Rattle.vr_log.specs.Records.{HasLengths, HasFields, IsUnit, record_bytes, unit_bytes, end_number, old_bytes};
-ghost use Rattle.vr_log.specs.Writing.{IsSafe, IsSound, IsPassedBy, position, HasRoom, IsReady, IsPrefix, IsWriting, IsKeptBy, Follows, Ends};
+ghost use Rattle.vr_log.specs.Records.{HasLengths, HasFields, IsUnit, record_bytes, unit_bytes};
+ghost use Rattle.vr_log.specs.Records.{end_number, old_bytes};
+ghost use Rattle.vr_log.specs.Writing.{IsSafe, IsSound, IsPassedBy, position, HasRoom, IsReady};
+ghost use Rattle.vr_log.specs.Writing.{IsPrefix, IsWriting, IsKeptBy, Follows, Ends};
 
 use crate::live::Live;
 use crate::record::{EndKind, LogRecord};
