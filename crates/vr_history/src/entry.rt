@@ -32,11 +32,24 @@ impl Entry {
 /// claimed; an interval split; or a device fault that stopped the volume.
 #[derive(Debug, Drop)]
 pub enum What {
-    Asked { request: SharedRequest, reply: Reply },
-    Undone { part: PartNo, place: Place },
-    Claimed { part: PartNo, area: AreaNo },
-    Split { part: PartNo },
-    Faulted { fault: DeviceFault },
+    Asked {
+        request: SharedRequest,
+        reply: Reply,
+    },
+    Undone {
+        part: PartNo,
+        place: Place,
+    },
+    Claimed {
+        part: PartNo,
+        area: AreaNo,
+    },
+    Split {
+        part: PartNo,
+    },
+    Faulted {
+        fault: DeviceFault,
+    },
 }
 
 impl What {
