@@ -6,8 +6,10 @@
 
 mod changing;
 mod definition;
+mod laws;
 mod pairing;
 
 pub use changing::changes;
 pub use definition::{AltDef, AltList, PairChange, PairChanges};
+pub use laws::pairs_ascend;
 pub use pairing::pair;

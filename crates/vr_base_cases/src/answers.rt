@@ -9,7 +9,7 @@ use vr_types::OutOfMemory;
 pub enum Stop {
     /// Memory ran out, also in the call that was asked.
     Memory,
-    /// The line is no question.
+    /// The line is not a question.
     Line,
 }
 

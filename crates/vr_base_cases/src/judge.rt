@@ -68,17 +68,42 @@ impl Judged {
 pub fn judge(alloc: Global, block: &[u8], rest: &str, out: &mut String) -> Answer {
     let (kind, number) = first_word(rest);
     let judged = match kind {
-        "names" => plain_names::judge(alloc)?,
-        "literals" => plain_literals::judge_literals(alloc)?,
-        "spellings" => plain_literals::judge_spellings(alloc)?,
-        "numbers" => plain_literals::judge_numbers(alloc)?,
-        "sizes" => plain_records::judge_sizes(alloc)?,
-        "record" => plain_records::judge(alloc, block, small_of(number)?)?,
-        "plain" => plain_intervals::judge(alloc, Form::Plain, block)?,
-        "slots" => plain_intervals::judge(alloc, slots_of(number)?, block)?,
+        "record" | "plain" | "slots" => judge_blocks(alloc, block, kind, number),
+        _ => judge_inputs(alloc, kind),
+    };
+    match judged {
+        Ok(judged) => judged.say(out),
+        Err(stop) => Err(stop),
+    }
+}
+
+/// Judges the blocks close to the block.
+fn judge_blocks(alloc: Global, block: &[u8], kind: &str, number: &str) -> Result<Judged, Stop> {
+    let judged = match kind {
+        "record" => plain_records::judge(alloc, block, small_of(number)?),
+        "plain" => plain_intervals::judge(alloc, Form::Plain, block),
+        _ => plain_intervals::judge(alloc, slots_of(number)?, block),
+    };
+    match judged {
+        Ok(judged) => Ok(judged),
+        Err(AllocError) => Err(Stop::Memory),
+    }
+}
+
+/// Judges all small inputs of a kind.
+fn judge_inputs(alloc: Global, kind: &str) -> Result<Judged, Stop> {
+    let judged = match kind {
+        "names" => plain_names::judge(alloc),
+        "literals" => plain_literals::judge_literals(alloc),
+        "spellings" => plain_literals::judge_spellings(alloc),
+        "numbers" => plain_literals::judge_numbers(alloc),
+        "sizes" => plain_records::judge_sizes(alloc),
         _ => return Err(Stop::Line),
     };
-    judged.say(out)
+    match judged {
+        Ok(judged) => Ok(judged),
+        Err(AllocError) => Err(Stop::Memory),
+    }
 }
 
 fn slots_of(number: &str) -> Result<Form, Stop> {

@@ -41,18 +41,23 @@ fn main(rt: HostRuntime) -> io::Result<ExitCode> {
     Ok(ExitCode::from(if differ == 0 { 0 } else { 1 }))
 }
 
-/// Asks each line of the input. Empty lines and those that begin with `#` are passed over.
+/// Asks each line of the input.
 fn run<R: Input + Print + AllocGlobal>(rt: &R) -> io::Result<Tally> {
+    let mut block = Vec::new(rt.alloc());
+    ask_lines(rt, &mut block)
+}
+
+/// Asks each line of the input. Empty lines and those that begin with `#` are skipped.
+fn ask_lines<R: Input + Print + AllocGlobal>(rt: &R, block: &mut Vec<u8>) -> io::Result<Tally> {
     let mut tally = Tally {
         lines: 0,
         differ: 0,
     };
-    let mut block = Vec::new(rt.alloc());
     for line in rt.lines(rt.alloc()) {
         let line = line?;
         let line = line.as_str();
         if !line.is_empty() && !line.starts_with("#") {
-            let same = ask(rt, &mut block, line)?;
+            let same = ask(rt, block, line)?;
             tally.lines = tally.lines.saturating_add(1);
             tally.differ = tally.differ.saturating_add(if same { 0 } else { 1 });
         }
@@ -72,7 +77,7 @@ fn ask<R: Print + AllocGlobal>(rt: &R, block: &mut Vec<u8>, line: &str) -> io::R
     Ok(false)
 }
 
-/// The answer to a question. A line that is no question has an answer that says so.
+/// The answer to a question. A line that is not a question has an answer that says so.
 fn got(alloc: Global, block: &mut Vec<u8>, asked: &str) -> Result<String, AllocError> {
     let mut out = String::new(alloc);
     match answer(alloc, block, asked, &mut out) {

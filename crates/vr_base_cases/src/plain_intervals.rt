@@ -12,7 +12,7 @@ struct Item {
     live: bool,
 }
 
-/// What the RDFs list: the items in order and, of a segment, the bits that tell its piece and its
+/// What the RDFs list: the items in order and, of a segment, the bits that give its part and its
 /// update number.
 #[derive(Drop)]
 struct Listed {
@@ -83,7 +83,7 @@ fn list(alloc: Global, bytes: &[u8], low: usize) -> Result<Listed, AllocError> {
     Ok(listed)
 }
 
-/// Adds the items of an RDF or pair behind the others, at most as many as the block has bytes.
+/// Adds the items of an RDF or pair after the others, at most as many as the block has bytes.
 fn add_items(listed: &mut Listed, unit: Unit, size: usize) -> Result<(), AllocError> {
     let bits = unit.flags & 0x30;
     let mut count = unit.count.min(size);

@@ -4,8 +4,9 @@ use crate::answers::{Answer, Stop, say, say_bytes, say_debug, say_number};
 use crate::block::{bytes_of, first_word, small_of, word_of};
 use std::alloc::Global;
 use vr_types::{
-    Bound, FaultCount, FileRef, Find, Integrity, Kind, LockName, Mode, PartNo, Position, Refusal,
-    Reply, Request, SharedRequest, Stand, Unit, Words, bytes, empty_place, number_place, place,
+    Bound, Bytes, FaultCount, FileRef, Find, Integrity, Kind, LockName, Mode, PartNo, Position,
+    Refusal, Reply, Request, SharedRequest, Stand, Unit, Words, bytes, empty_place, number_place,
+    place,
 };
 
 /// The file of all requests.
@@ -50,11 +51,23 @@ pub fn roomy(alloc: Global, rest: &str, out: &mut String) -> Answer {
 /// Bytes that are copied, grow by a list and by `45`, and lose that again: `HEX HEX`.
 pub fn grown(alloc: Global, rest: &str, out: &mut String) -> Answer {
     let (first, second) = first_word(rest);
-    let first = bytes_of(alloc, first)?;
-    let second = bytes_of(alloc, second)?;
-    let first = bytes(alloc, first.as_slice())?;
-    let mut grown = first.copy(alloc)?;
-    grown.extend(second.as_slice())?;
+    let mut grown = copied_bytes(alloc, first)?;
+    grow(alloc, &mut grown, second, out)
+}
+
+fn copied_bytes(alloc: Global, digits: &str) -> Result<Bytes, Stop> {
+    let from = bytes_of(alloc, digits)?;
+    let first = bytes(alloc, from.as_slice())?;
+    Ok(first.copy(alloc)?)
+}
+
+fn grow(alloc: Global, grown: &mut Bytes, digits: &str, out: &mut String) -> Answer {
+    let more = bytes_of(alloc, digits)?;
+    grown.extend(more.as_slice())?;
+    shrink(alloc, grown, out)
+}
+
+fn shrink(alloc: Global, grown: &mut Bytes, out: &mut String) -> Answer {
     let length = grown.len();
     grown.push(b'E')?;
     say_number(out, "", grown.len() as u64)?;
@@ -88,13 +101,26 @@ pub fn faults(word: &str, out: &mut String) -> Answer {
 /// A request of a kind, with a place or record, copied and shared: `KIND HEX`.
 pub fn request(alloc: Global, rest: &str, out: &mut String) -> Answer {
     let (kind, digits) = first_word(rest);
+    let request = request_in(alloc, kind, digits)?;
+    say_request(alloc, &request, out)
+}
+
+fn request_in(alloc: Global, kind: &str, digits: &str) -> Result<Request, Stop> {
     let from = bytes_of(alloc, digits)?;
-    let request = request_of(alloc, kind, from.as_slice())?;
+    request_of(alloc, kind, from.as_slice())
+}
+
+fn say_request(alloc: Global, request: &Request, out: &mut String) -> Answer {
+    let copy = request.copy(alloc)?;
     let bound = Bound {
         volume: 1,
         line: 4,
-        request: SharedRequest::new(alloc, request.copy(alloc)?)?,
+        request: SharedRequest::new(alloc, copy)?,
     };
+    say_shared(&bound, out)
+}
+
+fn say_shared(bound: &Bound, out: &mut String) -> Answer {
     let shared = bound.share()?;
     say_debug(out, shared.request.get())
 }
@@ -133,13 +159,20 @@ fn request_of(alloc: Global, kind: &str, from: &[u8]) -> Result<Request, Stop> {
 /// A copy of a position, with a place: `STAND HEX`.
 pub fn position(alloc: Global, rest: &str, out: &mut String) -> Answer {
     let (stand, digits) = first_word(rest);
-    let from = bytes_of(alloc, digits)?;
-    let position = Position {
-        stand: stand_of(alloc, stand, from.as_slice())?,
-        held: Some(place(alloc, from.as_slice())?),
-    };
+    let position = position_in(alloc, stand, digits)?;
     let copy = position.copy(alloc)?;
     say_debug(out, &copy)
+}
+
+fn position_in(alloc: Global, stand: &str, digits: &str) -> Result<Position, Stop> {
+    let from = bytes_of(alloc, digits)?;
+    position_of(alloc, stand, from.as_slice())
+}
+
+fn position_of(alloc: Global, stand: &str, from: &[u8]) -> Result<Position, Stop> {
+    let held = Some(place(alloc, from)?);
+    let stand = stand_of(alloc, stand, from)?;
+    Ok(Position { stand, held })
 }
 
 fn stand_of(alloc: Global, stand: &str, from: &[u8]) -> Result<Stand, Stop> {
@@ -167,9 +200,13 @@ fn get(find: Find) -> Request {
 pub fn refusal(alloc: Global, rest: &str, out: &mut String) -> Answer {
     let refusal = refusal_of(alloc, rest)?;
     let copy = refusal.copy(alloc)?;
-    say_number(out, "", u64::from(copy.code()))?;
+    say_refusal(&copy, out)
+}
+
+fn say_refusal(refusal: &Refusal, out: &mut String) -> Answer {
+    say_number(out, "", u64::from(refusal.code()))?;
     say(out, " ")?;
-    say_debug(out, &copy)
+    say_debug(out, refusal)
 }
 
 /// A refusal that is to have that number.

@@ -50,7 +50,7 @@ pub fn single_bytes(block: &mut [u8], rest: &str, out: &mut String) -> Answer {
 }
 
 /// Writes slots of `5A` bytes: `LENGTH BUSY SIGN..`, where `-` is an empty slot. One that has no
-/// room ends it. A block that is not complete is no question.
+/// room ends it. A block that is not complete is not a question.
 pub fn slots_of(alloc: Global, block: &mut [u8], rest: &str, out: &mut String) -> Answer {
     let (length, rest) = first_word(rest);
     let (busy, signs) = first_word(rest);

@@ -1,5 +1,7 @@
--- What ALTER of Access Method Services Commands makes of a catalog: NEWNAME, FREESPACE and SHAREOPTIONS.
-use Rattle.std.specs.Prelude.{ℕ, Bool, false, ◌&&◌, ◌||◌, if◌then◌else◌, List, [], ◌∷◌, Option, Some, None, is_some}
+-- What ALTER of Access Method Services Commands makes of a catalog: NEWNAME, FREESPACE and
+-- SHAREOPTIONS.
+use Rattle.std.specs.Prelude.{ℕ, Bool, false, ◌&&◌, ◌||◌, if◌then◌else◌, List, [], ◌∷◌, Option}
+use Rattle.std.specs.Prelude.{Some, None, is_some}
 use Rattle.std.specs.Option.{option_map_or, unwrap_or}
 use Rattle.vr_catalog.specs.declared.entry.CatEntry.{CatEntry}
 use Rattle.vr_catalog.specs.declared.order.Alter.{Alter}
@@ -21,7 +23,9 @@ alters_data order = is_some order.free_space || is_some order.share_options
 
 -- a path has neither
 abbrev pub path_altered : Option CatEntry → Alter → Option CatFault
-path_altered target order = fault_if (option_map_or (λ entry. is_path_kind entry.entry_kind) target false && alters_data order) WrongKind
+path_altered target order =
+    fault_if (option_map_or (λ entry. is_path_kind entry.entry_kind) target false
+    && alters_data order) WrongKind
 
 abbrev pub new_name_taken : List CatEntry → Option (List ℕ) → Option CatFault
 new_name_taken entries None = None
@@ -48,4 +52,5 @@ alter_entry None entry order = if alters_data order then Update (altered entry o
 
 -- the changes of an ALTER that isn't refused
 abbrev pub alter_changes : List CatEntry → Alter → List Change
-alter_changes entries order = option_map_or (λ entry. alter_entry order.new_name entry order) (entry_named entries order.name) []
+alter_changes entries order = option_map_or (λ entry. alter_entry order.new_name entry order)
+    (entry_named entries order.name) []

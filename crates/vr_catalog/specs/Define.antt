@@ -1,5 +1,7 @@
--- What DEFINE of Access Method Services Commands makes of a catalog: each fault that it may meet, and the entry that it adds.
-use Rattle.std.specs.Prelude.{ℕ, ◌+◌, ◌-◌, ◌^◌, max, Bool, true, false, ◌==◌, ◌||◌, nat_le, List, [], ◌∷◌, length, Option, Some, None, is_some}
+-- What DEFINE of Access Method Services Commands makes of a catalog: each fault that it may meet,
+-- and the entry that it adds.
+use Rattle.std.specs.Prelude.{ℕ, ◌+◌, ◌-◌, ◌^◌, max, Bool, true, false, ◌==◌, ◌||◌, nat_le, List}
+use Rattle.std.specs.Prelude.{[], ◌∷◌, length, Option, Some, None, is_some}
 use Rattle.std.specs.List.{count_by, fold}
 use Rattle.std.specs.Option.{option_and_then, option_map, option_map_or}
 use Rattle.vr_types.specs.declared.geometry.Geometry.{Geometry}
@@ -17,7 +19,10 @@ use Rattle.vr_catalog.specs.declared.order.DataOptions.{DataOptions}
 use Rattle.vr_catalog.specs.declared.changes.Change.{Change}
 use Rattle.vr_catalog.specs.declared.changes.Change.TheVariants.{Add}
 use Rattle.vr_catalog.specs.declared.fault.CatFault.{CatFault}
-use Rattle.vr_catalog.specs.declared.fault.CatFault.TheVariants.{NameTaken, NotFound, WrongKind, KeyPastRecord, RecordSize, FewIntervals, WrongBase, TooManyAlternates, CatalogFull}
+use Rattle.vr_catalog.specs.declared.fault.CatFault.TheVariants.{NameTaken, NotFound, WrongKind}
+use Rattle.vr_catalog.specs.declared.fault.CatFault.TheVariants.{KeyPastRecord, RecordSize}
+use Rattle.vr_catalog.specs.declared.fault.CatFault.TheVariants.{FewIntervals, WrongBase}
+use Rattle.vr_catalog.specs.declared.fault.CatFault.TheVariants.{TooManyAlternates, CatalogFull}
 use Rattle.vr_catalog.specs.Catalog.{entry_named, parts_in, alternate_in}
 use Rattle.vr_catalog.specs.Definition.{Definition}
 use Rattle.vr_catalog.specs.Fault.{first_of}
@@ -50,7 +55,8 @@ is_path_kind kinds.Path = true
 
 -- nothing stands over a path
 abbrev pub path_base : Option CatEntry → Option CatFault
-path_base base = fault_if (option_map_or (λ entry. is_path_kind entry.entry_kind) base false) WrongKind
+path_base base =
+    fault_if (option_map_or (λ entry. is_path_kind entry.entry_kind) base false) WrongKind
 
 abbrev pub name_taken : List CatEntry → List ℕ → Option CatFault
 name_taken entries name = fault_if (is_some (entry_named entries name)) NameTaken
@@ -69,7 +75,9 @@ is_relative (Some Relative) = true
 -- an alternate index stands over a key-sequenced or an entry-sequenced cluster
 abbrev pub wrong_base : NewEntry → Option CatEntry → Option CatFault
 wrong_base (Cluster kind spanned options) base = None
-wrong_base (Alternate related unique options) base = fault_if (option_map_or (λ entry. is_alternate_kind entry.entry_kind || is_relative entry.kind) base false) WrongBase
+wrong_base (Alternate related unique options) base =
+    fault_if (option_map_or (λ entry. is_alternate_kind entry.entry_kind
+    || is_relative entry.kind) base false) WrongBase
 wrong_base (Path related) base = None
 
 -- KEYS of a kind without keys counts for nothing
@@ -80,17 +88,32 @@ key_of_kind Relative n = 0
 
 -- what a new cluster states of its records
 abbrev pub new_definition : Kind → Bool → DataOptions → Definition
-new_definition kind spanned options = record { kind = kind; spanned = spanned; key_length = key_of_kind kind options.key_length; key_offset = key_of_kind kind options.key_offset; maximum = options.maximum }
+new_definition kind spanned options = record {
+  kind = kind;
+  spanned = spanned;
+  key_length =
+      key_of_kind kind options.key_length;
+  key_offset =
+      key_of_kind kind options.key_offset;
+  maximum = options.maximum;
+}
 
 -- a cluster's key, or an alternate index's in its base, ends past the longest record
 abbrev pub key_past_record : NewEntry → Option CatEntry → Option CatFault
-key_past_record (Cluster kind spanned options) base = fault_if (ends_past (key_of_kind kind options.key_length) (key_of_kind kind options.key_offset) options.maximum) KeyPastRecord
-key_past_record (Alternate related unique options) base = fault_if (option_map_or (λ entry. ends_past options.key_length options.key_offset entry.maximum) base false) KeyPastRecord
+key_past_record (Cluster kind spanned options) base =
+    fault_if (ends_past (key_of_kind kind options.key_length)
+    (key_of_kind kind options.key_offset) options.maximum) KeyPastRecord
+key_past_record (Alternate related unique options) base =
+    fault_if (option_map_or (λ entry. ends_past options.key_length options.key_offset
+    entry.maximum) base false) KeyPastRecord
 key_past_record (Path related) base = None
 
 abbrev pub bad_record_size : Geometry → NewEntry → Option CatFault
-bad_record_size geometry (Cluster kind spanned options) = fault_if (is_bad_cluster geometry (new_definition kind spanned options) options.average) RecordSize
-bad_record_size geometry (Alternate related unique options) = fault_if (are_bad_sizes options.average options.maximum) RecordSize
+bad_record_size geometry (Cluster kind spanned options) =
+    fault_if (is_bad_cluster geometry (new_definition kind spanned options) options.average)
+    RecordSize
+bad_record_size geometry (Alternate related unique options) =
+    fault_if (are_bad_sizes options.average options.maximum) RecordSize
 bad_record_size geometry (Path related) = None
 
 -- the places of a base: its keys, or four bytes
@@ -102,10 +125,13 @@ place_length_of (Some Relative) key_length = 4
 
 -- the places of a keyed part: the keys of a cluster, the pairs of an alternate index
 abbrev pub few_intervals : Geometry → NewEntry → Option CatEntry → Option CatFault
-few_intervals geometry (Cluster Keyed spanned options) base = fault_if (are_few_intervals geometry options.key_length) FewIntervals
+few_intervals geometry (Cluster Keyed spanned options) base =
+    fault_if (are_few_intervals geometry options.key_length) FewIntervals
 few_intervals geometry (Cluster Entry spanned options) base = None
 few_intervals geometry (Cluster Relative spanned options) base = None
-few_intervals geometry (Alternate related unique options) base = fault_if (option_map_or (λ entry. are_few_intervals geometry (options.key_length + place_length_of entry.kind entry.key_length)) base false) FewIntervals
+few_intervals geometry (Alternate related unique options) base =
+    fault_if (option_map_or (λ entry. are_few_intervals geometry
+    (options.key_length + place_length_of entry.kind entry.key_length)) base false) FewIntervals
 few_intervals geometry (Path related) base = None
 
 -- how many alternate indexes stand over a base
@@ -115,7 +141,9 @@ alternate_count entries base = count_by (λ entry. is_some (alternate_in base en
 -- a ninth alternate index
 abbrev pub too_many_alternates : List CatEntry → NewEntry → Option CatEntry → Option CatFault
 too_many_alternates entries (Cluster kind spanned options) base = None
-too_many_alternates entries (Alternate related unique options) base = fault_if (option_map_or (λ entry. nat_le 8 (alternate_count entries entry.part.0)) base false) TooManyAlternates
+too_many_alternates entries (Alternate related unique options) base =
+    fault_if (option_map_or (λ entry. nat_le 8 (alternate_count entries entry.part.0)) base false)
+    TooManyAlternates
 too_many_alternates entries (Path related) base = None
 
 -- the greatest part number, 0 where there is no part
@@ -124,7 +152,8 @@ greatest_part entries = fold max 0 (parts_in entries)
 
 -- 4,096 entries, or no further part number
 abbrev pub catalog_full : List CatEntry → Option CatFault
-catalog_full entries = fault_if (nat_le 4096 (length entries) || greatest_part entries == 2 ^ 32 - 1) CatalogFull
+catalog_full entries =
+    fault_if (nat_le 4096 (length entries) || greatest_part entries == 2 ^ 32 - 1) CatalogFull
 
 -- the faults of a DEFINE in the order in which they are tried
 abbrev pub define_fault : List CatEntry → Define → Geometry → Option CatFault
@@ -170,7 +199,13 @@ new_cluster name part kind spanned options = record {
 
 -- an alternate index is a keyed data set of its own
 abbrev pub new_alternate : List ℕ → ℕ → Option PartNo → Bool → DataOptions → CatEntry
-new_alternate name part related unique options = record (new_cluster name part Keyed false options) { entry_kind = kinds.Alternate; unique = unique; related = related }
+new_alternate name part related unique options =
+    record (new_cluster name part Keyed false options) {
+      entry_kind = kinds.Alternate;
+      unique =
+          unique;
+      related = related;
+    }
 
 -- a path has nothing but its name, its part and the part that it stands over
 abbrev pub new_path : List ℕ → ℕ → Option PartNo → CatEntry
@@ -202,13 +237,16 @@ new_path name part related = record {
 }
 
 abbrev pub entry_by : NewEntry → List ℕ → ℕ → Option PartNo → CatEntry
-entry_by (Cluster kind spanned options) name part related = new_cluster name part kind spanned options
-entry_by (Alternate base unique options) name part related = new_alternate name part related unique options
+entry_by (Cluster kind spanned options) name part related =
+    new_cluster name part kind spanned options
+entry_by (Alternate base unique options) name part related =
+    new_alternate name part related unique options
 entry_by (Path base) name part related = new_path name part related
 
 -- the new entry, whose part number is 1 above the greatest
 abbrev pub new_entry : List CatEntry → Define → CatEntry
-new_entry entries order = entry_by order.what order.name (greatest_part entries + 1) (option_map (λ (base : CatEntry). base.part) (base_of entries order))
+new_entry entries order = entry_by order.what order.name (greatest_part entries + 1)
+    (option_map (λ (base : CatEntry). base.part) (base_of entries order))
 
 -- the changes of a DEFINE that isn't refused
 abbrev pub define_changes : List CatEntry → Define → List Change

@@ -1,10 +1,16 @@
--- The number that a report shows for each fault, and the condition code of the command, in the severities of Access Method
+-- The number that a report shows for each fault, and the condition code of the command, in the
+-- severities of Access Method
 -- Services. The numbers are this project's own.
 use Rattle.std.specs.Prelude.{◌≡◌, ◌⊎◌, ℕ, List, Option, Some, None}
 use Rattle.std.specs.List.{fold}
 use Rattle.std.specs.Option.{option_or}
 use Rattle.vr_catalog.specs.declared.fault.CatFault.{CatFault}
-use Rattle.vr_catalog.specs.declared.fault.CatFault.TheVariants.{NameTaken, NotFound, WrongKind, NoVolume, KeyPastRecord, RecordSize, FewIntervals, NoArea, WrongBase, TooManyAlternates, AlreadyBuilt, NotTogether, DuplicateKey, CatalogFull, Memory}
+use Rattle.vr_catalog.specs.declared.fault.CatFault.TheVariants.{NameTaken, NotFound, WrongKind}
+use Rattle.vr_catalog.specs.declared.fault.CatFault.TheVariants.{NoVolume, KeyPastRecord}
+use Rattle.vr_catalog.specs.declared.fault.CatFault.TheVariants.{RecordSize, FewIntervals, NoArea}
+use Rattle.vr_catalog.specs.declared.fault.CatFault.TheVariants.{WrongBase, TooManyAlternates}
+use Rattle.vr_catalog.specs.declared.fault.CatFault.TheVariants.{AlreadyBuilt, NotTogether}
+use Rattle.vr_catalog.specs.declared.fault.CatFault.TheVariants.{DuplicateKey, CatalogFull, Memory}
 
 abbrev pub fault_number : CatFault → ℕ
 fault_number NameTaken = 1

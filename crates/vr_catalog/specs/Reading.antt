@@ -1,7 +1,7 @@
 -- What the parts of reading a catalog record say to one another.
 use Rattle.std.specs.Prelude.{◌≡◌, ℕ, Bool, true, ◌&&◌, List, Option}
-use Rattle.vr_catalog.specs.declared.read.Components.{Components}
-use Rattle.vr_catalog.specs.declared.read.Classes.{Classes}
+use Rattle.vr_catalog.specs.declared.names.Components.{Components}
+use Rattle.vr_catalog.specs.declared.names.Classes.{Classes}
 use Rattle.vr_catalog.specs.declared.read.EntryNames.{EntryNames}
 use Rattle.vr_catalog.specs.Entry.{is_name, are_components, are_classes}
 use Rattle.vr_catalog.specs.Record.{text_at, some_text}

@@ -1,5 +1,8 @@
--- The catalog record: 204 bytes that spell an entry, numbers with the high byte first. The layout is this project's own.
-use Rattle.std.specs.Prelude.{◌≡◌, ℕ, ◌+◌, ◌-◌, ◌^◌, min, IsTrue, ◌==◌, ◌&&◌, if◌then◌else◌, bit_and, List, [], ◌∷◌, ◌++◌, length, take, drop, replicate, slice_index, Option, Some, None, bytes_eq}
+-- The catalog record: 204 bytes that spell an entry, numbers with the high byte first. The layout
+-- is this project's own.
+use Rattle.std.specs.Prelude.{◌≡◌, ℕ, ◌+◌, ◌-◌, ◌^◌, min, IsTrue, ◌==◌, ◌&&◌, if◌then◌else◌}
+use Rattle.std.specs.Prelude.{bit_and, List, [], ◌∷◌, ◌++◌, length, take, drop, replicate}
+use Rattle.std.specs.Prelude.{slice_index, Option, Some, None, bytes_eq}
 use Rattle.std.specs.List.{before_first, concat}
 use Rattle.vr_types.specs.declared.unit.Kind.{Kind}
 use Rattle.vr_types.specs.declared.unit.Kind.TheVariants.{Keyed, Entry, Relative}
@@ -10,7 +13,8 @@ use Rattle.vr_catalog.specs.declared.entry.CatEntry.{CatEntry}
 use Rattle.vr_catalog.specs.declared.entry.EntryKind.{EntryKind}
 use Rattle.vr_catalog.specs.declared.entry.EntryKind.TheVariants.{Cluster, Alternate, Path}
 use Rattle.vr_catalog.specs.declared.entry.SpaceUnit.{SpaceUnit}
-use Rattle.vr_catalog.specs.declared.entry.SpaceUnit.TheVariants.{Unstated, Cylinders, Tracks, Records}
+use Rattle.vr_catalog.specs.declared.entry.SpaceUnit.TheVariants.{Unstated, Cylinders, Tracks}
+use Rattle.vr_catalog.specs.declared.entry.SpaceUnit.TheVariants.{Records}
 use Rattle.vr_catalog.specs.Entry.{is_entry}
 
 -- a text in a field of this size, with blanks after it
@@ -37,7 +41,8 @@ kind_byte (Some Relative) = 82
 
 -- spanned 1, unique 2, built 4
 abbrev pub flag_byte : CatEntry → ℕ
-flag_byte entry = (if entry.spanned then 1 else 0) + (if entry.unique then 2 else 0) + (if entry.built then 4 else 0)
+flag_byte entry = (if entry.spanned then 1 else 0) + (if entry.unique then 2 else 0) +
+    (if entry.built then 4 else 0)
 
 -- the related part, or zero
 abbrev pub part_field : Option PartNo → ℕ
@@ -57,7 +62,8 @@ space_byte Records = 3
 
 -- the fields of bytes 0 to 47: what the entry is
 abbrev pub kind_fields : CatEntry → List (List ℕ)
-kind_fields entry = padded 44 entry.name ∷ (entry_kind_byte entry.entry_kind ∷ kind_byte entry.kind ∷ flag_byte entry ∷ 0 ∷ []) ∷ []
+kind_fields entry = padded 44 entry.name ∷
+    (entry_kind_byte entry.entry_kind ∷ kind_byte entry.kind ∷ flag_byte entry ∷ 0 ∷ []) ∷ []
 
 -- of bytes 48 to 71: its parts, its records and its first area
 abbrev pub part_fields : CatEntry → List (List ℕ)
@@ -69,7 +75,8 @@ part_fields entry =
 -- of bytes 72 to 91: how it shares and fills its space
 abbrev pub space_fields : CatEntry → List (List ℕ)
 space_fields entry =
-    (entry.free_space.interval ∷ entry.free_space.area ∷ entry.share_options.regions ∷ entry.share_options.systems ∷ [])
+    (entry.free_space.interval ∷ entry.free_space.area
+    ∷ entry.share_options.regions ∷ entry.share_options.systems ∷ [])
     ∷ (space_byte entry.space ∷ 0 ∷ 0 ∷ 0 ∷ []) ∷ four entry.primary ∷ four entry.secondary
     ∷ four entry.interval_size ∷ []
 
@@ -77,11 +84,13 @@ space_fields entry =
 abbrev pub name_fields : CatEntry → List (List ℕ)
 name_fields entry =
     padded 44 (text_of entry.data_name) ∷ padded 44 (text_of entry.index_name)
-    ∷ padded 8 (text_of entry.storage_class) ∷ padded 8 (text_of entry.data_class) ∷ padded 8 (text_of entry.management_class) ∷ []
+    ∷ padded 8 (text_of entry.storage_class) ∷ padded 8 (text_of entry.data_class) ∷ padded 8
+    (text_of entry.management_class) ∷ []
 
 -- the bytes that spell an entry
 unfoldable pub spelling : CatEntry → List ℕ
-spelling entry = concat (kind_fields entry) ++ concat (part_fields entry) ++ concat (space_fields entry) ++ concat (name_fields entry)
+spelling entry = concat (kind_fields entry) ++ concat (part_fields entry)
+    ++ concat (space_fields entry) ++ concat (name_fields entry)
 
 -- The bytes are the record of the entry.
 pub record IsCatalogRecord (bytes : List ℕ) (entry : CatEntry) : Type 0 where
@@ -99,10 +108,12 @@ abbrev pub entry_kind_of : ℕ → EntryKind
 entry_kind_of byte = if byte == 65 then Alternate else (if byte == 80 then Path else Cluster)
 
 abbrev pub kind_of : ℕ → Option Kind
-kind_of byte = if byte == 75 then Some Keyed else (if byte == 69 then Some Entry else (if byte == 82 then Some Relative else None))
+kind_of byte = if byte == 75 then Some Keyed else
+    (if byte == 69 then Some Entry else (if byte == 82 then Some Relative else None))
 
 abbrev pub space_of : ℕ → SpaceUnit
-space_of byte = if byte == 1 then Cylinders else (if byte == 2 then Tracks else (if byte == 3 then Records else Unstated))
+space_of byte = if byte == 1 then Cylinders else
+    (if byte == 2 then Tracks else (if byte == 3 then Records else Unstated))
 
 abbrev pub part_of : ℕ → Option PartNo
 part_of number = if number == 0 then None else Some (record { 0 = number })
@@ -110,7 +121,8 @@ part_of number = if number == 0 then None else Some (record { 0 = number })
 abbrev pub area_of : ℕ → Option AreaNo
 area_of number = if number == 0 then None else Some (record { 0 = number - 1 })
 
--- the entry that has what the fields of a record say. They spell it only where its own spelling is these bytes
+-- the entry that has what the fields of a record say. They spell it only where its own spelling is
+-- these bytes
 unfoldable pub entry_in : List ℕ → CatEntry
 entry_in bytes = record {
   name = text_at 0 44 bytes;
@@ -141,4 +153,5 @@ entry_in bytes = record {
 
 -- the entry that bytes spell, if they spell one
 unfoldable pub entry_of : List ℕ → Option CatEntry
-entry_of bytes = if is_entry (entry_in bytes) && bytes_eq (spelling (entry_in bytes)) bytes then Some (entry_in bytes) else None
+entry_of bytes = if is_entry (entry_in bytes)
+    && bytes_eq (spelling (entry_in bytes)) bytes then Some (entry_in bytes) else None

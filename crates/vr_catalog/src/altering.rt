@@ -1,5 +1,6 @@
 //! ALTER of Access Method Services on a catalog.
-ghost use Rattle.std.specs.Prelude.{◌≡◌, None, IfOk, IfErr};
+ghost use Rattle.std.specs.Prelude.{◌≡◌, ◌∷◌, [], None, IfOk, IfErr};
+ghost use Rattle.vr_catalog.specs.declared.changes.Change.TheVariants.{Erase, Add};
 ghost use Rattle.std.specs.Option.{option_copied};
 ghost use Rattle.vr_catalog.specs.Fault.{IsCause};
 ghost use Rattle.vr_catalog.specs.Alter.{
@@ -22,9 +23,9 @@ use crate::order::Alter;
 use std::alloc::Global;
 use vr_types::{Name, OutOfMemory};
 
-/// The changes that an ALTER makes: the entry erased and added under its new name, or updated, or none where it is given
-/// nothing. Each fault comes exactly where its cause is there and none that is tried earlier: 2, 3 where a path is given
-/// FREESPACE or SHAREOPTIONS, and 1.
+/// The changes that an ALTER makes: the entry erased and added under its new name, or updated, or
+/// none where it is given nothing. Each fault comes exactly where its cause is there and none that
+/// is tried earlier: 2, 3 where a path is given FREESPACE or SHAREOPTIONS, and 1.
 pub fn alter(alloc: Global, catalog: &Catalog, order: &Alter) -> Result<Changes, CatFault>
     ensures allowed { IfOk result (λ _. alter_fault catalog.now order.now ≡ None) }
     ensures changes { IfOk result (λ changes. changes ≡ alter_changes catalog.now order.now) }
@@ -88,20 +89,36 @@ fn new_name_taken(catalog: &Catalog, name: &Option<Name>) -> Option<CatFault>
 
 /// The changes of an entry that is there.
 fn alter_entry(alloc: Global, entry: &CatEntry, order: &Alter) -> Result<Changes, OutOfMemory>
-    ensures { IfOk result (λ changes. changes ≡ entry_changes order.now.new_name entry.now order.now) }
+    ensures { IfOk result (λ changes.
+        changes ≡ entry_changes order.now.new_name entry.now order.now) }
+{
+    match &order.new_name {
+        Some(_) => renamed(alloc, entry, order),
+        None => updated(alloc, entry, order),
+    }
+}
+
+/// The changes of an entry that keeps its name: it gets other values, or none.
+fn updated(alloc: Global, entry: &CatEntry, order: &Alter) -> Result<Changes, OutOfMemory>
+    ensures { IfOk result (λ changes. changes ≡ entry_changes None entry.now order.now) }
 {
     let mut changes = Changes::new(alloc);
-    match &order.new_name {
-        Some(_) => {
-            changes.push(Change::Erase(entry.name.copy(alloc)?))?;
-            changes.push(Change::Add(altered(alloc, entry, order)?))?;
-        }
-        None => {
-            if alters_data(order) {
-                changes.push(Change::Update(altered(alloc, entry, order)?))?;
-            }
-        }
+    if alters_data(order) {
+        changes.push(Change::Update(altered(alloc, entry, order)?))?;
     }
+    Ok(changes)
+}
+
+/// The changes of an entry that gets a new name: it is erased, and added under that.
+fn renamed(alloc: Global, entry: &CatEntry, order: &Alter) -> Result<Changes, OutOfMemory>
+    ensures { IfOk result (λ changes. changes
+        ≡ Erase entry.now.name ∷ Add (altered_entry entry.now order.now) ∷ []) }
+{
+    let added = Change::Add(altered(alloc, entry, order)?);
+    let erased = Change::Erase(entry.name.copy(alloc)?);
+    let mut changes = Changes::new(alloc);
+    changes.push(erased)?;
+    changes.push(added)?;
     Ok(changes)
 }
 

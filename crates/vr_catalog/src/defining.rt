@@ -35,16 +35,17 @@ ghost use Rattle.vr_catalog.specs.Define.{
 use crate::catalog::Catalog;
 use crate::changes::{Change, Changes};
 use crate::definition::Definition;
-use crate::entry::{CatEntry, EntryKind, FreeSpace, ShareOptions, SpaceUnit, copy_of_name};
+use crate::entry::{CatEntry, EntryKind, FreeSpace, ShareOptions, SpaceUnit};
 use crate::fault::CatFault;
 use crate::limits::{are_bad_sizes, are_few_intervals, ends_past, is_bad_cluster};
+use crate::names::{copy_classes, copy_components};
 use crate::order::{DataOptions, Define, NewEntry};
 use std::alloc::Global;
 use vr_types::{Geometry, Kind, Name, OutOfMemory, PartNo};
 
-/// The changes that a DEFINE makes: the new entry, with the part number that is 1 above the greatest, and without an
-/// area. Each fault comes exactly where its cause is there and none that is tried earlier: 2 and 3 of the entry named in
-/// RELATE or PATHENTRY, 1, 9, 5, 6, 7, 10 and 14.
+/// The changes that a DEFINE makes: the new entry, with the part number that is 1 above the
+/// greatest, and without an area. Each fault comes exactly where its cause is there and none that
+/// is tried earlier: 2 and 3 of the entry named in RELATE or PATHENTRY, 1, 9, 5, 6, 7, 10 and 14.
 #[tactic(auto, using(crate::proofs::FaultLemmas::last_none))]
 pub fn define(
     alloc: Global,
@@ -361,8 +362,16 @@ fn new_cluster(
 ) -> Result<CatEntry, OutOfMemory>
     ensures { IfOk result (λ entry. entry ≡ cluster_of name.now part.0 kind spanned options.now) }
 {
+    let components = copy_components(alloc, &options.data_name, &options.index_name)?;
+    let classes = copy_classes(
+        alloc,
+        &options.storage_class,
+        &options.data_class,
+        &options.management_class,
+    )?;
+    let name = name.copy(alloc)?;
     Ok(CatEntry {
-        name: name.copy(alloc)?,
+        name,
         entry_kind: EntryKind::Cluster,
         kind: Some(kind),
         spanned,
@@ -381,11 +390,11 @@ fn new_cluster(
         primary: options.primary,
         secondary: options.secondary,
         interval_size: options.interval_size,
-        data_name: copy_of_name(alloc, &options.data_name)?,
-        index_name: copy_of_name(alloc, &options.index_name)?,
-        storage_class: copy_of_name(alloc, &options.storage_class)?,
-        data_class: copy_of_name(alloc, &options.data_class)?,
-        management_class: copy_of_name(alloc, &options.management_class)?,
+        data_name: components.data_name,
+        index_name: components.index_name,
+        storage_class: classes.storage,
+        data_class: classes.data_class,
+        management_class: classes.management,
     })
 }
 
@@ -397,7 +406,8 @@ fn new_alternate(
     unique: bool,
     options: &DataOptions,
 ) -> Result<CatEntry, OutOfMemory>
-    ensures { IfOk result (λ entry. entry ≡ alternate_of name.now part.0 related unique options.now) }
+    ensures { IfOk result (λ entry.
+        entry ≡ alternate_of name.now part.0 related unique options.now) }
 {
     let mut entry = new_cluster(alloc, name, part, Kind::Keyed, false, options)?;
     entry.entry_kind = EntryKind::Alternate;

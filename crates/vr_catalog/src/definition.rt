@@ -8,8 +8,8 @@ ghost use Rattle.vr_catalog.specs.Definition.{
 
 use vr_types::Kind;
 
-/// What DEFINE CLUSTER of Access Method Services states of the records of a cluster: INDEXED, NONINDEXED or NUMBERED;
-/// SPANNED; KEYS(length offset) and the maximum of RECORDSIZE, in bytes.
+/// What DEFINE CLUSTER of Access Method Services states of the records of a cluster: INDEXED,
+/// NONINDEXED or NUMBERED; SPANNED; KEYS(length offset) and the maximum of RECORDSIZE, in bytes.
 #[derive(Clone, Copy, Debug, PartialEq, Eq, Hash)]
 pub struct Definition {
     pub kind: Kind,
@@ -19,7 +19,8 @@ pub struct Definition {
     pub maximum: u32,
 }
 
-/// The catalog's own definition, which no entry states: records of 204 bytes that begin with a name of 44.
+/// The catalog's own definition, which no entry states: records of 204 bytes that begin with a name
+/// of 44.
 pub fn catalog_definition() -> Definition
     ensures { result ≡ definition_of_catalog }
 {

@@ -20,8 +20,9 @@ use crate::fault::CatFault;
 use std::alloc::Global;
 use vr_types::{Name, OutOfMemory, PartNo};
 
-/// The changes that a DELETE of these names makes: each entry that has one of the names, or stands over one that has, is
-/// erased once, in the order of the catalog. Fault 2 comes exactly where one of the names is of no entry.
+/// The changes that a DELETE of these names makes: each entry that has one of the names, or stands
+/// over one that has, is erased once, in the order of the catalog. Fault 2 comes exactly where one
+/// of the names is of no entry.
 pub fn delete(alloc: Global, catalog: &Catalog, names: &NameList) -> Result<Changes, CatFault>
     ensures allowed { IfOk result (λ _. delete_fault catalog.now names.now ≡ None) }
     ensures changes { IfOk result (λ changes. changes ≡ delete_changes catalog.now names.now) }

@@ -2,6 +2,7 @@
 ghost use Rattle.std.specs.Prelude.{◌≡◌, IfOk};
 
 use crate::definition::Definition;
+use crate::names::{copy_classes, copy_components};
 use std::alloc::Global;
 use vr_types::{AreaNo, Kind, Name, OutOfMemory, PartNo};
 
@@ -13,7 +14,8 @@ pub enum EntryKind {
     Path,
 }
 
-/// FREESPACE: the parts of a hundred of each control interval and of each control area that loading leaves free.
+/// FREESPACE: the parts of a hundred of each control interval and of each control area that loading
+/// leaves free.
 #[derive(Clone, Copy, Debug, PartialEq, Eq, Hash)]
 pub struct FreeSpace {
     pub interval: u8,
@@ -41,7 +43,8 @@ pub enum SpaceUnit {
 pub struct CatEntry {
     pub name: Name,
     pub entry_kind: EntryKind,
-    /// How its records are organised: a cluster's kind, `Keyed` of an alternate index, None of a path.
+    /// How its records are organised: a cluster's kind, `Keyed` of an alternate index, None of a
+    /// path.
     pub kind: Option<Kind>,
     pub spanned: bool,
     /// UNIQUEKEY of an alternate index.
@@ -97,8 +100,16 @@ impl CatEntry {
     pub fn copy(&self, alloc: Global) -> Result<CatEntry, OutOfMemory>
         ensures { IfOk result (λ copy. copy ≡ self.now) }
     {
+        let components = copy_components(alloc, &self.data_name, &self.index_name)?;
+        let classes = copy_classes(
+            alloc,
+            &self.storage_class,
+            &self.data_class,
+            &self.management_class,
+        )?;
+        let name = self.name.copy(alloc)?;
         Ok(CatEntry {
-            name: self.name.copy(alloc)?,
+            name,
             entry_kind: self.entry_kind,
             kind: self.kind,
             spanned: self.spanned,
@@ -117,21 +128,11 @@ impl CatEntry {
             primary: self.primary,
             secondary: self.secondary,
             interval_size: self.interval_size,
-            data_name: copy_of_name(alloc, &self.data_name)?,
-            index_name: copy_of_name(alloc, &self.index_name)?,
-            storage_class: copy_of_name(alloc, &self.storage_class)?,
-            data_class: copy_of_name(alloc, &self.data_class)?,
-            management_class: copy_of_name(alloc, &self.management_class)?,
+            data_name: components.data_name,
+            index_name: components.index_name,
+            storage_class: classes.storage,
+            data_class: classes.data_class,
+            management_class: classes.management,
         })
-    }
-}
-
-/// A copy of the name, where there is one.
-pub(crate) fn copy_of_name(alloc: Global, name: &Option<Name>) -> Result<Option<Name>, OutOfMemory>
-    ensures { IfOk result (λ copy. copy ≡ name.now) }
-{
-    match name {
-        None => Ok(None),
-        Some(name) => Ok(Some(name.copy(alloc)?)),
     }
 }

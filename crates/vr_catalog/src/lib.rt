@@ -1,4 +1,7 @@
-// The catalog of a volume: its entries, clusters, alternate indexes and paths, each a record of part 0.
+//! The catalog of a volume: its entries, clusters, alternate indexes and paths, each a record of
+//! part 0. It stands on the words of vr_types. It promises that a record is read and written byte
+//! by byte as the format says, and that DEFINE, ALTER and DELETE of Access Method Services give the
+//! changes of the definition, or the first fault that has its cause.
 #![tactic(auto)]
 
 mod allowed;
@@ -12,6 +15,7 @@ mod entry;
 mod fault;
 mod laws;
 mod limits;
+mod names;
 mod order;
 mod read;
 mod write;

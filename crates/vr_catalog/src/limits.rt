@@ -47,8 +47,8 @@ pub fn are_bad_sizes(average: u32, maximum: u32) -> bool
     maximum < average || average == 0 || 32_760 < maximum
 }
 
-/// Whether a cluster's records of these sizes can't be kept: the sizes themselves, a maximum that is too long, or a
-/// relative data set that is spanned or has several lengths.
+/// Whether a cluster's records of these sizes can't be kept: the sizes themselves, a maximum that
+/// is too long, or a relative data set that is spanned or has several lengths.
 pub fn is_bad_cluster(geometry: &Geometry, definition: &Definition, average: u32) -> bool
     ensures { result ≡ bad_cluster geometry.now definition.now average }
 {

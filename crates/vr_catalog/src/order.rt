@@ -3,7 +3,8 @@
 use crate::entry::{FreeSpace, ShareOptions, SpaceUnit};
 use vr_types::{Kind, Name};
 
-/// What clusters and alternate indexes are defined with. KEYS of a cluster that isn't key-sequenced counts for nothing.
+/// What clusters and alternate indexes are defined with. KEYS of a cluster that isn't key-sequenced
+/// counts for nothing.
 #[derive(Debug, Drop)]
 pub struct DataOptions {
     /// KEYS, in bytes.

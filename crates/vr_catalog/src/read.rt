@@ -1,9 +1,10 @@
 //! The entry that a catalog record spells.
-ghost use Rattle.std.specs.Prelude.{◌≡◌, ◌+◌, ◌≤◌, ℕ, length, take, Some, None, true, false, IfOk, OnOk, bytes_eq};
-ghost use Rattle.std.specs.Prelude.{◌==◌};
+ghost use Rattle.std.specs.Prelude.{◌≡◌, ◌+◌, ◌≤◌, ◌==◌, ℕ, length, take, Some, None, true, false};
+ghost use Rattle.std.specs.Prelude.{IfOk, OnOk, bytes_eq};
 ghost use Rattle.std.specs.List.{position_or_len};
 ghost use Rattle.std.specs.Result.{IsErrOf};
-ghost use Rattle.vr_catalog.specs.Reading.{AreNamesIn, AreComponentsIn, AreClassesIn, are_components_at, are_classes_at, are_names_at};
+ghost use Rattle.vr_catalog.specs.Reading.{AreNamesIn, AreComponentsIn, AreClassesIn};
+ghost use Rattle.vr_catalog.specs.Reading.{are_components_at, are_classes_at, are_names_at};
 ghost use Rattle.vr_catalog.specs.declared.read.EntryNo.TheVariants.{Misspelled};
 ghost use Rattle.vr_catalog.specs.Entry.{are_names, is_name, is_name_or_none};
 ghost use Rattle.vr_catalog.specs.Record.{
@@ -21,6 +22,7 @@ ghost use Rattle.vr_catalog.specs.Record.{
 
 use crate::allowed::is_allowed;
 use crate::entry::{CatEntry, EntryKind, FreeSpace, ShareOptions, SpaceUnit};
+use crate::names::{Classes, Components};
 use crate::write::{RECORD_LENGTH, write_entry};
 use std::alloc::Global;
 use vr_types::{AreaNo, Kind, Name, NameFault, OutOfMemory, PartNo, dataset_name, four_at, two_at};
@@ -71,21 +73,6 @@ fn is_spelled(entry: &CatEntry, bytes: &[u8]) -> bool
     spelled.as_slice() == bytes
 }
 
-/// The names of the components.
-#[derive(Drop)]
-struct Components {
-    data_name: Option<Name>,
-    index_name: Option<Name>,
-}
-
-/// The classes.
-#[derive(Drop)]
-struct Classes {
-    storage: Option<Name>,
-    data_class: Option<Name>,
-    management: Option<Name>,
-}
-
 /// The names of a record.
 #[derive(Drop)]
 struct EntryNames {
@@ -94,7 +81,7 @@ struct EntryNames {
     classes: Classes,
 }
 
-/// The names that the fields have. `Misspelled` comes exactly where one of them is none.
+/// The names that the fields have. `Misspelled` comes exactly when one of them is not a name.
 fn read_names(alloc: Global, bytes: &[u8]) -> Result<EntryNames, EntryNo>
     requires { length bytes.now ≡ 204 }
     ensures ok { IfOk result (AreNamesIn bytes.now) }
@@ -140,7 +127,8 @@ fn read_classes(alloc: Global, bytes: &[u8]) -> Result<Classes, EntryNo>
     })
 }
 
-/// The entry that has what the fields say. `Misspelled` comes exactly where one of its names is none.
+/// The entry that has what the fields say. `Misspelled` comes exactly where one of its names is
+/// none.
 #[tactic(auto, unfolding(crate::specs::Record::entry_in))]
 fn fields(alloc: Global, bytes: &[u8]) -> Result<CatEntry, EntryNo>
     requires { length bytes.now ≡ 204 }
@@ -183,7 +171,7 @@ fn fields(alloc: Global, bytes: &[u8]) -> Result<CatEntry, EntryNo>
     })
 }
 
-/// The name in a field. `Misspelled` comes exactly where its text is no name in capitals.
+/// The name in a field. `Misspelled` comes exactly when its text is not a name in capitals.
 fn name_at(alloc: Global, bytes: &[u8], at: usize, size: usize) -> Result<Name, EntryNo>
     requires { at + size ≤ length bytes.now }
     ensures ok { IfOk result (λ name. name ≡ text_at at size bytes.now) }
@@ -203,7 +191,8 @@ fn name_or_none_at(
     requires { at + size ≤ length bytes.now }
     ensures ok { IfOk result (λ name. name ≡ some_text (text_at at size bytes.now)) }
     ensures named { OnOk result (is_name_or_none (some_text (text_at at size bytes.now)) ≡ true) }
-    ensures misspelled { IsErrOf result Misspelled → is_name_or_none (some_text (text_at at size bytes.now)) ≡ false }
+    ensures misspelled { IsErrOf result Misspelled
+        → is_name_or_none (some_text (text_at at size bytes.now)) ≡ false }
 {
     let text = text_in(bytes, at, size);
     if text.is_empty() {
@@ -236,7 +225,7 @@ fn first_blank(field: &[u8]) -> usize
     field.len()
 }
 
-/// The name that a text is. `Misspelled` comes exactly where it is no name in capitals.
+/// The name that a text is. `Misspelled` comes exactly when it is not a name in capitals.
 #[tactic(auto, using(crate::proofs::NameLemmas::names))]
 fn name_of(alloc: Global, text: &[u8]) -> Result<Name, EntryNo>
     ensures ok { IfOk result (λ name. name ≡ text.now) }

@@ -11,7 +11,8 @@ use vr_catalog::{
     ShareOptions, SpaceUnit, alter, define, delete,
 };
 
-/// DEFINE: `cluster NAME KIND KEYS SIZES [spanned]`, `alternate NAME BASE KEYS SIZES [unique]` or `path NAME BASE`.
+/// DEFINE: `cluster NAME KIND KEYS SIZES [spanned]`, `alternate NAME BASE KEYS SIZES [unique]` or
+/// `path NAME BASE`.
 pub fn define_one(alloc: Global, desk: &Desk, rest: &str, out: &mut String) -> Answer {
     let (what, rest) = parted(rest);
     let (name, rest) = parted(rest);
@@ -48,8 +49,8 @@ fn new_entry(alloc: Global, what: &str, rest: &str) -> Result<NewEntry, Stop> {
     }
 }
 
-/// KEYS and RECORDSIZE as `LENGTH,OFFSET AVERAGE,MAXIMUM`, and the word after them. A word `DATA,INDEX,S,D,M` before that
-/// names the components and classes.
+/// KEYS and RECORDSIZE as `LENGTH,OFFSET AVERAGE,MAXIMUM`, and the word after them. A word
+/// `DATA,INDEX,S,D,M` before that names the components and classes.
 fn options<'a>(alloc: Global, rest: &'a str) -> Result<(DataOptions, &'a str), Stop> {
     let (keys, rest) = parted(rest);
     let (sizes, flag) = parted(rest);

@@ -1,4 +1,5 @@
-//! The reader of records beside a plain, slow program, over all records that differ in one byte or in two.
+//! The reader of records beside a plain, slow program, over all records that differ in one byte or
+//! in two.
 
 use crate::answers::{Answer, Stop, say, say_number};
 use crate::desk::Desk;
@@ -7,7 +8,8 @@ use crate::records::entry_of;
 use crate::words::{parted, size_of};
 use std::alloc::Global;
 
-/// How many records were judged, how many of them spell an entry, and how many are judged otherwise.
+/// How many records were judged, how many of them spell an entry, and how many are judged
+/// otherwise.
 #[derive(Drop)]
 struct Judged {
     inputs: u64,
@@ -15,8 +17,8 @@ struct Judged {
     differ: u64,
 }
 
-/// `byte` judges each record that differs from the record in one byte; `bytes FIRST SECOND` each that has other values in
-/// two.
+/// `byte` judges each record that differs from the record in one byte; `bytes FIRST SECOND` each
+/// that has other values in two.
 pub fn judge(alloc: Global, desk: &Desk, rest: &str, out: &mut String) -> Answer {
     let (what, places) = parted(rest);
     let mut judged = Judged {

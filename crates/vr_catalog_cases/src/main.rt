@@ -1,10 +1,10 @@
 //! Cases of the catalog and of alternate keys from a text table: catalog records byte by byte, each
 //! misspelling, each fault of DEFINE, ALTER and DELETE alone and two together, and the pairs of an
-//! alternate index. It stands on `vr_catalog` and `vr_altkey`. Each line of its input has a question,
-//! ` -> ` and the answer that is wanted. It asks the public calls, prints each line whose answer
-//! differs, and at the end how many lines there were and how many differ; the status is 1 where one
-//! differs. What it promises is that it is safe and ends: what the answers show is tested, and its
-//! whole output is compared.
+//! alternate index. It stands on `vr_catalog` and `vr_altkey`. Each line of its input has a
+//! question, ` -> ` and the answer that is wanted. It asks the public calls, prints each line whose
+//! answer differs, and at the end how many lines there were and how many differ; the status is 1
+//! where one differs. What it promises is that it is safe and ends: what the answers show is
+//! tested, and its whole output is compared.
 #![tactic(auto)]
 
 mod answers;
@@ -40,7 +40,7 @@ fn main(rt: HostRuntime) -> io::Result<ExitCode> {
     Ok(ExitCode::from(if differ == 0 { 0 } else { 1 }))
 }
 
-/// Asks each line of the input. Empty lines and those that begin with `#` are passed over.
+/// Asks each line of the input. Empty lines and those that begin with `#` are skipped.
 fn run<R: Input + Print + AllocGlobal>(rt: &R) -> io::Result<Tally> {
     let mut tally = Tally {
         lines: 0,
@@ -65,7 +65,7 @@ fn run<R: Input + Print + AllocGlobal>(rt: &R) -> io::Result<Tally> {
     Ok(tally)
 }
 
-/// The answer to a question. A line that is no question has an answer that says so.
+/// The answer to a question. A line that is not a question has an answer that says so.
 fn got(alloc: Global, desk: &mut Desk, asked: &str) -> Result<String, AllocError> {
     let mut out = String::new(alloc);
     match answer(alloc, desk, asked, &mut out) {

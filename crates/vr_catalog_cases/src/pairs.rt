@@ -30,7 +30,8 @@ fn alternate_of(part: u32, keys: &str) -> Result<AltDef, Stop> {
     })
 }
 
-/// The pairs that go and come: `PLACE OLD NEW PART,LENGTH,OFFSET..`, where `-` stands for no record.
+/// The pairs that go and come: `PLACE OLD NEW PART,LENGTH,OFFSET..`, where `-` stands for no
+/// record.
 pub fn changes_of(alloc: Global, rest: &str, out: &mut String) -> Answer {
     let (place, rest) = parted(rest);
     let (old, rest) = parted(rest);

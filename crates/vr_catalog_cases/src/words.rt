@@ -60,8 +60,8 @@ pub fn bytes_of(alloc: Global, digits: &str) -> Result<Vec<u8>, Stop> {
     }
 }
 
-/// Puts pieces into bytes: `@PLACE` says where the next ones stand, `HEX` and `HEX*COUNT` what they are, and `=TEXT`
-/// is text.
+/// Puts pieces into bytes: `@PLACE` says where the next ones stand, `HEX` and `HEX*COUNT` what they
+/// are, and `=TEXT` is text.
 pub fn put_pieces(alloc: Global, bytes: &mut [u8], pieces: &str) -> Answer {
     let mut at = 0usize;
     for piece in pieces.split_whitespace() {

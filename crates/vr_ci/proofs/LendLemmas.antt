@@ -18,7 +18,7 @@ use Rattle.vr_ci.specs.declared.records.Batch.{Batch}
 use Rattle.vr_ci.specs.Interval.{Item}
 use Rattle.vr_ci.specs.Reading.{items_at, rdfs_between, AreLent, AreIn, IsNextBatch, marks_left}
 use Rattle.vr_ci.specs.Reading.{items_left}
-use Rattle.vr_ci_match.proofs.CallerLemmas.{some_bytes, byte}
+use Rattle.vr_ci_match.proofs.CallerLemmas.{byte}
 use Rattle.vr_ci.proofs.ReadLemmas.{rdfs_between-is}
 
 -- the rightmost RDF or pair of those that are lent
@@ -84,27 +84,6 @@ first_of low end block lent some = by_rdfs (rdfs_between low end block) refl
             rdfs = subst (λ (x : List Rdf). AllByRecursion IsRdf x) (sym same) valid.1;
           };
         }
-
--- no RDF is lent between a place and itself
-pub none_lent : (low end : ℕ) (block : List ℕ) → AreLent block low end → end ≡ low
-    → rdfs_between low end block ≡ []
-none_lent low end block lent same = by_rdfs (rdfs_between low end block) refl
-  where
-    by_rdfs : (rdfs : List Rdf) → rdfs_between low end block ≡ rdfs
-        → rdfs_between low end block ≡ []
-    by_rdfs [] none = none
-    by_rdfs (r ∷ rdfs) are =
-        absurd (omega (
-          arith,
-          ap length lent.control,
-          ap (λ (x : List Rdf). length (control x)) are,
-          length-append (control rdfs) (rdf_bytes r),
-          some_bytes r,
-          length-drop low (take end block),
-          length-take end block,
-          lent.within,
-          same,
-        ))
 
 -- ---- what an RDF or pair says, by the bytes before its end
 

@@ -10,5 +10,7 @@ pub mod PlaceLemmas
 pub mod ReadLemmas
 pub mod ShownLemmas
 pub mod SpellingLemmas
+pub mod RunLemmas
+pub mod SegmentLemmas
 pub mod WriterLemmas
 pub mod RecordsLemmas

@@ -110,7 +110,8 @@ walk_starts form block size fits =
     }
 
 -- one RDF or pair more, which is of records that have the bytes that they should have
-record Next (form : Form) (block : List ℕ) (old new : Walk) (before : List Rdf) (r : Rdf) : Type 0 where
+record Next (form : Form) (block : List ℕ) (old new : Walk) (before : List Rdf)
+    (r : Rdf) : Type 0 where
   valid : IsRdf r
   kept : IsOfSlots form r
   follows : MayFollow form (last_from None before) r

@@ -1,24 +1,22 @@
 -- What a writer holds after each step, and the interval that it leaves.
 use Rattle.vr_ci_match.specs.declared.form.Shape.TheVariants as shapes
-use Rattle.std.proofs.Common.{◌≡◌, ℕ, zero, suc, ◌+◌, ◌-◌, ◌*◌, ◌<◌, ◌≤◌, inl, Bool, true, false}
+use Rattle.std.proofs.Common.{◌≡◌, ℕ, suc, ◌+◌, ◌-◌, ◌*◌, ◌<◌, ◌≤◌, inl, Bool, true}
 use Rattle.std.proofs.Common.{List, [], ◌∷◌, ◌++◌, length, take, drop, Option, Some, None, refl}
 use Rattle.std.proofs.Common.{sym, ap, ◌∙◌, subst, arith, append_assoc, length-append, length-take}
 use Rattle.std.proofs.Common.{length-drop}
-use Rattle.std.specs.Prelude.{map, replicate, IsTrue}
+use Rattle.std.specs.Prelude.{map, IsTrue}
 use Rattle.std.specs.List.{flat_map, AllByRecursion}
 use Rattle.std.proofs.lemmas.List.{take_at, drop_at, take-append-drop, take-take, drop-drop}
 use Rattle.std.proofs.lemmas.List.{drop-take, append-nil, map-append, replicate_more, drop_all}
 use Rattle.std.proofs.lemmas.List.Concat.{flat_map-append}
 use Rattle.vr_ci_match.specs.declared.form.Form.{Form}
 use Rattle.vr_ci_match.specs.declared.form.Form.TheVariants.{Plain, Slots}
-use Rattle.vr_ci_match.specs.declared.form.Piece.{Piece}
-use Rattle.vr_ci_match.specs.declared.form.Piece.TheVariants.{First, Inner, Last}
 use Rattle.vr_ci_match.specs.declared.rdf.Rdf.{Rdf}
 use Rattle.vr_ci_match.specs.declared.rdf.Rdf.TheVariants.{Single, Run, Segment}
 use Rattle.vr_ci.specs.declared.writer.CiWriter.{CiWriter}
 use Rattle.vr_types.specs.BlockSize.{IsBlockSize}
-use Rattle.vr_ci_match.specs.Rdf.{Mark, marks, spans, rdf_bytes, control, IsCount, IsRdf}
-use Rattle.vr_ci_match.specs.Rdf.{run_length, AreApart, IsOfForm, IsOfRecords, MayFollow, IsChain}
+use Rattle.vr_ci_match.specs.Rdf.{Mark, marks, spans, rdf_bytes, control}
+use Rattle.vr_ci_match.specs.Rdf.{MayFollow, IsChain}
 use Rattle.vr_ci_match.specs.Rdf.{last_from, shape_of}
 use Rattle.vr_ci.specs.Interval.{Item, Interval, IsItem, bytes_of, mark_of, room, FitsBlock, Fits}
 use Rattle.vr_ci.specs.Interval.{IsInterval}
@@ -30,123 +28,9 @@ use Rattle.vr_ci_match.proofs.CallerLemmas.{control-push, total, total-all, zero
 use Rattle.vr_ci_match.proofs.CallerLemmas.{padded_fits, size_bounds, chain-push, chain-last}
 use Rattle.vr_ci_match.proofs.CallerLemmas.{chain-front, last_from-push, all_records}
 use Rattle.vr_ci.proofs.ItemLemmas.{room_is, length-bytes}
-use Rattle.vr_ci.proofs.PlaceLemmas.{placed-next, take-placed, take-placed_all, drop-placed, run_is}
+use Rattle.vr_ci.proofs.PlaceLemmas.{take-placed, take-placed_all, drop-placed, run_is}
 use Rattle.vr_types.proofs.CallerLemmas.{length-with_bytes}
-
--- ---- lists of items
-
-pub bytes-push : (items : List Item) (i : Item)
-    → flat_map bytes_of (items ++ i ∷ []) ≡ flat_map bytes_of items ++ i.bytes
-bytes-push items i = flat_map-append bytes_of items (i ∷ [])
-    ∙ ap (λ (x : List ℕ). flat_map bytes_of items ++ x) (append-nil i.bytes)
-
-all-push : (P : Item → Type 0) (items : List Item) (i : Item) → AllByRecursion P items → P i
-    → AllByRecursion P (items ++ i ∷ [])
-all-push P [] i each_so given = (given, tt)
-all-push P (j ∷ items) i each_so given = (each_so.0, all-push P items i each_so.1 given)
-
-pub length-written : (bytes : List ℕ) (live : Bool)
-    → length (written bytes live).bytes ≡ length bytes
-length-written bytes true = refl
-length-written bytes false = length-zeros (length bytes)
-
-pub written_ok : (bytes : List ℕ) (live : Bool) → 0 < length bytes → IsItem (written bytes live)
-written_ok bytes true some_too = record { some = some_too; zeros = λ e. absurd cc }
-written_ok bytes false some_too =
-    record {
-      some = omega (arith, length-zeros (length bytes), some_too);
-      zeros = λ e. ap (λ (k : ℕ). zeros k) (sym (length-zeros (length bytes)));
-    }
-
--- ---- the last RDF
-
-last_record : (before : Option Rdf) (rs : List Rdf) (b : Rdf)
-    → ((r : Rdf) → before ≡ Some r → IsOfRecords r) → AllByRecursion IsOfRecords rs
-    → last_from before rs ≡ Some b → IsOfRecords b
-last_record before [] b each records before_is = each b before_is
-last_record before (r ∷ rs) b each records before_is =
-    last_record (Some r) rs b (λ s q. let same : r ≡ s = cc in
-    subst IsOfRecords same records.0) records.1 before_is
-
-split_last : (r : Rdf) (rs : List Rdf) (b : Rdf) → last_from (Some r) rs ≡ Some b
-    → (init : List Rdf) × (r ∷ rs ≡ init ++ b ∷ [])
-split_last r [] b last_from_is = let same : r ≡ b = cc in ([], ap (λ (x : Rdf). x ∷ []) same)
-split_last r (s ∷ rs) b last_from_is = let rest = split_last s rs b last_from_is in
-    (r ∷ rest.0, ap (λ (x : List Rdf). r ∷ x) rest.1)
-
-pub split_of : (rs : List Rdf) (b : Rdf) → last_from None rs ≡ Some b → (init : List Rdf)
-    × (rs ≡ init ++ b ∷ [])
-split_of [] b last_from_is = absurd cc
-split_of (r ∷ rs) b last_from_is = split_last r rs b last_from_is
-
--- a record that does not go on with a run may have an RDF of its own
-may_follow : (form : Form) (last : Option Rdf) (live : Bool) (len n count : ℕ)
-    → IsLastRun form last n count → ((b : Rdf) → last ≡ Some b → IsOfRecords b)
-    → (IsTrue live → 0 < count → n ≡ len → ⊥) → MayFollow form last (Single live len)
-may_follow Plain None live len n count last_run each not_so = tt
-may_follow (Slots k) None live len n count last_run each not_so = tt
-may_follow (Slots k) (Some b) live len n count last_run each not_so = (tt, each b refl, tt, tt)
-may_follow Plain (Some (Single true m)) true len n count last_run each not_so =
-    (tt, tt, tt, λ e. not_so refl (omega (arith, last_run.0)) (last_run.1 ∙ e))
-may_follow Plain (Some (Single true m)) false len n count last_run each not_so = (tt, tt, tt, tt)
-may_follow Plain (Some (Single false m)) live len n count last_run each not_so = (tt, tt, tt, tt)
-may_follow Plain (Some (Run m k)) true len n count last_run each not_so =
-    (tt, tt, tt, λ e. not_so refl (omega (arith, last_run.0, last_run.2)) (last_run.1 ∙ e))
-may_follow Plain (Some (Run m k)) false len n count last_run each not_so = (tt, tt, tt, tt)
-may_follow Plain (Some (Segment piece mark number m)) live len n count last_run each not_so =
-    absurd last_run
-
-started : (form : Form) (live : Bool) (len n count : ℕ) → n ≡ len → count ≡ run_started form live
-    → IsLastRun form (Some (Single live len)) n count
-started Plain true len n count same count_is = (count_is, same)
-started Plain false len n count same count_is = count_is
-started (Slots k) live len n count same count_is = count_is
-
--- a run that goes on is of plain records, and the last RDF is its own
-runs : (form : Form) (last : Option Rdf) (n count : ℕ) → IsLastRun form last n count → 0 < count
-    → (form ≡ Plain) × (last ≡ Some (run_rdf n count))
-runs (Slots k) last n count last_run some = absurd (omega (arith, last_run, some))
-runs Plain None n count last_run some = absurd (omega (arith, last_run, some))
-runs Plain (Some (Single true m)) n count last_run some =
-    let true_is : Single true m ≡ run_rdf n count = ap (λ (k : ℕ). Single true k) (sym last_run.1)
-    ∙ sym (ap (λ (k : ℕ). run_rdf n k) last_run.0) in
-    (refl, ap (λ (r : Rdf). Some r) true_is)
-runs Plain (Some (Single false m)) n count last_run some = absurd (omega (arith, last_run, some))
-runs Plain (Some (Run m k)) n count last_run some =
-    let same : Run m k ≡ run_rdf n count = ap (λ (j : ℕ). Run j k) (sym last_run.1)
-    ∙ ap (λ (j : ℕ). Run n j) (sym last_run.0)
-    ∙ sym (run_is n count (omega (arith, last_run.0, last_run.2))) in
-    (refl, ap (λ (r : Rdf). Some r) same)
-runs Plain (Some (Segment piece mark number m)) n count last_run some = absurd last_run
-
-run_marks : (n count : ℕ) → 0 < count
-    → marks (run_rdf n count) ≡ replicate count (let m : Mark = record { live = true; len = n } in
-    m)
-run_marks n zero some = absurd (omega arith)
-run_marks n (suc zero) some = refl
-run_marks n (suc (suc k)) some = ap marks (run_is n (suc (suc k)) (omega arith))
-
-run_length_is : (n count : ℕ) → 0 < count → run_length (run_rdf n count) ≡ Some n
-run_length_is n zero some = absurd (omega arith)
-run_length_is n (suc zero) some = refl
-run_length_is n (suc (suc k)) some = ap run_length (run_is n (suc (suc k)) (omega arith))
-
-run_count : (n count : ℕ) → 0 < count → IsRdf (run_rdf n count) → IsCount n
-run_count n zero some valid = absurd (omega arith)
-run_count n (suc zero) some valid = valid
-run_count n (suc (suc k)) some valid = let is_rdf : IsRdf (Run n (suc (suc k))) =
-    subst IsRdf (run_is n (suc (suc k)) (omega arith)) valid in is_rdf.0
-
-longer_follows : (last : Option Rdf) (n count more : ℕ) → 0 < count
-    → MayFollow Plain last (run_rdf n count) → MayFollow Plain last (Run n more)
-longer_follows None n count more some follows = tt
-longer_follows (Some b) n count more some follows = (
-  tt,
-  follows.1,
-  tt,
-  subst (λ (o : Option ℕ). AreApart Plain (run_length b) o)
-      (run_length_is n count some) follows.3,
-)
+use Rattle.vr_ci.proofs.RunLemmas.{bytes-push, all-push, length-written, written_ok, last_record, split_of, may_follow, started, runs, run_marks, run_length_is, run_count, longer_follows}
 
 -- ---- the block
 
@@ -579,112 +463,6 @@ ended w items busy out holds complete room order out_is =
 pub room_held : (w : CiWriter) (items : List Item) → Holds w items
     → room items ≡ w.front + 3 * w.added
 room_held w items holds = omega (arith, room_is items, holds.front, length-bytes items, holds.added)
-
--- ---- a segment
-
-pub segment_block : (form : Form) (piece : Piece) (number : ℕ) (live busy : Bool)
-    (bytes old new : List ℕ) → IsBlockSize (length old) → 0 < number → number < 65536
-    → 0 < length bytes → length bytes ≤ length old - 10
-    → Rattle.vr_ci.specs.Writer.Fills piece (length old) (length bytes)
-    → new ≡ ((((written bytes live).bytes ++ zeros (length old - 10 - length bytes))
-    ++ control (Segment piece live number (length bytes) ∷ []))
-    ++ cidf (length bytes) (length old - 10 - length bytes) busy)
-    → IsInterval form new (record {
-      shape = shapes.Segment piece number;
-      items = written bytes live ∷ [];
-      busy = busy;
-    })
-segment_block form piece number live busy bytes old new size low high some short fills new_is =
-    let n : ℕ = length bytes in
-    let x : List ℕ = (written bytes live).bytes in
-    let rs : List Rdf = Segment piece live number n ∷ [] in
-    let k : ℕ = length old - 10 - n in
-    let value : Interval = record {
-      shape = shapes.Segment piece number;
-      items = written bytes live ∷ [];
-      busy = busy;
-    } in
-    let bounds = size_bounds (length old) size in
-    let long : length x ≡ n = length-written bytes live in
-    let whole : length new ≡ length old =
-    omega (
-      arith,
-      ap length new_is,
-      length-append ((x ++ zeros k) ++ control rs) (cidf n k busy),
-      length-append (x ++ zeros k) (control rs),
-      length-append x (zeros k),
-      length-zeros k,
-      long,
-      short,
-      bounds.0,
-    ) in
-    let span : spans rs ≡ n = omega arith in
-    let free : k ≡ control_at (length new) rs - spans rs = omega (arith, whole, span, bounds.0) in
-    interval_of form new value rs (subst IsBlockSize (sym whole) size) (
-      (
-        record { low = low; high = high },
-        record { low = some; high = omega (arith, short, bounds.1) },
-      ),
-      of_form form,
-      tt,
-    ) refl
-    (ap (λ (i : ℕ). (let m : Mark = record { live = live; len = i } in m) ∷ []) (sym long))
-    (record {
-      items = (written_ok bytes live some, tt);
-      block = (
-        record { low = low; high = high },
-        (fills_block piece (length-written bytes live) whole fills, tt),
-        refl,
-      );
-      idle = λ q. absurd cc;
-    })
-    (omega (arith, span, whole, short, bounds.0))
-    (new_is ∙ ap (λ (z : List ℕ). ((z ++ zeros k) ++ control rs) ++ cidf n k busy)
-    (sym (append-nil x))
-    ∙ ap (λ (i : ℕ). (((x ++ []) ++ zeros i) ++ control rs) ++ cidf n i busy) free
-    ∙ ap (λ (i : ℕ). (((x ++ []) ++ zeros (control_at (length new) rs - spans rs)) ++ control rs)
-    ++ cidf i (control_at (length new) rs - spans rs) busy) (sym span))
-  where
-    of_form : (g : Form) → IsOfForm g (Segment piece live number (length bytes))
-    of_form Plain = tt
-    of_form (Slots len) = tt
-
-    fills_block : (p : Piece) → length (written bytes live).bytes ≡ length bytes
-        → length new ≡ length old → Rattle.vr_ci.specs.Writer.Fills p (length old) (length bytes)
-        → Rattle.vr_ci.specs.Interval.IsSegmentLength p (length new)
-        (length (written bytes live).bytes)
-    fills_block First long long_too given = omega (arith, long, long_too, given some, short)
-    fills_block Inner long long_too given = omega (arith, long, long_too, given some, short)
-    fills_block Last long long_too given = omega (arith, long, long_too, short)
-
--- the parts of a segment's block, one after the other
-pub four_placed : (block x z r c : List ℕ) (i j k : ℕ) → i ≡ length x → j ≡ i + length z
-    → k ≡ j + length r → k + length c ≡ length block
-    → with_bytes (with_bytes (with_bytes (with_bytes block 0 x) i z) j r) k c ≡ ((x ++ z) ++ r) ++ c
-four_placed block x z r c i j k same equal alike matching =
-    let one : with_bytes (with_bytes block 0 x) i z ≡ with_bytes block 0 (x ++ z) =
-    placed-next block 0 i x z (omega arith) (omega (arith, same)) in
-    let two : with_bytes (with_bytes block 0 (x ++ z)) j r ≡ with_bytes block 0 ((x ++ z) ++ r) =
-    placed-next block 0 j (x ++ z) r (omega arith) (omega (arith, same, equal, length-append x z))
-    in
-    let all : with_bytes (with_bytes block 0 ((x ++ z) ++ r)) k c ≡ with_bytes block 0
-    (((x ++ z) ++ r) ++ c) = placed-next block 0 k ((x ++ z) ++ r) c (omega arith)
-    (omega (arith, same, equal, alike, length-append x z, length-append (x ++ z) r)) in
-    let none : drop (0 + length (((x ++ z) ++ r) ++ c)) block ≡ [] =
-    drop_all (0 + length (((x ++ z) ++ r) ++ c)) block
-    (omega (
-      arith,
-      same,
-      equal,
-      alike,
-      matching,
-      length-append x z,
-      length-append (x ++ z) r,
-      length-append ((x ++ z) ++ r) c,
-    )) in
-    ap (λ (y : List ℕ). with_bytes (with_bytes y j r) k c) one
-    ∙ ap (λ (y : List ℕ). with_bytes y k c) two ∙ all
-    ∙ ap (λ (y : List ℕ). (((x ++ z) ++ r) ++ c) ++ y) none ∙ append-nil (((x ++ z) ++ r) ++ c)
 
 -- the RDF or pair of a run still stands when a record's bytes are put to its left
 pub run_stands : (w : CiWriter) (items : List Item) (x : List ℕ) → Holds w items → 0 < w.run_count

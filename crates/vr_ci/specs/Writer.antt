@@ -100,7 +100,8 @@ pub record Holds (w : CiWriter) (held : List Item) : Type 0 where
 
 -- A writer of this form, for a buffer of this size, that holds these items: what a caller's loop
 -- keeps.
-pub record IsWriting (form : Form) (size buffer : ℕ) (items : List Item) (w : CiWriter) : Type 0 where
+pub record IsWriting (form : Form) (size buffer : ℕ) (items : List Item)
+    (w : CiWriter) : Type 0 where
   pub holds : Holds w items
   pub same_form : form_of w ≡ form
   pub same_size : size_of w ≡ size

@@ -16,8 +16,8 @@ struct Batch {
     live: bool,
 }
 
-/// Records with their live marks, from the left end of a block. Contracts see the items that are still
-/// to come.
+/// Records with their live marks, from the left end of a block. Contracts see the items that are
+/// still to come.
 #[derive(Debug, Drop)]
 pub struct Records<'a> {
     bytes: &'a [u8],

@@ -93,8 +93,8 @@ impl<'a> CiView<'a> {
         self.count
     }
 
-    /// The bytes of item `i`, borrowed from the block. It walks over the items before it; `iter` visits
-    /// over all.
+    /// The bytes of item `i`, borrowed from the block. It walks over the items before it; `iter`
+    /// visits over all.
     pub fn item(&self, i: usize) -> &'a [u8]
         requires { i < length self.now.items }
         ensures { slice_get (map bytes_of self.now.items) i ≡ Some result.now }

@@ -217,7 +217,8 @@ grows (Slots slot) size rs (Single live n) len chain size_is =
     omega (
       arith,
       singles_count rs before,
-      Rattle.std.proofs.lemmas.Bool.ltb-true (length (flat_map marks rs)) (slots_in size slot) said.0,
+      Rattle.std.proofs.lemmas.Bool.ltb-true (length (flat_map marks rs))
+          (slots_in size slot) said.0,
     )
     in
     record {
@@ -254,7 +255,8 @@ stays (Slots slot) size rs (Single live n) chain size_is =
     (omega (
       arith,
       singles_count rs before,
-      Rattle.std.proofs.lemmas.Bool.ltb-false (length (flat_map marks rs)) (slots_in size slot) past,
+      Rattle.std.proofs.lemmas.Bool.ltb-false (length (flat_map marks rs))
+          (slots_in size slot) past,
     ))
     ∙ sym (judged_slots size slot rs (front_shape rs (Single live n) all))
 stays (Slots slot) size rs (Run n k) chain size_is =

@@ -32,7 +32,8 @@ data_end form size low (shapes.Segment piece number) = size - 10
 data_end form size low shapes.Records = records_end form size low
 data_end form size low shapes.EndOfFile = records_end form size low
 
--- The length that an RDF is to say with that many records to its right. One that is of no slot of the
+-- The length that an RDF is to say with that many records to its right. One that is of no slot of
+-- the
 -- block has none.
 abbrev pub length_meant : Form → ℕ → ℕ → Rdf → Option ℕ
 length_meant form size before (Segment piece live number n) =

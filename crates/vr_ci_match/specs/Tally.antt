@@ -30,7 +30,8 @@ judged Plain size rdfs = rdfs
 judged (Slots len) size rdfs = take (slots_in size len) (map (slotted len) rdfs)
 
 -- the block is compared with these RDFs, and up to the limit with the records that they are of
-pub record IsCompared (block : List ℕ) (limit : ℕ) (rdfs : List Rdf) (compared : Compared) : Type 0 where
+pub record IsCompared (block : List ℕ) (limit : ℕ) (rdfs : List Rdf)
+    (compared : Compared) : Type 0 where
   pub span : compared.span ≡ spans rdfs
   pub from : compared.from ≡ control_at (length block) rdfs
   pub wrong : Compares 0 (take (min (spans rdfs) limit) block)

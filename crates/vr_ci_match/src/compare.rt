@@ -66,7 +66,8 @@ fn number_difference(bytes: &[u8], at: usize, number: usize) -> Option<usize>
     number_apart(at, usize::from(found), number)
 }
 
-/// The first byte from `from` on that differs from the RDFs of that many empty slots of this length.
+/// The first byte from `from` on that differs from the RDFs of that many empty slots of this
+/// length.
 pub(crate) fn empty_difference(
     bytes: &[u8],
     from: usize,

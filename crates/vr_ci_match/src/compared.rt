@@ -92,8 +92,8 @@ impl Compared {
         first_nonzero(bytes, self.span.min(limit), limit)
     }
 
-    /// The first byte from `limit` up to the CIDF that differs from the RDFs, with those of that many
-    /// empty slots to their left.
+    /// The first byte from `limit` up to the CIDF that differs from the RDFs, with those of that
+    /// many empty slots to their left.
     pub(crate) fn control_difference(
         self,
         bytes: &[u8],

@@ -8,8 +8,8 @@ pub enum CiFault {
     /// The CIDF's displacement and length of the free space pass its own place, or the CIDF is four
     /// zero bytes and another byte of the block is not zero; `at` is the CIDF's place.
     Cidf { at: usize },
-    /// An RDF, or two that are paired, that no block of the form has to the left of those to its right;
-    /// `at` is its leftmost byte.
+    /// An RDF, or two that are paired, that no block of the form has to the left of those to its
+    /// right; `at` is its leftmost byte.
     Chain { at: usize },
     /// Lengths, counts, slots or bytes that disagree with the CIDF or the form; `at` is the first
     /// byte that differs from the block that the RDFs describe. Where none differs, the records

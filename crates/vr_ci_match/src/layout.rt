@@ -54,8 +54,8 @@ impl Layout {
         }
     }
 
-    /// The length that an RDF is to say with that many records to its right, unless it is of no slot
-    /// of the block.
+    /// The length that an RDF is to say with that many records to its right, unless it is of no
+    /// slot of the block.
     pub(crate) fn length_meant(
         self,
         form: Form,

@@ -1,3 +1,4 @@
+-- The lines of a deck: what a line says is one thing.
 use Rattle.std.proofs.Common.{◌≡◌, ◌≢◌, ◌↔◌, ℕ, ◌<◌, ◌≤◌, ◌++◌, Bool, false, List, IsTrue, All}
 use Rattle.std.proofs.Common.{codes, subst, sym, ◌∙◌, length, drop, arith}
 use Rattle.std.proofs.lemmas.List.Elements.{All-drop}
@@ -13,8 +14,6 @@ use Rattle.vr_text.proofs.CallerLemmas.{literal_has_no_cause}
 use Rattle.vr_deck.specs.Line.{unindented, word, after_word}
 use Rattle.vr_deck.specs.DeckLine.{Meaning, Nothing, FileOf, PutOf, GetOf, IsDeckLine, IsOrderLine}
 use Rattle.vr_deck.specs.DeckLine.{IsKeyword, IsFirstFile}
-
--- The lines of a deck: what a line says is one thing.
 
 -- what holds of each character of a line holds of each character after its first word
 All-unindented : (P : ℕ → Type 0) (line : List ℕ) → All P line → All P (unindented line)

@@ -1,3 +1,4 @@
+-- Each line says one thing.
 use Rattle.std.proofs.Common.{◌≡◌, ℕ, ◌⊎◌, not, List, [], ◌∷◌, ◌++◌, Some, codes, refl, sym, ◌∙◌}
 use Rattle.std.proofs.Common.{ap, subst, take, get_or, inl, inr, arith}
 use Rattle.std.specs.Prelude.{slice_get}
@@ -10,8 +11,6 @@ use Rattle.vr_deck.specs.Line.{is_blank, unindented, word}
 use Rattle.vr_deck.specs.Card.{IsStepCard}
 use Rattle.vr_deck.specs.DeckLine.{Meaning, Nothing, FileOf, PutOf, GetOf, IsDeckLine, IsOrderLine}
 use Rattle.vr_deck.specs.DeckLine.{IsKeyword}
-
--- Each line says one thing.
 
 -- the verb of a comment begins with a star, and a blank line has no verb
 verb_of_star : (line : List ℕ) → slice_get line 0 ≡ Some 42

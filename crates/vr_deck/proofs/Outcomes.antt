@@ -1,3 +1,4 @@
+-- A text has one outcome.
 use Rattle.std.proofs.Common.{◌≡◌, ℕ, ◌+◌, ◌-◌, ◌<◌, ◌≤◌, List, [], ◌∷◌, length, take, drop, get_or}
 use Rattle.std.proofs.Common.{Option, refl, sym, ◌∙◌, ap, subst, inl, inr, zero, suc, arith}
 use Rattle.std.proofs.Common.{add-zero, drop-cons}
@@ -10,8 +11,6 @@ use Rattle.vr_deck.specs.DeckLine.{Meaning, Nothing, FileOf, PutOf, GetOf}
 use Rattle.vr_deck.specs.JobText.{Progress, NoCard, StepRead, InDeck, Adds, Leads, Reads, LacksCard}
 use Rattle.vr_deck.specs.JobText.{IsFirstFault, IsJobText}
 use Rattle.vr_deck.proofs.OneMeaning.{one_meaning, one_step}
-
--- A text has one outcome.
 
 one_addition : (n : ℕ) (meaning : Meaning) (file one other : Option (List ℕ))
     (orders ones others : List Order) → Adds n meaning file orders one ones

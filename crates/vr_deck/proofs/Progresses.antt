@@ -1,3 +1,4 @@
+-- Where reading leads, and where it stops.
 use Rattle.std.proofs.Common.{◌≡◌, ℕ, ◌+◌, ◌-◌, ◌<◌, ◌≤◌, List, [], ◌∷◌, length, take, Option}
 use Rattle.std.proofs.Common.{None, refl, lit≤, subst, inl, inr, suc, arith}
 use Rattle.std.specs.Prelude.{slice_index_or}
@@ -11,8 +12,6 @@ use Rattle.vr_deck.specs.JobText.{Progress, NoCard, StepRead, InDeck, Adds, Lead
 use Rattle.vr_deck.specs.JobText.{IsFirstFault, CauseOf}
 use Rattle.vr_deck.specs.Stop.{StopsAt, FaultFrom, FaultAt, CannotAdd}
 use Rattle.vr_deck.proofs.OneMeaning.{one_meaning}
-
--- Where reading leads, and where it stops.
 
 -- a line whose meaning can't be added leads nowhere
 leads_nowhere : (n : ℕ) (line : List ℕ) (meaning : Meaning) (file : Option (List ℕ))

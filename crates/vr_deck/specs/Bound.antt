@@ -1,3 +1,4 @@
+-- The requests that a deck's text stands for.
 use Rattle.std.specs.Prelude.{ℕ, ◌++◌, ◌==◌, List, [], ◌∷◌, length, map, replicate, Option, Some}
 use Rattle.std.specs.Prelude.{None, true, false, if◌then◌else◌}
 use Rattle.vr_types.specs.declared.request.FileRef.{FileRef}
@@ -10,8 +11,6 @@ use Rattle.vr_deck.specs.declared.text.DeckText.{DeckText}
 use Rattle.vr_deck.specs.declared.text.Order.{Order}
 use Rattle.vr_deck.specs.declared.text.Order.TheVariants.{Put, Get}
 use Rattle.vr_types.specs.declared.bound.Bound.{Bound}
-
--- The requests that a deck's text stands for.
 
 -- the file of a deck: VRM.FIRST, which is part 1 of volume 0
 abbrev pub first_file : FileRef

@@ -1,9 +1,8 @@
+-- Job control cards, after MVS JCL: the cards that a deck step begins with.
 use Rattle.std.specs.Prelude.{◌≡◌, ℕ, ◌<◌, ◌≤◌, ◌==◌, ◌||◌, Bool, true, List, ◌++◌, length, codes}
 use Rattle.std.specs.Prelude.{slice_index, All}
 use Rattle.std.specs.Char.{is_ascii_alphabetic, is_ascii_digit}
 use Rattle.vr_deck.specs.Line.{word, after_word}
-
--- Job control cards, after MVS JCL: the cards that a deck step begins with.
 
 -- a letter of either case, or one of the three characters that count as letters: @ # $
 abbrev pub is_letter : ℕ → Bool

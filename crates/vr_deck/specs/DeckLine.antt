@@ -1,11 +1,10 @@
+-- The lines of a request deck. Their form is this project's own; the requests are those of Using
+-- Data Sets.
 use Rattle.std.specs.Prelude.{◌≡◌, ℕ, ◌⊎◌, List, [], ◌++◌, codes, map, slice_get, Some}
 use Rattle.std.specs.Char.{to_ascii_lowercase}
 use Rattle.vr_text.specs.Literal.{IsLiteral}
 use Rattle.vr_deck.specs.Line.{unindented, word, after_word}
 use Rattle.vr_deck.specs.Card.{IsName}
-
--- The lines of a request deck. Their form is this project's own; the requests are those of Using
--- Data Sets.
 
 -- what a line of a deck says
 pub data Meaning : Type 0 where

@@ -1,3 +1,4 @@
+-- What the function that reads a line of a deck answers.
 use Rattle.vr_deck.specs.declared.deck_line.DeckLine.{DeckLine}
 use Rattle.vr_deck.specs.declared.deck_line.DeckLine.TheVariants.{Nothing as NothingRead, File, Put}
 use Rattle.vr_deck.specs.declared.deck_line.DeckLine.TheVariants.{Get}

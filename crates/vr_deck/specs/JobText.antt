@@ -1,3 +1,5 @@
+-- Job texts: the card of a deck step, the card of deck 1, and the lines of that deck. The form is
+-- this project's own.
 use Rattle.std.specs.Prelude.{◌≡◌, ℕ, ◌+◌, ◌-◌, ◌<◌, ◌≤◌, List, [], ◌∷◌, ◌++◌, length, take}
 use Rattle.std.specs.Prelude.{slice_index_or, Option, Some, None}
 use Rattle.vr_deck.specs.declared.text.JobText.{JobText}
@@ -8,9 +10,6 @@ use Rattle.vr_deck.specs.declared.text.JobFault.TheVariants.{Form, Memory}
 use Rattle.vr_deck.specs.Line.{job_lines, without_end, IsPrintable, IsRightLine}
 use Rattle.vr_deck.specs.Card.{IsStepCard, IsDeckCard}
 use Rattle.vr_deck.specs.DeckLine.{Meaning, IsDeckLine, Nothing, FileOf, PutOf, GetOf}
-
--- Job texts: the card of a deck step, the card of deck 1, and the lines of that deck. The form is
--- this project's own.
 
 -- how far a job text has been read
 pub data Progress : Type 0 where

@@ -1,8 +1,7 @@
+-- The lines of a job text and the words of a line. The rules are this project's own, after JCL's.
 use Rattle.std.specs.Prelude.{ℕ, ◌-◌, ◌<◌, ◌≤◌, ◌==◌, Bool, not, List, length, map, take, drop, All}
 use Rattle.std.specs.List.{prefix_len, suffix_len, take_while}
 use Rattle.bstr.specs.Text.{lines_of, without_terminator}
-
--- The lines of a job text and the words of a line. The rules are this project's own, after JCL's.
 
 -- the lines of an input: each is ended by a line feed, the last one perhaps by none; a carriage
 -- return before the line feed is dropped

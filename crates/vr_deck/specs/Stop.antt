@@ -1,12 +1,11 @@
+-- Where a job text stops being one, from a point on: for the private functions that each read a
+-- part of it.
 use Rattle.std.specs.Prelude.{◌≡◌, ◌≢◌, ◌⊎◌, ℕ, ◌+◌, List, [], ◌∷◌, Option, Some}
 use Rattle.vr_deck.specs.declared.text.Order.{Order}
 use Rattle.vr_deck.specs.declared.text.JobFault.{JobFault}
 use Rattle.vr_deck.specs.declared.text.JobFault.TheVariants.{Form, Memory}
 use Rattle.vr_deck.specs.DeckLine.{Meaning}
 use Rattle.vr_deck.specs.JobText.{Progress, Adds, Leads, LacksCard}
-
--- Where a job text stops being one, from a point on: for the private functions that each read a
--- part of it.
 
 -- lines numbered from n on lead from a point to line m, and no further
 abbrev pub StopsAt : ℕ → Progress → List (List ℕ) → ℕ → Type 0

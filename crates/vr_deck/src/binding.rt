@@ -1,5 +1,5 @@
 //! The requests that the text of a deck stands for.
-ghost use Rattle.std.specs.Prelude.{◌≡◌, [], map, IfOk};
+ghost use Rattle.std.specs.Prelude.{◌≡◌, [], map, IfOk, OnOk};
 ghost use Rattle.vr_deck.specs.Bound.{first_file, get_request, key_request, add_request};
 ghost use Rattle.vr_deck.specs.Bound.{bound_order, bound_requests};
 
@@ -37,14 +37,32 @@ pub fn bind(alloc: Global, deck: DeckText) -> Result<DeckRequests, OutOfMemory>
 fn bind_orders(alloc: Global, orders: Orders) -> Result<DeckRequests, OutOfMemory>
     ensures { IfOk result (λ requests. requests ≡ map bound_order orders) }
 {
-    let orders = orders.into_vec();
-    let empty = get_request(alloc, place(alloc, &[0; EMPTY_KEY])?)?;
     let mut requests = DeckRequests::new(alloc);
+    match add_orders(alloc, orders, &mut requests) {
+        Ok(()) => Ok(requests),
+        Err(fault) => Err(fault),
+    }
+}
+
+/// Adds the requests of some orders to an empty list, which gets room for a COMMIT after them.
+fn add_orders(alloc: Global, orders: Orders, requests: &mut DeckRequests) -> Result<(), OutOfMemory>
+    requires { requests.old ≡ [] }
+    ensures { OnOk result (requests.new ≡ map bound_order orders) }
+{
+    let orders = orders.into_vec();
     requests.reserve(orders.len().saturating_add(1))?;
+    let empty = empty_request(alloc)?;
     for order in orders {
         requests.push(bound_order(alloc, order, &empty)?)?;
     }
-    Ok(requests)
+    Ok(())
+}
+
+/// The request of an empty key.
+fn empty_request(alloc: Global) -> Result<SharedRequest, OutOfMemory>
+    ensures { IfOk result (λ request. request ≡ key_request []) }
+{
+    get_request(alloc, place(alloc, &[0; EMPTY_KEY])?)
 }
 
 /// The request of an order. `empty` is that of an empty key.

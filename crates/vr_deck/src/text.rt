@@ -89,7 +89,7 @@ pub struct TextFault {
 /// Why a text gave no job.
 #[derive(Clone, Copy, Debug, PartialEq, Eq, Hash)]
 pub enum JobFault {
-    /// The text is no job.
+    /// The text is not a job text.
     Form(TextFault),
     /// Memory ran out.
     Memory,

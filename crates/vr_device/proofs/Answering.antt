@@ -2,7 +2,8 @@
 use Rattle.std.proofs.Common.{Result, Ok, Err, OnOk, OnErr}
 
 -- what follows from either outcome
-pub either : {T E : Type 0} (r : Result T E) (P Q R : Type 0) → OnOk r P → OnErr r Q → (P → R) → (Q → R) → R
+pub either : {T E : Type 0} (r : Result T E) (P Q R : Type 0) → OnOk r P → OnErr r Q → (P → R)
+    → (Q → R) → R
 either (Ok x) P Q R ok err f g = f ok
 either (Err e) P Q R ok err f g = g err
 

@@ -1,6 +1,7 @@
 -- What a device in memory holds, and what a crash may leave of it. That blocks are whole and
 -- independent of one another is this project's own model of a disk.
-use Rattle.std.specs.Prelude.{◌≡◌, ◌⊎◌, ◌==◌, ◌<◌, ◌≤◌, ℕ, Some, slice_get, slice_index, List, [], ◌∷◌, ◌++◌, length, map, filter, slice_set, Contains}
+use Rattle.std.specs.Prelude.{◌≡◌, ◌⊎◌, ◌==◌, ◌<◌, ◌≤◌, ℕ, Some, slice_get, slice_index, List, []}
+use Rattle.std.specs.Prelude.{◌∷◌, ◌++◌, length, map, filter, slice_set, Contains}
 use Rattle.vr_types.specs.Image.{Block, Image, block_at}
 
 -- the blocks as a read gives them, the blocks that are stable, and what was written since the last
@@ -33,7 +34,12 @@ written disk n bytes = record {
 
 -- after a write that failed, and left what is read as it was
 abbrev pub tried : Disk → ℕ → Block → Disk
-tried disk n bytes = record { seen = disk.seen; stable = disk.stable; writes = disk.writes ++ (n, bytes) ∷ [] }
+tried disk n bytes = record {
+  seen = disk.seen;
+  stable = disk.stable;
+  writes =
+      disk.writes ++ (n, bytes) ∷ [];
+}
 
 -- after a sync that succeeded
 abbrev pub synced : Disk → Disk
@@ -48,15 +54,18 @@ pub record IsFit (count : ℕ) (disk : Disk) (choice : List ℕ) : Type 0 where
 -- isn't there though the choice has a number for it
 pub record IsMisfit (count : ℕ) (disk : Disk) (choice : List ℕ) (n : ℕ) : Type 0 where
   pub within : n ≤ count
-  pub before : (m : ℕ) → m < n → (m < length choice) × (slice_index choice m < length (choices_of disk m))
+  pub before : (m : ℕ) → m < n → (m < length choice)
+      × (slice_index choice m < length (choices_of disk m))
   pub here : (n < count) ⊎ (n < length choice)
   pub not_named : n < count → n < length choice → length (choices_of disk n) ≤ slice_index choice n
 
 -- an image that has, for each block, the content that the choice names
 pub record IsChosen (count : ℕ) (disk : Disk) (choice : List ℕ) (image : Image) : Type 0 where
   pub length_is : length image ≡ count
-  pub each : (n : ℕ) → n < count → slice_get (choices_of disk n) (slice_index choice n) ≡ Some (block_at image n)
+  pub each : (n : ℕ) → n < count → slice_get (choices_of disk n) (slice_index choice n) ≡ Some
+      (block_at image n)
 
 -- some choice gives this image
 abbrev pub IsSomeChoice : ℕ → Disk → Image → Type 0
-IsSomeChoice count disk image = (choice : List ℕ) × IsFit count disk choice × IsChosen count disk choice image
+IsSomeChoice count disk image = (choice : List ℕ) × IsFit count disk choice
+    × IsChosen count disk choice image

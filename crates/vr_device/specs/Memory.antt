@@ -11,13 +11,13 @@ past_in device = device.past
 abbrev pub calls_in : MemoryDevice → DeviceCalls
 calls_in device = device.calls
 
--- A write was to fail. A crash may leave its bytes.
+-- A write was set to fail. A crash may leave its bytes.
 pub record IsFailedWrite (old new : MemoryDevice) (n : ℕ) (bytes : Block) : Type 0 where
   pub was_to_fail : IsToFail (calls_in old)
   pub past : past_in new ≡ with_event (past_in old) (failed n bytes)
   pub calls : calls_in new ≡ write_failed (counted (calls_in old))
 
--- A sync was to fail.
+-- A sync was set to fail.
 pub record IsFailedSync (old new : MemoryDevice) : Type 0 where
   pub was_to_fail : IsToFail (calls_in old)
   pub past : past_in new ≡ past_in old

@@ -1,5 +1,6 @@
 -- The past of a device in memory, from which the images of every moment are told.
-use Rattle.std.specs.Prelude.{◌<◌, ◌≡◌, ℕ, List, [], ◌∷◌, ◌++◌, ◌==◌, length, take, slice_get, slice_index, Option, Some, None, if◌then◌else◌}
+use Rattle.std.specs.Prelude.{◌<◌, ◌≡◌, ℕ, List, [], ◌∷◌, ◌++◌, ◌==◌, length, take, slice_get}
+use Rattle.std.specs.Prelude.{slice_index, Option, Some, None, if◌then◌else◌}
 use Rattle.vr_types.specs.Image.{Block, Image, IsImage, block_at}
 use Rattle.vr_types.specs.Seen.{Seen}
 use Rattle.vr_device.specs.Disk.{Disk, written, tried, synced, MayHold, contents_of}
@@ -37,7 +38,12 @@ disk_of past = after_all past.events (fresh past.start)
 
 -- one more event
 abbrev pub with_event : Past → Event → Past
-with_event past event = record { size = past.size; start = past.start; events = past.events ++ event ∷ [] }
+with_event past event = record {
+  size = past.size;
+  start = past.start;
+  events =
+      past.events ++ event ∷ [];
+}
 
 -- a write of a block that there is, by as many bytes as a block has
 abbrev pub EventFits : ℕ → ℕ → Event → Type 0
@@ -47,7 +53,8 @@ EventFits count size forced = Unit {0}
 
 -- what a crash may leave once the first t events have come
 abbrev pub ImageAt : Past → ℕ → Image → Type 0
-ImageAt past t = IsImage (length past.start) (MayHold (after_all (take t past.events) (fresh past.start)))
+ImageAt past t = IsImage (length past.start)
+    (MayHold (after_all (take t past.events) (fresh past.start)))
 
 -- what is seen of the blocks of a past: its moments are the numbers of events
 abbrev pub seen_of : Past → Seen
@@ -88,6 +95,8 @@ abbrev pub contents_from : Image → List Event → ℕ → List Block
 contents_from stable since n = block_at stable n ∷ contents_of (writes_in since) n
 
 -- blocks that hold, each, the content that the choice names
-pub record ArePicked (stable : Image) (since : List Event) (choice : List ℕ) (blocks : Image) : Type 0 where
+pub record ArePicked (stable : Image) (since : List Event) (choice : List ℕ)
+    (blocks : Image) : Type 0 where
   pub length_is : length blocks ≡ length stable
-  pub each : (n : ℕ) → n < length stable → slice_get (contents_from stable since n) (slice_index choice n) ≡ Some (block_at blocks n)
+  pub each : (n : ℕ) → n < length stable
+      → slice_get (contents_from stable since n) (slice_index choice n) ≡ Some (block_at blocks n)

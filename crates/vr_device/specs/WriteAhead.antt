@@ -1,7 +1,8 @@
 -- A block, and a second one, its log, which keeps what the first had while that is replaced. The
 -- first byte of a block is its mark: 0 in a content, and another in a log that keeps one. This is
 -- the project's own example of a promise about a crash at any moment.
-use Rattle.std.specs.Prelude.{◌≡◌, ◌⊎◌, ◌≤◌, ℕ, zero, suc, List, [], ◌∷◌, length, take, Option, Some, None, unwrap_or}
+use Rattle.std.specs.Prelude.{◌≡◌, ◌⊎◌, ◌≤◌, ℕ, zero, suc, List, [], ◌∷◌, length, take, Option}
+use Rattle.std.specs.Prelude.{Some, None, unwrap_or}
 use Rattle.vr_types.specs.Image.{Block, Image, block_at}
 use Rattle.vr_types.specs.Seen.{Seen, Only}
 
@@ -31,7 +32,8 @@ pub record IsSettled (log home : ℕ) (seen : Seen) : Type 0 where
 
 -- a restart finds one of two contents
 abbrev pub IsOneOf : ℕ → ℕ → Block → Block → Image → Type 0
-IsOneOf log home before after image = (recovered log home image ≡ before) ⊎ (recovered log home image ≡ after)
+IsOneOf log home before after image = (recovered log home image ≡ before)
+    ⊎ (recovered log home image ≡ after)
 
 -- the content once these have replaced it, the first of them first
 abbrev pub content_after : Block → List Block → Block
@@ -41,4 +43,5 @@ content_after content (next ∷ rest) = content_after next rest
 -- a restart finds the content once some of these have replaced it, and none out of turn
 abbrev pub IsAfterSome : ℕ → ℕ → Block → List Block → Image → Type 0
 IsAfterSome log home before contents image =
-    (n : ℕ) × (n ≤ length contents) × (recovered log home image ≡ content_after before (take n contents))
+    (n : ℕ) × (n ≤ length contents) × (recovered log home image ≡ content_after before
+    (take n contents))

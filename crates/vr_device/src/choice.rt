@@ -81,8 +81,8 @@ pub(crate) fn content_at<'a>(
     }
 }
 
-/// Whether the choice names a content of the block: it has a number for it, and so many contents
-/// were written.
+/// Whether the choice names a content of the block: it has a number for it, and at least that
+/// many contents were written.
 pub(crate) fn is_named(since: &[PastEvent], n: u32, choice: &[u32]) -> bool
     ensures { IsTrue result ↔ ((n < length choice.now)
         × (slice_index choice.now n < length (contents_from [] (events_of since.now) n))) }

@@ -148,7 +148,7 @@ impl MemoryDevice {
         self.calls.made()
     }
 
-    /// The number of writes and syncs that failed for want of memory, up to 2^64 - 1.
+    /// The number of writes and syncs that failed out of memory, up to 2^64 - 1.
     pub fn refused(&self) -> u64
         ensures { result ≡ shown_of (calls_in self.now).refused }
     {
@@ -161,7 +161,8 @@ impl MemoryDevice {
     /// that device fails.
     pub fn image(&self, alloc: Global, choice: &[u32]) -> Result<MemoryDevice, ImageNo>
         ensures misfit { (block : ℕ) → (result ≡ Err (ImageNo.Choice block))
-            ↔ IsMisfit (length (past_in self.now).start) (disk_of (past_in self.now)) choice.now block }
+            ↔ IsMisfit (length (past_in self.now).start) (disk_of (past_in self.now))
+            choice.now block }
         ensures chosen { IfOk result (λ d.
             IsChosen (length (past_in self.now).start) (disk_of (past_in self.now))
             choice.now (past_in d).start) }

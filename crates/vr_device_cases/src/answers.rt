@@ -10,7 +10,7 @@ use vr_types::{DeviceFault, Failed, OutOfMemory};
 pub enum Stop {
     /// Out of memory, also in the call that was asked.
     Memory,
-    /// The line is no question.
+    /// The line is not a question.
     Line,
 }
 

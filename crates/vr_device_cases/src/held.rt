@@ -16,6 +16,11 @@ pub enum Held {
 }
 
 impl Held {
+    /// Makes this what is held.
+    pub fn set(&mut self, new: Held) {
+        *self = new;
+    }
+
     /// The device in memory, to call it.
     pub fn memory(&mut self) -> Result<&mut MemoryDevice, Stop> {
         match self {
@@ -32,16 +37,16 @@ impl Held {
             _ => Err(Stop::Line),
         }
     }
+}
 
-    /// Makes the device in memory one over a file that is made of its blocks.
-    pub fn make_file(&mut self) -> Result<(), Stop> {
-        let device = self.take()?;
-        let size = device.size();
-        let blocks = device.blocks();
-        if size == 0 {
-            return Err(Stop::Line);
-        }
-        *self = Held::File(FileDevice::over(DeviceFile::over(device), size, blocks));
-        Ok(())
+/// A device over a file that is made of the blocks of one in memory, which stays itself where its
+/// blocks have no byte.
+pub fn over_file(device: MemoryDevice) -> Held {
+    let size = device.size();
+    let blocks = device.blocks();
+    if size == 0 {
+        Held::Memory(device)
+    } else {
+        Held::File(FileDevice::over(DeviceFile::over(device), size, blocks))
     }
 }

@@ -5,7 +5,8 @@ use crate::calls::read;
 use crate::held::Held;
 use crate::words::{long_number, long_numbers, number, numbers, parted};
 use std::alloc::Global;
-use vr_device::{BlockDevice, memory_device};
+use vr_device::{BlockDevice, MemoryDevice, memory_device};
+use vr_types::OutOfMemory;
 
 /// The largest block, in bytes, and the most blocks.
 const LIMIT: u32 = 512;
@@ -19,9 +20,18 @@ pub fn make(alloc: Global, held: &mut Held, rest: &str, out: &mut String) -> Ans
     if size > LIMIT || blocks > LIMIT {
         return Err(Stop::Line);
     }
-    let fails = long_numbers(alloc, fails)?;
-    *held = Held::Memory(memory_device(alloc, size, blocks, fails.as_slice())?);
+    let device = new_device(alloc, size, blocks, fails)?;
+    held.set(Held::Memory(device));
     say(out, "ok")
+}
+
+/// A device whose calls of these numbers fail.
+fn new_device(alloc: Global, size: u32, blocks: u32, fails: &str) -> Result<MemoryDevice, Stop> {
+    let fails = long_numbers(alloc, fails)?;
+    match memory_device(alloc, size, blocks, fails.as_slice()) {
+        Ok(device) => Ok(device),
+        Err(OutOfMemory) => Err(Stop::Memory),
+    }
 }
 
 /// Makes the calls from a number on fail: `NUMBER`.
@@ -43,9 +53,13 @@ pub fn counts(held: &mut Held, out: &mut String) -> Answer {
 
 /// The blocks of the image that a choice gives: `NUMBER..`.
 pub fn image(alloc: Global, held: &mut Held, rest: &str, out: &mut String) -> Answer {
-    let choice = numbers(alloc, rest)?;
     let device = held.memory()?;
-    match device.image(alloc, choice.as_slice()) {
+    let choice = numbers(alloc, rest)?;
+    say_image(alloc, device, choice.as_slice(), out)
+}
+
+fn say_image(alloc: Global, device: &MemoryDevice, choice: &[u32], out: &mut String) -> Answer {
+    match device.image(alloc, choice) {
         Ok(mut left) => say_blocks(alloc, &mut left, out),
         Err(no) => say_no_image(out, no),
     }

@@ -4,7 +4,8 @@ use crate::answers::{Answer, Stop, say, say_number};
 use crate::{plain_disk, plain_log};
 use std::alloc::Global;
 
-/// How many answers were judged, and how many of them the crate gives otherwise than the plain program.
+/// How many answers were judged, and how many of them the crate gives otherwise than the plain
+/// program.
 #[derive(Clone, Copy)]
 pub struct Judged {
     answers: u64,
@@ -35,8 +36,8 @@ impl Judged {
     }
 }
 
-/// Judges all short runs: `memory`, of a device in memory; `file`, of one over a file; `log`, of a block that is replaced
-/// through a log on a device that stops.
+/// Judges all short runs: `memory`, of a device in memory; `file`, of one over a file; `log`, of a
+/// block that is replaced through a log on a device that stops.
 pub fn judge(alloc: Global, kind: &str, out: &mut String) -> Answer {
     let mut judged = Judged::new();
     match kind {

@@ -1,13 +1,16 @@
-//! Cases of `vr_device` from a text table: scripts of calls of devices, blocks and files, the images that a crash
-//! leaves, and plain, slow programs beside them. It stands on `vr_types`, `vr_device` and `hex`. Each line of its input
-//! has a question, ` -> ` and the answer that is wanted. It asks the public calls, prints each line whose answer differs,
-//! and at the end how many lines there were and how many differ; the status is 1 where one differs. What it promises is
+//! Cases of `vr_device` from a text table: scripts of calls of devices, blocks and files, the
+//! images that a crash leaves, and plain, slow programs beside them. It stands on `vr_types`,
+//! `vr_device` and `hex`. Each line of its input has a question, ` -> ` and the answer that is
+//! wanted. It asks the public calls, prints each line whose answer differs, and at the end how many
+//! lines there were and how many differ; the status is 1 where one differs. What it promises is
 //! that it is safe and ends: what the answers show is tested, and its whole output is compared.
 #![tactic(auto)]
 
 mod answers;
+mod blocks;
 mod calls;
 mod held;
+mod host;
 mod images;
 mod judge;
 mod plain_disk;
@@ -39,13 +42,21 @@ fn main(rt: HostRuntime) -> io::Result<ExitCode> {
     Ok(ExitCode::from(if differ == 0 { 0 } else { 1 }))
 }
 
-/// Asks each line of the input. Empty lines and those that begin with `#` are skipped.
+/// Asks each line of the input.
 fn run<R: Input + Print + AllocGlobal + Files<File = File>>(rt: &R) -> io::Result<Tally> {
+    let mut held = Held::Nothing;
+    ask_lines(rt, &mut held)
+}
+
+/// Asks each line of the input. Empty lines and those that begin with `#` are skipped.
+fn ask_lines<R: Input + Print + AllocGlobal + Files<File = File>>(
+    rt: &R,
+    held: &mut Held,
+) -> io::Result<Tally> {
     let mut tally = Tally {
         lines: 0,
         differ: 0,
     };
-    let mut held = Held::Nothing;
     for line in rt.lines(rt.alloc()) {
         let line = line?;
         let line = line.as_str();
@@ -53,7 +64,7 @@ fn run<R: Input + Print + AllocGlobal + Files<File = File>>(rt: &R) -> io::Resul
             continue;
         }
         let (asked, wanted) = line.split_once(" -> ").unwrap_or((line, "ok"));
-        let got = got(rt, &mut held, asked)?;
+        let got = got(rt, held, asked)?;
         tally.lines = tally.lines.saturating_add(1);
         if got.as_str() != wanted {
             tally.differ = tally.differ.saturating_add(1);
@@ -64,7 +75,7 @@ fn run<R: Input + Print + AllocGlobal + Files<File = File>>(rt: &R) -> io::Resul
     Ok(tally)
 }
 
-/// The answer to a question. A line that is no question has an answer that says so.
+/// The answer to a question. A line that is not a question has an answer that says so.
 fn got<R: AllocGlobal + Files<File = File>>(
     rt: &R,
     held: &mut Held,

@@ -1,4 +1,5 @@
 //! What a crash may leave, plainly and slowly: for each block the list of what it may hold.
+ghost use Rattle.std.specs.Prelude.{◌<◌};
 
 use crate::answers::{Answer, Stop};
 use crate::judge::Judged;
@@ -22,41 +23,63 @@ fn call_of(number: u32) -> Call {
     }
 }
 
-/// What a read gives of each block, and what a crash may leave in it, the stable content first.
+/// What a read gives of a block, and what a crash may leave in it, the stable content first.
+#[derive(Drop)]
+struct Block {
+    seen: [u8; 2],
+    left: Vec<[u8; 2]>,
+}
+
+impl Block {
+    fn new(alloc: Global) -> Result<Block, AllocError> {
+        let left = Vec::from_slice(alloc, &[[0, 0]])?;
+        Ok(Block { seen: [0, 0], left })
+    }
+
+    fn write(&mut self, bytes: [u8; 2], fails: bool) -> Answer {
+        if !fails {
+            self.seen = bytes;
+        }
+        self.left.push(bytes)?;
+        Ok(())
+    }
+
+    fn sync(&mut self) -> Answer {
+        self.left.clear();
+        self.left.push(self.seen)?;
+        Ok(())
+    }
+}
+
+/// Two blocks.
 #[derive(Drop)]
 struct Disk {
-    seen: [[u8; 2]; 2],
-    left: [Vec<[u8; 2]>; 2],
+    first: Block,
+    second: Block,
 }
 
 impl Disk {
     fn new(alloc: Global) -> Result<Disk, AllocError> {
-        Ok(Disk {
-            seen: [[0, 0], [0, 0]],
-            left: [
-                Vec::from_slice(alloc, &[[0, 0]])?,
-                Vec::from_slice(alloc, &[[0, 0]])?,
-            ],
-        })
+        let first = Block::new(alloc)?;
+        let second = Block::new(alloc)?;
+        Ok(Disk { first, second })
     }
 
     /// A call of the device, which fails or not.
-    fn call(&mut self, alloc: Global, call: Call, fails: bool) -> Result<(), AllocError> {
+    fn call(&mut self, call: Call, fails: bool) -> Answer {
         match call {
-            Call::Write(block, bytes) if block < 2 => {
-                self.left[block as usize].push(bytes)?;
-                if !fails {
-                    self.seen[block as usize] = bytes;
-                }
-            }
-            Call::Sync if !fails => {
-                for block in 0..2usize {
-                    self.left[block] = Vec::from_slice(alloc, &[self.seen[block]])?;
-                }
-            }
-            _ => (),
+            Call::Write(0, bytes) => self.first.write(bytes, fails),
+            Call::Write(_, bytes) => self.second.write(bytes, fails),
+            Call::Sync => self.sync(fails),
         }
-        Ok(())
+    }
+
+    fn sync(&mut self, fails: bool) -> Answer {
+        if fails {
+            return Ok(());
+        }
+        self.first.sync()?;
+        self.second.sync()
     }
 }
 
@@ -72,54 +95,89 @@ pub fn judge(alloc: Global, over_file: bool, judged: &mut Judged) -> Answer {
 fn judge_number(alloc: Global, over_file: bool, number: u32, judged: &mut Judged) -> Answer {
     let fails: [&[u64]; 6] = [&[], &[0], &[1], &[3], &[0, 2], &[1, 2, 3]];
     for failing in fails {
-        if over_file {
-            judge_file(alloc, number, failing, judged)?;
-        } else {
-            judge_memory(alloc, number, failing, judged)?;
-        }
+        let run = Run {
+            number,
+            over_file,
+            failing,
+        };
+        judge_run(alloc, run, judged)?;
     }
     Ok(())
 }
 
-/// Judges a run on a device in memory.
-fn judge_memory(alloc: Global, number: u32, fails: &[u64], judged: &mut Judged) -> Answer {
-    let mut device = memory_device(alloc, 2, 2, fails)?;
-    let mut disk = Disk::new(alloc)?;
-    judge_calls(alloc, &mut device, false, number, fails, &mut disk, judged)?;
-    judge_images(alloc, &device, &disk, judged)
+/// A run of four calls by its number, and the numbers of the calls that fail.
+#[derive(Clone, Copy)]
+struct Run<'a> {
+    number: u32,
+    over_file: bool,
+    failing: &'a [u64],
 }
 
-/// Judges a run on a device over a file that is made of one in memory.
-fn judge_file(alloc: Global, number: u32, fails: &[u64], judged: &mut Judged) -> Answer {
-    let file = DeviceFile::over(memory_device(alloc, 2, 2, fails)?);
-    let mut device = FileDevice::over(file, 2, 2);
+fn judge_run(alloc: Global, run: Run<'_>, judged: &mut Judged) -> Answer {
     let mut disk = Disk::new(alloc)?;
-    judge_calls(alloc, &mut device, true, number, fails, &mut disk, judged)?;
-    let device = device.into_inner().into_inner();
-    judge_images(alloc, &device, &disk, judged)
+    judge_device(alloc, run, &mut disk, judged)
+}
+
+/// Judges a run on a device in memory, or on one over a file that is made of it.
+fn judge_device(alloc: Global, run: Run<'_>, disk: &mut Disk, judged: &mut Judged) -> Answer {
+    let device = memory_device(alloc, 2, 2, run.failing)?;
+    if run.over_file {
+        judge_file(alloc, device, run, disk, judged)
+    } else {
+        judge_memory(alloc, device, run, disk, judged)
+    }
+}
+
+fn judge_memory(
+    alloc: Global,
+    mut device: MemoryDevice,
+    run: Run<'_>,
+    disk: &mut Disk,
+    judged: &mut Judged,
+) -> Answer {
+    let called = judge_calls(&mut device, run, disk, judged);
+    judge_images(alloc, &device, disk, called, judged)
+}
+
+fn judge_file(
+    alloc: Global,
+    device: MemoryDevice,
+    run: Run<'_>,
+    disk: &mut Disk,
+    judged: &mut Judged,
+) -> Answer
+    requires { 0 < (⟦<MemoryDevice as BlockDevice>⟧.seen device).size }
+{
+    let size = device.size();
+    let blocks = device.blocks();
+    let mut device = FileDevice::over(DeviceFile::over(device), size, blocks);
+    let called = judge_calls(&mut device, run, disk, judged);
+    judge_images(
+        alloc,
+        &device.into_inner().into_inner(),
+        disk,
+        called,
+        judged,
+    )
 }
 
 /// Makes the calls of a run to a device and to the plain disk. A file is shut by the first call of
 /// it that fails.
 fn judge_calls<D: BlockDevice>(
-    alloc: Global,
     device: &mut D,
-    over_file: bool,
-    number: u32,
-    fails: &[u64],
+    run: Run<'_>,
     disk: &mut Disk,
     judged: &mut Judged,
 ) -> Answer {
     let mut shut = false;
     for place in 0..4u64 {
-        let call = call_of(number / [1, 4, 16, 64][place as usize]);
-        let done = is_done(device, call);
-        let failing = fails.contains(&place);
-        judged.count(done != (shut || failing));
+        let call = call_of(run.number / [1, 4, 16, 64][place as usize]);
+        let failing = run.failing.contains(&place);
+        judged.count(is_done(device, call) != (shut || failing));
         if !shut {
-            disk.call(alloc, call, failing)?;
+            disk.call(call, failing)?;
         }
-        shut = shut || (over_file && failing);
+        shut = shut || (run.over_file && failing);
     }
     Ok(())
 }
@@ -134,17 +192,44 @@ fn is_done<D: BlockDevice>(device: &mut D, call: Call) -> bool {
     }
 }
 
-/// The image of each choice, and that no choice is one too high.
-fn judge_images(alloc: Global, device: &MemoryDevice, disk: &Disk, judged: &mut Judged) -> Answer {
-    for (i, first) in (0..8u32).zip(disk.left[0].iter()) {
-        for (j, second) in (0..8u32).zip(disk.left[1].iter()) {
-            let blocks = image_blocks(alloc, device, &[i, j])?;
-            judged.count(blocks == Some([*first, *second]));
-        }
+/// The image of each choice, and that no choice is one too high, once the calls were made.
+fn judge_images(
+    alloc: Global,
+    device: &MemoryDevice,
+    disk: &Disk,
+    called: Answer,
+    judged: &mut Judged,
+) -> Answer {
+    called?;
+    for (number, first) in (0..8u32).zip(disk.first.left.iter()) {
+        judge_row(alloc, device, number, *first, &disk.second, judged)?;
     }
-    let past = u32::try_from(disk.left[0].len()).unwrap_or(u32::MAX);
-    let blocks = device.image(alloc, &[past, 0]).err();
-    judged.count(blocks == Some(ImageNo::Choice { block: 0 }));
+    judge_past(alloc, device, disk.first.left.len(), judged)
+}
+
+/// The images whose first block has that content, by its number.
+fn judge_row(
+    alloc: Global,
+    device: &MemoryDevice,
+    number: u32,
+    first: [u8; 2],
+    block: &Block,
+    judged: &mut Judged,
+) -> Answer {
+    for (other, second) in (0..8u32).zip(block.left.iter()) {
+        let blocks = image_blocks(alloc, device, &[number, other])?;
+        judged.count(blocks == Some([first, *second]));
+    }
+    Ok(())
+}
+
+/// That a choice one too high for the first block gives no image.
+fn judge_past(alloc: Global, device: &MemoryDevice, count: usize, judged: &mut Judged) -> Answer {
+    let past = u32::try_from(count).unwrap_or(u32::MAX);
+    judged.count(matches!(
+        device.image(alloc, &[past, 0]),
+        Err(ImageNo::Choice { block: 0 })
+    ));
     Ok(())
 }
 
@@ -154,16 +239,18 @@ pub fn image_blocks(
     device: &MemoryDevice,
     choice: &[u32],
 ) -> Result<Option<[[u8; 2]; 2]>, Stop> {
-    let mut image = match device.image(alloc, choice) {
-        Ok(image) => image,
-        Err(ImageNo::Memory) => return Err(Stop::Memory),
-        Err(ImageNo::Choice { .. }) => return Ok(None),
-    };
-    let mut blocks = [[0; 2]; 2];
-    for n in 0..2usize {
-        if (n as u32) < image.blocks() && image.size() == 2 {
-            let _ = image.read(n as u32, &mut blocks[n]);
-        }
+    match device.image(alloc, choice) {
+        Ok(mut image) => Ok(Some([block_of(&mut image, 0), block_of(&mut image, 1)])),
+        Err(ImageNo::Memory) => Err(Stop::Memory),
+        Err(ImageNo::Choice { .. }) => Ok(None),
     }
-    Ok(Some(blocks))
+}
+
+/// A block of an image, zeros where it can't be read.
+fn block_of(image: &mut MemoryDevice, n: u32) -> [u8; 2] {
+    let mut bytes = [0; 2];
+    if n < image.blocks() && image.size() == 2 {
+        let _ = image.read(n, &mut bytes);
+    }
+    bytes
 }

@@ -1,16 +1,15 @@
 //! Which call a question asks.
 
 use crate::answers::{Answer, Stop, say};
-use crate::calls::{blocks_call, device_call};
-use crate::held::Held;
-use crate::words::{number, parted};
+use crate::blocks::blocks_call;
+use crate::calls::device_call;
+use crate::held::{Held, over_file};
+use crate::host::host;
+use crate::words::parted;
 use crate::{images, judge, replacing};
-use std::fs;
+use std::alloc::Global;
 use std::fs::{File, Files};
-use vr_device::FileDevice;
-
-/// The file of the host that lines speak of.
-const PATH: &str = "vr_device_cases.blocks";
+use vr_device::BlockDevice;
 
 /// Writes the answer to a line. `held` is the device that the lines before it left.
 pub fn answer<R: AllocGlobal + Files<File = File>>(
@@ -19,61 +18,48 @@ pub fn answer<R: AllocGlobal + Files<File = File>>(
     line: &str,
     out: &mut String,
 ) -> Answer {
-    let alloc = rt.alloc();
     let (verb, rest) = parted(line);
+    match verb {
+        "host" => host(rt, held, rest, out),
+        _ => ask(rt.alloc(), held, verb, rest, out),
+    }
+}
+
+fn ask(alloc: Global, held: &mut Held, verb: &str, rest: &str, out: &mut String) -> Answer {
     match verb {
         "memory" => images::make(alloc, held, rest, out),
         "stop" => images::stop(held, rest, out),
         "counts" => images::counts(held, out),
         "image" => images::image(alloc, held, rest, out),
-        "read" => device_call(alloc, held, verb, rest, out),
-        "write" => device_call(alloc, held, verb, rest, out),
-        "sync" => device_call(alloc, held, verb, rest, out),
-        "get" => blocks_call(alloc, held, verb, rest, out),
-        "put" => blocks_call(alloc, held, verb, rest, out),
-        "force" => blocks_call(alloc, held, verb, rest, out),
         "replace" => replacing::replace(alloc, held, rest, out),
         "judge" => judge::judge(alloc, rest, out),
         "file" => file(held, out),
         "device" => device(held, out),
-        "host" => host(rt, held, rest, out),
+        _ => call(alloc, held, verb, rest, out),
+    }
+}
+
+fn call(alloc: Global, held: &mut Held, verb: &str, rest: &str, out: &mut String) -> Answer {
+    match verb {
+        "read" | "write" | "sync" => device_call(alloc, held, verb, rest, out),
+        "get" | "put" | "force" => blocks_call(alloc, held, verb, rest, out),
         _ => Err(Stop::Line),
     }
 }
 
-/// Makes the device in memory one over a file that is made of its blocks.
+/// Makes the device in memory one over a file that is made of its blocks, which have a byte.
 fn file(held: &mut Held, out: &mut String) -> Answer {
-    held.make_file()?;
+    if held.memory()?.size() == 0 {
+        return Err(Stop::Line);
+    }
+    let device = held.take()?;
+    held.set(over_file(device));
     say(out, "ok")
 }
 
 /// Makes the device that the file is made of the one that lines speak of.
 fn device(held: &mut Held, out: &mut String) -> Answer {
     let device = held.take()?;
-    *held = Held::Memory(device);
-    say(out, "ok")
-}
-
-/// Makes or opens the file of the host, or removes it: `new SIZE BLOCKS`, `open SIZE BLOCKS`, `remove`.
-fn host<R: Files<File = File>>(rt: &R, held: &mut Held, rest: &str, out: &mut String) -> Answer {
-    let (verb, rest) = parted(rest);
-    if verb == "remove" {
-        return say(
-            out,
-            if fs::remove_file(rt, PATH).is_ok() {
-                "ok"
-            } else {
-                "failed"
-            },
-        );
-    }
-    let (size, blocks) = parted(rest);
-    let size = number(size)?;
-    let blocks = number(blocks)?;
-    *held = match verb {
-        "new" => Held::Host(FileDevice::create(rt, PATH, size, blocks)),
-        "open" => Held::Host(FileDevice::open(rt, PATH, size, blocks)),
-        _ => return Err(Stop::Line),
-    };
+    held.set(Held::Memory(device));
     say(out, "ok")
 }

@@ -21,19 +21,33 @@ pub fn parted(text: &str) -> (&str, &str) {
 /// The numbers that words spell.
 pub fn numbers(alloc: Global, text: &str) -> Result<Vec<u32>, Stop> {
     let mut numbers = Vec::new(alloc);
+    match add_numbers(&mut numbers, text) {
+        Ok(()) => Ok(numbers),
+        Err(stop) => Err(stop),
+    }
+}
+
+fn add_numbers(numbers: &mut Vec<u32>, text: &str) -> Result<(), Stop> {
     for word in text.split_whitespace() {
         numbers.push(number(word)?)?;
     }
-    Ok(numbers)
+    Ok(())
 }
 
 /// The numbers of eight bytes that words spell.
 pub fn long_numbers(alloc: Global, text: &str) -> Result<Vec<u64>, Stop> {
     let mut numbers = Vec::new(alloc);
+    match add_long_numbers(&mut numbers, text) {
+        Ok(()) => Ok(numbers),
+        Err(stop) => Err(stop),
+    }
+}
+
+fn add_long_numbers(numbers: &mut Vec<u64>, text: &str) -> Result<(), Stop> {
     for word in text.split_whitespace() {
         numbers.push(long_number(word)?)?;
     }
-    Ok(numbers)
+    Ok(())
 }
 
 /// The bytes that hexadecimal digits spell.

@@ -1,7 +1,8 @@
 -- Where each frame is. The rule holds between any two steps of any threads, and is this project's
 -- own. Word k is 0 where frame k is home, and slot k is the place of its buffer. With one word
 -- more a pool of no frames has a word too, which the split and the join of seats read.
-use Rattle.std.specs.Prelude.{◌≡◌, ◌≢◌, ◌⊎◌, ℕ, ◌+◌, ◌<◌, ◌≤◌, List, length, sum_by, slice_index, slice_get, Option, Some, None, vec_len}
+use Rattle.std.specs.Prelude.{◌≡◌, ◌≢◌, ◌⊎◌, ℕ, ◌+◌, ◌<◌, ◌≤◌, List, length, sum_by, slice_index}
+use Rattle.std.specs.Prelude.{slice_get, Option, Some, None, vec_len}
 use Rattle.std.specs.Global.{Vec}
 use mathlib.Core.Option.{some, none}
 use lib.ListN.{get_elem?}

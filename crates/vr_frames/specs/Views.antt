@@ -1,5 +1,6 @@
 -- What the holder of a seat knows. These rules are this project's own.
-use Rattle.std.specs.Prelude.{ℕ, ◌+◌, ◌-◌, ◌==◌, List, [], ◌++◌, not, count_by, filter, nat_lt, if◌then◌else◌}
+use Rattle.std.specs.Prelude.{ℕ, ◌+◌, ◌-◌, ◌==◌, List, [], ◌++◌, not, count_by, filter, nat_lt}
+use Rattle.std.specs.Prelude.{if◌then◌else◌}
 use Rattle.vr_frames.specs.declared.view.View.{View}
 
 -- how often the frame stands in the list

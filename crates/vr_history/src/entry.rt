@@ -2,7 +2,7 @@
 ghost use Rattle.std.specs.Prelude.{◌≡◌, IfOk};
 
 use std::alloc::Global;
-use vr_types::{AreaNo, DeviceFault, OutOfMemory, PartNo, Place, Reply, Request, Unit};
+use vr_types::{AreaNo, DeviceFault, OutOfMemory, PartNo, Place, Reply, SharedRequest, Unit};
 
 /// An entry of a volume's history: what an event did, for which unit of recovery, and at which line of the job
 /// text. Stamps rise within a history. Line 0 is that of what no line asked for.
@@ -15,7 +15,7 @@ pub struct Entry {
 }
 
 impl Entry {
-    /// An equal value. Fails only if memory runs out.
+    /// An equal value, which shares the request. Fails only if memory runs out.
     pub fn copy(&self, alloc: Global) -> Result<Entry, OutOfMemory>
         ensures { IfOk result (λ copy. copy ≡ self.now) }
     {
@@ -28,25 +28,38 @@ impl Entry {
     }
 }
 
-/// What an entry reports: a request with its reply, a before-image put back, an area claimed, an interval split, or
-/// a device fault that stopped the volume.
+/// What an entry reports: a request, which it shares with its deck, with the reply; a before-image put back; an area
+/// claimed; an interval split; or a device fault that stopped the volume.
 #[derive(Debug, Drop)]
 pub enum What {
-    Asked { request: Request, reply: Reply },
-    Undone { part: PartNo, place: Place },
-    Claimed { part: PartNo, area: AreaNo },
-    Split { part: PartNo },
-    Faulted { fault: DeviceFault },
+    Asked {
+        request: SharedRequest,
+        reply: Reply,
+    },
+    Undone {
+        part: PartNo,
+        place: Place,
+    },
+    Claimed {
+        part: PartNo,
+        area: AreaNo,
+    },
+    Split {
+        part: PartNo,
+    },
+    Faulted {
+        fault: DeviceFault,
+    },
 }
 
 impl What {
-    /// An equal value. Fails only if memory runs out.
+    /// An equal value, which shares the request. Fails only if memory runs out.
     pub fn copy(&self, alloc: Global) -> Result<What, OutOfMemory>
         ensures { IfOk result (λ copy. copy ≡ self.now) }
     {
         match self {
             What::Asked { request, reply } => Ok(What::Asked {
-                request: request.copy(alloc)?,
+                request: request.share()?,
                 reply: reply.copy(alloc)?,
             }),
             What::Undone { part, place } => Ok(What::Undone {

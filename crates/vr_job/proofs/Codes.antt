@@ -2,10 +2,10 @@
 use Rattle.std.proofs.Common.{◌≡◌, ℕ, ◌+◌, ◌<◌, max, List, [], ◌∷◌, ◌++◌, length, take, get_or, sym}
 use Rattle.std.proofs.Common.{ap, ◌∙◌, arith}
 use Rattle.std.proofs.lemmas.List.{take_more}
-use Rattle.vr_job.specs.declared.entry.Entry.{Entry}
+use Rattle.vr_history.specs.declared.entry.Entry.{Entry}
 use Rattle.vr_job.specs.Code.{severity, step_code}
 
-step_code-append : (entries : List Entry) (entry : Entry)
+pub step_code-append : (entries : List Entry) (entry : Entry)
     → step_code (entries ++ entry ∷ []) ≡ max (step_code entries) (severity entry.what)
 step_code-append [] entry = omega arith
 step_code-append (e ∷ entries) entry = let rest = step_code-append entries entry in omega arith

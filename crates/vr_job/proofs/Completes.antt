@@ -6,15 +6,15 @@ use Rattle.std.proofs.lemmas.Bool.Decides.{nat_tests}
 use Rattle.vr_deck.specs.declared.text.JobText.{JobText}
 use Rattle.vr_deck.specs.declared.text.TextFault.{TextFault}
 use Rattle.vr_deck.specs.JobText.{IsJobText, IsFirstFault}
-use Rattle.vr_job.specs.declared.entry.Entry.{Entry}
 use Rattle.vr_job.specs.declared.job_end.Trace.{Trace}
-use Rattle.vr_job.specs.State.{opening_state}
-use Rattle.vr_job.specs.History.{IsLegal}
 use Rattle.vr_job.specs.Ending.{Ending, NoCommand, ReadFailed, TooLong, NoMemory, NotAJob, Ran}
 use Rattle.vr_job.specs.Ending.{ending_of_text, ending_of, HasFixedLine}
 use Rattle.vr_job.specs.JobEnd.{KeepsNothing, IsOfText, Asks, IsStatusOf, IsWhole, statuses}
-use Rattle.vr_job.specs.JobEnd.{RefusedText}
-use Rattle.vr_job.specs.Ends.{IsInputEnd, PrintsAs}
+use Rattle.vr_job.specs.JobEnd.{HasCode, RefusedText}
+use Rattle.vr_job.specs.Input.{IsAll}
+use Rattle.vr_job.specs.Ends.{IsInputEnd, IsJobHistory, IsRunOf, PrintsAs}
+use Rattle.vr_job.proofs.Ends.{text_of_run}
+use Rattle.vr_job.proofs.Runs.{no_history}
 
 -- the statuses of an input's end
 abbrev pub input_statuses : List ℕ
@@ -36,7 +36,6 @@ pub early_end : (left left' : Option (List ℕ)) (faults faults' n status : ℕ)
 early_end left left' faults faults' n status trace is nothing text asks ending whole known large
     rose steady =
     let P : ℕ → Type 0 = λ s. IsInputEnd left left' faults faults' s trace in
-    let L : List Entry → Type 0 = IsLegal opening_state in
     let T : Option TextFault → Type 0 = λ fault. IsOfText (ending_of n fault) left left' trace in
     let A : Option TextFault → Type 0 = λ fault. Asks (ending_of n fault) trace in
     let S : Option TextFault → Type 0 = λ fault. IsStatusOf (ending_of n fault) trace n in
@@ -46,7 +45,7 @@ early_end left left' faults faults' n status trace is nothing text asks ending w
       text = subst T none text;
       asks = subst A none asks;
       ending = subst S none ending;
-      legal = subst L (sym nothing.no_entry) tt;
+      history = no_history trace.history.entries nothing.no_entry;
       code = (λ e. absurd (omega (arith, e, large)), λ e. absurd (omega (arith, e, large)));
       whole = subst W none whole;
       known = known;
@@ -254,3 +253,42 @@ completes left left' faults faults' kf kf' before after trace law end (inr (inl 
     always left after (inr want.0)
 completes left _ faults faults' kf kf' before after trace law end (inr (inr failed)) steady sink =
     absurd (omega (arith, failed.3, sink))
+
+-- the statuses of a text's run
+abbrev pub run_statuses : List ℕ
+run_statuses = 0 ∷ 4 ∷ 16 ∷ 36 ∷ []
+
+known_input : (s k : ℕ) → k < 4 → get_or run_statuses k s ≡ s → Contains input_statuses s
+known_input s zero h e = (0, omega arith, e)
+known_input s (suc zero) h e = (1, omega arith, e)
+known_input s (suc (suc zero)) h e = (2, omega arith, e)
+known_input s (suc (suc (suc zero))) h e = (5, omega arith, e)
+known_input s (suc (suc (suc (suc k)))) h e = absurd (omega arith)
+
+not_24_at : (s k : ℕ) → k < 4 → get_or run_statuses k s ≡ s → s ≢ 24
+not_24_at s zero h e = λ is. omega arith
+not_24_at s (suc zero) h e = λ is. omega arith
+not_24_at s (suc (suc zero)) h e = λ is. omega arith
+not_24_at s (suc (suc (suc zero))) h e = λ is. omega arith
+not_24_at s (suc (suc (suc (suc k)))) h e = absurd (omega arith)
+
+-- the end of an input that was read and run
+pub run_end : (left left' : Option (List ℕ)) (faults faults' status : ℕ) (text : List ℕ)
+    (trace : Trace) → IsAll left left' text → IsRunOf (ending_of status trace.fault) text trace
+    → Asks (ending_of status trace.fault) trace
+    → IsStatusOf (ending_of status trace.fault) trace status → IsJobHistory trace.history.entries
+    → HasCode status trace → (ending_of status trace.fault ≡ Ran → IsWhole status)
+    → Contains run_statuses status → faults' ≡ faults
+    → IsInputEnd left left' faults faults' status trace
+run_end left left' faults faults' status text trace all run asks ending history code whole known
+    steady = record {
+      text = text_of_run (ending_of status trace.fault) left left' text trace all run;
+      asks = asks;
+      ending = ending;
+      history = history;
+      code = code;
+      whole = whole;
+      known = known_input status known.0 known.1 known.2;
+      source = λ is. absurd (not_24_at status known.0 known.1 known.2 is);
+      steady = λ _. steady;
+    }

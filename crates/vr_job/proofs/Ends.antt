@@ -6,16 +6,14 @@ use Rattle.vr_deck.specs.declared.text.TextFault.{TextFault}
 use Rattle.vr_deck.specs.JobText.{IsJobText}
 use Rattle.vr_deck.specs.Bound.{bound_requests}
 use Rattle.vr_job.specs.declared.job_end.Trace.{Trace}
-use Rattle.vr_job.specs.State.{opening_state}
-use Rattle.vr_job.specs.History.{AreParts}
+use Rattle.vr_job.specs.Parts.{AreParts}
 use Rattle.vr_job.specs.Code.{step_code}
 use Rattle.vr_job.specs.Input.{IsAll}
 use Rattle.vr_job.specs.Ending.{Ending, NoCommand, ReadFailed, TooLong, NoMemory, NotAJob, Ran}
 use Rattle.vr_job.specs.Ending.{ending_of}
 use Rattle.vr_job.specs.JobEnd.{KeepsNothing, KeepsJob, AsksAll, IsOfText, Asks, IsStatusOf}
-use Rattle.vr_job.specs.JobEnd.{HasCode, IsWhole}
+use Rattle.vr_job.specs.JobEnd.{Coded, HasCode, IsWhole}
 use Rattle.vr_job.specs.Ends.{IsRunOf, IsDeckPart, IsDeckRun}
-use Rattle.vr_job.proofs.Severities.{Coded, coded}
 
 -- what is known of a run, by its status and the fault that is kept
 pub record EndsAs (text : List ℕ) (trace : Trace) (status : ℕ)
@@ -73,8 +71,7 @@ deck_ends text job status trace is_job run =
             known = (3, omega arith, refl);
           })
       ends (inr whole) =
-          at_code whole.1
-          (coded opening_state job.deck trace.history.entries whole.1 run.legal) whole.0
+          at_code whole.1 run.history.coded whole.0
 
 -- an end at which nothing is kept
 pub nothing_ends : (text : List ℕ) (status : ℕ) (trace : Trace) → KeepsNothing trace → status ≡ 36

@@ -11,7 +11,7 @@ use Rattle.std.specs.Cmp.{tied_itself}
 use Rattle.std.proofs.lemmas.Cmp.{nat_list_cmp_total}
 use Rattle.vr_types.specs.Content.{Standing, place_cmp, places_of, Ascends, record_at, with_item}
 use Rattle.vr_types.specs.Content.{found_by, put_by}
-use Rattle.vr_job.specs.Definition.{first_definition, key_of}
+use Rattle.vr_catalog.specs.Definition.{first_definition, key_of}
 use Rattle.vr_job.specs.RecordFile.{placed, content_of, IsGap}
 use Rattle.std.proofs.lemmas.List.{take-append-drop, map-append}
 use mathlib.Core.Bool.{true≢false}

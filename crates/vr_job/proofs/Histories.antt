@@ -1,55 +1,43 @@
--- Histories that grow at their end.
-use Rattle.std.proofs.Common.{◌≡◌, ℕ, Bool, true, false, ◌==◌, if◌then◌else◌, ◌<◌, List, [], ◌∷◌}
-use Rattle.std.proofs.Common.{◌++◌, ◌-◌, take, drop, suc, length, Some, slice_get, refl, ap, ◌∙◌}
-use Rattle.std.proofs.Common.{arith, append-nil}
+-- Histories of this stage that grow at their end.
+use Rattle.std.proofs.Common.{◌≡◌, ℕ, Bool, true, false, ◌==◌, if◌then◌else◌, List, [], ◌∷◌, ◌++◌}
+use Rattle.std.proofs.Common.{take, drop, refl, sym, ap, ◌∙◌, append-nil}
+use Rattle.std.proofs.lemmas.Bool.{false≢true}
 use Rattle.std.proofs.lemmas.Grind.{flat_map-append}
-use Rattle.std.proofs.lemmas.List.{take-append-drop}
+use Rattle.std.proofs.lemmas.List.{map-append, take-append-drop}
 use Rattle.vr_types.specs.declared.bound.Bound.{Bound}
-use Rattle.vr_job.specs.declared.entry.Entry.{Entry}
-use Rattle.vr_job.specs.State.{State}
-use Rattle.vr_job.specs.Step.{Step, state_after}
-use Rattle.vr_job.specs.History.{IsLegal, state_of, IsStamped, last_stamp, asked_by, part_of_deck}
-use Rattle.vr_job.specs.History.{of_deck, AreParts, ArePrefixes}
+use Rattle.vr_types.specs.declared.geometry.Geometry.{Geometry}
+use Rattle.vr_types.specs.declared.reply.Refusal.{Refusal}
+use Rattle.vr_types.specs.declared.reply.Refusal.TheVariants.{EndOfData, Duplicate, NotFound}
+use Rattle.vr_types.specs.declared.reply.Refusal.TheVariants.{NoAddress, NoSpace, NoPosition, NoGet}
+use Rattle.vr_types.specs.declared.reply.Refusal.TheVariants.{KeyChanged, LengthChanged, BadLength}
+use Rattle.vr_types.specs.declared.reply.Refusal.TheVariants.{BadSlot, Held, LogFull, Stopped}
+use Rattle.vr_types.specs.declared.reply.Refusal.TheVariants.{ReadFault, WriteFault, Memory}
+use Rattle.vr_types.specs.declared.reply.Refusal.TheVariants.{NotAllowed, NoFile}
+use Rattle.vr_types.specs.declared.reply.Reply.{Reply}
+use Rattle.vr_types.specs.declared.reply.Reply.TheVariants.{Done, Refused}
+use Rattle.vr_types.specs.declared.request.Request.{Request}
+use Rattle.vr_history.specs.declared.entry.Entry.{Entry}
+use Rattle.vr_history.specs.declared.entry.What.{What}
+use Rattle.vr_history.specs.declared.entry.What.TheVariants.{Asked, Undone, Claimed, Split, Faulted}
+use Rattle.vr_history.specs.Legal.{AreSteps, BackOutOnceBegun, BacksOutAfter, IsLegal}
+use Rattle.vr_history.specs.Legal.{StopAtWriteFaults, StopsAfter, is_write_fault}
+use Rattle.vr_history.specs.Merged.{Numbered, asked_by, part_of_deck}
+use Rattle.vr_history.specs.State.{State}
+use Rattle.vr_job.specs.Parts.{of_deck, on_volume_0, AreParts, ArePrefixes}
+use Rattle.vr_job.specs.Stage.{AreEntered, IsEntered, IsReplyTo, MayRefuse}
 
-pub IsStamped-append : (before : ℕ) (entries : List Entry) (entry : Entry)
-    → IsStamped before entries → last_stamp before entries < entry.stamp
-    → IsStamped before (entries ++ entry ∷ [])
-IsStamped-append before [] entry stamped rises = (rises, tt)
-IsStamped-append before (e ∷ entries) entry stamped rises =
-    (stamped.0, IsStamped-append e.stamp entries entry stamped.1 rises)
+-- an entry of volume 0
+abbrev pub numbered : Entry → Numbered
+numbered entry = record { volume = 0; entry = entry }
 
-pub last_stamp-append : (before : ℕ) (entries : List Entry) (entry : Entry)
-    → last_stamp before (entries ++ entry ∷ []) ≡ entry.stamp
-last_stamp-append before [] entry = refl
-last_stamp-append before (e ∷ entries) entry = last_stamp-append e.stamp entries entry
-
--- the last entry has the last stamp
-pub last_stamp-get : (before : ℕ) (entries : List Entry) (e : Entry)
-    → Some e ≡ slice_get entries (length entries - 1) → e.stamp ≡ last_stamp before entries
-last_stamp-get before [] e h = absurd (cc)
-last_stamp-get before (x ∷ []) e h = let same : e ≡ x =
-    cc in ap (λ (entry : Entry). entry.stamp) same
-last_stamp-get before (x ∷ y ∷ rest) e h =
-    let place : length (x ∷ y ∷ rest) - 1 ≡ suc (length (y ∷ rest) - 1) = omega arith in
-    last_stamp-get x.stamp (y ∷ rest) e (h ∙ ap (λ n. slice_get (x ∷ y ∷ rest) n) place)
-
-pub state_of-append : (state : State) (entries : List Entry) (entry : Entry)
-    → state_of state (entries ++ entry ∷ []) ≡ state_after (state_of state entries) entry
-state_of-append state [] entry = refl
-state_of-append state (e ∷ entries) entry = state_of-append (state_after state e) entries entry
-
-pub IsLegal-append : (state : State) (entries : List Entry) (entry : Entry) → IsLegal state entries
-    → Step (state_of state entries) entry → IsLegal state (entries ++ entry ∷ [])
-IsLegal-append state [] entry legal step = (step, tt)
-IsLegal-append state (e ∷ entries) entry legal step =
-    (legal.0, IsLegal-append (state_after state e) entries entry legal.1 step)
-
-pub part_of_deck-append : (volume deck : ℕ) (entries : List Entry) (entry : Entry)
-    → part_of_deck volume deck (entries ++ entry ∷ []) ≡ part_of_deck volume deck entries
-    ++ asked_by volume deck entry
-part_of_deck-append volume deck entries entry =
-    flat_map-append (asked_by volume deck) entries (entry ∷ [])
-    ∙ ap (λ l. part_of_deck volume deck entries ++ l) (append-nil (asked_by volume deck entry))
+pub part_of_deck-append : (deck : ℕ) (entries : List Entry) (entry : Entry)
+    → part_of_deck deck (on_volume_0 (entries ++ entry ∷ []))
+    ≡ part_of_deck deck (on_volume_0 entries) ++ asked_by deck (numbered entry)
+part_of_deck-append deck entries entry =
+    ap (part_of_deck deck) (map-append numbered entries (entry ∷ []))
+    ∙ flat_map-append (asked_by deck) (on_volume_0 entries) (numbered entry ∷ [])
+    ∙ ap (λ l. part_of_deck deck (on_volume_0 entries) ++ l)
+    (append-nil (asked_by deck (numbered entry)))
 
 -- the requests of a deck, as each deck number has them
 pub of_deck-nil : (own deck : ℕ) → [] ≡ of_deck own [] deck
@@ -77,3 +65,70 @@ parts_are_prefixes own i requests entries parts deck =
           ∙ of_deck-append own (take i requests) (drop i requests) deck
           ∙ ap (λ all. of_deck own all deck) (take-append-drop i requests),
     )
+
+pub entered-append : (entries : List Entry) (entry : Entry) → AreEntered entries
+    → IsEntered entry.what → AreEntered (entries ++ entry ∷ [])
+entered-append [] entry all one = (one, tt)
+entered-append (first ∷ entries) entry all one =
+    (all.0, entered-append entries entry all.1 one)
+
+-- what is entered undoes nothing, and meets no fault of a write
+undoes_nothing : (entry : Entry) (rest : List Entry) (what : What) → IsEntered what
+    → BacksOutAfter entry rest what
+undoes_nothing entry rest (Asked request reply) entered = tt
+undoes_nothing entry rest (Undone part place) entered = absurd entered
+undoes_nothing entry rest (Claimed part area) entered = tt
+undoes_nothing entry rest (Split part) entered = tt
+undoes_nothing entry rest (Faulted fault) entered = tt
+
+no_fault : (request : Request) (refusal : Refusal) → MayRefuse request refusal
+    → is_write_fault (Refused refusal) ≡ false
+no_fault request (Duplicate part) may = refl
+no_fault request NotFound may = refl
+no_fault request (BadLength length) may = refl
+no_fault request Memory may = refl
+no_fault request NotAllowed may = refl
+no_fault request EndOfData may = refl
+no_fault request NoAddress may = refl
+no_fault request (NoSpace need free) may = refl
+no_fault request NoPosition may = refl
+no_fault request NoGet may = refl
+no_fault request KeyChanged may = refl
+no_fault request LengthChanged may = refl
+no_fault request BadSlot may = refl
+no_fault request (Held holder name mode) may = refl
+no_fault request (LogFull used need size) may = refl
+no_fault request (Stopped stamp) may = refl
+no_fault request ReadFault may = refl
+no_fault request NoFile may = refl
+no_fault request WriteFault may = absurd may
+
+no_write_fault : (request : Request) (reply : Reply) → IsReplyTo request reply
+    → is_write_fault reply ≡ false
+no_write_fault request (Done feedback place bytes) is = refl
+no_write_fault request (Refused refusal) is = no_fault request refusal is
+
+stops_nothing : (entry : Entry) (rest : List Entry) (what : What) → IsEntered what
+    → StopsAfter entry rest what
+stops_nothing entry rest (Asked request reply) entered =
+    λ fault. absurd (false≢true (sym (no_write_fault request reply entered.1) ∙ fault))
+stops_nothing entry rest (Undone part place) entered = tt
+stops_nothing entry rest (Claimed part area) entered = tt
+stops_nothing entry rest (Split part) entered = tt
+stops_nothing entry rest (Faulted fault) entered = tt
+
+back_out : (entries : List Entry) → AreEntered entries → BackOutOnceBegun entries
+back_out [] entered = tt
+back_out (entry ∷ entries) entered =
+    (undoes_nothing entry entries entry.what entered.0, back_out entries entered.1)
+
+stop : (entries : List Entry) → AreEntered entries → StopAtWriteFaults entries
+stop [] entered = tt
+stop (entry ∷ entries) entered =
+    (stops_nothing entry entries entry.what entered.0, stop entries entered.1)
+
+-- so its steps are a legal history
+pub legal_of : (geometry : Geometry) (opening : State) (entries : List Entry)
+    → AreSteps geometry opening entries → AreEntered entries → IsLegal geometry opening entries
+legal_of geometry opening entries steps entered =
+    record { steps = steps; backs_out = back_out entries entered; stops = stop entries entered }

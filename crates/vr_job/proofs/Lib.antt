@@ -1,4 +1,8 @@
 pub mod Gaps
+pub mod FirstRefusals
+pub mod FirstVolumes
+pub mod StageSteps
+pub mod Servings
 pub mod Histories
 pub mod Runs
 pub mod Codes

@@ -1,9 +1,11 @@
 -- Bytes that are read after others.
 use Rattle.std.proofs.Common.{◌≡◌, ℕ, ◌+◌, ◌-◌, ◌≤◌, List, ◌++◌, length, take, Result, Ok, Err}
-use Rattle.std.proofs.Common.{IfOk, sym, ap, ◌∙◌, Option}
+use Rattle.std.proofs.Common.{IfOk, IfSome, sym, ap, ◌∙◌, Option, Some, None, append-nil, unwrap_or}
+use Rattle.std.specs.Io.KnownBytes.{IsAtEnd}
 use Rattle.std.proofs.Math.Seq.{take-append-add}
 use Rattle.std.proofs.lemmas.List.{take-append-le, length-take-le}
 use borrow.Rule.Slice.PartMut.{put_mid, post_of}
+use Rattle.vr_outside.proofs.CallerLemmas.{Reads-join}
 use Rattle.vr_outside.specs.Told.{Reads}
 use Rattle.vr_job.specs.Input.{ReadsAfter}
 
@@ -28,3 +30,17 @@ reads_after left left' filled buffer piece (Ok n) inside within reads = (
   reads,
 )
 reads_after left left' filled buffer piece (Err e) inside within reads = tt
+
+-- what two reads in a row handed out is what one read would have
+pub reads_join : (first second third : Option (List ℕ)) (earlier later : List ℕ)
+    → Reads first second earlier → Reads second third later → Reads first third (earlier ++ later)
+reads_join = Reads-join
+
+-- what was handed out up to the end is all that there was
+pub reads_end : (first last : Option (List ℕ)) (bytes : List ℕ) → Reads first last bytes
+    → IsAtEnd last → IfSome first (λ all. all ≡ bytes)
+reads_end None last bytes reads at_end = tt
+reads_end (Some all) None bytes reads at_end = absurd (cc)
+reads_end (Some all) (Some rest) bytes reads at_end =
+    ap (λ (known : Option (List ℕ)). unwrap_or known all) reads ∙ ap (λ l. bytes ++ l) at_end
+    ∙ append-nil bytes

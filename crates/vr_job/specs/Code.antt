@@ -1,3 +1,5 @@
+-- Return and condition codes. The return codes are those of Using Data Sets; the condition codes of
+-- deck steps are this project's own.
 use Rattle.std.specs.Prelude.{ℕ, max, List, [], ◌∷◌}
 use Rattle.vr_types.specs.declared.reply.Refusal.{Refusal}
 use Rattle.vr_types.specs.declared.reply.Refusal.TheVariants.{EndOfData, Duplicate, NotFound}
@@ -9,12 +11,9 @@ use Rattle.vr_types.specs.declared.reply.Refusal.TheVariants.{NotAllowed, NoFile
 use Rattle.vr_types.specs.declared.reply.Reply.{Reply}
 use Rattle.vr_types.specs.declared.reply.Reply.TheVariants.{Done, Refused}
 use Rattle.vr_types.specs.Refusal.{feedback_code}
-use Rattle.vr_job.specs.declared.entry.Entry.{Entry}
-use Rattle.vr_job.specs.declared.entry.What.{What}
-use Rattle.vr_job.specs.declared.entry.What.TheVariants.{Asked, Undone, Claimed, Split, Faulted}
-
--- Return and condition codes. The return codes are those of Using Data Sets; the condition codes of
--- deck steps are this project's own.
+use Rattle.vr_history.specs.declared.entry.Entry.{Entry}
+use Rattle.vr_history.specs.declared.entry.What.{What}
+use Rattle.vr_history.specs.declared.entry.What.TheVariants.{Asked, Undone, Claimed, Split, Faulted}
 
 -- 12 for a fault of the device, 8 for a request that was refused for another cause
 abbrev pub refused_code : Refusal → ℕ

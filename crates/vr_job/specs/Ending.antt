@@ -1,7 +1,6 @@
+-- How a job ends. The statuses are this project's own.
 use Rattle.std.specs.Prelude.{◌≡◌, ℕ, ◌⊎◌, ◌==◌, if◌then◌else◌, Option, Some, None}
 use Rattle.vr_deck.specs.declared.text.TextFault.{TextFault}
-
--- How a job ends. The statuses are this project's own.
 
 pub data Ending : Type 0 where
   -- the words are no command

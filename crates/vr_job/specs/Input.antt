@@ -1,10 +1,9 @@
+-- Reading an input to its end.
 use Rattle.std.specs.Prelude.{◌≡◌, ℕ, ◌^◌, ◌<◌, ◌≤◌, ◌++◌, List, length, Option, IfSome}
 use Rattle.std.specs.Io.KnownBytes.{IsAtEnd}
 use Rattle.vr_outside.specs.Told.{Reads}
 use Rattle.vr_job.specs.declared.input.InputFault.{InputFault}
 use Rattle.vr_job.specs.declared.input.InputFault.TheVariants.{Read, TooLong, Memory}
-
--- Reading an input to its end.
 
 -- the text is all that the source had left, and nothing is left of it
 pub record IsAll (left left' : Option (List ℕ)) (text : List ℕ) : Type 0 where

@@ -1,3 +1,4 @@
+-- What is known of a job by the way in which it ended. The statuses are this project's own.
 use Rattle.std.specs.Prelude.{◌≡◌, ◌⊎◌, ℕ, ◌^◌, ◌<◌, List, [], ◌∷◌, codes, length, Option, None}
 use Rattle.std.specs.Prelude.{Some, IfSome}
 use Rattle.vr_types.specs.declared.reply.Refusal.TheVariants.{Memory as NoMemoryLeft}
@@ -8,16 +9,15 @@ use Rattle.vr_deck.specs.declared.text.JobText.{JobText}
 use Rattle.vr_deck.specs.declared.text.TextFault.{TextFault}
 use Rattle.vr_deck.specs.JobText.{IsJobText, IsFirstFault}
 use Rattle.vr_deck.specs.Bound.{bound_requests}
-use Rattle.vr_job.specs.declared.entry.Entry.{Entry}
-use Rattle.vr_job.specs.declared.entry.What.{What}
-use Rattle.vr_job.specs.declared.entry.What.TheVariants.{Asked, Undone, Claimed, Split, Faulted}
+use Rattle.vr_history.specs.declared.entry.Entry.{Entry}
+use Rattle.vr_history.specs.declared.entry.What.{What}
+use Rattle.vr_history.specs.declared.entry.What.TheVariants.{Asked, Undone, Claimed, Split, Faulted}
 use Rattle.vr_job.specs.declared.job_end.Trace.{Trace}
-use Rattle.vr_job.specs.History.{of_deck, part_of_deck, IsPrefixOf}
+use Rattle.vr_history.specs.Merged.{part_of_deck}
+use Rattle.vr_job.specs.Parts.{of_deck, on_volume_0, IsPrefixOf}
 use Rattle.vr_job.specs.Code.{step_code}
 use Rattle.vr_job.specs.Input.{IsAll}
 use Rattle.vr_job.specs.Ending.{Ending, NoCommand, ReadFailed, TooLong, NoMemory, NotAJob, Ran}
-
--- What is known of a job by the way in which it ended. The statuses are this project's own.
 
 -- the three words that are a command
 abbrev pub run_words : List (List ℕ)
@@ -76,14 +76,15 @@ bound_of job deck = of_deck 1 (bound_requests job.deck) deck
 pub record AsksAll (trace : Trace) : Type 0 where
   pub job : JobText
   pub kept : trace.job ≡ Some job
-  pub parts : (deck : ℕ) → part_of_deck 0 deck trace.history.entries ≡ bound_of job deck
+  pub parts : (deck : ℕ)
+      → part_of_deck deck (on_volume_0 trace.history.entries) ≡ bound_of job deck
 
 -- each deck asked the first of its requests once, in order, and nothing else
 pub record AsksFirst (trace : Trace) : Type 0 where
   pub job : JobText
   pub kept : trace.job ≡ Some job
   pub prefixes : (deck : ℕ)
-      → IsPrefixOf (part_of_deck 0 deck trace.history.entries) (bound_of job deck)
+      → IsPrefixOf (part_of_deck deck (on_volume_0 trace.history.entries)) (bound_of job deck)
 
 -- which requests were asked, by the way in which the job ended
 abbrev pub Asks : Ending → Trace → Type 0
@@ -115,6 +116,12 @@ IsWant (Faulted fault) = ⊥
 abbrev pub WantsMemory : List Entry → Type 0
 WantsMemory [] = ⊥
 WantsMemory (entry ∷ entries) = IsWant entry.what ⊎ WantsMemory entries
+
+-- the code of a step, by whether a reply was out of memory
+abbrev pub Coded : List Entry → Type 0
+Coded entries =
+    ((step_code entries ≡ 0) × (WantsMemory entries → ⊥))
+    ⊎ ((step_code entries ≡ 4) × WantsMemory entries)
 
 -- between 0 and 4, 4 comes exactly where a reply was out of memory
 abbrev pub HasCode : ℕ → Trace → Type 0

@@ -1,10 +1,7 @@
-pub mod Definition
 pub mod Positions
-pub mod State
-pub mod Refusals
-pub mod Step
-pub mod History
-pub mod Kept
+pub mod Stage
+pub mod FirstVolume
+pub mod Parts
 pub mod Serve
 pub mod Run
 pub mod Code

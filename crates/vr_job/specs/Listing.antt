@@ -1,3 +1,4 @@
+-- The listing. Its lines are this project's own.
 use Rattle.std.specs.Prelude.{ℕ, List, [], ◌∷◌, ◌++◌, codes, Option, Some, None}
 use Rattle.std.specs.List.{flat_map}
 use Rattle.std.specs.Fmt.{decimal}
@@ -9,15 +10,13 @@ use Rattle.vr_types.specs.declared.reply.Reply.TheVariants.{Done, Refused}
 use Rattle.vr_text.specs.Literal.{literal_of}
 use Rattle.vr_deck.specs.declared.text.JobText.{JobText}
 use Rattle.vr_deck.specs.declared.text.TextFault.{TextFault}
-use Rattle.vr_job.specs.declared.entry.Entry.{Entry}
-use Rattle.vr_job.specs.declared.entry.What.{What}
-use Rattle.vr_job.specs.declared.entry.What.TheVariants.{Asked, Undone, Claimed, Split, Faulted}
+use Rattle.vr_history.specs.declared.entry.Entry.{Entry}
+use Rattle.vr_history.specs.declared.entry.What.{What}
+use Rattle.vr_history.specs.declared.entry.What.TheVariants.{Asked, Undone, Claimed, Split, Faulted}
 use Rattle.vr_job.specs.declared.job_end.Trace.{Trace}
 use Rattle.vr_job.specs.Code.{return_code, feedback_of, step_code}
 use Rattle.vr_job.specs.Ending.{Ending, NoCommand, ReadFailed, TooLong, NoMemory, NotAJob, Ran}
 use Rattle.vr_job.specs.Ending.{ending_of}
-
--- The listing. Its lines are this project's own.
 
 -- the verb of a request, as a deck has it
 abbrev pub verb_of : Request → List ℕ

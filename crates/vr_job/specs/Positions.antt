@@ -1,3 +1,5 @@
+-- Where each file of each deck stands for sequential reading, and which record it holds for update,
+-- as Using Data Sets tells it of positioning and of GET for update.
 use Rattle.std.specs.Prelude.{◌≡◌, ℕ, Bool, ◌<◌, ◌≤◌, ◌⊎◌, ◌==◌, ◌&&◌, ◌-◌, if◌then◌else◌, List, []}
 use Rattle.std.specs.Prelude.{◌∷◌, length, map, Option, Some, None, unwrap_or, slice_index_or}
 use Rattle.std.specs.Prelude.{vec_len, vec_capacity}
@@ -5,9 +7,6 @@ use Rattle.std.specs.Global.{Vec}
 use Rattle.vr_types.specs.Position.{first_position, unheld}
 use Rattle.vr_types.specs.declared.position.Position.{Position}
 use Rattle.vr_job.specs.declared.positions.FilePosition.{FilePosition}
-
--- Where each file of each deck stands for sequential reading, and which record it holds for update,
--- as Using Data Sets tells it of positioning and of GET for update.
 
 -- the file is the deck's, of this slot
 abbrev pub is_file : ℕ → ℕ → FilePosition → Bool

@@ -1,8 +1,7 @@
+-- VRM.FIRST as a list of its records, for the private functions that keep it.
 use Rattle.std.specs.Prelude.{◌≡◌, ℕ, ◌≤◌, List, map, insert, length, None}
 use Rattle.vr_types.specs.Content.{Placed, Content, Standing, Ascends, record_at, with_item}
-use Rattle.vr_job.specs.Definition.{first_definition, key_of}
-
--- VRM.FIRST as a list of its records, for the private functions that keep it.
+use Rattle.vr_catalog.specs.Definition.{first_definition, key_of}
 
 -- a record at the place that its key is
 abbrev pub placed : List ℕ → Placed

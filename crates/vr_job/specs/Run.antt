@@ -1,4 +1,8 @@
+-- The run of deck 1 on volume 0, request by request: what its private functions know on the way.
 use Rattle.std.specs.Prelude.{◌≡◌, ℕ, ◌+◌, ◌≤◌, List, [], ◌∷◌, ◌++◌, take, Option, Some, None}
+use Rattle.std.specs.Option.{option_map}
+use Rattle.vr_types.specs.declared.geometry.Geometry.{Geometry}
+use Rattle.vr_types.specs.declared.request.FileRef.{FileRef}
 use Rattle.vr_types.specs.declared.request.Request.{Request}
 use Rattle.vr_types.specs.declared.request.Request.TheVariants.{Get, Point, Add, Update, Erase}
 use Rattle.vr_types.specs.declared.request.Request.TheVariants.{EndReq, Commit, Backout}
@@ -6,23 +10,28 @@ use Rattle.vr_types.specs.declared.reply.Reply.{Reply}
 use Rattle.vr_types.specs.declared.reply.Reply.TheVariants.{Done, Refused}
 use Rattle.vr_types.specs.Content.{Content}
 use Rattle.vr_types.specs.declared.bound.Bound.{Bound}
-use Rattle.vr_job.specs.declared.entry.Entry.{Entry}
-use Rattle.vr_job.specs.declared.entry.What.TheVariants.{Asked}
+use Rattle.vr_history.specs.declared.entry.Entry.{Entry}
+use Rattle.vr_history.specs.declared.entry.What.TheVariants.{Asked}
+use Rattle.vr_history.specs.Case.{file_of}
+use Rattle.vr_history.specs.Legal.{AreSteps, state_of}
+use Rattle.vr_history.specs.Merged.{last_stamp}
+use Rattle.vr_history.specs.State.{Owned, State, opening_state}
 use Rattle.vr_job.specs.declared.positions.FilePosition.{FilePosition}
 use Rattle.vr_job.specs.Positions.{position_of, without_held, without_deck}
-use Rattle.vr_job.specs.State.{State, opening_state}
-use Rattle.vr_job.specs.Refusals.{not_allowed}
-use Rattle.vr_job.specs.Step.{IsOffered, slot_of}
-use Rattle.vr_job.specs.History.{IsLegal, AreParts, state_of, last_stamp}
-use Rattle.vr_job.specs.Serve.{Serves}
-
--- The run of deck 1 on volume 0, request by request: what its private functions know on the way.
+use Rattle.vr_job.specs.JobEnd.{Coded}
+use Rattle.vr_job.specs.Parts.{AreParts}
+use Rattle.vr_job.specs.Serve.{IsStage, LogsFew, Serves, own_unit}
+use Rattle.vr_job.specs.Stage.{AreEntered, HasFirst, IsOffered, IsReplyTo, NamesEmpty}
 
 -- a request that there is, of volume 0, and the place that it names isn't empty
 pub record IsHere (bound : Bound) : Type 0 where
   pub offered : IsOffered bound.request
   pub first_volume : bound.volume ≡ 0
-  pub placed : (state : State) → not_allowed state bound.request ≡ None
+  pub placed : ¬ NamesEmpty bound.request
+
+-- the slot of the file that a request is on
+abbrev pub slot_of : Request → Option ℕ
+slot_of request = option_map (λ (file : FileRef). file.slot) (file_of request)
 
 -- the number of the deck's unit after a reply
 abbrev pub next_number : Request → Reply → ℕ → ℕ
@@ -61,7 +70,7 @@ abbrev pub entry_of : ℕ → ℕ → Bound → Reply → Entry
 entry_of stamp number bound reply =
     record {
       stamp = stamp;
-      unit = record { deck = 1; number = number };
+      unit = own_unit number;
       line = bound.line;
       what = Asked bound.request reply;
     }
@@ -72,17 +81,33 @@ pub record Enters (bound : Bound) (number next : ℕ) (old new : List Entry)
   pub reply : Reply
   pub entered : new ≡ old ++ entry_of (last_stamp 0 old + 1) number bound reply ∷ []
   pub served : Serves bound.request reply content content'
+  pub replied : IsReplyTo bound.request reply
   pub counted : next ≡ next_number bound.request reply number
   pub positioned : files'
       ≡ files_ended bound.request reply (files_begun (slot_of bound.request) files)
 
--- the first i requests were answered and entered, from the opening state on
+-- a state after i requests
+pub record IsStageAt (state : State) (number i : ℕ) (content : Content)
+    (files : List FilePosition) : Type 0 where
+  pub stage : IsStage state number content
+  pub logs : LogsFew state i
+  pub positions_are : IsPositioned state files
+  pub number_is : state.numbers 1 ≡ number
+
+-- the entries are steps from the opening of a volume, and lead to a state after i requests
+pub record RunsOn (geometry : Geometry) (opening : State) (entries : List Entry) (number i : ℕ)
+    (content : Content) (files : List FilePosition) : Type 0 where
+  pub steps : AreSteps geometry opening entries
+  pub at : IsStageAt (state_of geometry opening entries) number i content files
+
+-- the first i requests were answered and entered, on each volume that has an empty VRM.FIRST
 pub record Running (requests : List Bound) (i : ℕ) (entries : List Entry) (content : Content)
     (files : List FilePosition) (number : ℕ) : Type 0 where
-  pub legal : IsLegal opening_state entries
-  pub content_is : (state_of opening_state entries).contents 1 ≡ content
-  pub positions_are : IsPositioned (state_of opening_state entries) files
-  pub number_is : (state_of opening_state entries).numbers 1 ≡ number
+  pub runs : (geometry : Geometry) (contents : ℕ → Content) (owned : List Owned)
+      → HasFirst geometry contents
+      → RunsOn geometry (opening_state contents owned) entries number i content files
+  pub offered : AreEntered entries
+  pub coded : Coded entries
   pub few : number ≤ i + 1
   pub parts : AreParts 1 (take i requests) entries
   pub stamps : last_stamp 0 entries ≡ i

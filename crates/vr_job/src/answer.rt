@@ -1,8 +1,9 @@
 //! The answers to requests on VRM.FIRST.
 ghost use Rattle.std.specs.Prelude.{◌≡◌, IfOk, OnErr, min, length, ◌^◌, ◌-◌};
 ghost use Rattle.vr_deck.specs.Bound.{get_request, add_request};
-ghost use Rattle.vr_job.specs.Step.{IsOffered};
-ghost use Rattle.vr_job.specs.Serve.{Serves, reply_to, content_after, or_refused};
+ghost use Rattle.vr_catalog.specs.Definition.{first_definition, key_of};
+ghost use Rattle.vr_job.specs.Stage.{IsOffered, IsReplyTo};
+ghost use Rattle.vr_job.specs.Serve.{Serves, key_named, or_refused};
 
 use crate::record_file::{KEY_LENGTH, RecordFile, key};
 use std::alloc::Global;
@@ -18,19 +19,27 @@ pub const FIRST_PART: PartNo = PartNo(1);
 /// takes the place of any reply but that to a COMMIT, which takes no memory.
 pub fn answer(alloc: Global, file: &mut RecordFile, request: &Request) -> Reply
     requires { IsOffered request.now }
-    ensures { Serves request.now result file.old file.new }
+    ensures serves { Serves request.now result file.old file.new }
+    ensures reply { IsReplyTo request.now result }
 {
     match request {
-        Request::Get {
-            find: Find::Equal(sought),
-            ..
-        } => or_memory(reply_to_get(alloc, file, sought.as_slice())),
+        Request::Get { find, .. } => or_memory(reply_to_get(alloc, file, key_named(find))),
         Request::Add { bytes, .. } => or_memory(reply_to_add(alloc, file, bytes)),
         _ => Reply::Done {
             feedback: 0,
             place: None,
             bytes: None,
         },
+    }
+}
+
+/// The key that a request names, empty where it names none.
+fn key_named(find: &Find) -> &[u8]
+    ensures { result.now ≡ key_named find.now }
+{
+    match find {
+        Find::Equal(place) | Find::AtLeast(place) => place.as_slice(),
+        Find::Next => b"",
     }
 }
 
@@ -46,7 +55,9 @@ fn or_memory(reply: Result<Reply, OutOfMemory>) -> Reply
 
 /// The reply to a GET of the record with a key.
 fn reply_to_get(alloc: Global, file: &RecordFile, sought: &[u8]) -> Result<Reply, OutOfMemory>
-    ensures { IfOk result (λ reply. reply ≡ reply_to file.now (get_request sought.now)) }
+    ensures serves { IfOk result
+        (λ reply. Serves (get_request sought.now) reply file.now file.now) }
+    ensures reply { IfOk result (λ reply. IsReplyTo (get_request sought.now) reply) }
 {
     if sought.is_empty() {
         return Ok(Reply::Refused(Refusal::NotAllowed));
@@ -66,8 +77,9 @@ fn reply_to_get(alloc: Global, file: &RecordFile, sought: &[u8]) -> Result<Reply
 
 /// Adds a record, and answers. Where memory runs out, nothing changes.
 fn reply_to_add(alloc: Global, file: &mut RecordFile, added: &Bytes) -> Result<Reply, OutOfMemory>
-    ensures ok { IfOk result (λ reply. (reply ≡ reply_to file.old (add_request added.now))
-        × (file.new ≡ content_after file.old (add_request added.now) reply)) }
+    ensures serves { IfOk result
+        (λ reply. Serves (add_request added.now) reply file.old file.new) }
+    ensures reply { IfOk result (λ reply. IsReplyTo (add_request added.now) reply) }
     ensures err { OnErr result (file.new ≡ file.old) }
 {
     if added.len() < KEY_LENGTH || added.len() > RECORD_LIMIT {

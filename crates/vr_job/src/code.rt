@@ -2,7 +2,7 @@
 ghost use Rattle.std.specs.Prelude.{◌≡◌};
 ghost use Rattle.vr_job.specs.Code.{return_code, feedback_of, severity, reply_severity, step_code};
 
-use crate::entry::{Entry, What};
+use vr_history::{Entry, What};
 use vr_types::{Refusal, Reply};
 
 /// The return code of a reply: 0 where it was done, 12 for a fault of the device, else 8.

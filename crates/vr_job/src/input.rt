@@ -38,6 +38,7 @@ impl From<AllocError> for InputFault {
 }
 
 /// Reads a source to its end, straight into the text's own buffer.
+#[tactic(auto, using(crate::proofs::Readings::reads_join, crate::proofs::Readings::reads_end))]
 pub fn read_text<S: Source>(alloc: Global, source: &mut S) -> Result<Vec<u8>, InputFault>
     ensures text { IfOk result (λ text. IsAll (S.left source.old) (S.left source.new) text.items) }
     ensures fault { IfErr result
@@ -45,8 +46,6 @@ pub fn read_text<S: Source>(alloc: Global, source: &mut S) -> Result<Vec<u8>, In
     ensures steady { OnOk result (S.faults source.new ≡ S.faults source.old) }
     ensures never_falls { S.faults source.old ≤ S.faults source.new }
 {
-    vr_outside::reads_join();
-    vr_outside::reads_end();
     let mut text = Vec::new(alloc);
     let mut filled = 0usize;
     while filled <= TEXT_LIMIT {

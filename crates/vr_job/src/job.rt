@@ -5,23 +5,25 @@ ghost use Rattle.vr_outside.specs.Told.{Takes};
 ghost use Rattle.vr_deck.specs.Bound.{bound_requests};
 ghost use Rattle.vr_deck.specs.JobText.{IsJobText, CauseOf};
 ghost use Rattle.vr_deck.specs.declared.text.JobText.{JobText};
-ghost use Rattle.vr_job.specs.State.{opening_state};
-ghost use Rattle.vr_job.specs.History.{IsLegal, IsStamped, AreParts, ArePrefixes};
+ghost use Rattle.vr_history.specs.Merged.{IsStamped};
+ghost use Rattle.vr_job.specs.Stage.{AreEntered, IsLegalOnFirst};
+ghost use Rattle.vr_job.specs.Parts.{AreParts, ArePrefixes};
 ghost use Rattle.vr_job.specs.Ending.{Ran, ending_of, HasFixedLine};
 ghost use Rattle.vr_job.specs.Listing.{listing_of};
 ghost use Rattle.vr_job.specs.JobEnd.{run_words, KeepsNothing, IsOfText, Asks, IsStatusOf, HasCode};
 ghost use Rattle.vr_job.specs.JobEnd.{IsPrinted, IsWhole, statuses};
-ghost use Rattle.vr_job.specs.Ends.{IsRunOf, IsDeckPart, IsDeckRun, IsInputEnd, PrintsAs};
+ghost use Rattle.vr_job.specs.Ends.{IsRunOf, IsDeckPart, IsDeckRun, IsInputEnd, IsJobHistory};
+ghost use Rattle.vr_job.specs.Ends.{PrintsAs};
 
 use crate::code::step_code;
 use crate::command_words::plan;
-use crate::history::History;
 use crate::input::{InputFault, read_text};
 use crate::job_end::{JobEnd, KeptJob, Plan, Trace};
 use crate::listing::{fixed_line, has_fixed_line, listing};
 use crate::run::run_deck;
 use std::alloc::Global;
 use vr_deck::{DeckText, JobFault, JobText, TextFault, bind, parse_job};
+use vr_history::History;
 use vr_outside::{Sink, Source, write_whole};
 use vr_types::{Bytes, OutOfMemory, Words};
 
@@ -54,8 +56,10 @@ pub fn run_job<S: Source, K: Sink>(
     ensures text { IsOfText (ending_of result.status result.trace.fault) (S.left input.old)
         (S.left input.new) result.trace }
 
-    // One legal history, whose stamps rise, with every request of every deck in order, each once.
-    ensures legal { IsLegal opening_state result.trace.history.entries }
+    // One history, legal on each volume that has an empty VRM.FIRST, of the requests that there are.
+    // Its stamps rise, and it has every request of every deck in order, each once.
+    ensures legal { IsLegalOnFirst result.trace.history.entries }
+    ensures offered { AreEntered result.trace.history.entries }
     ensures stamped { IsStamped 0 result.trace.history.entries }
     ensures requests { Asks (ending_of result.status result.trace.fault) result.trace }
 
@@ -111,7 +115,7 @@ fn run_text(alloc: Global, text: Vec<u8>) -> JobEnd
     ensures requests { Asks (ending_of result.status result.trace.fault) result.trace }
     ensures ending { IsStatusOf (ending_of result.status result.trace.fault) result.trace
         result.status }
-    ensures legal { IsLegal opening_state result.trace.history.entries }
+    ensures history { IsJobHistory result.trace.history.entries }
     ensures code { HasCode result.status result.trace }
     ensures whole { ending_of result.status result.trace.fault ≡ Ran → IsWhole result.status }
     ensures status { Contains (0 ∷ 4 ∷ 16 ∷ 36 ∷ []) result.status }
@@ -149,7 +153,7 @@ fn run_parsed(alloc: Global, job: JobText) -> JobEnd
 fn run_deck_text(alloc: Global, kept: KeptJob, deck: DeckText) -> JobEnd
     requires { length deck.orders ≤ 2 ^ 26 }
     ensures kept { (result.trace.job ≡ Some kept) × (result.trace.fault ≡ None) }
-    ensures legal { IsLegal opening_state result.trace.history.entries }
+    ensures history { IsJobHistory result.trace.history.entries }
     ensures part { IsDeckPart result.status deck result.trace.history.entries }
 {
     let mut history = History::new(alloc);
@@ -172,7 +176,7 @@ fn run_deck_text(alloc: Global, kept: KeptJob, deck: DeckText) -> JobEnd
 fn run_bound(alloc: Global, deck: DeckText, history: &mut History) -> Result<(), OutOfMemory>
     requires few { length deck.orders ≤ 2 ^ 26 }
     requires fresh { history.old.entries ≡ [] }
-    ensures legal { IsLegal opening_state history.new.entries }
+    ensures history { IsJobHistory history.new.entries }
     ensures whole { OnOk result (AreParts 1 (bound_requests deck) history.new.entries) }
     ensures prefix { ArePrefixes 1 (bound_requests deck) history.new.entries }
 {

@@ -1,11 +1,11 @@
 //! What a job is asked to do, and what it leaves.
 ghost use Rattle.std.specs.Prelude.{◌≡◌, IfOk};
 
-use crate::history::History;
 use std::alloc::Global;
 use std::marker::Model;
 use std::snapshot::Snapshot;
 use vr_deck::{JobText, TextFault};
+use vr_history::History;
 use vr_types::{Bytes, OutOfMemory};
 
 /// What the words of the program ask for.

@@ -9,10 +9,10 @@ ghost use Rattle.vr_job.specs.Listing.{listing_of};
 ghost use Rattle.vr_job.specs.declared.job_end.Trace.{Trace};
 
 use crate::code::{feedback, return_code, step_code};
-use crate::entry::{Entry, What};
 use crate::job_end::{KeptJob, Trace};
 use std::alloc::Global;
 use vr_deck::TextFault;
+use vr_history::{Entry, What};
 use vr_text::write_literal;
 use vr_types::{Bytes, OutOfMemory, Place, Reply, Request};
 

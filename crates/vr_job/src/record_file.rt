@@ -5,7 +5,7 @@ ghost use Rattle.std.specs.Option.{option_copied};
 ghost use Rattle.std.specs.Ordering.{is_lt};
 ghost use Rattle.vr_types.specs.Content.{Content, Standing, Ascends, place_cmp, record_at};
 ghost use Rattle.vr_types.specs.Content.{with_item};
-ghost use Rattle.vr_job.specs.Definition.{first_definition, key_of};
+ghost use Rattle.vr_catalog.specs.Definition.{first_definition, key_of};
 ghost use Rattle.vr_job.specs.RecordFile.{content_of, IsGap};
 
 use std::alloc::Global;

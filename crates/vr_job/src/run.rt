@@ -1,17 +1,18 @@
 //! The run of a deck.
-ghost use Rattle.std.specs.Prelude.{◌≡◌, ◌<◌, ◌≤◌, ◌^◌, ◌-◌, [], IfOk, OnOk, OnErr, All, length};
-ghost use Rattle.vr_job.specs.State.{opening_state};
-ghost use Rattle.vr_job.specs.History.{IsLegal, AreParts, ArePrefixes, last_stamp};
-ghost use Rattle.vr_job.specs.Step.{slot_of};
-ghost use Rattle.vr_job.specs.Run.{IsHere, Enters, next_number, files_begun, files_ended};
+ghost use Rattle.std.specs.Prelude.{◌≡◌, ◌<◌, ◌≤◌, ◌^◌, ◌+◌, ◌-◌, [], IfOk, OnOk, OnErr, All};
+ghost use Rattle.std.specs.Prelude.{length};
+ghost use Rattle.vr_history.specs.Merged.{last_stamp};
+ghost use Rattle.vr_job.specs.Parts.{AreParts, ArePrefixes};
+ghost use Rattle.vr_job.specs.Ends.{IsJobHistory};
+ghost use Rattle.vr_job.specs.Run.{IsHere, Enters, next_number, slot_of};
+ghost use Rattle.vr_job.specs.Run.{files_begun, files_ended};
 
 use crate::answer::answer;
-use crate::entry::{Entry, What};
-use crate::history::History;
 use crate::positions::Positions;
 use crate::record_file::RecordFile;
 use std::alloc::Global;
 use vr_deck::DeckRequests;
+use vr_history::{Entry, History, What};
 use vr_types::{Bound, OutOfMemory, Reply, Request, Unit};
 
 /// The number of the one deck.
@@ -26,8 +27,8 @@ pub fn run_deck(
 ) -> Result<(), OutOfMemory>
     requires fresh { history.old.entries ≡ [] }
     requires here { All IsHere requests.now }
-    requires few { length requests.now < 2 ^ 31 }
-    ensures legal { IsLegal opening_state history.new.entries }
+    requires few { length requests.now ≤ 2 ^ 26 + 1 }
+    ensures history { IsJobHistory history.new.entries }
     ensures whole { OnOk result (AreParts 1 requests.now history.new.entries) }
     ensures prefix { ArePrefixes 1 requests.now history.new.entries }
 {

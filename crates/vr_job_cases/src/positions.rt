@@ -3,7 +3,8 @@
 use crate::answers::{Answer, Stop, say};
 use std::alloc::Global;
 use std::fmt::Write;
-use vr_job::{Entry, Positions, What};
+use vr_history::{Entry, What};
+use vr_job::Positions;
 use vr_types::{PartNo, Place, Position, Stand, Unit, place};
 
 /// Runs steps over an empty table and shows the files asked for: `positions STEP..`. A step is

@@ -8,7 +8,7 @@ use crate::plain::PlainLocks;
 use std::alloc::Global;
 use vr_locks::{LockNo, LockTable, lock_table};
 
-/// Runs all sequences of so many calls, and writes how many differ.
+/// Runs all sequences of that many calls, and writes how many differ.
 pub fn judge(alloc: Global, length: u32, out: &mut String) -> Answer {
     let mut sequences = 1u32;
     for _ in 0..length {
@@ -29,14 +29,24 @@ pub fn judge(alloc: Global, length: u32, out: &mut String) -> Answer {
 fn agree(alloc: Global, sequence: u32, length: u32) -> Result<bool, Stop> {
     let mut table = lock_table(alloc);
     let mut plain = PlainLocks::new(alloc);
+    agree_on(alloc, &mut table, &mut plain, sequence, length)
+}
+
+fn agree_on(
+    alloc: Global,
+    table: &mut LockTable,
+    plain: &mut PlainLocks,
+    sequence: u32,
+    length: u32,
+) -> Result<bool, Stop> {
     let mut rest = sequence;
     for _ in 0..length {
-        if !call(alloc, &mut table, &mut plain, call_of(rest % CALLS))? {
+        if !call(alloc, table, plain, call_of(rest % CALLS))? {
             return Ok(false);
         }
         rest /= CALLS;
     }
-    tests(alloc, &table, &plain)
+    tests(alloc, table, plain)
 }
 
 /// Makes a call on both, and says whether they answer alike.

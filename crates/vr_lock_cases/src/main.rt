@@ -1,9 +1,9 @@
 //! Cases of the lock table from a text table: worked requests, tests and ends, and the table beside
 //! a plain program over all small sequences of calls. It stands on `vr_locks`. Each line of its
 //! input has a question, ` -> ` and the answer that is wanted. It asks the public calls, prints
-//! each line whose answer differs, and at the end how many lines there were and how many differ; the
-//! status is 1 where one differs. What it promises is that it is safe and ends: what the answers
-//! show is tested, and its whole output is compared.
+//! each line whose answer differs, and at the end how many lines there were and how many differ;
+//! the status is 1 where one differs. What it promises is that it is safe and ends: what the
+//! answers show is tested, and its whole output is compared.
 #![tactic(auto)]
 
 mod answers;
@@ -35,13 +35,18 @@ fn main(rt: HostRuntime) -> io::Result<ExitCode> {
     Ok(ExitCode::from(if differ == 0 { 0 } else { 1 }))
 }
 
-/// Asks each line of the input. Empty lines and those that begin with `#` are passed over.
+/// Asks each line of the input.
 fn run<R: Input + Print + AllocGlobal>(rt: &R) -> io::Result<Tally> {
+    let mut table = lock_table(rt.alloc());
+    ask_lines(rt, &mut table)
+}
+
+/// Asks each line of the input. Empty lines and those that begin with `#` are skipped.
+fn ask_lines<R: Input + Print + AllocGlobal>(rt: &R, table: &mut LockTable) -> io::Result<Tally> {
     let mut tally = Tally {
         lines: 0,
         differ: 0,
     };
-    let mut table = lock_table(rt.alloc());
     for line in rt.lines(rt.alloc()) {
         let line = line?;
         let line = line.as_str();
@@ -49,7 +54,7 @@ fn run<R: Input + Print + AllocGlobal>(rt: &R) -> io::Result<Tally> {
             continue;
         }
         let (asked, wanted) = line.split_once(" -> ").unwrap_or((line, "ok"));
-        let got = got(rt.alloc(), &mut table, asked)?;
+        let got = got(rt.alloc(), table, asked)?;
         tally.lines = tally.lines.saturating_add(1);
         if got.as_str() != wanted {
             tally.differ = tally.differ.saturating_add(1);
@@ -60,7 +65,7 @@ fn run<R: Input + Print + AllocGlobal>(rt: &R) -> io::Result<Tally> {
     Ok(tally)
 }
 
-/// The answer to a question. A line that is no question has an answer that says so.
+/// The answer to a question. A line that is not a question has an answer that says so.
 fn got(alloc: Global, table: &mut LockTable, asked: &str) -> Result<String, AllocError> {
     let mut out = String::new(alloc);
     match answer(alloc, table, asked, &mut out) {

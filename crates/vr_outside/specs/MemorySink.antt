@@ -32,12 +32,12 @@ pub record TakesFirst (old new : SinkState) (bytes : List ℕ) (n : ℕ) : Type 
     faults = old.faults + faults_of bytes n;
   }
 
--- whether a failing call failed since memory ran out: one that was not to fail
+-- whether a failing call failed since memory ran out: one that was not set to fail
 abbrev pub refusals_of : SinkState → ℕ
 refusals_of sink = if fails_next sink.calls then 0 else 1
 
--- The call failed and took nothing. The count rose by one, and where the call was not to fail, that
--- of refusals did too.
+-- The call failed and took nothing. The count rose by one, and where the call was not set to fail,
+-- so did that of refusals.
 abbrev pub FailsWriting : SinkState → SinkState → Type 0
 FailsWriting old new = new ≡ record old {
   calls = counted old.calls;

@@ -15,6 +15,6 @@ writer_of sink = sink.writer
 abbrev pub source_faults : {R : Type 0} → StdSource R → ℕ
 source_faults source = source.faults
 
--- how often the sink failed, or took nothing of a piece
+-- how often the sink failed, or took nothing of a buffer
 abbrev pub sink_faults : {W : Type 0} → StdSink W → ℕ
 sink_faults sink = sink.faults

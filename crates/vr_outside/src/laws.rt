@@ -7,7 +7,8 @@ ghost use Rattle.vr_outside.specs.Told.{Reads, Takes};
 /// both.
 pub fn reads_join()
     ensures { (first second third : Option (List ℕ)) (earlier later : List ℕ) →
-        Reads first second earlier → Reads second third later → Reads first third (earlier ++ later) }
+        Reads first second earlier → Reads second third later
+        → Reads first third (earlier ++ later) }
 {}
 
 /// What was handed out up to the end is all that there was.
@@ -19,5 +20,6 @@ pub fn reads_end()
 /// What two writes in a row took is what one write would have taken of the bytes of both.
 pub fn takes_join()
     ensures { (first second third : Option (List ℕ)) (earlier later : List ℕ) →
-        Takes first second earlier → Takes second third later → Takes first third (earlier ++ later) }
+        Takes first second earlier → Takes second third later
+        → Takes first third (earlier ++ later) }
 {}

@@ -107,7 +107,7 @@ impl Sink for MemorySink {
     ghost faults = { λ sink. sink.faults };
 
     fn write(&mut self, bytes: &[u8]) -> Result<usize, Failed>
-        // A call that is to fail fails, and any other fails only where memory runs out.
+        // A call that is set to fail fails, and any other fails only where memory runs out.
         ensures fails { IsTrue (fails_next self.old.calls) → IsErr result }
         ensures took { IfOk result (λ n. TakesFirst self.old self.new bytes.now n) }
         ensures failed { OnErr result (FailsWriting self.old self.new) }

@@ -53,7 +53,8 @@ impl<W: Write> Sink for StdSink<W> {
 
     fn write(&mut self, bytes: &[u8]) -> Result<usize, Failed>
         // Where the writer below reports its bytes, these go there.
-        ensures writer { WriteAppends (W.contents (writer_of self.old)) (W.contents (writer_of self.new)) result bytes.now }
+        ensures writer { WriteAppends (W.contents (writer_of self.old))
+            (W.contents (writer_of self.new)) result bytes.now }
 
         // A call counts one fault at most.
         ensures once { sink_faults self.new ≤ sink_faults self.old + 1 }

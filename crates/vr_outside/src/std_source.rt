@@ -52,7 +52,8 @@ impl<R: Read> Source for StdSource<R> {
 
     fn read(&mut self, into: &mut [u8]) -> Result<usize, Failed>
         // Where the reader below reports its bytes, these come from there.
-        ensures reader { ReadConsumes (R.remaining (reader_of self.old)) (R.remaining (reader_of self.new)) result into.new }
+        ensures reader { ReadConsumes (R.remaining (reader_of self.old))
+            (R.remaining (reader_of self.new)) result into.new }
 
         // A call counts one fault at most.
         ensures once { source_faults self.new ≤ source_faults self.old + 1 }

@@ -30,7 +30,7 @@ fn main(rt: HostRuntime) -> io::Result<ExitCode> {
     Ok(ExitCode::from(if differ == 0 { 0 } else { 1 }))
 }
 
-/// Asks each line of the input. Empty lines and those that begin with `#` are passed over.
+/// Asks each line of the input. Empty lines and those that begin with `#` are skipped.
 fn run<R: Input + Print + AllocGlobal>(rt: &R) -> io::Result<Tally> {
     let mut tally = Tally {
         lines: 0,
@@ -54,7 +54,7 @@ fn run<R: Input + Print + AllocGlobal>(rt: &R) -> io::Result<Tally> {
     Ok(tally)
 }
 
-/// The answer to a question. A line that is no question has an answer that says so.
+/// The answer to a question. A line that is not a question has an answer that says so.
 fn got(alloc: Global, asked: &str) -> Result<String, AllocError> {
     let mut out = String::new(alloc);
     match answer(alloc, asked, &mut out) {

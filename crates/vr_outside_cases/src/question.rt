@@ -14,7 +14,7 @@ pub const TEXT: &str = "GET F KEY=C'1'";
 pub enum Stop {
     /// Memory ran out.
     Memory,
-    /// The line is no question.
+    /// The line is not a question.
     Line,
 }
 

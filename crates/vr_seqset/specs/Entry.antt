@@ -33,4 +33,5 @@ entry_in place bytes = record {
 -- that many entries that the bytes spell, one after another
 unfoldable pub entries_in : ℕ → ℕ → List ℕ → List Entry
 entries_in zero place bytes = []
-entries_in (suc n) place bytes = entry_in place bytes ∷ entries_in n place (drop (2 + 2 * two_at 0 bytes + place) bytes)
+entries_in (suc n) place bytes = entry_in place bytes ∷ entries_in n place
+    (drop (2 + 2 * two_at 0 bytes + place) bytes)

@@ -1,5 +1,5 @@
--- Which fault a block has that is nobody's: the first rule that it breaks, in the order in which
--- they are tried.
+-- Which fault is reported for a block that spells no record: the first rule that it breaks, in the
+-- order in which they are tried.
 use Rattle.std.specs.Prelude.{◌≡◌, ℕ, ◌<◌, ◌≤◌, List, length, take, drop, slice_index}
 use Rattle.vr_types.specs.BlockSize.{IsBlockSize}
 use Rattle.vr_types.specs.Fields.{AreZeros}
@@ -24,7 +24,7 @@ pub record HasZeros (block : List ℕ) : Type 0 where
   pub chain : KeepsChain (record_in block)
   pub rest : AreZeros (drop (length (spelling (record_in block))) block)
 
--- the rule that a fault names, for the block of a sequence-set record in an area of so many
+-- the rule that a fault names, for the block of a sequence-set record in an area of that many
 -- intervals
 abbrev pub Keeps : ℕ → List ℕ → SeqFault → Type 0
 Keeps intervals block faults.Kind = slice_index block 0 ≡ 83

@@ -16,4 +16,5 @@ pub record AreOnceBelow (limit : ℕ) (numbers : List ℕ) : Type 0 where
 
 -- below the limit exactly the numbers are marked
 abbrev pub Marks : ℕ → List Bool → List ℕ → Type 0
-Marks limit seen numbers = (n : ℕ) → n < limit → slice_index_or seen n false ≡ list_any (nat_eq n) numbers
+Marks limit seen numbers = (n : ℕ) → n < limit
+    → slice_index_or seen n false ≡ list_any (nat_eq n) numbers

@@ -18,7 +18,8 @@ roster_bytes r = 82 ∷ 0 ∷ two r.used ++ replicate 4 0 ++ four r.part ++ four
 abbrev pub block_of_roster : ℕ → Roster → List ℕ
 block_of_roster size r = padded size (roster_bytes r)
 
--- The rules of a roster in a block of the size, of an area of that many intervals. That each area but
+-- The rules of a roster in a block of the size, of an area of that many intervals. That each area
+-- but
 -- the last is used whole is a rule of the chain.
 pub record KeepsRosterRules (intervals size : ℕ) (r : Roster) : Type 0 where
   pub block : IsBlockSize size

@@ -27,7 +27,8 @@ pub record SequenceSet : Type 0 where
 
 -- the 32 bytes before the low place: `S`, and the fields at 1, 2, 6, 8, 12, 16 and 20
 unfoldable pub head_bytes : SequenceSet → List ℕ
-head_bytes s = 83 ∷ (if s.first then 1 else 0) ∷ two (length s.entries) ++ 0 ∷ 0 ∷ two (length s.low) ++ four s.part
+head_bytes s = 83 ∷ (if s.first then 1 else 0) ∷ two (length s.entries)
+    ++ 0 ∷ 0 ∷ two (length s.low) ++ four s.part
     ++ four (area_field s.next) ++ four s.top ++ four (area_field s.index_area) ++ replicate 8 0
 
 unfoldable pub spelling : SequenceSet → List ℕ
@@ -56,7 +57,8 @@ pub record HasLengths (size : ℕ) (s : SequenceSet) : Type 0 where
 
 -- interval numbers are below that of the intervals used, and none comes twice
 abbrev pub HasIntervals : ℕ → ℕ → SequenceSet → Type 0
-HasIntervals intervals size s = AreOnceBelow (intervals_used intervals size (length s.low)) (used_by s)
+HasIntervals intervals size s = AreOnceBelow (intervals_used intervals size (length s.low))
+    (used_by s)
 
 -- each high place is above the one before, the first above the low place
 abbrev pub Ascends : SequenceSet → Type 0
@@ -73,7 +75,8 @@ pub record HasFields (s : SequenceSet) : Type 0 where
   pub top : s.top < 2 ^ 32
   pub index_area : IsArea s.index_area
 
--- All rules of a record in a block of the size, of an area of that many intervals, but that there is
+-- All rules of a record in a block of the size, of an area of that many intervals, but that there
+-- is
 -- an entry. That the last high place of a chain is all X'FF', and no other, is a rule of the chain.
 pub record KeepsRules (intervals size : ℕ) (s : SequenceSet) : Type 0 where
   pub lengths : HasLengths size s

@@ -6,7 +6,10 @@ use Rattle.vr_seqset.specs.Reading.{record_in}
 
 -- the record with one more entry, after the others
 abbrev pub with_entry : SequenceSet → List ℕ → List ℕ → SequenceSet
-with_entry s intervals high = record s { entries = s.entries ++ record { intervals = intervals; high = high } ∷ [] }
+with_entry s intervals high = record s {
+  entries =
+      s.entries ++ record { intervals = intervals; high = high } ∷ [];
+}
 
 -- The block spells a record that keeps the rules, in an area of that many intervals, and its last
 -- entry ends before the byte.

@@ -56,7 +56,8 @@ fn after_entries(bytes: &[u8], count: usize, place: usize) -> Option<&[u8]>
     requires { 0 < place }
     ensures whole { IfSome result (λ _. All (IsWhole place) (entries_in count place bytes.now)) }
     ensures rest { IfSome result (λ rest.
-        rest.now ≡ drop (length (flat_map entry_bytes (entries_in count place bytes.now))) bytes.now) }
+        rest.now
+        ≡ drop (length (flat_map entry_bytes (entries_in count place bytes.now))) bytes.now) }
     ensures none { IfNone result (¬ (All (IsWhole place) (entries_in count place bytes.now))) }
 {
     let mut rest = bytes;
@@ -104,7 +105,8 @@ pub(crate) fn are_used_once(entries: SeqEntries<'_>, limit: usize) -> bool
 /// Marks an entry's intervals, where none of them is marked yet and each is below the limit.
 fn mark_all(seen: &mut [bool], entry: &SeqEntry<'_>, limit: usize) -> bool
     requires { limit ≤ length seen.old }
-    ensures { (used : List ℕ) → AreOnceBelow limit used → Marks limit seen.old used → MatchBool result
+    ensures { (used : List ℕ)
+        → AreOnceBelow limit used → Marks limit seen.old used → MatchBool result
         (AreOnceBelow limit (used ++ entry.now.intervals)
         × Marks limit seen.new (used ++ entry.now.intervals))
         (¬ (AreOnceBelow limit (used ++ entry.now.intervals))) }
@@ -158,8 +160,8 @@ pub(crate) fn keeps_chain(first: bool, low: &[u8], top: u32, index_area: Option<
     }
 }
 
-/// Whether each byte without a name is zero, where `rest` is what comes after the last entry, and `chain`
-/// says whether the record has what only the first of a chain may have.
+/// Whether each byte without a name is zero, where `rest` is what comes after the last entry, and
+/// `chain` says whether the record has what only the first of a chain may have.
 pub(crate) fn has_zeros(block: &[u8], rest: &[u8], chain: bool) -> bool
     requires size { 32 ≤ length block.now }
     requires rest { rest.now ≡ drop (length (spelling (record_in block.now))) block.now }

@@ -2,9 +2,10 @@
 //! roster of an entry-sequenced or relative one. The crate stands on vr_types and takes no memory.
 //!
 //! It promises one spelling, both ways. Each record that keeps the rules has one block of a size,
-//! and each block is that of one record at most. `SeqView::read` and `RosterView::read` take exactly
-//! these blocks, and name the first rule that another block breaks. `SeqWriter` and `write_roster`
-//! leave the one block, whatever the buffer held. What is read is borrowed from the block.
+//! and each block is that of one record at most. `SeqView::read` and `RosterView::read` take
+//! exactly these blocks, and name the first rule that another block breaks. `SeqWriter` and
+//! `write_roster` leave the one block, whatever the buffer held. What is read is borrowed from the
+//! block.
 #![tactic(auto)]
 
 mod checks;

@@ -1,5 +1,8 @@
 -- Quotes that are doubled.
-use Rattle.std.proofs.Common.{◌≡◌, ◌≢◌, ◌↔◌, ◌<◌, ◌≤◌, IsTrue, suc, length, drop, get_or, ap₂, drop-cons, drop_of_length-le, ℕ, Bool, true, false, not, ◌&&◌, ◌==◌, ◌⊎◌, inl, inr, if◌then◌else◌, List, [], ◌∷◌, refl, sym, ap, ◌∙◌, arith}
+use Rattle.std.proofs.Common.{◌≡◌, ◌≢◌, ◌↔◌, ◌<◌, ◌≤◌, IsTrue, suc, length, drop, get_or, ap₂}
+use Rattle.std.proofs.Common.{drop-cons, drop_of_length-le, ℕ, Bool, true, false, not, ◌&&◌, ◌==◌}
+use Rattle.std.proofs.Common.{◌⊎◌, inl, inr, if◌then◌else◌, List, [], ◌∷◌, refl, sym, ap, ◌∙◌}
+use Rattle.std.proofs.Common.{arith}
 use Rattle.std.proofs.lemmas.Bool.{and_parts, cases_Bool}
 use Rattle.std.proofs.lemmas.Bool.Decides.{Decides-eqb, nat_tests}
 use Rattle.vr_text.specs.Literal.{doubled}
@@ -13,7 +16,8 @@ is_doubled_from true (b ∷ bs) = (b == 39) && is_doubled_from false bs
 -- what is left, with one quote for two
 abbrev pub undoubled_from : Bool → List ℕ → List ℕ
 undoubled_from halved [] = []
-undoubled_from false (b ∷ bs) = if b == 39 then undoubled_from true bs else b ∷ undoubled_from false bs
+undoubled_from false (b ∷ bs) =
+    if b == 39 then undoubled_from true bs else b ∷ undoubled_from false bs
 undoubled_from true (b ∷ bs) = b ∷ undoubled_from false bs
 
 -- a quote, or another byte
@@ -35,11 +39,13 @@ is_doubled_from-doubled (b ∷ bytes) =
     ]
 
 -- another byte stays
-doubled-other : (b : ℕ) (bytes : List ℕ) → (b == 39) ≡ false → doubled (b ∷ bytes) ≡ b ∷ doubled bytes
+doubled-other : (b : ℕ) (bytes : List ℕ) → (b == 39) ≡ false
+    → doubled (b ∷ bytes) ≡ b ∷ doubled bytes
 doubled-other b bytes other = rw other refl
 
 -- what passes is doubled
-pub doubled_from : (halved : Bool) (quoted : List ℕ) → is_doubled_from halved quoted ≡ true → (bytes : List ℕ) × ((if halved then 39 ∷ quoted else quoted) ≡ doubled bytes)
+pub doubled_from : (halved : Bool) (quoted : List ℕ) → is_doubled_from halved quoted ≡ true
+    → (bytes : List ℕ) × ((if halved then 39 ∷ quoted else quoted) ≡ doubled bytes)
 doubled_from false [] same = ([], refl)
 doubled_from true [] same = cc
 doubled_from false (b ∷ quoted) same =
@@ -69,10 +75,12 @@ undoubled_from-doubled (b ∷ bytes) =
 
 -- one list of bytes is doubled so
 pub doubled_same : (a b : List ℕ) → doubled a ≡ doubled b → a ≡ b
-doubled_same a b same = sym (undoubled_from-doubled a) ∙ ap (undoubled_from false) same ∙ undoubled_from-doubled b
+doubled_same a b same = sym (undoubled_from-doubled a) ∙ ap (undoubled_from false) same
+    ∙ undoubled_from-doubled b
 
 -- the answer tells whether a text is doubled
-pub IsTrue-is_doubled : (quoted : List ℕ) (r : Bool) → r ≡ is_doubled_from false quoted → IsTrue r ↔ ((bytes : List ℕ) × (quoted ≡ doubled bytes))
+pub IsTrue-is_doubled : (quoted : List ℕ) (r : Bool) → r ≡ is_doubled_from false quoted
+    → IsTrue r ↔ ((bytes : List ℕ) × (quoted ≡ doubled bytes))
 IsTrue-is_doubled quoted true same = (λ holds. doubled_from false quoted (sym same), λ found. refl)
 IsTrue-is_doubled quoted false same = (
   λ holds. cc,
@@ -80,15 +88,21 @@ IsTrue-is_doubled quoted false same = (
 )
 
 -- the first of two quotes, and no second
-pub is_doubled_from-lone : (halved : Bool) (quoted : List ℕ) (i : ℕ) → i < length quoted → halved ≡ true → get_or quoted i 0 ≢ 39 → is_doubled_from halved (drop i quoted) ≡ false
+pub is_doubled_from-lone : (halved : Bool) (quoted : List ℕ) (i : ℕ) → i < length quoted
+    → halved ≡ true → get_or quoted i 0 ≢ 39 → is_doubled_from halved (drop i quoted) ≡ false
 is_doubled_from-lone halved quoted i below first lone =
     let rest = drop-cons quoted i 0 below in
     let other : (get_or quoted i 0 == 39) ≡ false = grind (arith, nat_tests) in
-    ap₂ is_doubled_from first rest ∙ ap (λ test. test && is_doubled_from false (drop (suc i) quoted)) other
+    ap₂ is_doubled_from first rest ∙ ap (λ test. test
+    && is_doubled_from false (drop (suc i) quoted)) other
 
 -- the end
-pub is_doubled_from-end : (halved : Bool) (quoted : List ℕ) (i : ℕ) → length quoted ≤ i → is_doubled_from halved (drop i quoted) ≡ not halved
-is_doubled_from-end halved quoted i within = ap (is_doubled_from halved) (drop_of_length-le quoted within)
+pub is_doubled_from-end : (halved : Bool) (quoted : List ℕ) (i : ℕ) → length quoted ≤ i
+    → is_doubled_from halved (drop i quoted) ≡ not halved
+is_doubled_from-end halved quoted i within =
+    ap (is_doubled_from halved) (drop_of_length-le quoted within)
 
-pub undoubled_from-end : (halved : Bool) (quoted : List ℕ) (i : ℕ) → length quoted ≤ i → undoubled_from halved (drop i quoted) ≡ []
-undoubled_from-end halved quoted i within = ap (undoubled_from halved) (drop_of_length-le quoted within)
+pub undoubled_from-end : (halved : Bool) (quoted : List ℕ) (i : ℕ) → length quoted ≤ i
+    → undoubled_from halved (drop i quoted) ≡ []
+undoubled_from-end halved quoted i within =
+    ap (undoubled_from halved) (drop_of_length-le quoted within)

@@ -24,12 +24,15 @@ hexadecimal_form digits = codes "X'" ++ digits ++ codes "'"
 -- two digits spell each byte, the high one first
 abbrev pub SpellsBytes : List ℕ → List ℕ → Type 0
 SpellsBytes [] [] = ⊤
-SpellsBytes (high ∷ low ∷ digits) (b ∷ bytes) = (digit_value high < 16) × (digit_value low < 16) × (b ≡ 16 * digit_value high + digit_value low) × SpellsBytes digits bytes
+SpellsBytes (high ∷ low ∷ digits) (b ∷ bytes) =
+    (digit_value high < 16) × (digit_value low < 16)
+    × (b ≡ 16 * digit_value high + digit_value low) × SpellsBytes digits bytes
 SpellsBytes _ _ = ⊥
 
 -- the text is a literal of these bytes
 abbrev pub IsLiteral : List ℕ → List ℕ → Type 0
-IsLiteral text bytes = (text ≡ character_form bytes) ⊎ ((digits : List ℕ) × (text ≡ hexadecimal_form digits) × SpellsBytes digits bytes)
+IsLiteral text bytes = (text ≡ character_form bytes)
+    ⊎ ((digits : List ℕ) × (text ≡ hexadecimal_form digits) × SpellsBytes digits bytes)
 
 -- the text is X'..', and the quote that closes it is the only one after the first
 pub record IsClosed (text digits : List ℕ) : Type 0 where
@@ -44,8 +47,10 @@ pub record IsFirstBadDigit (digits : List ℕ) (at : ℕ) : Type 0 where
 
 -- When each fault comes. The causes exclude one another, and memory runs out only over a literal.
 abbrev pub CauseOf : List ℕ → LiteralFault → Type 0
-CauseOf text Unclosed = ((bytes : List ℕ) → text ≢ character_form bytes) × ((digits : List ℕ) → ¬ IsClosed text digits)
-CauseOf text (Digit at) = (digits : List ℕ) × (i : ℕ) × IsClosed text digits × IsFirstBadDigit digits i × (at ≡ i + 2)
+CauseOf text Unclosed = ((bytes : List ℕ) → text ≢ character_form bytes)
+    × ((digits : List ℕ) → ¬ IsClosed text digits)
+CauseOf text (Digit at) = (digits : List ℕ) × (i : ℕ) × IsClosed text digits
+    × IsFirstBadDigit digits i × (at ≡ i + 2)
 CauseOf text Memory = (bytes : List ℕ) × IsLiteral text bytes
 
 -- X'20' to X'7E'
@@ -58,4 +63,5 @@ digit_pair b = digit_glyph true (b / 16) ∷ digit_glyph true (b % 16) ∷ []
 
 -- the one spelling that is written: characters where all can be printed, else hexadecimals
 abbrev pub literal_of : List ℕ → List ℕ
-literal_of bytes = if list_all is_printable bytes then character_form bytes else hexadecimal_form (flat_map digit_pair bytes)
+literal_of bytes = if list_all is_printable bytes then character_form bytes else hexadecimal_form
+    (flat_map digit_pair bytes)

@@ -13,5 +13,6 @@ CauseInCharacters quoted Memory = (bytes : List ℕ) × (quoted ≡ doubled byte
 
 abbrev pub CauseInDigits : List ℕ → LiteralFault → Type 0
 CauseInDigits digits Unclosed = Contains digits 39
-CauseInDigits digits (Digit at) = (i : ℕ) × (¬ Contains digits 39) × IsFirstBadDigit digits i × (at ≡ i + 2)
+CauseInDigits digits (Digit at) = (i : ℕ) × (¬ Contains digits 39) × IsFirstBadDigit digits i
+    × (at ≡ i + 2)
 CauseInDigits digits Memory = (bytes : List ℕ) × SpellsBytes digits bytes

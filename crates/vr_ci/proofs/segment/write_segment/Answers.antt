@@ -7,7 +7,8 @@ use Rattle.vr_types.specs.Fields.{with_bytes}
 use Rattle.vr_ci_match.proofs.CallerLemmas.{zeros, length-zeros}
 use Rattle.vr_ci_match.proofs.CallerLemmas.{size_bounds}
 use Rattle.vr_types.proofs.CallerLemmas.{length-with_bytes}
-use Rattle.vr_ci.proofs.WriterLemmas.{length-written, four_placed, segment_block}
+use Rattle.vr_ci.proofs.RunLemmas.{length-written}
+use Rattle.vr_ci.proofs.SegmentLemmas.{four_placed, segment_block}
 use Rattle.vr_ci.proofs.segment.write_segment.Goals as goal
 
 pub returns-clause-ok : goal.returns-clause-ok

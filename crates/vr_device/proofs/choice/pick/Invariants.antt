@@ -7,5 +7,6 @@ use Rattle.vr_device.proofs.choice.pick.Given as goal
 abbrev pub invariant-loop-n : goal.invariant-loop-n
 invariant-loop-n l = record {
   long : length l.blocks.items ≡ l.n;
-  each : (m : ℕ) → m < l.n → slice_get (contents_from (blocks_of l.stable) (events_of l.since) m) (slice_index l.choice m) ≡ Some (block_at (blocks_of l.blocks.items) m);
+  each : (m : ℕ) → m < l.n → slice_get (contents_from (blocks_of l.stable) (events_of l.since) m)
+      (slice_index l.choice m) ≡ Some (block_at (blocks_of l.blocks.items) m);
 }

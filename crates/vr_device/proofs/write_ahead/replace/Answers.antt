@@ -15,5 +15,10 @@ returns-clause-any_moment g c told =
     let entry = c.mark.new.entry in
     let marked : kept entry ≡ Some (block_at old.cur a.home) = search rules in
     let first : Puts B.tells a.log entry rested (B.seen c.settle.new.blocks) = search rules in
-    replaced B.tells told a.log a.home c.requires.apart (block_at old.cur a.home) a.bytes.now old rested (B.seen c.settle.new.blocks) (B.seen c.settle-2.new.blocks) (B.seen c.settle-3.new.blocks) entry c.clear.new.entry
-    c.requires.log_in c.requires.home_in settled.log_is settled.home_is c.get.follows.holds-at-none.0 marked first (c.in_ok-settle.ensures.ok told) c.settle-2.ensures.after (c.in_ok-settle-2.ensures.ok told) c.clear.ensures.kept c.settle-3.ensures.after
+    replaced B.tells told a.log a.home c.requires.apart
+    (block_at old.cur a.home) a.bytes.now old rested (B.seen c.settle.new.blocks)
+    (B.seen c.settle-2.new.blocks) (B.seen c.settle-3.new.blocks) entry c.clear.new.entry
+    c.requires.log_in c.requires.home_in settled.log_is settled.home_is
+    c.get.follows.holds-at-none.0 marked first
+    (c.in_ok-settle.ensures.ok told) c.settle-2.ensures.after
+    (c.in_ok-settle-2.ensures.ok told) c.clear.ensures.kept c.settle-3.ensures.after

@@ -6,4 +6,5 @@ use Rattle.vr_device.proofs.write_ahead.replace_all.Given as goal
 abbrev pub invariant-loop-content : goal.invariant-loop-content
 invariant-loop-content g l =
     let B = g.B.Blocks in
-    AreMade B.tells l.fn.log l.fn.home (blocks_of l.fn.contents) l.content-index (B.seen l.fn.blocks) (B.seen l.blocks) × (B.faults l.blocks ≡ B.faults l.fn.blocks)
+    AreMade B.tells l.fn.log l.fn.home (blocks_of l.fn.contents) l.content-index
+    (B.seen l.fn.blocks) (B.seen l.blocks) × (B.faults l.blocks ≡ B.faults l.fn.blocks)

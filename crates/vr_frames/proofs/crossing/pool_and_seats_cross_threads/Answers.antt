@@ -14,13 +14,23 @@ use Rattle.vr_frames.proofs.crossing.pool_and_seats_cross_threads.Goals as goal
 
 -- a seat may be shared where it may be sent, since what it owns names no thread
 seat_send : (S V : RattleType) → IsSend S → IsSend (SeatOf S V)
-seat_send S V s = record { owned = λ d vs. ((λ vss. (tt, ((λ uss. (tt, tt)), tt))), seat_keyless S s V.coded.code d.table_id d.id d.me); leaving = λ k f vs. tt }
+seat_send S V s =
+    record {
+      owned =
+          λ d vs. (
+            (λ vss. (tt, ((λ uss. (tt, tt)), tt))),
+            seat_keyless S s V.coded.code d.table_id d.id d.me,
+          );
+      leaving = λ k f vs. tt;
+    }
 
 seat_sync : (S V : RattleType) → IsSend S → IsSync (SeatOf S V)
-seat_sync S V s = record { shared = λ d b o κ q. part_keyless (SeatOf S V) (seat_send S V s) q d b o }
+seat_sync S V s =
+    record { shared = λ d b o κ q. part_keyless (SeatOf S V) (seat_send S V s) q d b o }
 
 place_sync : IsSync (SeatOf (OptionOf (VecOf u8 GlobalRow ghosts)) ViewRow)
-place_sync = seat_sync (OptionOf (VecOf u8 GlobalRow ghosts)) ViewRow (search (sendable, Vec-send) depth 20)
+place_sync = seat_sync (OptionOf (VecOf u8 GlobalRow ghosts)) ViewRow
+    (search (sendable, Vec-send) depth 20)
 
 frame_seat_sync : IsSync FrameSeatRow
 frame_seat_sync = search (sendable, place_sync) depth 20

@@ -1,8 +1,8 @@
 use Rattle.std.proofs.Common.{List, [], All, subst, sym}
 use Rattle.vr_types.specs.declared.bound.Bound.{Bound}
 use Rattle.vr_deck.specs.Bound.{bound_requests}
-use Rattle.vr_job.specs.History.{ArePrefixes}
-use Rattle.vr_job.specs.declared.entry.Entry.{Entry}
+use Rattle.vr_job.specs.Parts.{ArePrefixes}
+use Rattle.vr_history.specs.declared.entry.Entry.{Entry}
 use Rattle.vr_job.specs.Run.{IsHere}
 use Rattle.vr_job.proofs.Histories.{of_deck-nil, parts_are_prefixes}
 use Rattle.vr_job.proofs.Severities.{all_here}

@@ -1,8 +1,14 @@
 use Rattle.std.proofs.Common.{inl, refl, arith, subst}
 use Rattle.vr_job.specs.declared.input.InputFault.{InputFault}
 use Rattle.vr_job.specs.Input.{CauseOf}
-use Rattle.vr_job.proofs.Completes.{keeps_nothing, early_end}
+use Rattle.vr_job.proofs.Completes.{early_end, keeps_nothing, run_end}
 use Rattle.vr_job.proofs.job.run_input.Goals as goal
+
+pub returns-in-Ok : goal.returns-in-Ok
+returns-in-Ok g c =
+    let run = c.run_text.ensures in
+    run_end _ _ _ _ _ c.in-Ok.text.items c.run_text.result.trace c.in-Ok.ensures.text run.run
+    run.requests run.ending run.history run.code run.whole run.status c.in-Ok.ensures.steady
 
 pub returns-in-Err-Read : goal.returns-in-Err-Read
 returns-in-Err-Read g c =

@@ -8,6 +8,6 @@ returns-in-Ok c =
     inr (record {
       kept = run.kept.0 ∙ ap (λ (job : JobText). Some job) c.in-Ok.ensures;
       no_fault = run.kept.1;
-      legal = run.legal;
+      history = run.history;
       part = run.part;
     })

@@ -1,10 +1,10 @@
 use Rattle.std.proofs.Common.{◌≡◌, ℕ, ◌+◌, List, ◌∷◌, [], ◌++◌, ap, ◌∙◌, subst}
 use Rattle.vr_types.specs.declared.request.Request.{Request}
-use Rattle.vr_job.specs.declared.entry.Entry.{Entry}
-use Rattle.vr_job.specs.declared.entry.What.TheVariants.{Asked}
-use Rattle.vr_job.specs.History.{last_stamp}
-use Rattle.vr_job.specs.Step.{slot_of}
-use Rattle.vr_job.specs.Run.{next_number, files_begun, files_ended}
+use Rattle.vr_history.specs.declared.entry.Entry.{Entry}
+use Rattle.vr_history.specs.declared.entry.What.TheVariants.{Asked}
+use Rattle.vr_history.specs.Merged.{last_stamp}
+use Rattle.vr_job.specs.Stage.{IsReplyTo}
+use Rattle.vr_job.specs.Run.{next_number, slot_of, files_begun, files_ended}
 use Rattle.vr_job.specs.Serve.{Serves}
 use Rattle.vr_job.proofs.run.run_one.Goals as goal
 
@@ -31,6 +31,7 @@ returns-clause-ok c =
     ≡ files_ended request reply (files_begun (slot_of request) c.args.positions.now.files) in
     let S : Request → Type 0 =
     λ request. Serves request reply c.args.file.now c.answer-reply.new.file in
+    let R : Request → Type 0 = λ request. IsReplyTo request reply in
     record {
       reply = reply;
       entered = c.push.ensures.entries
@@ -38,7 +39,8 @@ returns-clause-ok c =
           ∙ ap (λ last. added c.args.history.now.entries last c.in_ok-request.request) stamp
           ∙ ap (λ request. added c.args.history.now.entries
           (last_stamp 0 c.args.history.now.entries) request) same;
-      served = subst S asked c.answer-reply.ensures;
+      served = subst S asked c.answer-reply.ensures.serves;
+      replied = subst R asked c.answer-reply.ensures.reply;
       counted = c.number_after-next.ensures
           ∙ ap (λ request. next_number request reply c.args.number) asked;
       positioned = subst F asked

@@ -8,7 +8,10 @@ pub returns : goal.returns
 returns c =
     let r : Roster = record { used = c.args.used; part = c.args.part; next = c.args.next } in
     let n = c.to_be_bytes-n.ensures ∙ ap (to_be_bytes w32) c.area_field.ensures in
-    let free : length c.split_at_mut-fields.result.1.now ≡ length c.args.out.now - 16 = omega arith in
-    written_roster c.args.cis (length c.args.out.now) r c.copy_from_slice.new.self c.fill.new.self c.requires
-    (c.copy_from_slice.ensures.after ∙ roster_cells r c.to_be_bytes-u.result c.to_be_bytes-p.result c.to_be_bytes-n.result c.to_be_bytes-u.ensures c.to_be_bytes-p.ensures n)
+    let free : length c.split_at_mut-fields.result.1.now ≡ length c.args.out.now - 16 =
+    omega arith in
+    written_roster c.args.cis (length c.args.out.now) r c.copy_from_slice.new.self c.fill.new.self
+    c.requires
+    (c.copy_from_slice.ensures.after ∙ roster_cells r c.to_be_bytes-u.result c.to_be_bytes-p.result
+    c.to_be_bytes-n.result c.to_be_bytes-u.ensures c.to_be_bytes-p.ensures n)
     (c.fill.ensures.after (λ y e. search rules) ∙ ap (λ (m : ℕ). replicate m 0) free)

@@ -22,9 +22,15 @@ returns-clause-spelled c =
     let s : SequenceSet = begun_by c.args.head.now in
     let n = c.to_be_bytes-n.ensures ∙ ap (to_be_bytes w32) c.area_field.ensures in
     let x = c.to_be_bytes-x.ensures ∙ ap (to_be_bytes w32) c.area_field-2.ensures in
-    let free : length c.split_at_mut-low.result.1.now ≡ length c.args.out.now - (32 + length c.args.head.now.low.now) = omega (arith, length-spelling_head (begun_by c.args.head.now) refl) in
-    head_put (length c.args.out.now) s c.copy_from_slice.new.self c.copy_from_slice-2.new.self c.fill.new.self refl
+    let free : length c.split_at_mut-low.result.1.now ≡ length c.args.out.now -
+    (32 + length c.args.head.now.low.now) =
+    omega (arith, length-spelling_head (begun_by c.args.head.now) refl) in
+    head_put (length c.args.out.now) s c.copy_from_slice.new.self c.copy_from_slice-2.new.self
+    c.fill.new.self refl
     (c.copy_from_slice.ensures.after
-    ∙ head_cells s c.flag_of-flag.result c.to_be_bytes-k.result c.to_be_bytes-p.result c.to_be_bytes-n.result c.to_be_bytes-t.result c.to_be_bytes-x.result refl c.flag_of-flag.ensures c.to_be_bytes-k.ensures c.to_be_bytes-p.ensures n c.to_be_bytes-t.ensures x)
+    ∙ head_cells s c.flag_of-flag.result c.to_be_bytes-k.result c.to_be_bytes-p.result
+    c.to_be_bytes-n.result c.to_be_bytes-t.result c.to_be_bytes-x.result refl
+    c.flag_of-flag.ensures c.to_be_bytes-k.ensures c.to_be_bytes-p.ensures n
+    c.to_be_bytes-t.ensures x)
     c.copy_from_slice-2.ensures.after
     (c.fill.ensures.after (λ y e. search rules) ∙ ap (λ (m : ℕ). replicate m 0) free)

@@ -8,4 +8,5 @@ loop-at-preserved c =
     let within : 2 * c.loop-at.at + 1 < length c.args.digits.now = omega arith in
     subst (SpellsBytes _) (sym c.in_ok-push.ensures.ok)
     (SpellsBytes-pair c.args.digits.now c.loop-at.bytes c.loop-at.at _ within c.loop-at.invariant
-    (c.requires.valid _ (omega arith)) (c.requires.valid _ within) (omega (arith, c.value_of.ensures, c.value_of-in-loop-at.ensures)))
+    (c.requires.valid _ (omega arith)) (c.requires.valid _ within)
+    (omega (arith, c.value_of.ensures, c.value_of-in-loop-at.ensures)))

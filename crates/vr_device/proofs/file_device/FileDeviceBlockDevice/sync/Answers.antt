@@ -8,4 +8,5 @@ returns-then-self-clause-after g c =
     let F = g.F.BlockFile in
     let file = c.args.self.now.file in
     subst (λ now. Keeps F.tells (F.seen file) (F.seen now)) (sym c.fail.ensures.file)
-    (keeps-none F.tells (F.seen file) (λ told image left. g.met.F.BlockFile.images_may file image told left))
+    (keeps-none F.tells (F.seen file) (λ told image left. g.met.F.BlockFile.images_may file image
+    told left))

@@ -1,0 +1,17 @@
+pub mod Heads
+pub mod Images
+pub mod Leaving
+pub mod Codec
+pub mod Putting
+pub mod Turning
+pub mod Filling
+pub mod Adding
+pub mod Lives
+pub mod Entering
+pub mod Growing
+pub mod Forcing
+pub mod Listing
+pub mod Passing
+pub mod Ahead
+pub mod Restarting
+pub mod Unique

@@ -1,0 +1,11 @@
+pub mod Records
+pub mod Live
+pub mod LogBlock
+pub mod Spells
+pub mod Content
+pub mod Kept
+pub mod LogNow
+pub mod Standing
+pub mod LiveUnits
+pub mod Memory
+pub mod Writing

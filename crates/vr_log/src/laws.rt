@@ -1,0 +1,99 @@
+//! Laws of a log, each the contract of a function that does nothing, and a block that is replaced
+//! under a log record.
+ghost use Rattle.std.specs.Prelude.{◌≡◌, ◌<◌, ◌≤◌, ◌+◌, ◌^◌, [], length, ℕ, List, IsTrue, false};
+ghost use Rattle.std.specs.Prelude.{OnOk};
+ghost use Rattle.vr_types.specs.Faults.{HasWriteCause};
+ghost use Rattle.vr_types.specs.Image.{Image, block_at};
+ghost use Rattle.vr_types.specs.Moments.{Guards};
+ghost use Rattle.vr_types.specs.Regions.{Outside};
+ghost use Rattle.vr_types.specs.Seen.{Left, Only};
+ghost use Rattle.vr_log.specs.Live.{live_in, EndsLive};
+ghost use Rattle.vr_log.specs.LogNow.{HasLog, IsForced, IsLogged, IsOf, restarted};
+ghost use Rattle.vr_log.specs.Records.{HasLengths, SpellsRecords};
+ghost use Rattle.vr_log.specs.declared.record.LogRecord.{LogRecord as RecordOf};
+ghost use Rattle.vr_log.specs.Content.{Content};
+ghost use Rattle.vr_log.specs.Spells.{Spells};
+ghost use Rattle.vr_types.specs.declared.geometry.Geometry.{Geometry as GeometryOf};
+ghost use Rattle.vr_log.specs.Standing.{InLog, LogStands};
+
+use crate::log::UndoLog;
+use crate::no::LogNo;
+use crate::record::LogRecord;
+use vr_types::{Blocks, DeviceFault};
+
+/// Bytes spell one list of records at most.
+pub fn one_list_of_records()
+    ensures { (bytes : List ℕ) (one other : List RecordOf) → SpellsRecords bytes one
+        → SpellsRecords bytes other → one ≡ other }
+{}
+
+/// Blocks spell one log at most.
+pub fn one_log_at_most()
+    ensures { (geometry : GeometryOf) (image : Image) (one other : Content)
+        → 8 ≤ length (block_at image 1) → Spells geometry image one → Spells geometry image other
+        → one ≡ other }
+{}
+
+/// Each image that a crash may leave of a log that stands on its blocks has the records that were
+/// forced and a prefix of
+/// all, or the log before while no block of this one was forced.
+pub fn each_image_has_the_log<B: Blocks>(log: &UndoLog, blocks: &B)
+    ensures { IsTrue B.tells → LogStands log.now (B.seen blocks.now)
+        → (image : Image) → Left (B.seen blocks.now) image → HasLog log.now image }
+{}
+
+/// A log with records that stands on its blocks, all of them forced and no unit live, stands after
+/// `restart` too: what each
+/// image then has is the log before. The generation is below its greatest value, at which it stands
+/// still.
+pub fn restarted_log_stands<B: Blocks>(log: &UndoLog, blocks: &B)
+    ensures { IsTrue B.tells → LogStands log.now (B.seen blocks.now) → IsForced log.now
+        → live_in log.now.records ≡ [] → 0 < length log.now.records
+        → log.now.generation + 1 < 2 ^ 64 → LogStands (restarted log.now) (B.seen blocks.now) }
+{}
+
+/// A log stays standing while a block outside it is put, whether that fails or not.
+pub fn log_stands_while_others_put<B: Blocks>(
+    log: &UndoLog,
+    blocks: &mut B,
+    home: u32,
+    bytes: &[u8],
+) -> Result<(), DeviceFault>
+    requires home { home < (B.seen blocks.old).count }
+    requires outside { Outside (InLog log.now.geometry) home }
+    requires whole { length bytes.now ≡ (B.seen blocks.old).size }
+    requires stands { IsTrue B.tells → LogStands log.now (B.seen blocks.old) }
+    ensures stands { IsTrue B.tells → LogStands log.now (B.seen blocks.new) }
+{
+    blocks.put(home, bytes)
+}
+
+/// Replaces the content of a block outside the log: it appends the record, forces it, and then puts
+/// the block. In every
+/// image at every moment, and from then on, the block has its old content, or the image's log has
+/// the record.
+pub fn write_ahead<B: Blocks>(
+    log: &mut UndoLog,
+    blocks: &mut B,
+    rec: &LogRecord,
+    home: u32,
+    bytes: &[u8],
+) -> Result<(), LogNo>
+    requires sound { log.old.broken ≡ false }
+    requires shape { IsOf log.old.geometry (B.seen blocks.old) }
+    requires lengths { HasLengths rec.now }
+    requires live { EndsLive (live_in log.old.records) rec.now }
+    requires stands { IsTrue B.tells → LogStands log.old (B.seen blocks.old) }
+    requires home { home < (B.seen blocks.old).count }
+    requires outside { Outside (InLog log.old.geometry) home }
+    requires whole { length bytes.now ≡ (B.seen blocks.old).size }
+    requires settled { IsTrue B.tells → Only (B.seen blocks.old) home (λ block.
+        block ≡ block_at (B.seen blocks.old).cur home) }
+    ensures any_moment { IsTrue B.tells → Guards (B.seen blocks.old) (B.seen blocks.new)
+        (IsLogged log.old rec.now home (block_at (B.seen blocks.old).cur home)) }
+{
+    log.append(blocks, rec)?;
+    log.force(blocks)?;
+    blocks.put(home, bytes)?;
+    Ok(())
+}

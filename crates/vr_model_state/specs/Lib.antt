@@ -1,0 +1,3 @@
+pub mod Items
+pub mod OpenedFiles
+pub mod Seen

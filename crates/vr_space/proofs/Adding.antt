@@ -1,0 +1,266 @@
+-- What calls of a part add to what its places may hold, one after another, and what a force leaves.
+use Rattle.std.proofs.Common.{◌≡◌, ◌⊎◌, inl, inr, ⊎_elim, ◌<◌, ℕ, Bool, IsTrue, true, false, List}
+use Rattle.std.proofs.Common.{[], Option, Some, None, refl, sym, ap, ◌∙◌, arith}
+use Rattle.std.specs.Prelude.{IfSome}
+use Rattle.vr_types.specs.Content.{Content, record_at}
+use Rattle.vr_types.specs.Image.{Block, Image, block_at}
+use Rattle.vr_types.specs.Seen.{Seen, Left}
+use Rattle.vr_types.specs.Blocks.{Keeps, Forced}
+use Rattle.vr_types.specs.Regions.{IsImageOn}
+use Rattle.vr_types.proofs.CallerLemmas.{touches-then, touches-weaken, keeps-touches}
+use Rattle.vr_types.specs.declared.unit.StageKind.{StageKind}
+use Rattle.vr_space.specs.declared.room.Room.{Room}
+use Rattle.vr_space.specs.declared.room.Room.TheVariants.{Ready}
+use Rattle.vr_space.specs.Way.{MayOnceForced}
+use Rattle.vr_space.specs.Room.{Lengths}
+use Rattle.vr_space.specs.Split.{SplitNow, keyed_stage, keyed_fits, room_after, room_by}
+use Rattle.vr_space.specs.Split.{room_by_split, free_interval}
+use Rattle.vr_space.specs.Keyed.{entries_of, keyed_way}
+use Rattle.vr_space.specs.Part.{Shape, KeyedShape, InPart, StandsFor, Stands, HasOnly, MayHold}
+use Rattle.vr_space.specs.Part.{MayAlsoHold, Nothing, AddsTo, IsSound, IsAtRest, HasKeptRoom}
+use Rattle.vr_space.specs.Part.{way_to, item_of, SameRecords, SetsOne, IsDueTo, DueMore, IsFirm}
+use Rattle.vr_space.specs.Part.{room_of, stage_of, fits_at}
+use Rattle.vr_space.proofs.Ways.{find-more, within-less}
+use Rattle.vr_space.proofs.KeyedContent.{way-content}
+use Rattle.vr_space.proofs.KeyedSound.{keyed-within, keyed-image, keyed-less, each-less, head-in}
+use Rattle.vr_space.proofs.KeyedSound.{head-ascends, IsBlock}
+
+-- ---- one after another
+
+pub only-weaken : (shape : Shape) (O P : List ℕ → Option (List ℕ) → Type 0)
+    → ((place : List ℕ) (item : Option (List ℕ)) → O place item → P place item)
+    → (image : Image) → HasOnly shape O image → HasOnly shape P image
+only-weaken shape O P wider image has = record {
+  content = has.content;
+  stands = has.stands;
+  each = λ place. wider place (record_at has.content place) (has.each place);
+}
+
+-- what is allowed may be allowed more widely
+pub adds-weaken : (shape : Shape) (A C : List ℕ → Option (List ℕ) → Type 0) (a b : Seen)
+    → AddsTo shape A a b
+    → ((place : List ℕ) (item : Option (List ℕ)) → A place item → C place item) → AddsTo shape C a b
+adds-weaken shape A C a b call wider =
+    let over : (place : List ℕ) (item : Option (List ℕ)) → MayAlsoHold shape a.may A place item
+    → MayAlsoHold shape a.may C place item =
+    λ place item. ⊎_elim (λ old. inl old) (λ new. inr (wider place item new)) in
+    record {
+      touches = touches-weaken (InPart shape) _ _ a b call.touches
+          (only-weaken shape (MayAlsoHold shape a.may A) (MayAlsoHold shape a.may C) over);
+      rest = λ place item holds. over place item (call.rest place item holds);
+      sound = call.sound;
+    }
+
+-- two calls add what each allows
+pub adds-then : (shape : Shape) (A C : List ℕ → Option (List ℕ) → Type 0) (a b c : Seen)
+    → AddsTo shape A a b → AddsTo shape C b c
+    → AddsTo shape (λ place item. A place item ⊎ C place item) a c
+adds-then shape A C a b c first second =
+    let both : List ℕ → Option (List ℕ) → Type 0 = λ place item. A place item ⊎ C place item in
+    let early : (place : List ℕ) (item : Option (List ℕ)) → MayAlsoHold shape a.may A place item
+    → MayAlsoHold shape a.may both place item =
+    λ place item. ⊎_elim (λ old. inl old) (λ new. inr (inl new)) in
+    let late : (place : List ℕ) (item : Option (List ℕ)) → MayAlsoHold shape b.may C place item
+    → MayAlsoHold shape a.may both place item =
+    λ place item. ⊎_elim (λ old. early place item (first.rest place item old))
+    (λ new. inr (inr new)) in
+    record {
+      touches = touches-then (InPart shape) _ a b c
+          (touches-weaken (InPart shape) _ _ a b first.touches
+          (only-weaken shape (MayAlsoHold shape a.may A) (MayAlsoHold shape a.may both) early))
+          (touches-weaken (InPart shape) _ _ b c second.touches
+          (only-weaken shape (MayAlsoHold shape b.may C) (MayAlsoHold shape a.may both) late));
+      rest = λ place item holds. late place item (second.rest place item holds);
+      sound = second.sound;
+    }
+
+-- a call that adds nothing, and then another
+pub nothing-then : (shape : Shape) (A : List ℕ → Option (List ℕ) → Type 0) (a b c : Seen)
+    → AddsTo shape Nothing a b → AddsTo shape A b c → AddsTo shape A a c
+nothing-then shape A a b c first second =
+    adds-weaken shape _ A a c (adds-then shape Nothing A a b c first second)
+    (λ place item. ⊎_elim (λ none. absurd none) (λ new. new))
+
+-- and the other way round
+pub then-nothing : (shape : Shape) (A : List ℕ → Option (List ℕ) → Type 0) (a b c : Seen)
+    → AddsTo shape A a b → AddsTo shape Nothing b c → AddsTo shape A a c
+then-nothing shape A a b c first second =
+    adds-weaken shape _ A a c (adds-then shape A Nothing a b c first second)
+    (λ place item. ⊎_elim (λ new. new) (λ none. absurd none))
+
+-- ---- at rest
+
+-- what is at rest is sound
+pub rest-sound : (shape : Shape) (now : Seen) → IsAtRest shape now → IsSound shape now
+rest-sound (KeyedShape part) now rests = rests.sound
+
+-- each image stands for a content, of things that may be held
+pub sound-image : (shape : Shape) (now : Seen) → IsSound shape now → (image : Image)
+    → IsImageOn (InPart shape) now.count now.may image → HasOnly shape (MayHold shape now.may) image
+sound-image (KeyedShape part) now sound image left = keyed-image part now sound image left
+
+-- the current blocks stand for a content
+pub rest-stands : (shape : Shape) (now : Seen) → IsSound shape now → Left now now.cur
+    → Stands shape now.cur
+rest-stands shape now sound left =
+    let has = sound-image shape now sound now.cur (record {
+      each =
+          λ n below is. left.each n below;
+    }) in
+    (has.content, has.stands)
+
+-- a content has at each place the record that is read there
+pub content_item : (shape : Shape) (image : Image) (content : Content)
+    → StandsFor shape image content → (place : List ℕ)
+    → record_at content place ≡ item_of shape image place
+content_item (KeyedShape part) image content stands place =
+    ap (λ (c : Content). record_at c place) stands.records
+    ∙ way-content part image None (entries_of (block_at image part.head)) place
+    (head-ascends part (block_at image part.head) stands.head) refl
+
+-- ---- calls that put nothing
+
+module _ (tells : Bool) (told : IsTrue tells) where
+  fewer : (a b : Seen) → Keeps tells a b → (shape : Shape) (n : ℕ) (block : Block) → (n < a.count)
+      × InPart shape n → b.may n block → a.may n block
+  fewer a b call shape n block is may = call.adds_none told n block is.0 may
+
+  pub sound-keeps : (shape : Shape) (a b : Seen) → Keeps tells a b → IsSound shape a
+      → IsSound shape b
+  sound-keeps (KeyedShape part) a b call sound =
+      keyed-less part a b call.count_same call.size_same (fewer a b call (KeyedShape part)) sound
+
+  pub rest-keeps : (shape : Shape) (a b : Seen) → Keeps tells a b → IsAtRest shape a
+      → IsAtRest shape b
+  rest-keeps (KeyedShape part) a b call rests = record {
+    sound = sound-keeps (KeyedShape part) a b call rests.sound;
+    one_head = λ top may. rests.one_head top
+        (call.adds_none told part.head top (omega (arith, rests.sound.area)) may)
+        ∙ sym (ap (λ (image : Image). block_at image part.head) (call.content told));
+  }
+
+  pub room-keeps : (shape : Shape) (kept : Lengths) (a b : Seen) → Keeps tells a b
+      → IsSound shape a → HasKeptRoom shape kept a → HasKeptRoom shape kept b
+  room-keeps (KeyedShape part) kept a b call sound room =
+      record {
+        each = λ top may.
+            let before : a.may part.head top =
+            call.adds_none told part.head top (omega (arith, sound.area)) may in
+            each-less part a b _ None (entries_of top) (fewer a b call (KeyedShape part)) sound.area
+            (head-in part top (sound.heads top before)) (room.each top before);
+      }
+
+  pub keeps-adds : (shape : Shape) (a b : Seen) → Keeps tells a b → IsSound shape a
+      → AddsTo shape Nothing a b
+  keeps-adds (KeyedShape part) a b call sound = record {
+    touches = keeps-touches tells (InPart (KeyedShape part)) _ a b told call
+        (λ image left. only-weaken (KeyedShape part) (MayHold (KeyedShape part) a.may) _
+        (λ place item held. inl held) image (keyed-image part a sound image left));
+    rest = λ place item holds. inl
+        (find-more (IsBlock part a) b.may a.may item (fewer a b call (KeyedShape part))
+        (keyed_way part place)
+        (within-less (IsBlock part a) b.may a.may (fewer a b call (KeyedShape part))
+        (keyed_way part place) (keyed-within part a sound place)) holds);
+    sound = sound-keeps (KeyedShape part) a b call sound;
+  }
+
+  pub same-keeps : (shape : Shape) (a b : Seen) → Keeps tells a b → SameRecords shape a.cur b.cur
+  same-keeps shape a b call place =
+      ap (λ (image : Image). item_of shape image place) (call.content told)
+
+  -- what had to be forced has to be
+  pub due-keeps : (shape : Shape) (a b : Seen) → Keeps tells a b → IsSound shape a
+      → DueMore shape [] a b
+  due-keeps (KeyedShape part) a b call sound listed place due within item holds =
+      let less : (n : ℕ) (block : Block) → IsBlock part a n → MayOnceForced listed b n block
+      → MayOnceForced listed a n block =
+      λ n block is may. (
+        call.adds_none told n block is.0 may.0,
+        λ there. may.1 there
+            ∙ ap (λ (image : Image). block_at image n) (call.content told),
+      ) in
+      due item (find-more (IsBlock part a) (MayOnceForced listed b) (MayOnceForced listed a) item
+      less (keyed_way part place)
+      (within-less (IsBlock part a) (MayOnceForced listed b) a.may
+      (λ n block is may. call.adds_none told n block is.0 may.0) (keyed_way part place)
+      (keyed-within part a sound place)) holds)
+      ∙ sym (ap (λ (image : Image). item_of (KeyedShape part) image place) (call.content told))
+
+  -- a force of the blocks that something else might stand in
+  pub forced-firm : (shape : Shape) (listed place : List ℕ) (a b : Seen) → Keeps tells a b
+      → Forced listed a.cur b.may → IsSound shape a → IsDueTo shape listed a place
+      → IsFirm shape b place
+  forced-firm (KeyedShape part) listed place a b call forced sound due item holds =
+      let less : (n : ℕ) (block : Block) → IsBlock part a n → b.may n block
+      → MayOnceForced listed a n block =
+      λ n block is may. (call.adds_none told n block is.0 may, λ there. forced n block there may) in
+      due item (find-more (IsBlock part a) b.may (MayOnceForced listed a) item less
+      (keyed_way part place)
+      (within-less (IsBlock part a) b.may a.may (fewer a b call (KeyedShape part))
+      (keyed_way part place) (keyed-within part a sound place)) holds)
+      ∙ ap (λ (image : Image). item_of (KeyedShape part) image place) (sym (call.content told))
+
+-- ---- what has to be forced
+
+-- a place that a crash leaves alone is due to no block
+pub firm-due : (shape : Shape) (listed place : List ℕ) (now : Seen) → IsSound shape now
+    → IsFirm shape now place → IsDueTo shape listed now place
+firm-due (KeyedShape part) listed place now sound firm item holds =
+    firm item (find-more (IsBlock part now) (MayOnceForced listed now) now.may item
+    (λ n block is may. may.0) (keyed_way part place)
+    (within-less (IsBlock part now) (MayOnceForced listed now) now.may (λ n block is may. may.0)
+    (keyed_way part place) (keyed-within part now sound place)) holds)
+
+-- calls after which nothing more, and then others
+pub due-then : (shape : Shape) (put : List ℕ) (a b c : Seen) → DueMore shape [] a b
+    → DueMore shape put b c → DueMore shape put a c
+due-then shape put a b c first second listed place due within =
+    second listed place (first listed place due (λ n there. absurd (omega (arith, there.1)))) within
+
+-- ---- what room says
+
+ready-after : (stage : Option StageKind) (other : Room) → room_after stage other ≡ Ready
+    → (stage ≡ None) × (other ≡ Ready)
+ready-after None other is = (refl, is)
+ready-after (Some stage) other is = absurd cc
+
+ready-by : (fits : Bool) (other : Room) → (other ≡ Ready → ⊥) → room_by fits other ≡ Ready
+    → IsTrue fits
+ready-by true other never is = refl
+ready-by false other never is = absurd (never is)
+
+never-ready : (split : Option SplitNow) (free : Option ℕ) → room_by_split split free ≡ Ready → ⊥
+never-ready (Some split) free is = cc
+never-ready None (Some interval) is = cc
+never-ready None None is = cc
+
+-- a record that room is ready for may be set
+pub ready-can : (shape : Shape) (split : Option SplitNow) (image : Image) (free : ℕ)
+    (kept : Lengths) (place : List ℕ) (n : ℕ) → room_of shape split image free kept place n ≡ Ready
+    → (stage_of shape split image place ≡ None) × IsTrue (fits_at shape image kept place n)
+ready-can (KeyedShape part) split image free kept place n is =
+    let both = ready-after (keyed_stage part split image place) _ is in (
+      both.0,
+      ready-by (keyed_fits part image kept place n) _
+          (never-ready split (free_interval part (block_at image part.head))) both.1,
+    )
+
+-- ---- calls in a row
+
+pub records-then : (shape : Shape) (a b c : Image) → SameRecords shape a b → SameRecords shape b c
+    → SameRecords shape a c
+records-then shape a b c first second place = second place ∙ first place
+
+pub sets-after : (shape : Shape) (at : List ℕ) (item : Option (List ℕ)) (a b c : Image)
+    → SameRecords shape a b → SetsOne shape at item b c → SetsOne shape at item a c
+sets-after shape at item a b c first second =
+    record { here = second.here; others = λ place other. second.others place other ∙ first place }
+
+pub on-still : (shape : Shape) (a b : Seen) → Rattle.vr_space.specs.Part.IsOn shape a
+    → b.count ≡ a.count → b.size ≡ a.size → Rattle.vr_space.specs.Part.IsOn shape b
+on-still (KeyedShape part) a b on count size = (omega (arith, on.0, count), size ∙ on.1)
+
+pub record-length : (shape : Shape) (place bytes : List ℕ)
+    → Rattle.vr_space.specs.Part.IsRecordOf shape place bytes
+    → Rattle.vr_space.specs.Part.IsLengthOf shape (Rattle.std.specs.Prelude.length bytes)
+record-length (KeyedShape part) place bytes is = (is.0.least, is.0.most)

@@ -1,0 +1,14 @@
+-- What the crates above cite: ways, what is sound and at rest, and what calls of a part add.
+pub use Rattle.vr_space.proofs.Ways.{found-may, find-more, within-less, found-same}
+pub use Rattle.vr_space.proofs.Places.{NoneAt, AllAbove, none-record, record-left, record-right}
+pub use Rattle.vr_space.proofs.Places.{record-filter, none-filter, above-filter, none-above}
+pub use Rattle.vr_space.proofs.Places.{in-above, in-most, in-both, in-past, is_past, not_past}
+pub use Rattle.vr_space.proofs.KeyedContent.{AscendFrom, content-above, way-content}
+pub use Rattle.vr_space.proofs.KeyedSound.{head-ascends, AreIn, head-in, entry-in, IsBlock}
+pub use Rattle.vr_space.proofs.KeyedSound.{keyed-within, keyed-image, each-less, keyed-less}
+pub use Rattle.vr_space.proofs.Rising.{stands_content, one_content}
+pub use Rattle.vr_space.proofs.Adding.{only-weaken, adds-weaken, adds-then, nothing-then}
+pub use Rattle.vr_space.proofs.Adding.{then-nothing, rest-sound, sound-image, rest-stands}
+pub use Rattle.vr_space.proofs.Adding.{content_item, sound-keeps, rest-keeps, room-keeps, keeps-adds}
+pub use Rattle.vr_space.proofs.Adding.{same-keeps, due-keeps, forced-firm, firm-due, due-then}
+pub use Rattle.vr_space.proofs.Adding.{ready-can, records-then, sets-after, on-still, record-length}

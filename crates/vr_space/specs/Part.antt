@@ -1,0 +1,216 @@
+-- A part of a volume on its blocks: what they stand for, which items each place may hold in the
+-- images that a crash may leave, and what a call adds to that. The rules are this project's own.
+use Rattle.std.specs.Prelude.{◌≡◌, ◌≢◌, ◌⊎◌, ◌<◌, ◌≤◌, ◌+◌, ℕ, Bool, List, Option, Some, None}
+use Rattle.std.specs.Prelude.{Contains, length}
+use Rattle.vr_types.specs.Content.{Content, record_at}
+use Rattle.vr_types.specs.Image.{Block, Image}
+use Rattle.vr_types.specs.Seen.{Seen}
+use Rattle.vr_types.specs.Regions.{Touches}
+use Rattle.vr_space.specs.Way.{Way, found_on, MayFind, MayOnceForced}
+use Rattle.std.specs.Prelude.{IsTrue, true, false, IfSome}
+use Rattle.std.specs.Borrow.{Bor}
+use Rattle.std.specs.declared.cmp.Ordering.TheVariants.{Less}
+use Rattle.vr_types.specs.Content.{place_cmp}
+use Rattle.vr_types.specs.declared.unit.PartNo.{PartNo}
+use Rattle.vr_types.specs.declared.unit.StageKind.{StageKind}
+use Rattle.vr_types.specs.declared.unit.StageKind.TheVariants.{CaClaim, Post}
+use Rattle.vr_types.specs.Space.{least_free}
+use Rattle.std.specs.Prelude.{slice_set}
+use Rattle.vr_space.specs.declared.whence.Whence.{Whence}
+use Rattle.vr_space.specs.declared.room.Room.{Room}
+use Rattle.vr_space.specs.declared.room.Room.TheVariants.{Stage}
+use Rattle.vr_space.specs.Whence.{allows}
+use Rattle.vr_space.specs.Room.{Lengths, length_at}
+use Rattle.vr_space.specs.Split.{SplitNow, keyed_room, keyed_stage, keyed_fits}
+use Rattle.vr_space.specs.Keyed.{Keyed, keyed_way, KeyedStandsFor, IsKeyedSound, IsKeyedAtRest}
+use Rattle.vr_space.specs.Keyed.{KeepsRoom, IsValid, key_of}
+
+-- Where a part is on its blocks and how they are spelled, by its kind.
+pub data Shape : Type 0 where
+  KeyedShape : Keyed → Shape
+
+-- its number
+abbrev pub part_no : Shape → PartNo
+part_no (KeyedShape part) = record { 0 = part.part }
+
+-- the blocks that it is on are there, with their size
+abbrev pub IsOn : Shape → Seen → Type 0
+IsOn (KeyedShape part) now = (part.head + part.area < now.count) × (now.size ≡ part.size)
+
+-- how long its places are at most
+abbrev pub place_length : Shape → ℕ
+place_length (KeyedShape part) = part.key
+
+-- a length that a record of the part may have
+abbrev pub IsLengthOf : Shape → ℕ → Type 0
+IsLengthOf (KeyedShape part) n = (part.offset + part.key ≤ n) × (n ≤ part.most)
+
+-- the blocks of its areas
+abbrev pub InPart : Shape → ℕ → Type 0
+InPart (KeyedShape part) n = (part.head ≤ n) × (n ≤ part.head + part.area)
+
+-- a place that a record of the part may have
+abbrev pub IsPlaceOf : Shape → List ℕ → Type 0
+IsPlaceOf (KeyedShape part) place = length place ≡ part.key
+
+-- a record that may stand at the place
+abbrev pub IsRecordOf : Shape → List ℕ → List ℕ → Type 0
+IsRecordOf (KeyedShape part) place bytes = IsValid part bytes × (key_of part bytes ≡ place)
+
+-- the blocks of the image stand for the content
+abbrev pub StandsFor : Shape → Image → Content → Type 0
+StandsFor (KeyedShape part) image content = KeyedStandsFor part image content
+
+-- they stand for some content
+abbrev pub Stands : Shape → Image → Type 0
+Stands shape image = (content : Content) × StandsFor shape image content
+
+-- how a reader gets to a place
+abbrev pub way_to : Shape → List ℕ → Way
+way_to (KeyedShape part) place = keyed_way part place
+
+-- every content that a crash may leave of a block is in order
+abbrev pub IsSound : Shape → Seen → Type 0
+IsSound (KeyedShape part) now = IsKeyedSound part now
+
+-- and blocks that say where others are have one content
+abbrev pub IsAtRest : Shape → Seen → Type 0
+IsAtRest (KeyedShape part) now = IsKeyedAtRest part now
+
+-- whatever a crash leaves of an interval, what is kept for its places has room beside it
+abbrev pub HasKeptRoom : Shape → Lengths → Seen → Type 0
+HasKeptRoom (KeyedShape part) kept now = KeepsRoom part kept now
+
+-- the record that is read at a place
+abbrev pub item_of : Shape → Image → List ℕ → Option (List ℕ)
+item_of shape image place = found_on image (way_to shape place)
+
+-- A crash may leave this record, or none, at this place.
+abbrev pub MayHold : Shape → (ℕ → Block → Type 0) → List ℕ → Option (List ℕ) → Type 0
+MayHold shape may place item = MayFind may item (way_to shape place)
+
+-- which records, or none, a call adds to what places may hold
+abbrev pub Nothing : List ℕ → Option (List ℕ) → Type 0
+Nothing place item = ⊥
+
+-- one at one place
+abbrev pub Just : List ℕ → Option (List ℕ) → List ℕ → Option (List ℕ) → Type 0
+Just at new place item = (place ≡ at) × (item ≡ new)
+
+-- what might be held before, and also what A allows
+abbrev pub MayAlsoHold : Shape → (ℕ → Block → Type 0) → (List ℕ → Option (List ℕ) → Type 0)
+    → List ℕ → Option (List ℕ) → Type 0
+MayAlsoHold shape may A place item = MayHold shape may place item ⊎ A place item
+
+-- The image stands for some content, and each place of it has what O allows.
+pub record HasOnly (shape : Shape) (O : List ℕ → Option (List ℕ)
+    → Type 0) (image : Image) : Type 0 where
+  pub content : Content
+  pub stands : StandsFor shape image content
+  pub each : (place : List ℕ) → O place (record_at content place)
+
+-- Calls that put into the part's blocks alone made `new` of `old`, and added at most what A allows
+-- to what its places may hold: in each image of each of their moments, whether they failed or not,
+-- and from then on.
+pub record AddsTo (shape : Shape) (A : List ℕ → Option (List ℕ)
+    → Type 0) (old new : Seen) : Type 0 where
+  pub touches : Touches (InPart shape) (HasOnly shape (MayAlsoHold shape old.may A)) old new
+  pub rest : (place : List ℕ) (item : Option (List ℕ)) → MayHold shape new.may place item
+      → MayAlsoHold shape old.may A place item
+  pub sound : IsSound shape new
+
+-- each place has the record that it had
+abbrev pub SameRecords : Shape → Image → Image → Type 0
+SameRecords shape old new = (place : List ℕ) → item_of shape new place ≡ item_of shape old place
+
+-- this place has this record, or none, and each other what it had
+pub record SetsOne (shape : Shape) (at : List ℕ) (item : Option (List ℕ)) (old new : Image) : Type 0
+  where
+    pub here : item_of shape new at ≡ item
+    pub others : (place : List ℕ) → place ≢ at → item_of shape new place ≡ item_of shape old place
+
+-- Once the listed blocks are forced, a crash leaves the current record alone at the place.
+abbrev pub IsDueTo : Shape → List ℕ → Seen → List ℕ → Type 0
+IsDueTo shape listed now place =
+    (item : Option (List ℕ)) → MayFind (MayOnceForced listed now) item (way_to shape place)
+    → item ≡ item_of shape now.cur place
+
+-- What has to be forced for a place is what had to be, and these blocks.
+abbrev pub DueMore : Shape → List ℕ → Seen → Seen → Type 0
+DueMore shape put old new = (listed : List ℕ) (place : List ℕ) → IsDueTo shape listed old place
+    → ((n : ℕ) → Contains put n → Contains listed n) → IsDueTo shape listed new place
+
+-- A crash leaves the current record alone at the place.
+abbrev pub IsFirm : Shape → Seen → List ℕ → Type 0
+IsFirm shape now place = (item : Option (List ℕ)) → MayHold shape now.may place item
+    → item ≡ item_of shape now.cur place
+
+-- ---- what calls answer
+
+-- what stands in the way of a record of this length at this place, with so many free areas and with
+-- this kept
+abbrev pub room_of : Shape → Option SplitNow → Image → ℕ → Lengths → List ℕ → ℕ → Room
+room_of (KeyedShape part) split image free kept place n = keyed_room part split image kept place n
+
+-- a record of this length has room beside what stands there and what is kept
+abbrev pub fits_at : Shape → Image → Lengths → List ℕ → ℕ → Bool
+fits_at (KeyedShape part) image kept place n = keyed_fits part image kept place n
+
+-- the stage of a split under way that comes before any change at the place
+abbrev pub stage_of : Shape → Option SplitNow → Image → List ℕ → Option StageKind
+stage_of (KeyedShape part) split image place = keyed_stage part split image place
+
+-- a stage comes before such a record
+abbrev pub IsStageDue : Shape → Option SplitNow → Image → ℕ → Lengths → List ℕ → ℕ → Type 0
+IsStageDue shape split image free kept place n =
+    (kind : StageKind) × (room_of shape split image free kept place n ≡ Stage kind)
+
+-- the part got the least free area
+abbrev pub IsClaimed : PartNo → List (Option PartNo) → List (Option PartNo) → Type 0
+IsClaimed part old new = (area : ℕ) × (least_free old ≡ Some area)
+    × (new ≡ slice_set old area (Some part))
+
+-- what a stage leaves of the owners of areas
+abbrev pub OwnersAfter : PartNo → StageKind → List (Option PartNo) → List (Option PartNo) → Type 0
+OwnersAfter part CaClaim old new = IsClaimed part old new
+OwnersAfter part Post old new = (new ≡ old) ⊎ IsClaimed part old new
+OwnersAfter part stage old new = new ≡ old
+
+abbrev pub given : Option (Bor (List ℕ)) → Option (List ℕ)
+given None = None
+given (Some bytes) = Some bytes.now
+
+-- what is given is a record that may stand at the place, or none
+abbrev pub IsGiven : Shape → List ℕ → Option (Bor (List ℕ)) → Type 0
+IsGiven shape place bytes = IfSome (given bytes) (IsRecordOf shape place)
+
+-- There is room for what is given: it has room at its place, or one at least as long is kept there,
+-- or a record is taken away.
+abbrev pub HasRoomFor : Shape → Image → Lengths → List ℕ → Option (List ℕ) → Type 0
+HasRoomFor shape image kept place None = Unit {0}
+HasRoomFor shape image kept place (Some bytes) =
+    IsTrue (fits_at shape image kept place (length bytes))
+    ⊎ ((n : ℕ) × (length_at kept place ≡ Some n) × (length bytes ≤ n))
+
+-- It may be set: no stage of a split is left at its place, and there is room for it.
+pub record CanSet (shape : Shape) (split : Option SplitNow) (image : Image) (kept : Lengths)
+    (place : List ℕ) (item : Option (List ℕ)) : Type 0 where
+  pub no_stage : stage_of shape split image place ≡ None
+  pub room : HasRoomFor shape image kept place item
+
+-- The place is the least with a record that the search may find.
+pub record IsNextPlace (shape : Shape) (image : Image) (from : Whence) (place : List ℕ) : Type 0
+  where
+    pub allowed : IsTrue (allows from place)
+    pub some : item_of shape image place ≢ None
+    pub least : (other : List ℕ) → IsTrue (allows from other) → place_cmp other place ≡ Less
+        → item_of shape image other ≡ None
+
+-- there is no such place
+abbrev pub HasNoNext : Shape → Image → Whence → Type 0
+HasNoNext shape image from = (place : List ℕ) → IsTrue (allows from place)
+    → item_of shape image place ≡ None
+
+abbrev pub NextIs : Shape → Image → Whence → Bool → List ℕ → Type 0
+NextIs shape image from true place = IsNextPlace shape image from place
+NextIs shape image from false place = HasNoNext shape image from

@@ -1,0 +1,23 @@
+//! What every record part of a volume is, whatever its kind: the traits `Part` and `Kept`, and what
+//! their implementations and callers share. It stands on `vr_types`, `vr_ci` and `vr_seqset`.
+//!
+//! It promises that blocks stand for one content at most, whose places ascend. `set_pair` shows
+//! that the clauses of `Part` suffice for a promise about every image of every moment: two records
+//! are set over any part, with the stages that come before them, and forced.
+#![tactic(auto)]
+
+mod composed;
+mod kept;
+mod laws;
+mod pair;
+mod part;
+mod room;
+mod whence;
+
+pub use composed::{Turn, set_after_stages, take_turn};
+pub use kept::{Kept, NoneKept};
+pub use laws::{content_is_read, one_content};
+pub use pair::{NewRecord, set_pair};
+pub use part::Part;
+pub use room::Room;
+pub use whence::Whence;

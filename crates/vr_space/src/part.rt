@@ -1,0 +1,196 @@
+//! The contract of every part of a volume.
+ghost use Rattle.std.specs.Prelude.{◌≡◌, ◌≤◌, ℕ, List, Option, [], None, Some, IsTrue, length};
+ghost use Rattle.std.specs.Prelude.{IfOk, OnOk, MatchOption, All};
+ghost use Rattle.std.specs.Borrow.{sem};
+ghost use Rattle.std.specs.Io.BufRead.{Rests};
+ghost use Rattle.vr_types.specs.Blocks.{Keeps};
+ghost use Rattle.vr_types.specs.Faults.{HasCause};
+ghost use Rattle.vr_types.specs.Space.{free_count};
+ghost use Rattle.vr_types.specs.declared.unit.StageKind.{StageKind};
+ghost use Rattle.vr_space.specs.declared.room.Room.TheVariants as answers;
+ghost use Rattle.vr_space.specs.Split.{SplitNow};
+ghost use Rattle.vr_space.specs.Part.{
+  Shape,
+  part_no,
+  place_length,
+  item_of,
+  room_of,
+  IsOn,
+  InPart,
+  IsPlaceOf,
+  IsLengthOf,
+  IsGiven,
+  Stands,
+  IsAtRest,
+  HasKeptRoom,
+  IsStageDue,
+  OwnersAfter,
+  CanSet,
+  given,
+  AddsTo,
+  Nothing,
+  Just,
+  SameRecords,
+  SetsOne,
+  DueMore,
+  NextIs,
+};
+
+use crate::kept::Kept;
+use crate::room::Room;
+use crate::whence::Whence;
+use vr_types::{Blocks, DeviceFault, Place, PlaceBuffer, Space, StageKind};
+
+/// Records at ascending places, on blocks. Where the device reports its contents, a clause names the
+/// record at a place, what a crash may leave there, and what a call adds to that. No call takes
+/// memory.
+pub trait Part {
+    /// Where the part is on its blocks, and how they are spelled.
+    ghost shape: { Self → Shape };
+
+    /// The split that is under way.
+    ghost split: { Self → Option SplitNow };
+
+    /// The blocks that the last `set` put.
+    ghost put: { Self → List ℕ };
+
+    /// Lends the record at the place. The blocks come first, since they lend it.
+    fn look<'a, B: Blocks>(
+        blocks: &'a mut B,
+        part: &mut Self,
+        place: &Place,
+    ) -> Result<Option<&'a [u8]>, DeviceFault>
+        requires on { IsOn (shape part.old) (B.seen blocks.old) }
+        requires place { IsPlaceOf (shape part.old) place.now }
+        requires stands { IsTrue B.tells → Stands (shape part.old) (B.seen blocks.old).cur }
+        ensures item { IsTrue B.tells → IfOk result (λ found. MatchOption found
+            (item_of (shape part.old) (B.seen blocks.old).cur place.now ≡ None)
+            (λ s. item_of (shape part.old) (B.seen blocks.old).cur place.now ≡ Some s.now)) }
+        ensures shape { shape part.new ≡ shape part.old }
+        ensures split { split part.new ≡ split part.old }
+        ensures put { put part.new ≡ put part.old }
+        ensures* after { sem 𝓛 (Rests B.row blocks.entry (λ new.
+            Keeps B.tells (B.seen blocks.old) (B.seen new)
+            × HasCause (B.faults blocks.old) (B.faults new) result)) };
+
+    /// Gives the least place with a record that `from` allows; false where there is none.
+    fn next<B: Blocks>(
+        &mut self,
+        blocks: &mut B,
+        from: Whence<'_>,
+        into: &mut PlaceBuffer,
+    ) -> Result<bool, DeviceFault>
+        requires on { IsOn (shape self.old) (B.seen blocks.old) }
+        requires room { place_length (shape self.old) ≤ into.old.room }
+        requires stands { IsTrue B.tells → Stands (shape self.old) (B.seen blocks.old).cur }
+        ensures next { IsTrue B.tells → IfOk result (λ found.
+            NextIs (shape self.old) (B.seen blocks.old).cur from.entry found into.new.place) }
+        ensures room { into.new.room ≡ into.old.room }
+        ensures keeps { Keeps B.tells (B.seen blocks.old) (B.seen blocks.new) }
+        ensures cause { HasCause (B.faults blocks.old) (B.faults blocks.new) result }
+        ensures shape { shape self.new ≡ shape self.old }
+        ensures split { split self.new ≡ split self.old }
+        ensures put { put self.new ≡ put self.old };
+
+    /// Whether a record of this length has room at the place, beside what stands there and what is
+    /// kept.
+    fn room<B: Blocks, K: Kept>(
+        &mut self,
+        blocks: &mut B,
+        space: &Space,
+        kept: &K,
+        place: &Place,
+        length: u32,
+    ) -> Result<Room, DeviceFault>
+        requires on { IsOn (shape self.old) (B.seen blocks.old) }
+        requires place { IsPlaceOf (shape self.old) place.now }
+        requires length { IsLengthOf (shape self.old) length }
+        requires stands { IsTrue B.tells → Stands (shape self.old) (B.seen blocks.old).cur }
+        ensures answer { IsTrue B.tells → IfOk result (λ room. room
+            ≡ room_of (shape self.old) (split self.old) (B.seen blocks.old).cur
+            (free_count space.now) (K.kept kept.now (part_no (shape self.old))) place.now length) }
+        ensures keeps { Keeps B.tells (B.seen blocks.old) (B.seen blocks.new) }
+        ensures cause { HasCause (B.faults blocks.old) (B.faults blocks.new) result }
+        ensures shape { shape self.new ≡ shape self.old }
+        ensures split { split self.new ≡ split self.old }
+        ensures put { put self.new ≡ put self.old };
+
+    /// Does the stage that comes before such a record, and answers it. Each place keeps its record.
+    /// The caller asks `room` again.
+    fn advance<B: Blocks, K: Kept>(
+        &mut self,
+        blocks: &mut B,
+        space: &mut Space,
+        kept: &K,
+        place: &Place,
+        length: u32,
+    ) -> Result<StageKind, DeviceFault>
+        requires on { IsOn (shape self.old) (B.seen blocks.old) }
+        requires place { IsPlaceOf (shape self.old) place.now }
+        requires length { IsLengthOf (shape self.old) length }
+        requires rests { IsTrue B.tells → IsAtRest (shape self.old) (B.seen blocks.old) }
+        requires room { IsTrue B.tells → HasKeptRoom (shape self.old)
+            (K.kept kept.now (part_no (shape self.old))) (B.seen blocks.old) }
+        requires due { IsTrue B.tells → IsStageDue (shape self.old) (split self.old)
+            (B.seen blocks.old).cur (free_count space.old)
+            (K.kept kept.now (part_no (shape self.old))) place.now length }
+        ensures stage { IsTrue B.tells → IfOk result (λ kind. answers.Stage kind
+            ≡ room_of (shape self.old) (split self.old) (B.seen blocks.old).cur
+            (free_count space.old) (K.kept kept.now (part_no (shape self.old))) place.now length) }
+        ensures owners { IfOk result (λ kind.
+            OwnersAfter (part_no (shape self.old)) kind space.old space.new) }
+        // At every moment, whether it fails or not.
+        ensures adds { IsTrue B.tells → AddsTo (shape self.old) Nothing
+            (B.seen blocks.old) (B.seen blocks.new) }
+        ensures same { IsTrue B.tells → SameRecords (shape self.old)
+            (B.seen blocks.old).cur (B.seen blocks.new).cur }
+        ensures due { IsTrue B.tells → OnOk result
+            (DueMore (shape self.old) [] (B.seen blocks.old) (B.seen blocks.new)) }
+        ensures rests { IsTrue B.tells → OnOk result
+            (IsAtRest (shape self.old) (B.seen blocks.new)) }
+        ensures room { IsTrue B.tells → HasKeptRoom (shape self.old)
+            (K.kept kept.now (part_no (shape self.old))) (B.seen blocks.new) }
+        ensures count { (B.seen blocks.new).count ≡ (B.seen blocks.old).count }
+        ensures size { (B.seen blocks.new).size ≡ (B.seen blocks.old).size }
+        ensures cause { HasCause (B.faults blocks.old) (B.faults blocks.new) result }
+        ensures shape { shape self.new ≡ shape self.old };
+
+    /// Makes these bytes the record at the place, or takes the record there away.
+    fn set<B: Blocks, K: Kept>(
+        &mut self,
+        blocks: &mut B,
+        kept: &K,
+        place: &Place,
+        bytes: Option<&[u8]>,
+    ) -> Result<(), DeviceFault>
+        requires on { IsOn (shape self.old) (B.seen blocks.old) }
+        requires place { IsPlaceOf (shape self.old) place.now }
+        requires record { IsGiven (shape self.old) place.now bytes }
+        requires rests { IsTrue B.tells → IsAtRest (shape self.old) (B.seen blocks.old) }
+        requires room { IsTrue B.tells → HasKeptRoom (shape self.old)
+            (K.kept kept.now (part_no (shape self.old))) (B.seen blocks.old) }
+        requires can { IsTrue B.tells → CanSet (shape self.old) (split self.old)
+            (B.seen blocks.old).cur (K.kept kept.now (part_no (shape self.old))) place.now
+            (given bytes) }
+        // At every moment, whether it fails or not.
+        ensures adds { IsTrue B.tells → AddsTo (shape self.old)
+            (Just place.now (given bytes.entry)) (B.seen blocks.old) (B.seen blocks.new) }
+        ensures set { IsTrue B.tells → OnOk result (SetsOne (shape self.old) place.now
+            (given bytes.entry) (B.seen blocks.old).cur (B.seen blocks.new).cur) }
+        ensures due { IsTrue B.tells → OnOk result
+            (DueMore (shape self.old) (put self.new) (B.seen blocks.old) (B.seen blocks.new)) }
+        ensures put { OnOk result (All (InPart (shape self.old)) (put self.new)) }
+        ensures rests { IsTrue B.tells → OnOk result
+            (IsAtRest (shape self.old) (B.seen blocks.new)) }
+        ensures room { IsTrue B.tells → HasKeptRoom (shape self.old)
+            (K.kept kept.now (part_no (shape self.old))) (B.seen blocks.new) }
+        ensures count { (B.seen blocks.new).count ≡ (B.seen blocks.old).count }
+        ensures size { (B.seen blocks.new).size ≡ (B.seen blocks.old).size }
+        ensures cause { HasCause (B.faults blocks.old) (B.faults blocks.new) result }
+        ensures shape { shape self.new ≡ shape self.old }
+        ensures split { split self.new ≡ split self.old };
+
+    /// The blocks that the last `set` put, until the next call that may change the part.
+    fn put_blocks(&self) -> &[u32]
+        ensures { result.now ≡ put self.now };
+}

@@ -1,0 +1,13 @@
+//! What a part answers to a record that wants room.
+use vr_types::StageKind;
+
+/// Whether a record has room at its place.
+#[derive(Clone, Copy, Debug, PartialEq, Eq)]
+pub enum Room {
+    /// It may be set.
+    Ready,
+    /// This stage comes first.
+    Stage(StageKind),
+    /// The place needs more areas than are free.
+    NoSpace { need: u64, free: u32 },
+}

@@ -1,0 +1,13 @@
+//! Where a search for the next place begins.
+use vr_types::Place;
+
+/// Where a search for the next place begins.
+#[derive(Clone, Copy, Debug)]
+pub enum Whence<'a> {
+    /// At the first place.
+    Start,
+    /// At this place or past it.
+    At(&'a Place),
+    /// Past this place.
+    After(&'a Place),
+}

@@ -1,0 +1,291 @@
+-- A put into one block of a keyed part: what it owes, and what it adds to what places may hold.
+use Rattle.std.proofs.Common.{◌≡◌, ◌≢◌, ◌⊎◌, inl, inr, ⊎_elim, ◌<◌, ℕ, Bool, IsTrue, true}
+use Rattle.std.proofs.Common.{false, List, [], ◌∷◌, Option, Some, None, refl, sym, ap, subst, ◌∙◌}
+use Rattle.std.proofs.Common.{arith, true≢false, is_some, length}
+use Rattle.std.specs.Prelude.{cond, unwrap_or}
+use Rattle.std.specs.Ordering.{is_le}
+use Rattle.std.proofs.lemmas.Bool.{cases_lt}
+use Rattle.vr_types.specs.Content.{record_at, place_cmp}
+use Rattle.vr_types.specs.Image.{Block, Image, MayAlso, block_at}
+use Rattle.vr_types.specs.Seen.{Seen, Left}
+use Rattle.vr_types.specs.Blocks.{Puts}
+use Rattle.vr_types.proofs.CallerLemmas.{puts-touches, cur-elsewhere, cur-put}
+use Rattle.vr_seqset.specs.Entry.{Entry}
+use Rattle.vr_space.specs.Way.{found_on, MayFind}
+use Rattle.vr_space.specs.Room.{Range}
+use Rattle.vr_space.specs.Keyed.{Keyed, HoldsRange, EachMayLeave, IsKeyedSound}
+use Rattle.vr_space.specs.Keyed.{IsKeyedAtRest, entries_of, entry_block, records_of, range_of}
+use Rattle.vr_space.specs.Keyed.{entry_for, way_in, way_under, keyed_way}
+use Rattle.vr_space.specs.Part.{KeyedShape, InPart, HasOnly, MayHold, MayAlsoHold, AddsTo}
+use Rattle.vr_space.specs.Part.{Nothing, Just, SameRecords, item_of}
+use Rattle.vr_space.proofs.CallerLemmas.{found-may, find-more, within-less}
+use Rattle.vr_space.proofs.CallerLemmas.{keyed-within, keyed-image, keyed-less, IsBlock}
+use Rattle.vr_space.proofs.CallerLemmas.{only-weaken}
+pub use Rattle.vr_split.specs.Switching.{OfBlock}
+
+-- what is seen, and what a put may leave beside it
+abbrev pub also : Seen → ℕ → Block → Seen
+also a n bytes = record {
+  count = a.count;
+  size = a.size;
+  cur = a.cur;
+  may = MayAlso a.may n bytes;
+  moment = a.moment;
+  images = a.images;
+}
+
+-- A put into a block of the part: it owes that what a crash may leave is in order with the bytes
+-- too, and that A allows what may be held then.
+pub puts-adds : (part : Keyed) (tells : Bool) (A : List ℕ → Option (List ℕ)
+    → Type 0) (n : ℕ) (bytes : Block) (a b : Seen) → IsTrue tells → Puts tells n bytes a b
+    → InPart (KeyedShape part) n → IsKeyedSound part (also a n bytes)
+    → ((place : List ℕ) (item : Option (List ℕ))
+    → MayHold (KeyedShape part) (MayAlso a.may n bytes) place item
+    → MayAlsoHold (KeyedShape part) a.may A place item) → AddsTo (KeyedShape part) A a b
+puts-adds part tells A n bytes a b told call inside sound allowed =
+    let within : (k : ℕ) (block : Block) → IsBlock part (also a n bytes) k → b.may k block
+    → MayAlso a.may n bytes k block = λ k block is may. call.adds told k block is.0 may in
+    record {
+      touches = puts-touches tells (InPart (KeyedShape part))
+          (HasOnly (KeyedShape part) (MayAlsoHold (KeyedShape part) a.may A)) n bytes a b told
+          inside call
+          (λ image left. only-weaken (KeyedShape part)
+          (MayHold (KeyedShape part) (MayAlso a.may n bytes))
+          (MayAlsoHold (KeyedShape part) a.may A) allowed image
+          (keyed-image part (also a n bytes) sound image left));
+      rest = λ place item holds. allowed place item
+          (find-more (IsBlock part (also a n bytes)) b.may (MayAlso a.may n bytes) item within
+          (keyed_way part place)
+          (within-less (IsBlock part (also a n bytes)) b.may (MayAlso a.may n bytes) within
+          (keyed_way part place) (keyed-within part (also a n bytes) sound place)) holds);
+      sound = keyed-less part (also a n bytes) b call.count_same call.size_same within sound;
+    }
+
+-- ---- a put into an interval
+
+pub each-also : (part : Keyed) (a : Seen) (n : ℕ) (bytes : Block) (Q : Range → Block
+    → Type 0) (low : Option (List ℕ)) (entries : List Entry) → EachMayLeave part a low entries Q
+    → OfBlock part n low entries (λ range. Q range bytes)
+    → EachMayLeave part (also a n bytes) low entries Q
+each-also part a n bytes Q low [] left of = tt
+each-also part a n bytes Q low (entry ∷ entries) left of = (
+  λ block. ⊎_elim (λ old. left.0 block old)
+      (λ new. subst (Q (range_of low entry)) (sym new.1) (of.0 new.0)),
+  each-also part a n bytes Q (Some entry.high) entries left.1 of.1,
+)
+
+module _ (part : Keyed) (a : Seen) (n : ℕ) (bytes : Block) where
+  -- the current entries
+  abbrev pub now-entries : List Entry
+  now-entries = entries_of (block_at a.cur part.head)
+
+  pub interval-sound : IsKeyedAtRest part a → n ≢ part.head
+      → OfBlock part n None now-entries (λ range. HoldsRange part range bytes)
+      → IsKeyedSound part (also a n bytes)
+  interval-sound rests other of =
+      let before : (top : Block) → MayAlso a.may n bytes part.head top → a.may part.head top =
+      λ top. ⊎_elim (λ old. old) (λ new. absurd (other (sym new.0))) in
+      record {
+        area = rests.sound.area;
+        size = rests.sound.size;
+        heads = λ top may. rests.sound.heads top (before top may);
+        intervals = λ top may. each-also part a n bytes (HoldsRange part) None (entries_of top)
+            (rests.sound.intervals top (before top may))
+            (subst (λ (head : Block). OfBlock part n None (entries_of head)
+            (λ range. HoldsRange part range bytes)) (sym (rests.one_head top (before top may)))
+            of);
+      }
+
+  -- what may be found in an interval beside what might have been
+  found-also : (place : List ℕ) (item : Option (List ℕ)) (found : Option (Range × Entry))
+      → MayFind (MayAlso a.may n bytes) item (way_in part place found)
+      → MayFind a.may item (way_in part place found)
+      ⊎ ((at : Range × Entry) × (found ≡ Some at) × (entry_block part at.1 ≡ n)
+      × (item ≡ record_at (records_of part bytes) place))
+  found-also place item None is = inl is
+  found-also place item (Some at) is = ⊎_elim
+      (λ old. inl (is.0, old, is.2))
+      (λ new. inr (
+        at,
+        refl,
+        new.0,
+        is.2
+            ∙ ap (λ (block : Block). record_at (records_of part block) place) new.1,
+      ))
+      is.1
+
+  -- what may be held with the bytes: what might have been, or what they have where the entries lead
+  -- there
+  pub interval-hold : IsKeyedAtRest part a → n ≢ part.head
+      → (place : List ℕ) (item : Option (List ℕ))
+      → MayHold (KeyedShape part) (MayAlso a.may n bytes) place item
+      → MayHold (KeyedShape part) a.may place item
+      ⊎ ((at : Range × Entry) × (entry_for None now-entries place ≡ Some at)
+      × (entry_block part at.1 ≡ n) × (item ≡ record_at (records_of part bytes) place))
+  interval-hold rests other place item is =
+      let may : a.may part.head is.0 =
+      ⊎_elim (λ old. old) (λ new. absurd (other (sym new.0))) is.1 in
+      ⊎_elim
+      (λ old. inl (is.0, may, old))
+      (λ new. inr (
+        new.0,
+        sym
+            (ap (λ (head : Block). entry_for None (entries_of head) place) (rests.one_head is.0 may))
+            ∙ new.1,
+        new.2,
+        new.3,
+      ))
+      (found-also place item (entry_for None (entries_of is.0) place) is.2)
+
+  -- where the entries lead to the block, the bytes have the current record
+  abbrev pub KeepsRecords : Type 0
+  KeepsRecords = (place : List ℕ) (at : Range × Entry) → entry_for None now-entries place ≡ Some at
+      → entry_block part at.1 ≡ n
+      → record_at (records_of part bytes) place ≡ item_of (KeyedShape part) a.cur place
+
+  -- or they do at all places but one, which has this
+  abbrev pub KeepsOthers : List ℕ → Option (List ℕ) → Type 0
+  KeepsOthers at new = (place : List ℕ) (found : Range × Entry)
+      → entry_for None now-entries place ≡ Some found → entry_block part found.1 ≡ n
+      → (record_at (records_of part bytes) place ≡ item_of (KeyedShape part) a.cur place)
+      ⊎ ((place ≡ at) × (record_at (records_of part bytes) place ≡ new))
+
+-- ---- how entries lead
+
+no_some : (o : Option (Range × Entry)) (at : Range × Entry) → o ≡ None → o ≡ Some at → ⊥
+no_some o at none some = true≢false (ap is_some (sym some ∙ none))
+
+-- an entry that leads to the block has a range with P
+pub of-found : (part : Keyed) (n : ℕ) (low : Option (List ℕ)) (entries : List Entry) (P : Range
+    → Type 0) (place : List ℕ) (at : Range × Entry) → OfBlock part n low entries P
+    → entry_for low entries place ≡ Some at → entry_block part at.1 ≡ n → P at.0
+of-found part n low [] P place at of is here = absurd (no_some None at refl is)
+of-found part n low (entry ∷ entries) P place at of is here =
+    reached (is_le (place_cmp place entry.high)) is
+    (λ further. of-found part n (Some entry.high) entries P place at of.1 further here)
+  where
+    reached : (b : Bool)
+        → cond b (Some (range_of low entry, entry)) (entry_for (Some entry.high) entries place) ≡
+        Some at → (entry_for (Some entry.high) entries place ≡ Some at → P at.0) → P at.0
+    reached true same more =
+        let found : (let pair : Range × Entry = (range_of low entry, entry) in pair) ≡ at =
+        ap (λ (o : Option (Range × Entry)). unwrap_or o at) same in
+        subst (λ (f : Range × Entry). entry_block part f.1 ≡ n → P f.0) found of.0 here
+    reached false same more = more same
+
+-- ---- what a put into an interval adds
+
+module _ (part : Keyed) (tells : Bool) (told : IsTrue tells) (a b : Seen) (n : ℕ) (bytes : Block)
+  where
+    -- what is read may be held
+    pub current-held : IsKeyedSound part a → Left a a.cur → (place : List ℕ)
+        → MayHold (KeyedShape part) a.may place (item_of (KeyedShape part) a.cur place)
+    current-held sound left place =
+        found-may (IsBlock part a) a.may a.cur (λ k is. left.each k is.0) (keyed_way part place)
+        (keyed-within part a sound place)
+
+    -- an interval is written with the records that it has
+    pub rewrite-adds : IsKeyedAtRest part a → Left a a.cur → Puts tells n bytes a b → n ≢ part.head
+        → InPart (KeyedShape part) n
+        → OfBlock part n None (now-entries part a n bytes) (λ range. HoldsRange part range bytes)
+        → KeepsRecords part a n bytes → AddsTo (KeyedShape part) Nothing a b
+    rewrite-adds rests left call other inside of keeps =
+        puts-adds part tells Nothing n bytes a b told call inside
+        (interval-sound part a n bytes rests other of)
+        (λ place item holds. ⊎_elim
+        (λ old. inl old)
+        (λ new. inl (subst (MayHold (KeyedShape part) a.may place) (sym (new.3
+        ∙ keeps place new.0 new.1 new.2)) (current-held rests.sound left place)))
+        (interval-hold part a n bytes rests other place item holds))
+
+    -- it is written with one record changed
+    pub set-adds : (at : List ℕ) (new : Option (List ℕ)) → IsKeyedAtRest part a → Left a a.cur
+        → Puts tells n bytes a b → n ≢ part.head → InPart (KeyedShape part) n
+        → OfBlock part n None (now-entries part a n bytes) (λ range. HoldsRange part range bytes)
+        → KeepsOthers part a n bytes at new → AddsTo (KeyedShape part) (Just at new) a b
+    set-adds at new rests left call other inside of keeps =
+        puts-adds part tells (Just at new) n bytes a b told call inside
+        (interval-sound part a n bytes rests other of)
+        (λ place item holds. ⊎_elim
+        (λ old. inl old)
+        (λ led. ⊎_elim
+        (λ same. inl (subst (MayHold (KeyedShape part) a.may place) (sym (led.3
+        ∙ same)) (current-held rests.sound left place)))
+        (λ here. inr (here.0, led.3 ∙ here.1))
+        (keeps place led.0 led.1 led.2))
+        (interval-hold part a n bytes rests other place item holds))
+
+    -- no entry leads to the block
+    abbrev pub IsFreeBlock : Type 0
+    IsFreeBlock = OfBlock part n None (now-entries part a n bytes) (λ range. ⊥)
+
+    -- a free interval is written
+    pub free-adds : IsKeyedAtRest part a → Left a a.cur → Puts tells n bytes a b → n ≢ part.head
+        → InPart (KeyedShape part) n → IsFreeBlock → AddsTo (KeyedShape part) Nothing a b
+    free-adds rests left call other inside free =
+        rewrite-adds rests left call other inside (of-none None (now-entries part a n bytes) free)
+        (λ place at is here. absurd
+        (of-found part n None (now-entries part a n bytes) (λ range. ⊥) place at free is here))
+      where
+        of-none : (low : Option (List ℕ)) (entries : List Entry)
+            → OfBlock part n low entries (λ range. ⊥)
+            → OfBlock part n low entries (λ range. HoldsRange part range bytes)
+        of-none low [] free = tt
+        of-none low (entry ∷ entries) free =
+            (λ here. absurd (free.0 here), of-none (Some entry.high) entries free.1)
+
+    -- ---- what is read afterwards
+
+    pub equal_or : (k m : ℕ) → (k ≡ m) ⊎ (k ≢ m)
+    equal_or k m =
+        ⊎_elim (λ less. inr (λ same. omega (arith, less, same)))
+        (λ most. ⊎_elim (λ less. inr (λ same. omega (arith, less, same)))
+        (λ least. inl (omega (arith, most, least))) (cases_lt m k)) (cases_lt k m)
+
+    pub head-still : Puts tells n bytes a b → n ≢ part.head
+        → block_at b.cur part.head ≡ block_at a.cur part.head
+    head-still call other =
+        cur-elsewhere tells a b part.head n bytes told (λ same. other (sym same)) call
+
+    -- by way of the same entries
+    pub still-found : (place : List ℕ) (found : Option (Range × Entry)) → Puts tells n bytes a b
+        → ((at : Range × Entry) → found ≡ Some at → entry_block part at.1 ≡ n
+        → record_at (records_of part (block_at b.cur n)) place ≡ record_at
+        (records_of part (block_at a.cur n)) place)
+        → found_on b.cur (way_in part place found) ≡ found_on a.cur (way_in part place found)
+    still-found place None call here = refl
+    still-found place (Some at) call here = ⊎_elim
+        (λ same. ap (λ (k : ℕ). record_at (records_of part (block_at b.cur k)) place) same
+        ∙ here at refl same
+        ∙ ap (λ (k : ℕ). record_at (records_of part (block_at a.cur k)) place) (sym same))
+        (λ apart. ap (λ (block : Block). record_at (records_of part block) place)
+        (cur-elsewhere tells a b (entry_block part at.1) n bytes told apart call))
+        (equal_or (entry_block part at.1) n)
+
+    -- the block has what it had, or the bytes
+    pub after-put : Puts tells n bytes a b → n < a.count → length a.cur ≡ a.count
+        → (block_at b.cur n ≡ block_at a.cur n) ⊎ (block_at b.cur n ≡ bytes)
+    after-put call below long = ⊎_elim
+        (λ same. inl (ap (λ (image : Image). block_at image n) same))
+        (λ set. inr (cur-put a n bytes below long b.cur set))
+        (call.content told)
+
+    pub led-is : (place : List ℕ) (at : Range × Entry)
+        → entry_for None (now-entries part a n bytes) place ≡ Some at
+        → item_of (KeyedShape part) a.cur place ≡ record_at
+        (records_of part (block_at a.cur (entry_block part at.1))) place
+    led-is place at is =
+        ap (λ (found : Option (Range × Entry)). found_on a.cur (way_in part place found)) is
+
+    -- each place has its record, whether the put failed or not
+    pub rewrite-same : Puts tells n bytes a b → n ≢ part.head → n < a.count → length a.cur ≡ a.count
+        → KeepsRecords part a n bytes → SameRecords (KeyedShape part) a.cur b.cur
+    rewrite-same call other below long keeps place =
+        ap (λ (top : Block). found_on b.cur (way_under part place top)) (head-still call other)
+        ∙ still-found place (entry_for None (now-entries part a n bytes) place) call
+        (λ at is here. ⊎_elim
+        (λ same. ap (λ (block : Block). record_at (records_of part block) place) same)
+        (λ new. ap (λ (block : Block). record_at (records_of part block) place) new
+        ∙ keeps place at is here ∙ led-is place at is
+        ∙ ap (λ (k : ℕ). record_at (records_of part (block_at a.cur k)) place) here)
+        (after-put call below long))
