@@ -1,5 +1,6 @@
 -- Calls one after the other.
-use Rattle.std.proofs.Common.{◌≡◌, ℕ, Bool, false, IsTrue, List, Result, Ok, Err, OnOk, is_err, refl, sym, ap, ◌∙◌, subst, true≢false, [], ◌∷◌, length, arith}
+use Rattle.std.proofs.Common.{◌≡◌, ℕ, Bool, false, IsTrue, List, Result, Ok, Err, OnOk, is_err}
+use Rattle.std.proofs.Common.{refl, sym, ap, ◌∙◌, subst, true≢false, [], ◌∷◌, length, arith}
 use Rattle.vr_types.specs.Image.{Image, block_at}
 use Rattle.vr_types.specs.Seen.{Seen, Left}
 use Rattle.vr_types.specs.Blocks.{Keeps, Forced}
@@ -22,21 +23,36 @@ got_ok (Ok t) P is p = p
 got_ok (Err e) P is p = absurd (true≢false is)
 
 pub seat_none : (frames : Frames) → KeepsSeat frames frames
-seat_none frames = record { pool_same = refl; size_same = refl; same = record { same_table = refl; same_id = refl }; parts = refl; others_same = refl }
+seat_none frames =
+    record {
+      pool_same = refl;
+      size_same = refl;
+      same =
+          record { same_table = refl; same_id = refl };
+      parts = refl;
+      others_same = refl;
+    }
 
 pub seat_then : (a b c : Frames) → KeepsSeat a b → KeepsSeat b c → KeepsSeat a c
 seat_then a b c first second = record {
   pool_same = second.pool_same ∙ first.pool_same;
   size_same = second.size_same ∙ first.size_same;
-  same = record { same_table = second.same.same_table ∙ first.same.same_table; same_id = second.same.same_id ∙ first.same.same_id };
+  same = record {
+    same_table = second.same.same_table ∙ first.same.same_table;
+    same_id =
+        second.same.same_id ∙ first.same.same_id;
+  };
   parts = second.parts ∙ first.parts;
   others_same = second.others_same ∙ first.others_same;
 }
 
-pub still : (tells : Bool) (device : Seen) (held : List Held) → (IsTrue tells → (image : Image) → device.images device.moment image → Left device image) → Keeps tells (over device held) (over device held)
+pub still : (tells : Bool) (device : Seen) (held : List Held)
+    → (IsTrue tells → (image : Image) → device.images device.moment image → Left device image)
+    → Keeps tells (over device held) (over device held)
 still tells device held within = no_call tells device held held within (λ told. refl) (λ n b is. is)
 
-pub kept_after : (tells : Bool) (device after : Seen) (frames : Frames) → Keeps tells device after → IsKept tells device frames → IsKept tells after frames
+pub kept_after : (tells : Bool) (device after : Seen) (frames : Frames) → Keeps tells device after
+    → IsKept tells device frames → IsKept tells after frames
 kept_after tells device after frames call kept = record {
   framed = kept.framed;
   size_is = kept.size_is ∙ sym call.size_same;
@@ -44,25 +60,39 @@ kept_after tells device after frames call kept = record {
 }
 
 -- the blocks held are the same, whichever the size is called
-pub same_held : (device : Seen) (frames : Frames) → frames.size ≡ device.size → held_of device.size (entries_of frames) ≡ held_by frames
+pub same_held : (device : Seen) (frames : Frames) → frames.size ≡ device.size
+    → held_of device.size (entries_of frames) ≡ held_by frames
 same_held device frames is = ap (λ (n : ℕ). held_of n (entries_of frames)) (sym is)
 
-pub keeps_through : (tells : Bool) (d e : Seen) (f h : Frames) → f.size ≡ d.size → h.size ≡ e.size → Keeps tells (over d (held_by f)) (over e (held_by h)) → Keeps tells (seen_through d f) (seen_through e h)
+pub keeps_through : (tells : Bool) (d e : Seen) (f h : Frames) → f.size ≡ d.size → h.size ≡ e.size
+    → Keeps tells (over d (held_by f)) (over e (held_by h))
+    → Keeps tells (seen_through d f) (seen_through e h)
 keeps_through tells d e f h one two call =
     subst (λ (hs : List Held). Keeps tells (over d hs) (seen_through e h)) (sym (same_held d f one))
-    (subst (λ (hs : List Held). Keeps tells (over d (held_by f)) (over e hs)) (sym (same_held e h two)) call)
+    (subst (λ (hs : List Held). Keeps tells (over d (held_by f)) (over e hs))
+    (sym (same_held e h two)) call)
 
-pub forced_through : {T E : Type 0} (r : Result T E) (listed : List ℕ) (d e : Seen) (f h : Frames) → f.size ≡ d.size → h.size ≡ e.size → OnOk r (Forced listed (over d (held_by f)).cur (over e (held_by h)).may) → OnOk r (Forced listed (seen_through d f).cur (seen_through e h).may)
+pub forced_through : {T E : Type 0} (r : Result T E) (listed : List ℕ) (d e : Seen) (f h : Frames)
+    → f.size ≡ d.size → h.size ≡ e.size
+    → OnOk r (Forced listed (over d (held_by f)).cur (over e (held_by h)).may)
+    → OnOk r (Forced listed (seen_through d f).cur (seen_through e h).may)
 forced_through r listed d e f h one two call =
-    subst (λ (hs : List Held). OnOk r (Forced listed (over d hs).cur (seen_through e h).may)) (sym (same_held d f one))
-    (subst (λ (hs : List Held). OnOk r (Forced listed (over d (held_by f)).cur (over e hs).may)) (sym (same_held e h two)) call)
+    subst (λ (hs : List Held). OnOk r (Forced listed (over d hs).cur (seen_through e h).may))
+    (sym (same_held d f one))
+    (subst (λ (hs : List Held). OnOk r (Forced listed (over d (held_by f)).cur (over e hs).may))
+    (sym (same_held e h two)) call)
 
 -- what is read of the first block
-pub first_content : (tells : Bool) (device : Seen) (frames : Frames) (n number : ℕ) (changed : Bool) (buffer : Buffer) (rest : List Entry) → IsKept tells device frames → entries_of frames ≡ (number, Taken n changed buffer) ∷ rest → IsTrue tells → length device.cur ≡ device.count
+pub first_content : (tells : Bool) (device : Seen) (frames : Frames) (n number : ℕ) (changed : Bool)
+    (buffer : Buffer) (rest : List Entry) → IsKept tells device frames
+    → entries_of frames ≡ (number, Taken n changed buffer) ∷ rest → IsTrue tells
+    → length device.cur ≡ device.count
     → block_at (overlay device.cur (held_by frames)) n ≡ block_in frames.size buffer
 first_content tells device frames n number changed buffer rest kept split told long =
     let h : Held = record { block = n; bytes = block_in frames.size buffer; changed = changed } in
     let held : held_by frames ≡ h ∷ held_of frames.size rest = ap (held_of frames.size) split in
-    let there : IsHeld tells device (h ∷ held_of frames.size rest) = subst (IsHeld tells device) held kept.held_is in
+    let there : IsHeld tells device (h ∷ held_of frames.size rest) =
+    subst (IsHeld tells device) held kept.held_is in
     ap (λ (hs : List Held). block_at (overlay device.cur hs) n) held
-    ∙ overlay-held device.cur h [] (held_of frames.size rest) (omega (arith, there.below.0, long)) there.once.0 (there.are_clean told).0
+    ∙ overlay-held device.cur h [] (held_of frames.size rest) (omega (arith, there.below.0, long))
+    there.once.0 (there.are_clean told).0

@@ -1,6 +1,7 @@
 -- A cache of blocks as clauses see it, and what each call does to it. The rules are this project's
 -- own.
-use Rattle.std.specs.Prelude.{◌≡◌, ◌⊎◌, ◌<◌, ◌≤◌, ◌+◌, ℕ, Bool, true, false, List, [], ◌∷◌, ◌++◌, length}
+use Rattle.std.specs.Prelude.{◌≡◌, ◌⊎◌, ◌<◌, ◌≤◌, ◌+◌, ℕ, Bool, true, false, List, [], ◌∷◌, ◌++◌}
+use Rattle.std.specs.Prelude.{length}
 use Rattle.std.specs.List.{AllByRecursion}
 use Rattle.std.specs.Arc.{arc_value}
 use Rattle.vr_types.specs.Image.{Block}
@@ -14,7 +15,8 @@ use Rattle.vr_frames.specs.declared.frame.Frame.{Frame}
 use Rattle.vr_frames.specs.Frames.{IsSeatOf, IsSameSeat, FindsAllOut, Gets, parts_of, frame_size}
 use Rattle.vr_frames.specs.Keeper.{HoldsEach, others_of}
 use Rattle.vr_resident.specs.Held.{Held, IsOther, IsHeld, IsBetween, forced, flushed}
-use Rattle.vr_resident.specs.Places.{Entry, block_in, IsBufferOf, buffers_of, numbers_of, held_of, count_of, AreNone}
+use Rattle.vr_resident.specs.Places.{Entry, block_in, IsBufferOf, buffers_of, numbers_of, held_of}
+use Rattle.vr_resident.specs.Places.{count_of, AreNone}
 use Rattle.vr_resident.specs.declared.place.Buffer.{Buffer}
 use Rattle.vr_resident.specs.declared.place.Buffer.TheVariants.{Shared}
 use Rattle.vr_resident.specs.declared.place.Place.{Place}
@@ -54,7 +56,8 @@ pub record IsSeated (frames : Frames) : Type 0 where
   pub cap_is : frames.table.cap ≡ 64
   pub long : frames.size ≤ frame_size (pool_of frames)
   pub seat_of : IsSeatOf (pool_of frames) frames.seat
-  pub each_is : AllByRecursion (IsBufferOf (pool_of frames) frames.size) (buffers_of (entries_of frames))
+  pub each_is : AllByRecursion (IsBufferOf (pool_of frames) frames.size)
+      (buffers_of (entries_of frames))
   pub holds : HoldsEach frames.seat (numbers_of (entries_of frames))
 
 -- And there are at least 16.
@@ -97,7 +100,8 @@ pub record Leaves (number : ℕ) (old new : Frames) : Type 0 where
   pub none_after : AreNone sought.Held after
 
 -- The changed block of a place is written.
-pub record IsWritten (before after : List Entry) (number : ℕ) (place : Place) (old new : Frames) : Type 0 where
+pub record IsWritten (before after : List Entry) (number : ℕ) (place : Place) (old new : Frames) :
+    Type 0 where
   pub block : ℕ
   pub buffer : Buffer
   pub was : place ≡ Taken block true buffer
@@ -106,7 +110,8 @@ pub record IsWritten (before after : List Entry) (number : ℕ) (place : Place) 
 -- the changed block of that place is written, wherever the table is cut there
 abbrev pub WritesAt : ℕ → Frames → Frames → Type 0
 WritesAt number old new = (before after : List Entry) (place : Place)
-    → entries_of old ≡ before ++ (number, place) ∷ after → IsWritten before after number place old new
+    → entries_of old ≡ before ++ (number, place) ∷ after
+    → IsWritten before after number place old new
 
 -- The block that was used least recently left: there was no empty frame, and either no place was
 -- bare or the pool had no frame home.
@@ -250,7 +255,8 @@ pub record IsFlushed (most : ℕ) (old new : Frames) : Type 0 where
 -- the bytes are those of block n in the first place
 abbrev pub IsBlockOf : ℕ → Frames → Block → Type 0
 IsBlockOf n frames bytes = (number : ℕ) (changed : Bool) (buffer : Buffer) (rest : List Entry)
-    → entries_of frames ≡ (number, Taken n changed buffer) ∷ rest → bytes ≡ block_in frames.size buffer
+    → entries_of frames ≡ (number, Taken n changed buffer) ∷ rest
+    → bytes ≡ block_in frames.size buffer
 
 -- What a `get` of block n leaves.
 pub record Got {T : Type 0} (n : ℕ) (result : Result T DeviceFault) (old new : Frames) : Type 0

@@ -1,6 +1,7 @@
 -- The blocks that a cache holds, as a list with the most recently used first, and what a reader
 -- finds and a crash may leave once they are laid over a device. The rules are this project's own.
-use Rattle.std.specs.Prelude.{◌≡◌, ◌≢◌, ◌⊎◌, ◌<◌, ◌==◌, ◌&&◌, ◌||◌, ℕ, Bool, false, IsTrue, cond, List, [], ◌∷◌, ◌++◌, map, slice_set, count_by, nat_lt}
+use Rattle.std.specs.Prelude.{◌≡◌, ◌≢◌, ◌⊎◌, ◌<◌, ◌==◌, ◌&&◌, ◌||◌, ℕ, Bool, false, IsTrue, cond}
+use Rattle.std.specs.Prelude.{List, [], ◌∷◌, ◌++◌, map, slice_set, count_by, nat_lt}
 use Rattle.std.specs.List.{AllByRecursion}
 use Rattle.vr_types.specs.Image.{Block, Image, block_at}
 use Rattle.vr_types.specs.Seen.{Seen}

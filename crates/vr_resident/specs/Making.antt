@@ -1,6 +1,7 @@
 -- How a cache begins. It is this project's own.
 use Rattle.std.specs.Prelude.{◌≡◌, ◌+◌, ◌<◌, ℕ, zero, suc, List, [], ◌∷◌, length}
-use Rattle.vr_frames.specs.Frames.{IsSameSeat, IsSeatOf, frame_count, frames_of, parts_of, failed_claims}
+use Rattle.vr_frames.specs.Frames.{IsSameSeat, IsSeatOf, frame_count, frames_of, parts_of}
+use Rattle.vr_frames.specs.Frames.{failed_claims}
 use Rattle.vr_frames.specs.declared.shared.Pool.{Pool}
 use Rattle.vr_frames.specs.declared.seat.FrameSeat.{FrameSeat}
 use Rattle.vr_resident.specs.Places.{Entry, buffers_of}

@@ -1,5 +1,6 @@
 -- What the places of a table hold. The rules are this project's own.
-use Rattle.std.specs.Prelude.{◌≡◌, ◌≤◌, ◌==◌, ◌&&◌, ◌++◌, ℕ, Bool, true, false, not, List, [], ◌∷◌, take, length, count_by, replicate}
+use Rattle.std.specs.Prelude.{◌≡◌, ◌≤◌, ◌==◌, ◌&&◌, ◌++◌, ℕ, Bool, true, false, not, List, [], ◌∷◌}
+use Rattle.std.specs.Prelude.{take, length, count_by, replicate}
 use Rattle.std.specs.List.{AllByRecursion, flat_map}
 use Rattle.vr_types.specs.Image.{Block}
 use Rattle.vr_frames.specs.declared.shared.Pool.{Pool}

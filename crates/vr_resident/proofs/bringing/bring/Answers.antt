@@ -11,7 +11,8 @@ use Rattle.vr_resident.proofs.Entering.{taken_is}
 use Rattle.vr_resident.proofs.bringing.bring.Goals as goal
 
 pub miss-requires-clause-not_held : goal.miss-requires-clause-not_held
-miss-requires-clause-not_held g c = none_other c.args.frames.now.size c.args.n (entries_of c.args.frames.now) c.in-None.ensures
+miss-requires-clause-not_held g c =
+    none_other c.args.frames.now.size c.args.n (entries_of c.args.frames.now) c.in-None.ensures
 
 pub returns-in-Some : goal.returns-in-Some
 returns-in-Some g c =
@@ -22,17 +23,46 @@ returns-in-Some g c =
     let t = taken_is c.args.n r.place r.it_fits in
     let mark = t.0 in
     let b = t.1 in
-    let was : entries_of frames ≡ r.before ++ (c.in-Some.number, Taken c.args.n t.0 t.1) ∷ r.after = r.split ∙ ap (λ (p : Place). r.before ++ (c.in-Some.number, p) ∷ r.after) t.2 in
-    let new : c.use_place.new.table ≡ lru_cache ((c.in-Some.number, Taken c.args.n t.0 t.1) ∷ (r.before ++ r.after)) frames.table.cap = c.use_place.ensures r.before r.after (Taken c.args.n t.0 t.1) was in
-    let both = used_kept tells device frames c.args.n c.in-Some.number r.before r.after t.1 t.1 (same_buffer t.1) c.requires.kept (λ told image left. g.met.D.BlockDevice.images_may c.args.device.now image told left) t.0 was in
+    let was : entries_of frames ≡ r.before ++ (c.in-Some.number, Taken c.args.n t.0 t.1) ∷ r.after =
+    r.split ∙ ap (λ (p : Place). r.before ++ (c.in-Some.number, p) ∷ r.after) t.2 in
+    let new : c.use_place.new.table ≡ lru_cache
+    ((c.in-Some.number, Taken c.args.n t.0 t.1) ∷ (r.before ++ r.after)) frames.table.cap =
+    c.use_place.ensures r.before r.after (Taken c.args.n t.0 t.1) was in
+    let both = used_kept tells device frames c.args.n c.in-Some.number r.before r.after t.1 t.1
+    (same_buffer t.1) c.requires.kept
+    (λ told image left. g.met.D.BlockDevice.images_may c.args.device.now image told left) t.0
+    was in
     record {
-      ok = subst (λ (x : LruCache ℕ Place). GetsBlock c.args.n frames (record frames { table = x })) (sym new)
-          (held_in frames c.args.n t.0 t.1, refl, inl (hit frames c.args.n c.in-Some.number r.before r.after t.1 t.1 t.0 (same_buffer t.1) t.0 was));
-      first = subst (λ (x : LruCache ℕ Place). IsFirst c.args.n (record frames { table = x })) (sym new) (is_first frames c.args.n c.in-Some.number r.before r.after t.1 t.1 t.0 (same_buffer t.1));
+      ok = subst (λ (x : LruCache ℕ Place). GetsBlock c.args.n frames (record frames {
+        table =
+            x;
+      })) (sym new) (
+        held_in frames c.args.n t.0 t.1,
+        refl,
+        inl
+            (hit frames c.args.n c.in-Some.number r.before r.after t.1 t.1 t.0 (same_buffer t.1)
+            t.0 was),
+      );
+      first = subst (λ (x : LruCache ℕ Place). IsFirst c.args.n (record frames {
+        table =
+            x;
+      })) (sym new)
+          (is_first frames c.args.n c.in-Some.number r.before r.after t.1 t.1 t.0
+          (same_buffer t.1));
       unread = search rules;
       unwritten = search rules;
-      kept = subst (λ (x : LruCache ℕ Place). IsKept tells device (record frames { table = x })) (sym new) both.0;
-      seat = subst (λ (x : LruCache ℕ Place). KeepsSeat frames (record frames { table = x })) (sym new) (hit_seat frames c.args.n c.in-Some.number r.before r.after t.1 t.1 t.0 (same_buffer t.1) t.0 was);
-      after = subst (λ (x : LruCache ℕ Place). Keeps tells (over device (held_by frames)) (over device (held_by (record frames { table = x })))) (sym new) both.1;
+      kept = subst (λ (x : LruCache ℕ Place). IsKept tells device (record frames {
+        table =
+            x;
+      })) (sym new) both.0;
+      seat = subst (λ (x : LruCache ℕ Place). KeepsSeat frames (record frames {
+        table =
+            x;
+      })) (sym new)
+          (hit_seat frames c.args.n c.in-Some.number r.before r.after t.1 t.1 t.0 (same_buffer t.1)
+          t.0 was);
+      after = subst
+          (λ (x : LruCache ℕ Place). Keeps tells (over device (held_by frames))
+          (over device (held_by (record frames { table = x })))) (sym new) both.1;
       cause = search rules;
     }

@@ -5,9 +5,22 @@ use Rattle.vr_resident.proofs.Entering.{room_other}
 use Rattle.vr_resident.proofs.bringing.miss.Goals as goal
 
 pub read_in-requires-clause-not_held : goal.read_in-requires-clause-not_held
-read_in-requires-clause-not_held g c = room_other c.args.n c.args.frames.now c.room.new.frames c.in-Ok.ensures.ok c.requires.not_held
+read_in-requires-clause-not_held g c =
+    room_other c.args.n c.args.frames.now c.room.new.frames c.in-Ok.ensures.ok c.requires.not_held
 
 pub returns-in-Ok-read_in-clause-ok : goal.returns-in-Ok-read_in-clause-ok
 returns-in-Ok-read_in-clause-ok g c =
-    let r = c.in-Ok-read_in.ensures.ok in
-    (r.h, r.it_is, inr (r.unchanged, record { not_held = subst (λ (k : ℕ). IsOther k (held_by c.args.frames.now)) (sym r.it_is) c.requires.not_held; with_room = c.room.new.frames; room = c.in-Ok.ensures.ok; enters = r.enters }))
+    let r = c.in-Ok-read_in.ensures.ok in (
+      r.h,
+      r.it_is,
+      inr (
+        r.unchanged,
+        record {
+          not_held =
+              subst (λ (k : ℕ). IsOther k (held_by c.args.frames.now)) (sym r.it_is) c.requires.not_held;
+          with_room = c.room.new.frames;
+          room = c.in-Ok.ensures.ok;
+          enters = r.enters;
+        },
+      ),
+    )

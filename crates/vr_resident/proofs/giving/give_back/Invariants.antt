@@ -9,7 +9,8 @@ abbrev pub invariant-loop-given : goal.invariant-loop-given
 invariant-loop-given l = record {
   so_far : entries_of l.frames ≡ gave l.given (entries_of l.fn.frames);
   some : l.given ≤ count_of sought.Free (entries_of l.fn.frames);
-  fewer : length (buffers_of (entries_of l.frames)) + l.given ≡ length (buffers_of (entries_of l.fn.frames));
+  fewer : length (buffers_of (entries_of l.frames)) + l.given ≡ length
+      (buffers_of (entries_of l.fn.frames));
   framed : IsFramed l.frames;
   seat : KeepsSeat l.fn.frames l.frames;
 }

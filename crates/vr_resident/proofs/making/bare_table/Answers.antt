@@ -12,5 +12,6 @@ loop-number-preserved c =
     let n = c.loop-number.number in
     let ok = sym c.is_err.ensures.value ∙ c.if-is_err.false in
     got_ok c.put.result _ ok c.put.ensures.entries
-    ∙ (ap (λ (t : LruCache ℕ Place). lru_cache (put_entries nat_eq t n Bare) t.cap) c.loop-number.invariant
+    ∙ (ap (λ (t : LruCache ℕ Place). lru_cache (put_entries nat_eq t n Bare) t.cap)
+    c.loop-number.invariant
     ∙ ap (λ (es : List Entry). lru_cache es 64) (bare_more n c.loop-number-test.true))

@@ -6,10 +6,14 @@ pub loop-got-preserved : goal.loop-got-preserved
 loop-got-preserved c =
     let i = c.loop-got.invariant in
     record {
-      so_far = taken_then c.loop-got._got c.args.frames.now c.loop-got.frames c.own_one.new.frames i.so_far c.in_ok-own_one.ensures.all;
+      so_far = taken_then c.loop-got._got c.args.frames.now c.loop-got.frames c.own_one.new.frames
+          i.so_far c.in_ok-own_one.ensures.all;
       seated = c.own_one.ensures.seated;
-      seat = seat_then c.args.frames.now c.loop-got.frames c.own_one.new.frames i.seat c.own_one.ensures.seat;
+      seat = seat_then c.args.frames.now c.loop-got.frames c.own_one.new.frames i.seat
+          c.own_one.ensures.seat;
     }
 
 pub returns-in_err-own_one-clause-seat : goal.returns-in_err-own_one-clause-seat
-returns-in_err-own_one-clause-seat c = seat_then c.args.frames.now c.loop-got.frames c.own_one.new.frames c.loop-got.invariant.seat c.own_one.ensures.seat
+returns-in_err-own_one-clause-seat c =
+    seat_then c.args.frames.now c.loop-got.frames c.own_one.new.frames c.loop-got.invariant.seat
+    c.own_one.ensures.seat

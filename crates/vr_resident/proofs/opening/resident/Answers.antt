@@ -12,18 +12,37 @@ same_count m n is = cc
 
 pub returns-in-None-clause-new : goal.returns-in-None-clause-new
 returns-in-None-clause-new g c =
-    let first : Frames = record { table = c.in-Ok.table; pool = c.args.pool; seat = c.args.seat; size = c.size-size.result } in
-    subst (λ (f : Frames). IsNew (pool_of first) c.args.seat (g.D.BlockDevice.seen c.args.device).size f) (sym c.over.ensures.frames)
-    (is_new first c.take_sixteen.new.frames c.in-Ok.ensures (g.D.BlockDevice.seen c.args.device).size c.size-size.ensures c.in-None.ensures.all c.take_sixteen.ensures.seat)
+    let first : Frames =
+    record {
+      table = c.in-Ok.table;
+      pool = c.args.pool;
+      seat = c.args.seat;
+      size =
+          c.size-size.result;
+    } in
+    subst (λ (f : Frames). IsNew (pool_of first) c.args.seat
+    (g.D.BlockDevice.seen c.args.device).size f) (sym c.over.ensures.frames)
+    (is_new first c.take_sixteen.new.frames c.in-Ok.ensures
+    (g.D.BlockDevice.seen c.args.device).size c.size-size.ensures c.in-None.ensures.all
+    c.take_sixteen.ensures.seat)
 
 pub returns-in-Some-clause-seat_back : goal.returns-in-Some-clause-seat_back
 returns-in-Some-clause-seat_back g c =
-    let first : Frames = record { table = c.in-Ok.table; pool = c.args.pool; seat = c.args.seat; size = c.size-size.result } in
+    let first : Frames =
+    record {
+      table = c.in-Ok.table;
+      pool = c.args.pool;
+      seat = c.args.seat;
+      size =
+          c.size-size.result;
+    } in
     let e = c.give_all.ensures in
-    is_back first c.take_sixteen.new.frames c.in-Ok.ensures c.give_all.result c.take_sixteen.ensures.seat e.home e.of_pool e.same e.parts
+    is_back first c.take_sixteen.new.frames c.in-Ok.ensures c.give_all.result
+    c.take_sixteen.ensures.seat e.home e.of_pool e.same e.parts
 
 pub returns-in-Some-clause-why : goal.returns-in-Some-clause-why
 returns-in-Some-clause-why g c got is = (
   subst (λ (n : ℕ). n < 16) (same_count c.in-Some.got got is) c.in-Some.ensures.fewer,
-  λ number within. subst (λ (n : ℕ). failed_claims c.args.seat number < n) (sym (c.give_all.ensures.claims number)) (c.in-Some.ensures.out number within),
+  λ number within. subst (λ (n : ℕ). failed_claims c.args.seat number < n)
+      (sym (c.give_all.ensures.claims number)) (c.in-Some.ensures.out number within),
 )

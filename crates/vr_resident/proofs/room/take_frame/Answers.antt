@@ -11,23 +11,34 @@ use Rattle.vr_resident.proofs.Taking.{seated_got, seat_got, seated_none, if_none
 use Rattle.vr_resident.proofs.room.take_frame.Goals as goal
 
 pub returns-in_err-number-clause-none : goal.returns-in_err-number-clause-none
-returns-in_err-number-clause-none c = if_none c.from_residual.result _ (refl, inl (count_none sought.Bare (entries_of c.args.frames.now) c.in_err-number.ensures))
+returns-in_err-number-clause-none c =
+    if_none c.from_residual.result _
+    (refl, inl (count_none sought.Bare (entries_of c.args.frames.now) c.in_err-number.ensures))
 
 pub returns-in_err-frame-clause-seated : goal.returns-in_err-frame-clause-seated
-returns-in_err-frame-clause-seated c = seated_none c.args.frames.now c.take.new.seat c.in_err-frame.ensures.none.same_frames (subst (λ (p : Pool). IsSeatOf p c.take.new.seat) c.deref.ensures c.take.ensures.of_pool) c.requires
+returns-in_err-frame-clause-seated c =
+    seated_none c.args.frames.now c.take.new.seat c.in_err-frame.ensures.none.same_frames
+    (subst (λ (p : Pool). IsSeatOf p c.take.new.seat) c.deref.ensures c.take.ensures.of_pool)
+    c.requires
 
 pub returns-clause-got : goal.returns-clause-got
 returns-clause-got c =
     let frames = c.args.frames.now in
     let r = c.in_ok-number.ensures in
-    let was : entries_of frames ≡ r.before ++ (c.in_ok-number.number, Bare) ∷ r.after = r.split ∙ ap (λ (p : Place). r.before ++ (c.in_ok-number.number, p) ∷ r.after) (bare_is r.place r.it_fits) in
+    let was : entries_of frames ≡ r.before ++ (c.in_ok-number.number, Bare) ∷ r.after = r.split
+    ∙ ap (λ (p : Place). r.before
+    ++ (c.in_ok-number.number, p) ∷ r.after) (bare_is r.place r.it_fits) in
     record {
       number = c.in_ok-number.number;
       before = r.before;
       after = r.after;
       frame = c.in_ok-frame.frame;
       was = was;
-      is = ap (λ (x : LruCache ℕ Place). record frames { table = x; seat = c.take.new.seat }) (c.change.ensures r.before r.after Bare was).1;
+      is = ap (λ (x : LruCache ℕ Place). record frames {
+        table = x;
+        seat =
+            c.take.new.seat;
+      }) (c.change.ensures r.before r.after Bare was).1;
       got = c.in_ok-frame.ensures.some;
     }
 
@@ -35,14 +46,31 @@ pub returns-clause-seated : goal.returns-clause-seated
 returns-clause-seated c =
     let frames = c.args.frames.now in
     let r = c.in_ok-number.ensures in
-    let was : entries_of frames ≡ r.before ++ (c.in_ok-number.number, Bare) ∷ r.after = r.split ∙ ap (λ (p : Place). r.before ++ (c.in_ok-number.number, p) ∷ r.after) (bare_is r.place r.it_fits) in
-    subst (λ (x : LruCache ℕ Place). IsSeated (record frames { table = x; seat = c.take.new.seat })) (sym (c.change.ensures r.before r.after Bare was).1)
-    (seated_got frames c.take.new.seat c.in_ok-frame.frame c.in_ok-number.number r.before r.after was c.in_ok-frame.ensures.some c.requires (subst (λ (p : Pool). IsSeatOf p c.take.new.seat) c.deref.ensures c.take.ensures.of_pool) (subst (λ (p : Pool). IsFrameOf p c.in_ok-frame.frame) c.deref.ensures c.in_ok-frame.ensures.frame))
+    let was : entries_of frames ≡ r.before ++ (c.in_ok-number.number, Bare) ∷ r.after = r.split
+    ∙ ap (λ (p : Place). r.before
+    ++ (c.in_ok-number.number, p) ∷ r.after) (bare_is r.place r.it_fits) in
+    subst (λ (x : LruCache ℕ Place). IsSeated (record frames {
+      table = x;
+      seat =
+          c.take.new.seat;
+    })) (sym (c.change.ensures r.before r.after Bare was).1)
+    (seated_got frames c.take.new.seat c.in_ok-frame.frame c.in_ok-number.number r.before r.after
+    was c.in_ok-frame.ensures.some c.requires
+    (subst (λ (p : Pool). IsSeatOf p c.take.new.seat) c.deref.ensures c.take.ensures.of_pool)
+    (subst (λ (p : Pool). IsFrameOf p c.in_ok-frame.frame) c.deref.ensures
+    c.in_ok-frame.ensures.frame))
 
 pub returns-clause-seat : goal.returns-clause-seat
 returns-clause-seat c =
     let frames = c.args.frames.now in
     let r = c.in_ok-number.ensures in
-    let was : entries_of frames ≡ r.before ++ (c.in_ok-number.number, Bare) ∷ r.after = r.split ∙ ap (λ (p : Place). r.before ++ (c.in_ok-number.number, p) ∷ r.after) (bare_is r.place r.it_fits) in
-    subst (λ (x : LruCache ℕ Place). KeepsSeat frames (record frames { table = x; seat = c.take.new.seat })) (sym (c.change.ensures r.before r.after Bare was).1)
-    (seat_got frames c.take.new.seat c.in_ok-frame.frame c.in_ok-number.number r.before r.after was c.in_ok-frame.ensures.some c.take.ensures.same c.take.ensures.parts)
+    let was : entries_of frames ≡ r.before ++ (c.in_ok-number.number, Bare) ∷ r.after = r.split
+    ∙ ap (λ (p : Place). r.before
+    ++ (c.in_ok-number.number, p) ∷ r.after) (bare_is r.place r.it_fits) in
+    subst (λ (x : LruCache ℕ Place). KeepsSeat frames (record frames {
+      table = x;
+      seat =
+          c.take.new.seat;
+    })) (sym (c.change.ensures r.before r.after Bare was).1)
+    (seat_got frames c.take.new.seat c.in_ok-frame.frame c.in_ok-number.number r.before r.after was
+    c.in_ok-frame.ensures.some c.take.ensures.same c.take.ensures.parts)

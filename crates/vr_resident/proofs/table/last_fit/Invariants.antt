@@ -5,4 +5,5 @@ use Rattle.vr_resident.proofs.table.last_fit.Given as goal
 
 abbrev pub invariant-loop-number : goal.invariant-loop-number
 invariant-loop-number l =
-    MatchOption l.last (AreNone l.sought (map deref_pair l.yielded)) (IsLast l.sought (map deref_pair l.yielded))
+    MatchOption l.last (AreNone l.sought (map deref_pair l.yielded))
+    (IsLast l.sought (map deref_pair l.yielded))

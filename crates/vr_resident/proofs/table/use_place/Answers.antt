@@ -8,6 +8,12 @@ use Rattle.vr_resident.proofs.table.use_place.Goals as goal
 
 pub returns : goal.returns
 returns c before after place split =
-    let distinct : IsDistinct nat_eq (keys_of (before ++ (c.args.number, place) ∷ after)) = subst (λ (es : List Entry). IsDistinct nat_eq (keys_of es)) split c.len.ensures.valid.0 in
+    let distinct : IsDistinct nat_eq (keys_of (before ++ (c.args.number, place) ∷ after)) =
+    subst (λ (es : List Entry). IsDistinct nat_eq (keys_of es)) split c.len.ensures.valid.0 in
     c.promote.ensures.entries ∙ ap (λ (es : List Entry). lru_cache es c.args.table.now.cap)
-    (ap (λ (es : List Entry). promoted (nat_eq c.args.number) es) split ∙ rw (found c.args.number place after before distinct, removed c.args.number place after before distinct) refl)
+    (ap (λ (es : List Entry). promoted (nat_eq c.args.number) es) split
+    ∙ rw (
+      found c.args.number place after before distinct,
+      removed c.args.number place after
+          before distinct,
+    ) refl)

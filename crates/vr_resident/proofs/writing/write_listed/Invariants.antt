@@ -12,6 +12,7 @@ invariant-loop-n g l =
       so_far : IsForced (take l.n-index l.list) l.fn.frames l.frames;
       kept : IsKept g.D.BlockDevice.tells (seen l.device) l.frames;
       seat : KeepsSeat l.fn.frames l.frames;
-      after : Keeps g.D.BlockDevice.tells (over (seen l.fn.device) (held_by l.fn.frames)) (over (seen l.device) (held_by l.frames));
+      after : Keeps g.D.BlockDevice.tells (over (seen l.fn.device) (held_by l.fn.frames))
+          (over (seen l.device) (held_by l.frames));
       faults : g.D.BlockDevice.faults l.device ≡ g.D.BlockDevice.faults l.fn.device;
     }

@@ -5,4 +5,7 @@ pub returns-clause-forced : goal.returns-clause-forced
 returns-clause-forced g c =
     let seen = g.D.BlockDevice.seen in
     let old = c.self.inside in
-    rw (← c.self.view_is) (λ told. forced_through c.force.result c.args.list.now (seen old.device) (seen c.force.new.device) old.frames c.force.new.frames c.self.invariant.size_is c.force.ensures.kept.size_is (c.force.ensures.forced told))
+    rw (← c.self.view_is)
+    (λ told. forced_through c.force.result c.args.list.now (seen old.device)
+    (seen c.force.new.device) old.frames c.force.new.frames c.self.invariant.size_is
+    c.force.ensures.kept.size_is (c.force.ensures.forced told))

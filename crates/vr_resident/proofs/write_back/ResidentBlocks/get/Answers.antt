@@ -21,16 +21,21 @@ returns-in-Ok g c =
         refl,
         (λ _. tt),
         (
-          keeps_through tells (seen old.device) (seen device) old.frames new c.self.invariant.size_is e.kept.size_is e.after,
-          cause-ok (g.D.BlockDevice.faults old.device) (g.D.BlockDevice.faults device) c.first.result c.in-Ok.ensures.cause.ok,
+          keeps_through tells (seen old.device) (seen device) old.frames new
+              c.self.invariant.size_is e.kept.size_is e.after,
+          cause-ok (g.D.BlockDevice.faults old.device) (g.D.BlockDevice.faults device)
+              c.first.result c.in-Ok.ensures.cause.ok,
         ),
       ),
       record {
         content = λ told. bytes
-            ∙ (sym (first_content tells (seen device) new c.args.n f.number f.changed f.buffer f.rest e.kept f.split told (g.met.D.BlockDevice.cur_may device told).length_is)
+            ∙ (sym (first_content tells (seen device) new c.args.n f.number f.changed f.buffer
+            f.rest e.kept f.split told (g.met.D.BlockDevice.cur_may device told).length_is)
             ∙ (ap (λ (i : Image). block_at i c.args.n) (e.after.content told)
-            ∙ ap (λ (hs : List Held). block_at (overlay (seen old.device).cur hs) c.args.n) (sym (same_held (seen old.device) old.frames c.self.invariant.size_is))));
+            ∙ ap (λ (hs : List Held). block_at (overlay (seen old.device).cur hs) c.args.n)
+            (sym (same_held (seen old.device) old.frames c.self.invariant.size_is))));
         after = tt;
-        length = ap length bytes ∙ (length-block_in new.size f.buffer ∙ (e.kept.size_is ∙ e.after.size_same));
+        length = ap length bytes
+            ∙ (length-block_in new.size f.buffer ∙ (e.kept.size_is ∙ e.after.size_same));
       },
     )
