@@ -1,7 +1,9 @@
 //! Replies as the table writes them.
 
 use crate::answers::Stop;
-use crate::words::{long_of, parted, place_of, place_or_none, record_or_none, small_of, unit_of, word_of};
+use crate::words::{
+    long_of, parted, place_of, place_or_none, record_or_none, small_of, unit_of, word_of,
+};
 use std::alloc::Global;
 use vr_types::{LockName, Mode, PartNo, Refusal, Reply};
 
