@@ -1,5 +1,5 @@
--- What a change of one base record does to the pairs of the alternate indexes over it, as Using Data Sets tells of upgrading
--- them. Their order is this project's own.
+-- What a change of one base record does to the pairs of the alternate indexes over it, as Using
+-- Data Sets tells of upgrading them. Their order is this project's own.
 use Rattle.std.specs.Prelude.{ℕ, Bool, false, true, if◌then◌else◌, List, [], ◌++◌, Option, bytes_eq}
 use Rattle.std.specs.List.{flat_map}
 use Rattle.std.specs.Option.{option_and_then, option_eq, option_map, option_to_list}
@@ -13,11 +13,19 @@ field_in key_length key_offset bytes = option_and_then (field_of key_length key_
 
 -- the pair of a record that there may be, as added or as removed
 abbrev pub change_of : List ℕ → Option (List ℕ) → Bool → AltDef → List PairChange
-change_of place bytes added def = option_to_list (option_map (λ (pair : List ℕ). record { part = def.part; place = pair; added = added }) (option_and_then (pair_place_of def.length def.offset place) bytes))
+change_of place bytes added def =
+    option_to_list (option_map (λ (pair : List ℕ). record {
+      part = def.part;
+      place = pair;
+      added =
+          added;
+    }) (option_and_then (pair_place_of def.length def.offset place) bytes))
 
 -- the pair of the old record goes and that of the new one comes, where their fields differ
 unfoldable pub changes_in : List ℕ → Option (List ℕ) → Option (List ℕ) → AltDef → List PairChange
-changes_in place old new def = if option_eq bytes_eq (field_in def.length def.offset old) (field_in def.length def.offset new) then [] else change_of place old false def ++ change_of place new true def
+changes_in place old new def =
+    if option_eq bytes_eq (field_in def.length def.offset old) (field_in def.length def.offset new)
+    then [] else change_of place old false def ++ change_of place new true def
 
 -- the changes of the pairs of all alternate indexes, in their order
 abbrev pub pair_changes : List AltDef → List ℕ → Option (List ℕ) → Option (List ℕ) → List PairChange

@@ -13,8 +13,9 @@ use crate::pairing::{field, pair};
 use std::alloc::Global;
 use vr_types::{OutOfMemory, Place};
 
-/// The pairs that go and come where the record at a place of the base changes from `old` to `new`: for each alternate index
-/// in the order of the list, the pair removed and then the pair added, and neither where both records have one field.
+/// The pairs that go and come where the record at a place of the base changes from `old` to `new`:
+/// for each alternate index in the order of the list, the pair removed and then the pair added, and
+/// neither where both records have one field.
 pub fn changes(
     alloc: Global,
     alternates: &AltList,

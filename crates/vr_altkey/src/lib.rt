@@ -1,7 +1,7 @@
-// The pairs of an alternate index: which pointers it has over its base, and which a change of a base record adds and
-// removes. It stands on the shared words (vr_types). It promises that the pair of a record is the one that the definition
-// gives, and that a change of a base record makes exactly those changes of pairs that lead from the pairs of the old
-// content to those of the new one.
+//! The pairs of an alternate index: which pointers it has over its base, and which a change of a
+//! base record adds and removes. It stands on the shared words (vr_types). It promises that the
+//! pair of a record and the changes of pairs are those that the definitions give, and that the
+//! pairs of an index ascend.
 #![tactic(auto)]
 
 mod changing;

@@ -7,8 +7,8 @@ use crate::definition::AltDef;
 use std::alloc::Global;
 use vr_types::{OutOfMemory, Place};
 
-/// The place of the pair that the alternate index has of a base record: the alternate field and then the base place. None
-/// comes exactly where the record is too short for the field.
+/// The place of the pair that the alternate index has of a base record: the alternate field and
+/// then the base place. None comes exactly where the record is too short for the field.
 pub fn pair(
     alloc: Global,
     def: &AltDef,
