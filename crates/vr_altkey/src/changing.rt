@@ -55,7 +55,8 @@ fn add_changes(
 
 /// Whether both records have one field, or neither has any.
 fn same_field(def: &AltDef, old: Option<&[u8]>, new: Option<&[u8]>) -> bool
-    ensures { result ≡ option_eq bytes_eq (field_in def.now.length def.now.offset (option_copied old.entry))
+    ensures { result ≡ option_eq bytes_eq
+        (field_in def.now.length def.now.offset (option_copied old.entry))
         (field_in def.now.length def.now.offset (option_copied new.entry)) }
 {
     match (field_of_record(def, old), field_of_record(def, new)) {
@@ -67,7 +68,8 @@ fn same_field(def: &AltDef, old: Option<&[u8]>, new: Option<&[u8]>) -> bool
 
 /// The field of a record that there may be.
 fn field_of_record<'a>(def: &AltDef, bytes: Option<&'a [u8]>) -> Option<&'a [u8]>
-    ensures { option_copied result ≡ field_in def.now.length def.now.offset (option_copied bytes.entry) }
+    ensures { option_copied result ≡ field_in def.now.length def.now.offset
+        (option_copied bytes.entry) }
 {
     match bytes {
         None => None,

@@ -15,7 +15,8 @@ pub fn pair(
     place: &Place,
     bytes: &[u8],
 ) -> Result<Option<Place>, OutOfMemory>
-    ensures { IfOk result (λ pair. pair ≡ pair_place_of def.now.length def.now.offset place.now bytes.now) }
+    ensures { IfOk result
+        (λ pair. pair ≡ pair_place_of def.now.length def.now.offset place.now bytes.now) }
 {
     let Some(field) = field(def, bytes) else {
         return Ok(None);

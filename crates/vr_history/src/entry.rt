@@ -4,8 +4,8 @@ ghost use Rattle.std.specs.Prelude.{◌≡◌, IfOk};
 use std::alloc::Global;
 use vr_types::{AreaNo, DeviceFault, OutOfMemory, PartNo, Place, Reply, SharedRequest, Unit};
 
-/// An entry of a volume's history: what an event did, for which unit of recovery, and at which line of the job
-/// text. Stamps rise within a history. Line 0 is that of what no line asked for.
+/// An entry of a volume's history: what an event did, for which unit of recovery, and at which line
+/// of the job text. Stamps rise within a history. Line 0 is that of what no line asked for.
 #[derive(Debug, Drop)]
 pub struct Entry {
     pub stamp: u64,
@@ -28,8 +28,8 @@ impl Entry {
     }
 }
 
-/// What an entry reports: a request, which it shares with its deck, with the reply; a before-image put back; an area
-/// claimed; an interval split; or a device fault that stopped the volume.
+/// What an entry reports: a request, which it shares with its deck, with the reply; a before-image
+/// put back; an area claimed; an interval split; or a device fault that stopped the volume.
 #[derive(Debug, Drop)]
 pub enum What {
     Asked {

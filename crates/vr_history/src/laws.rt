@@ -50,9 +50,9 @@ pub fn no_two_locks_conflict()
         → NoTwoConflict (state_of geometry (opening_state contents owned) entries).locks }
 {}
 
-/// The committed contents of a history, with any units counted beside those that committed, have at each place the
-/// record of the state, or the one that a unit which doesn't count keeps as its before-image. The part is one that the
-/// catalog has throughout.
+/// The committed contents of a history, with any units counted beside those that committed, have at
+/// each place the record of the state, or the one that a unit which doesn't count keeps as its
+/// before-image. The part is one that the catalog has throughout.
 pub fn committed_is_settled()
     ensures { (geometry : Geometry) (contents : ℕ → Content) (owned : List Owned)
         (entries : List Entry) (others : List UnitOfRecovery) (part : ℕ)
@@ -63,7 +63,8 @@ pub fn committed_is_settled()
         ≡ settled_record counts (state_of geometry opening entries) part place }
 {}
 
-/// Where no unit keeps a before-image, as once all have ended, the committed contents are those of the state.
+/// Where no unit keeps a before-image, as once all have ended, the committed contents are those of
+/// the state.
 pub fn committed_is_current()
     ensures { (geometry : Geometry) (contents : ℕ → Content) (owned : List Owned)
         (entries : List Entry) (others : List UnitOfRecovery) (part : ℕ)

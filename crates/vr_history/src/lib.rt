@@ -1,7 +1,8 @@
-//! The record file of a volume, defined whole: what a one-thread record file answers at each place of a history, and what
-//! each entry leaves of the state, for every request on every kind of data set, with units of recovery, locks, alternate
-//! indexes, the log, the areas and the stop at a write fault. It stands on `vr_types`, and on `vr_catalog` and `vr_altkey`
-//! for what the catalog and alternate indexes say. It holds the entries of a volume and their list, and promises that
+//! The record file of a volume, defined whole: what a one-thread record file answers at each place
+//! of a history, and what each entry leaves of the state, for every request on every kind of data
+//! set, with units of recovery, locks, alternate indexes, the log, the areas and the stop at a
+//! write fault. It stands on `vr_types`, and on `vr_catalog` and `vr_altkey` for what the catalog
+//! and alternate indexes say. It holds the entries of a volume and their list, and promises that
 //! stamps rise in it; its laws say what readers of the definition expect.
 #![tactic(auto)]
 

@@ -56,8 +56,8 @@ pub fn run_job<S: Source, K: Sink>(
     ensures text { IsOfText (ending_of result.status result.trace.fault) (S.left input.old)
         (S.left input.new) result.trace }
 
-    // One history, legal on each volume that has an empty VRM.FIRST, of the requests that there are.
-    // Its stamps rise, and it has every request of every deck in order, each once.
+    // One history, legal on each volume that has an empty VRM.FIRST, of the requests that there
+    // are. Its stamps rise, and it has every request of every deck in order, each once.
     ensures legal { IsLegalOnFirst result.trace.history.entries }
     ensures offered { AreEntered result.trace.history.entries }
     ensures stamped { IsStamped 0 result.trace.history.entries }

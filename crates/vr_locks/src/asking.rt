@@ -90,7 +90,8 @@ impl LockMaps {
         requires { IsConsistent self.old self.old.next }
         ensures kept { IsConsistent self.new self.new.next }
         ensures granted { OnOk result (conflict_on (locks_in self.old) unit mode names.now ≡ None) }
-        ensures refused { IfErr result (CauseOf (conflict_on (locks_in self.old) unit mode names.now)) }
+        ensures refused { IfErr result
+            (CauseOf (conflict_on (locks_in self.old) unit mode names.now)) }
         ensures taken { OnOk result
             (locks_in self.new ≡ with_locks unit mode (locks_in self.old) names.now) }
         ensures unchanged { OnErr result (locks_in self.new ≡ locks_in self.old) }

@@ -67,7 +67,8 @@ impl LockMaps {
     pub(crate) fn refuse(&self, unit: Unit, mode: Mode, names: &[LockName]) -> Result<(), LockNo>
         requires { IsConsistent self.now self.now.next }
         ensures granted { OnOk result (conflict_on (locks_in self.now) unit mode names.now ≡ None) }
-        ensures refused { IfErr result (CauseOf (conflict_on (locks_in self.now) unit mode names.now)) }
+        ensures refused { IfErr result
+            (CauseOf (conflict_on (locks_in self.now) unit mode names.now)) }
     {
         for name in names {
             if let Some((holder, held)) = self.conflict(unit, mode, name) {

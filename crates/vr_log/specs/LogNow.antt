@@ -51,8 +51,8 @@ IsLogOf log content = IsPrefixOf log content ⊎ (log.behind ≡ Some content)
 abbrev pub HasLog : LogNow → Image → Type 0
 HasLog log image = (content : Content) × Spells log.geometry image content × IsLogOf log content
 
--- The log before is that of a generation whose units have all ended. A log that was just made has its
--- own records there, all of them forced.
+-- The log before is that of a generation whose units have all ended. A log that was just made has
+-- its own records there, all of them forced.
 abbrev pub IsBehind : LogNow → Content → Type 0
 IsBehind log older = (older ≡ first_of log log.forced)
     ⊎ ((log.forced ≡ 0) × (live_in older.records ≡ []))

@@ -134,7 +134,8 @@ impl UndoLog {
         ensures shape { OnOk result (IsOf self.new.geometry (B.seen blocks.new)) }
         ensures stands { IsTrue B.tells → OnOk result (LogStands self.new (B.seen blocks.new)) }
         ensures moments { IsTrue B.tells → Touches (InLog self.old.geometry)
-            (HasLog (with_record self.old (End unit kind))) (B.seen blocks.old) (B.seen blocks.new) }
+            (HasLog (with_record self.old (End unit kind))) (B.seen blocks.old)
+            (B.seen blocks.new) }
         ensures cause { HasWriteCause (B.faults blocks.old) (B.faults blocks.new) result }
     {
         self.enter(blocks, &LogRecord::End { unit, kind })

@@ -56,7 +56,8 @@ impl Tail {
     pub(crate) fn fill(&mut self, bytes: &[u8]) -> usize
         requires fits { self.old.used + 16 ≤ vec_len self.old.block }
         requires small { vec_len self.old.block < 4294967296 }
-        ensures count { result ≡ min (length bytes.now) (vec_len self.old.block - 16 - self.old.used) }
+        ensures count { result ≡ min (length bytes.now)
+            (vec_len self.old.block - 16 - self.old.used) }
         ensures used { self.new.used ≡ self.old.used + result }
         ensures block { self.new.block.items ≡ take (16 + self.old.used) self.old.block.items
             ++ take result bytes.now ++ drop (16 + self.old.used + result) self.old.block.items }
@@ -76,7 +77,8 @@ impl Tail {
     pub(crate) fn put<B: Blocks>(&mut self, blocks: &mut B) -> Result<(), DeviceFault>
         requires safe { IsSafe self.old (B.seen blocks.old) }
         ensures block { self.new.block.items
-            ≡ head_of self.old.generation self.old.index self.old.used ++ drop 16 self.old.block.items }
+            ≡ head_of self.old.generation self.old.index self.old.used
+            ++ drop 16 self.old.block.items }
         ensures size { vec_len self.new.block ≡ vec_len self.old.block }
         ensures same { IsSame self.old self.new }
         ensures put { IsTrue B.tells → OnOk result ((B.seen blocks.new).cur
@@ -101,7 +103,8 @@ impl Tail {
         ensures writing { (log : LogNow) (total written : List ℕ)
             → IsWriting log total written self.old B.tells (B.seen blocks.old)
             → IsPrefix written total
-            → Follows B.tells log total written self.new (B.seen blocks.old) (B.seen blocks.new) result }
+            → Follows B.tells log total written self.new (B.seen blocks.old)
+            (B.seen blocks.new) result }
         ensures cause { HasWriteCause (B.faults blocks.old) (B.faults blocks.new) result }
     {
         if (self.used as usize) + 16 < self.block.len() || self.index + 1 == self.blocks {
@@ -148,11 +151,13 @@ impl Tail {
         ensures writing { (log : LogNow) (total written : List ℕ)
             → IsWriting log total written self.old B.tells (B.seen blocks.old)
             → IsPrefix (written ++ bytes.now) total → IfOk result (λ count.
-            IsWriting log total (written ++ take count bytes.now) self.new B.tells (B.seen blocks.new)) }
+            IsWriting log total (written ++ take count bytes.now) self.new B.tells
+            (B.seen blocks.new)) }
         ensures touches { (log : LogNow) (total written : List ℕ)
             → IsWriting log total written self.old B.tells (B.seen blocks.old)
             → IsPrefix (written ++ bytes.now) total → IsTrue B.tells
-            → Touches (InLog log.geometry) (IsFound log total) (B.seen blocks.old) (B.seen blocks.new) }
+            → Touches (InLog log.geometry) (IsFound log total) (B.seen blocks.old)
+            (B.seen blocks.new) }
         ensures cause { HasWriteCause (B.faults blocks.old) (B.faults blocks.new) result }
     {
         let count = self.fill(bytes);

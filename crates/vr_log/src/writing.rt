@@ -130,7 +130,8 @@ fn add_both<B: Blocks>(
     ensures writing { (log : LogNow) (total written : List ℕ)
         → IsWriting log total written tail.old B.tells (B.seen blocks.old)
         → IsPrefix (written ++ (first.now ++ second.now)) total → Follows B.tells log total
-        (written ++ (first.now ++ second.now)) tail.new (B.seen blocks.old) (B.seen blocks.new) result }
+        (written ++ (first.now ++ second.now)) tail.new (B.seen blocks.old)
+        (B.seen blocks.new) result }
     ensures cause { HasWriteCause (B.faults blocks.old) (B.faults blocks.new) result }
 {
     tail.add(blocks, first)?;

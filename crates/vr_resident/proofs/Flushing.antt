@@ -152,7 +152,8 @@ pub forces_none : (frames : Frames) (n : ℕ) → AreNone (sought.ChangedBlock n
 forces_none frames n none =
     record {
       held =
-          sym (forced_none n (held_by frames) (none_changed frames.size n (entries_of frames) none));
+          sym (forced_none n (held_by frames)
+          (none_changed frames.size n (entries_of frames) none));
       empty = refl;
       bare = refl;
     }

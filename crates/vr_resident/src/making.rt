@@ -33,7 +33,8 @@ pub(crate) fn take_sixteen(frames: &mut Frames) -> Option<u32>
     requires bare { 16 ≤ bare_count frames.old }
     ensures all { IfNone result (IsTaken 16 frames.old frames.new) }
     ensures fewer { IfSome result (λ got. got < 16) }
-    ensures out { IfSome result (λ got. FoundAllOut (pool_of frames.old) frames.old.seat frames.new.seat) }
+    ensures out { IfSome result
+        (λ got. FoundAllOut (pool_of frames.old) frames.old.seat frames.new.seat) }
     ensures seated { IsSeated frames.new }
     ensures seat { KeepsSeat frames.old frames.new }
 {

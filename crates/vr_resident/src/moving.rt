@@ -1,5 +1,6 @@
 //! How blocks leave their frames, and are written.
-ghost use Rattle.std.specs.Prelude.{◌≡◌, ◌<◌, IsTrue, IsOk, OnOk, OnErr, true, false, length, slice_set};
+ghost use Rattle.std.specs.Prelude.{◌≡◌, ◌<◌, IsTrue, IsOk, OnOk};
+ghost use Rattle.std.specs.Prelude.{OnErr, true, false, length, slice_set};
 ghost use Rattle.vr_types.specs.Blocks.{Keeps, Puts};
 ghost use Rattle.vr_types.specs.Faults.{CountsWrite};
 ghost use Rattle.vr_resident.specs.Held.{over};
@@ -37,8 +38,8 @@ fn write_if<D: BlockDevice>(
     }
 }
 
-/// The block that was used least recently leaves its frame, which is empty then. A changed one is written first, and
-/// stays where that fails.
+/// The block that was used least recently leaves its frame, which is empty then. A changed one is
+/// written first, and stays where that fails.
 pub(crate) fn evict<D: BlockDevice>(
     device: &mut D,
     frames: &mut Frames,

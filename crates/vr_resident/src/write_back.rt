@@ -1,5 +1,6 @@
 //! Blocks of a device in frames.
-ghost use Rattle.std.specs.Prelude.{◌≡◌, ◌<◌, ◌-◌, ℕ, All, IsTrue, IfOk, IfNone, OnOk, OnErr, length, min, slice_set, take};
+ghost use Rattle.std.specs.Prelude.{◌≡◌, ◌<◌, ◌-◌, ℕ, All, IsTrue, IfOk};
+ghost use Rattle.std.specs.Prelude.{IfNone, OnOk, OnErr, length, min, slice_set, take};
 ghost use Rattle.std.specs.Borrow.{sem};
 ghost use Rattle.std.specs.Io.BufRead.{Rests};
 ghost use Rattle.vr_types.specs.Image.{block_at};

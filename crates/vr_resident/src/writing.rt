@@ -1,5 +1,6 @@
 //! How changed blocks are forced and flushed.
-ghost use Rattle.std.specs.Prelude.{◌≡◌, ◌<◌, ℕ, [], ◌∷◌, min, take, All, IsTrue, IfNone, IfOk, OnOk, OnErr};
+ghost use Rattle.std.specs.Prelude.{◌≡◌, ◌<◌, ℕ, [], ◌∷◌, min};
+ghost use Rattle.std.specs.Prelude.{take, All, IsTrue, IfNone, IfOk, OnOk, OnErr};
 ghost use Rattle.vr_types.specs.Blocks.{Keeps, Forced, AllForced};
 ghost use Rattle.vr_types.specs.Faults.{CountsWrite, HasWriteCause};
 ghost use Rattle.vr_resident.specs.Held.{over, changed_count};

@@ -9,6 +9,7 @@ pub use Rattle.vr_space.proofs.KeyedSound.{keyed-within, keyed-image, each-less,
 pub use Rattle.vr_space.proofs.Rising.{stands_content, one_content}
 pub use Rattle.vr_space.proofs.Adding.{only-weaken, adds-weaken, adds-then, nothing-then}
 pub use Rattle.vr_space.proofs.Adding.{then-nothing, rest-sound, sound-image, rest-stands}
-pub use Rattle.vr_space.proofs.Adding.{content_item, sound-keeps, rest-keeps, room-keeps, keeps-adds}
+pub use Rattle.vr_space.proofs.Adding.{content_item, sound-keeps, rest-keeps, room-keeps}
+pub use Rattle.vr_space.proofs.Adding.{keeps-adds}
 pub use Rattle.vr_space.proofs.Adding.{same-keeps, due-keeps, forced-firm, firm-due, due-then}
 pub use Rattle.vr_space.proofs.Adding.{ready-can, records-then, sets-after, on-still, record-length}

@@ -23,7 +23,8 @@ pub trait Kept {
     fn next_kept(&self, part: PartNo, from: Whence<'_>) -> Option<&Place>
         ensures { MatchOption result
             (first_allowed from.entry (places_kept (kept self.now part)) ≡ None)
-            (λ place. first_allowed from.entry (places_kept (kept self.now part)) ≡ Some place.now) };
+            (λ place. first_allowed from.entry (places_kept (kept self.now part))
+            ≡ Some place.now) };
 }
 
 /// Keeps nothing.

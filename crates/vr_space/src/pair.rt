@@ -110,7 +110,8 @@ fn set_both<B: Blocks, P: Part, K: Kept>(
 ///
 /// Where a crash leaves each place's record alone at first: in every image of every moment, whether
 /// the call fails or not, the blocks stand for a content, and each place of it has the record that
-/// it had, or the one that is given for it. Once it is done, a crash leaves both and what was there.
+/// it had, or the one that is given for it. Once it is done, a crash leaves both and what was
+/// there.
 pub fn set_pair<B: Blocks, P: Part, K: Kept>(
     blocks: &mut B,
     part: &mut P,

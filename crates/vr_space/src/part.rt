@@ -41,8 +41,8 @@ use crate::room::Room;
 use crate::whence::Whence;
 use vr_types::{Blocks, DeviceFault, Place, PlaceBuffer, Space, StageKind};
 
-/// Records at ascending places, on blocks. Where the device reports its contents, a clause names the
-/// record at a place, what a crash may leave there, and what a call adds to that. No call takes
+/// Records at ascending places, on blocks. Where the device reports its contents, a clause names
+/// the record at a place, what a crash may leave there, and what a call adds to that. No call takes
 /// memory.
 pub trait Part {
     /// Where the part is on its blocks, and how they are spelled.

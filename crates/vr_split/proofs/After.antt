@@ -39,7 +39,8 @@ module _ (part : Keyed) (tells : Bool) (told : IsTrue tells) (a b : Seen) (n : �
     }
 
     -- it has room for what is kept, where the bytes have
-    pub room-after : (kept : Lengths) → IsKeyedAtRest part a → Puts tells n bytes a b → n ≢ part.head
+    pub room-after : (kept : Lengths) → IsKeyedAtRest part a → Puts tells n bytes a b
+        → n ≢ part.head
         → KeepsRoom part kept a
         → OfBlock part n None (now-entries part a n bytes)
         (λ range. HaveRoom part.size (lengths_of part kept range bytes)) → KeepsRoom part kept b
@@ -121,8 +122,8 @@ module _ (part : Keyed) (tells : Bool) (told : IsTrue tells) (a b : Seen) (n : �
         subst (λ (o : Option (Range
         × Entry)). IfSome o (λ f. slice_index f.1.intervals 0 < part.area)) is within
 
-    -- What had to be forced for a place has to be, where all that may be left of the block once it is
-    -- has the record that is read there.
+    -- What had to be forced for a place has to be, where all that may be left of the block once it
+    -- is has the record that is read there.
     pub due-put : (listed place : List ℕ) → IsKeyedAtRest part a → Left a a.cur
         → Puts tells n bytes a b → n ≢ part.head
         → ((at : Range × Entry) → entry_for None (now-entries part a n bytes) place ≡ Some at
@@ -132,7 +133,8 @@ module _ (part : Keyed) (tells : Bool) (told : IsTrue tells) (a b : Seen) (n : �
     due-put listed place rests left call other leads due item is =
         let now : Block = block_at a.cur part.head in
         let may : a.may part.head now = left.each part.head (omega (arith, rests.sound.area)) in
-        let top : is.0 ≡ now = rests.one_head is.0 (head-before rests.sound call other is.0 is.1.0) in
+        let top : is.0 ≡ now =
+        rests.one_head is.0 (head-before rests.sound call other is.0 is.1.0) in
         let found : Option (Range × Entry) = entry_for None (entries_of now) place in
         let within : IfSome found (λ f. slice_index f.1.intervals 0 < part.area) =
         entry-in part.area None (entries_of now) place

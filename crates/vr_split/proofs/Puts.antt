@@ -130,7 +130,8 @@ module _ (part : Keyed) (a : Seen) (n : ℕ) (bytes : Block) where
       (λ new. inr (
         new.0,
         sym
-            (ap (λ (head : Block). entry_for None (entries_of head) place) (rests.one_head is.0 may))
+            (ap (λ (head : Block). entry_for None (entries_of head) place)
+            (rests.one_head is.0 may))
             ∙ new.1,
         new.2,
         new.3,

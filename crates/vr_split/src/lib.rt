@@ -1,5 +1,5 @@
-//! Splits of control intervals: where one is cut, and the puts of the stages in which it is done. It
-//! stands on `vr_types`, `vr_ci`, `vr_seqset` and `vr_space`.
+//! Splits of control intervals: where one is cut, and the puts of the stages in which it is done.
+//! It stands on `vr_types`, `vr_ci`, `vr_seqset` and `vr_space`.
 //!
 //! It promises the cut exactly, and of each put of a split that it adds nothing to what places may
 //! hold in the image of any moment, whether it failed or not.

@@ -26,7 +26,8 @@ impl Model for Weights {
 
     ghost Value = { Weighed };
 
-    ghost view = { λ weights. map (λ (entry : Entry). (entry.place, entry.weight)) weights.entries.items };
+    ghost view = { λ weights. map
+        (λ (entry : Entry). (entry.place, entry.weight)) weights.entries.items };
 }
 
 impl Weights {

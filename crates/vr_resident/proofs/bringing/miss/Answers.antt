@@ -17,7 +17,8 @@ returns-in-Ok-read_in-clause-ok g c =
         r.unchanged,
         record {
           not_held =
-              subst (λ (k : ℕ). IsOther k (held_by c.args.frames.now)) (sym r.it_is) c.requires.not_held;
+              subst (λ (k : ℕ). IsOther k (held_by c.args.frames.now)) (sym r.it_is)
+              c.requires.not_held;
           with_room = c.room.new.frames;
           room = c.in-Ok.ensures.ok;
           enters = r.enters;
