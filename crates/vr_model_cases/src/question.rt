@@ -1,0 +1,36 @@
+//! Which call a question asks.
+
+use crate::answers::{Answer, Stop, say};
+use crate::desk::Desk;
+use crate::entries::entry_of;
+use crate::views;
+use crate::words::parted;
+use std::alloc::Global;
+use vr_model::apply;
+
+/// Writes the answer to a line.
+pub fn answer(alloc: Global, desk: &mut Desk, line: &str, out: &mut String) -> Answer {
+    let (verb, rest) = parted(line);
+    match verb {
+        "volume" => desk.shape(rest, out),
+        "cluster" => desk.cluster(alloc, rest, out),
+        "alternate" => desk.alternate(alloc, rest, out),
+        "record" => desk.record(alloc, rest, out),
+        "area" => desk.area(rest, out),
+        "open" => desk.open(alloc, out),
+        "show" => views::show(alloc, &desk.state, rest, out),
+        _ => enter(alloc, desk, line, out),
+    }
+}
+
+/// Takes an entry, and says whether it is a step.
+fn enter(alloc: Global, desk: &mut Desk, line: &str, out: &mut String) -> Answer {
+    let entry = entry_of(alloc, desk.stamp, line)?;
+    let taken = apply(alloc, &mut desk.state, &entry)?;
+    if taken {
+        desk.stamp = desk.stamp.saturating_add(1);
+        say(out, "step")
+    } else {
+        say(out, "no step")
+    }
+}
