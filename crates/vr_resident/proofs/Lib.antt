@@ -7,6 +7,7 @@ pub mod Moves
 pub mod Framing
 pub mod Flushing
 pub mod Over
+pub mod Resting
 pub mod Returning
 pub mod Steps
 pub mod Taking

@@ -1,12 +1,19 @@
 -- Calls one after the other.
 use Rattle.std.proofs.Common.{◌≡◌, ℕ, Bool, false, IsTrue, List, Result, Ok, Err, OnOk, is_err}
+use Rattle.std.specs.Prelude.{IsErrOf}
+use Rattle.std.proofs.lemmas.Result.{IfErr-at_err}
 use Rattle.std.proofs.Common.{refl, sym, ap, ◌∙◌, subst, true≢false, [], ◌∷◌, length, arith}
-use Rattle.vr_types.specs.Image.{Image, block_at}
+use Rattle.std.specs.Borrow.{Bor}
+use Rattle.vr_types.specs.Image.{Block, Image, block_at}
 use Rattle.vr_types.specs.Seen.{Seen, Left}
 use Rattle.vr_types.specs.Blocks.{Keeps, Forced}
+use Rattle.vr_types.specs.Faults.{Faults, HasCause}
+use Rattle.vr_types.specs.declared.fault.DeviceFault.{DeviceFault}
+use Rattle.vr_types.specs.declared.fault.DeviceFault.TheVariants.{Read, Write}
 use Rattle.vr_resident.specs.Held.{Held, IsHeld, over, overlay}
 use Rattle.vr_resident.specs.Places.{Entry, block_in, held_of}
-use Rattle.vr_resident.specs.Cache.{IsKept, KeepsSeat, entries_of, held_by}
+use Rattle.vr_resident.specs.Cache.{IsKept, KeepsSeat, GetsBlock, StaysEmpty, Got, entries_of}
+use Rattle.vr_resident.specs.Cache.{held_by}
 use Rattle.vr_resident.specs.Resident.{seen_through}
 use Rattle.vr_resident.specs.declared.place.Buffer.{Buffer}
 use Rattle.vr_resident.specs.declared.place.Place.TheVariants.{Taken}
@@ -96,3 +103,49 @@ first_content tells device frames n number changed buffer rest kept split told l
     ap (λ (hs : List Held). block_at (overlay device.cur hs) n) held
     ∙ overlay-held device.cur h [] (held_of frames.size rest) (omega (arith, there.below.0, long))
     there.once.0 (there.are_clean told).0
+
+-- the fault is the same, whatever the call would have answered without one
+same_fault : {T U : Type 0} (fault e : DeviceFault) → IsErrOf {T = T} (Err fault) e
+    → IsErrOf {T = U} (Err fault) e
+same_fault {T} {U} fault e is = ap Err (IfErr-at_err (λ x. fault ≡ x) is refl)
+
+pub cause_err : {T U : Type 0} (before now : Faults) (fault : DeviceFault)
+    → HasCause {T = T} before now (Err fault) → HasCause {T = U} before now (Err fault)
+cause_err {T} {U} before now fault call = record {
+  reads = call.reads;
+  writes = call.writes;
+  ok = tt;
+  read = λ is. call.read (same_fault {T = U} {U = T} fault Read is);
+  write = λ is. call.write (same_fault {T = U} {U = T} fault Write is);
+}
+
+-- what a `get` leaves, with its block and without one
+pub gets_ok : (n number : ℕ) (changed : Bool) (buffer : Buffer) (rest : List Entry) (x : Bor Block)
+    (old new : Frames) → GetsBlock n old new
+    → entries_of new ≡ (number, Taken n changed buffer) ∷ rest → x.now ≡ block_in new.size buffer
+    → KeepsSeat old new → Got n (Ok x) old new
+gets_ok n number changed buffer rest x old new first split bytes seat = record {
+  first = first;
+  lent = record {
+    changed = changed;
+    rest = held_of new.size rest;
+    held = ap (held_of new.size) split
+        ∙ ap (λ (b : Block). record { block = n; bytes = b; changed = changed }
+        ∷ held_of new.size rest) (sym bytes);
+  };
+  unread = λ is. IfErr-at_err (λ _. StaysEmpty old new) is tt;
+  unwritten = λ is. IfErr-at_err (λ _. new.table ≡ old.table) is tt;
+  seat = seat;
+}
+
+pub gets_err : {T : Type 0} (n : ℕ) (fault : DeviceFault) (old new : Frames)
+    → (IsErrOf {T = T} (Err fault) Read → StaysEmpty old new)
+    → (IsErrOf {T = T} (Err fault) Write → new.table ≡ old.table) → KeepsSeat old new
+    → Got n (Err fault) old new
+gets_err {T} n fault old new unread unwritten seat = record {
+  first = tt;
+  lent = tt;
+  unread = λ is. unread (same_fault {U = T} fault Read is);
+  unwritten = λ is. unwritten (same_fault {U = T} fault Write is);
+  seat = seat;
+}

@@ -6,7 +6,8 @@ use Rattle.std.specs.List.{AllByRecursion}
 use Rattle.std.specs.Arc.{arc_value}
 use Rattle.vr_types.specs.Image.{Block}
 use Rattle.vr_types.specs.Seen.{Seen}
-use Rattle.std.specs.Prelude.{Result, OnOk, IsErrOf}
+use Rattle.std.specs.Prelude.{Result, OnOk, IfOk, IsErrOf}
+use Rattle.std.specs.Borrow.{Bor}
 use Rattle.vr_types.specs.declared.fault.DeviceFault.{DeviceFault}
 use Rattle.vr_types.specs.declared.fault.DeviceFault.TheVariants.{Read, Write}
 use Rattle.vr_frames.specs.declared.shared.Pool.{Pool}
@@ -154,13 +155,6 @@ abbrev pub GetsNone : Frames → Frames → Type 0
 GetsNone old new =
     (new.table ≡ old.table) × ((bare_count old ≡ 0) ⊎ FindsAllOut (pool_of old) old.seat new.seat)
 
--- A place is now the most recently used, and holds a block.
-pub record Moves (number : ℕ) (was place : Place) (old new : Frames) : Type 0 where
-  pub before : List Entry
-  pub after : List Entry
-  pub split : entries_of old ≡ before ++ (number, was) ∷ after
-  pub is : new ≡ with_entries old ((number, place) ∷ (before ++ after))
-
 -- A block comes in, as the one that was used most recently.
 pub record Enters (h : Held) (old new : Frames) : Type 0 where
   pub first : held_by new ≡ h ∷ held_by old
@@ -258,10 +252,19 @@ IsBlockOf n frames bytes = (number : ℕ) (changed : Bool) (buffer : Buffer) (re
     → entries_of frames ≡ (number, Taken n changed buffer) ∷ rest
     → bytes ≡ block_in frames.size buffer
 
--- What a `get` of block n leaves.
-pub record Got {T : Type 0} (n : ℕ) (result : Result T DeviceFault) (old new : Frames) : Type 0
-  where
-    pub first : OnOk result (GetsBlock n old new)
-    pub unread : IsErrOf result Read → StaysEmpty old new
-    pub unwritten : IsErrOf result Write → new.table ≡ old.table
-    pub seat : KeepsSeat old new
+-- the first of the blocks held is block n, with these bytes
+pub record Shows (n : ℕ) (bytes : Block) (frames : Frames) : Type 0 where
+  pub changed : Bool
+  pub rest : List Held
+  pub held : held_by frames ≡ record { block = n; bytes = bytes; changed = changed } ∷ rest
+
+-- What a `get` of block n leaves: the block is the first, with the bytes that are lent, and the
+-- others keep their order; where it wasn't held, it took an empty frame, else a further frame of
+-- the pool, else that of the block used least recently. A read that fails leaves the room that was
+-- made for it empty, and a write that fails leaves every place as it was.
+pub record Got (n : ℕ) (result : Result (Bor Block) DeviceFault) (old new : Frames) : Type 0 where
+  pub first : OnOk result (GetsBlock n old new)
+  pub lent : IfOk result (λ s. Shows n s.now new)
+  pub unread : IsErrOf result Read → StaysEmpty old new
+  pub unwritten : IsErrOf result Write → new.table ≡ old.table
+  pub seat : KeepsSeat old new

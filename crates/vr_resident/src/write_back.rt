@@ -12,6 +12,7 @@ ghost use Rattle.vr_resident.specs.Held.{changed_count};
 ghost use Rattle.vr_resident.specs.Places.{buffers_of, count_of, gave};
 ghost use Rattle.vr_resident.specs.declared.place.Sought.TheVariants.{Free};
 ghost use Rattle.vr_types.specs.Faults.{HasCause, HasWriteCause};
+ghost use Rattle.vr_resident.specs.contracts.write_back.Resident.{the_row};
 ghost use Rattle.vr_resident.specs.Resident.{seen_through, held_in, HasFaultCause};
 ghost use Rattle.vr_resident.specs.Cache.{
   IsFramed,
@@ -88,7 +89,17 @@ impl<D: BlockDevice> Blocks for Resident<D> {
     ghost sized = { λ r n block told below may. sized_through (D.seen r.device) r.frames n block
         (λ old. D.sized r.device n block told below old) may };
 
-    fn get(&mut self, n: u32) -> Result<&[u8], DeviceFault> {
+    fn get(&mut self, n: u32) -> Result<&[u8], DeviceFault>
+        requires { n < (D.seen self.old.device).count }
+        ensures content { IsTrue D.tells → IfOk result (λ s. s.now
+            ≡ block_at (seen_through (D.seen self.old.device) self.old.frames).cur n) }
+        ensures length { IfOk result (λ s. length s.now ≡ (D.seen self.old.device).size) }
+        ensures* after { sem 𝓛 (Rests (the_row D.row D.BlockDevice) self.entry (λ new.
+            Keeps D.tells (seen_through (D.seen self.old.device) self.old.frames)
+            (seen_through (D.seen new.device) new.frames)
+            × HasCause (D.faults self.old.device) (D.faults new.device) result
+            × Got n result self.old.frames new.frames)) }
+    {
         match bring(&mut self.device, &mut self.frames, n) {
             Ok(()) => Ok(first(&self.frames, n)),
             Err(fault) => Err(fault),
