@@ -2,7 +2,6 @@
 use base.Logic.{SProp, ent, sep, wand, all, ex, emp, all_i, ex_i, ex_e, wand_i, via, mono_l, comm∗}
 use base.Logic.{emp∗, snd∗, mono_r}
 use contract.Fact.{fact}
-use Prim.Native.Nat.{ℕ}
 use seplogic.Ra.Ura.{Ura}
 use types.Logic.{Logic, sem}
 use denote.RattleType.{RattleType}
