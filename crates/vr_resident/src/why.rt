@@ -5,7 +5,7 @@ use vr_frames::FrameSeat;
 /// Why no resident blocks were made.
 #[derive(Clone, Copy, Debug, PartialEq, Eq)]
 pub enum ResidentWhy {
-    /// After so many frames, fewer than 16, the pool had no further one home.
+    /// After `got` frames, fewer than 16, the pool had no further one home.
     NoFrames { got: u32 },
     /// Out of memory.
     Memory,
