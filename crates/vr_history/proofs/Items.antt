@@ -49,7 +49,7 @@ item_other other place item content apart = item_first (other, item) content pla
     (place_apart place other apart)
 
 -- where the order of two places is known
-equal_places : (place other : List ℕ) → place_cmp place other ≡ Equal → place ≡ other
+pub equal_places : (place other : List ℕ) → place_cmp place other ≡ Equal → place ≡ other
 equal_places place other same =
     (bytes_eq-Decides place other).0 (sym (is_eq-slice_cmp place other) ∙ ap is_eq same)
 
