@@ -17,7 +17,7 @@ use Rattle.vr_types.specs.declared.geometry.Geometry.{Geometry}
 use Rattle.vr_history.specs.Address.{begins_in, is_spanned, last_interval, last_item, length_of}
 use Rattle.vr_history.specs.Address.{lengths_taken, next_address, next_after, number_of, room_taken}
 use Rattle.vr_history.specs.Addresses.{AreNext}
-use Rattle.vr_history.proofs.Items.{equal_places, item_first}
+use Rattle.vr_altkey.proofs.CallerLemmas.{all_below, equal_places, item_first, none_below}
 
 -- each item with its length alone
 abbrev pub outlined : Placed → Placed
@@ -162,24 +162,6 @@ outline_addressed geometry before (placed ∷ content) next = (
       (sym (map-append outlined before (placed ∷ []))) next.1),
 )
 
--- a place below all others has no item
-none_below : (place : List ℕ) (content : Content)
-    → AllByRecursion (λ other. place_cmp place other ≡ Less) (places_of content)
-    → item_at content place ≡ None
-none_below place [] below = refl
-none_below place (placed ∷ content) below =
-    ap (λ (order : Ordering). found_by order (Some placed.1) (item_at content place)) below.0
-    ∙ none_below place content below.1
-
-all_below : (place other : List ℕ) (content : Content) → place_cmp place other ≡ Less
-    → AllByRecursion (λ next. place_cmp other next ≡ Less) (places_of content)
-    → AllByRecursion (λ next. place_cmp place next ≡ Less) (places_of content)
-all_below place other [] less below = tt
-all_below place other (placed ∷ content) less below = (
-  nat_list_cmp_total.trans place other placed.0 less below.0,
-  all_below place other content less below.1,
-)
-
 -- an item put in over one of its length changes no outline
 pub outline_put : (place : List ℕ) (item : Item) (content : Content) → Ascends content
     → length_at content place ≡ Some (length_of item)
@@ -198,7 +180,7 @@ outline_put place item (placed ∷ content) ascends same =
         outline (placed ∷ content)
     by_order Less is there further =
         let none : item_at content place ≡ None = none_below place content
-        (all_below place placed.0 content is
+        (all_below place placed.0 (places_of content) is
         (sorted_head place_cmp placed.0 (places_of content) ascends)) in
         absurd (some_none (sym (ap (option_map length_of) none) ∙ there))
       where
