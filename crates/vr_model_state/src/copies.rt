@@ -55,6 +55,7 @@ fn copy_of_locks(alloc: Global, from: &[HeldLock]) -> Result<Vec<HeldLock>, OutO
     }
 }
 
+/// Copies of before-images, in their order; fails only if memory runs out.
 pub fn copy_of_befores(alloc: Global, from: &[KeptImage]) -> Result<Vec<KeptImage>, OutOfMemory>
     ensures { IfOk result (λ copy. copy.items ≡ from.now) }
 {
