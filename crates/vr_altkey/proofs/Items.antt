@@ -80,7 +80,8 @@ put_here place item (entry ∷ content) =
         item_other entry.0 place entry.1 (with_item content place item)
         (unequal_places place entry.0 Greater is refl) ∙ further
 
-pub put_elsewhere : (place : List ℕ) (item : Item) (content : Content) (other : List ℕ) → other ≢ place
+pub put_elsewhere : (place : List ℕ) (item : Item) (content : Content) (other : List ℕ) → other ≢
+    place
     → item_at (with_item content place item) other ≡ item_at content other
 put_elsewhere place item [] other apart = item_other place other item [] apart
 put_elsewhere place item (entry ∷ content) other apart =
@@ -100,7 +101,8 @@ put_elsewhere place item (entry ∷ content) other apart =
         ∙ sym (item_first entry content other))
 
 -- an item is taken out
-pub out_here : (place : List ℕ) (content : Content) → item_at (without_item content place) place ≡ None
+pub out_here : (place : List ℕ) (content : Content) → item_at (without_item content place) place ≡
+    None
 out_here place [] = refl
 out_here place (entry ∷ content) = by_test (bytes_eq place entry.0) refl (out_here place content)
   where
@@ -214,7 +216,8 @@ same_items (first ∷ one) (second ∷ other) ascends ascends' same =
 below_put : (before place : List ℕ) (item : Item) (content : Content)
     → place_cmp before place ≡ Less
     → AllByRecursion (λ next. place_cmp before next ≡ Less) (places_of content)
-    → AllByRecursion (λ next. place_cmp before next ≡ Less) (places_of (with_item content place item))
+    → AllByRecursion (λ next. place_cmp before next ≡ Less) (places_of
+    (with_item content place item))
 below_put before place item [] less below = (less, tt)
 below_put before place item (first ∷ content) less below =
     by_order (place_cmp place first.0) (below_put before place item content less below.1)

@@ -288,11 +288,13 @@ module _ (key_length key_offset : ℕ) (place : List ℕ) where
           → item_at (map (λ (other : Pair). let placed : Placed =
           (pair_place other, Standing (pair_place other)) in
           placed) pairs) place ≡ stood (list_any (is_place_of place) pairs) place
-          → cond test (Some (Standing (pair_place pair))) (item_at (map (λ (other : Pair). let placed
+          → cond test (Some (Standing (pair_place pair))) (item_at
+          (map (λ (other : Pair). let placed
           : Placed = (pair_place other, Standing (pair_place other)) in
           placed) pairs) place) ≡ stood (test || list_any (is_place_of place) pairs) place
       by_test true is further =
-          ap (λ (p : List ℕ). Some (Standing p)) (sym ((bytes_eq-Decides place (pair_place pair)).0 is))
+          ap (λ (p : List ℕ). Some (Standing p)) (sym ((bytes_eq-Decides place (pair_place pair)).0
+          is))
       by_test false is further = further
 
   pub index_at : (base : Content) → Ascends base

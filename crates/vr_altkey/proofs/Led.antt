@@ -17,7 +17,8 @@ use Rattle.std.proofs.lemmas.List.{append-nil}
 use Rattle.std.proofs.lemmas.List.Elements.{filter-append}
 use Rattle.std.proofs.lemmas.Slice.Eq.{bytes_eq-Decides}
 use Rattle.vr_types.specs.Content.{Ascends, Content, Item, Placed, Standing, found_by, item_at}
-use Rattle.vr_types.specs.Content.{place_cmp, places_of, record_at, record_of, records_of, with_item}
+use Rattle.vr_types.specs.Content.{place_cmp, places_of, record_at, record_of, records_of}
+use Rattle.vr_types.specs.Content.{with_item}
 use Rattle.vr_types.specs.Content.{without_item}
 use Rattle.vr_altkey.specs.declared.definition.AltDef.{AltDef}
 use Rattle.vr_altkey.specs.declared.definition.PairChange.{PairChange}
@@ -27,8 +28,10 @@ use Rattle.vr_altkey.specs.Pairs.{Pair, field_of, pair_cmp, pair_of, pair_place,
 use Rattle.vr_altkey.specs.Pairs.{pairs_content, pairs_of}
 use Rattle.vr_altkey.specs.Placing.{placed_in, record_in}
 use Rattle.vr_altkey.proofs.Items.{out_ascends, out_elsewhere, out_here, put_ascends, put_elsewhere}
-use Rattle.vr_altkey.proofs.Items.{placed_ascends, placed_elsewhere, placed_here, put_here, same_items}
-use Rattle.vr_altkey.proofs.Leading.{drop_field, field_length, has_field, index_at, pairs_over, stood}
+use Rattle.vr_altkey.proofs.Items.{placed_ascends, placed_elsewhere, placed_here, put_here}
+use Rattle.vr_altkey.proofs.Items.{same_items}
+use Rattle.vr_altkey.proofs.Leading.{drop_field, field_length, has_field, index_at, pairs_over}
+use Rattle.vr_altkey.proofs.Leading.{stood}
 use Rattle.vr_altkey.proofs.Sorting.{folded_sorted, none_sorted, pairs_in}
 
 -- ---- the content of an index ascends
@@ -161,7 +164,8 @@ module _ (def : AltDef) (place : List ℕ) where
       by_field : (field : Option (List ℕ))
           → pairs_changed (option_to_list (option_map (λ (pair : List ℕ). let change : PairChange =
           record { part = def.part; place = pair; added = false } in
-          change) (option_map pair_place (option_map (λ (f : List ℕ). let pair : Pair = (f, place) in
+          change) (option_map pair_place (option_map (λ (f : List ℕ). let pair : Pair = (f, place)
+          in
           pair) field))) ++ later) content ≡ pairs_changed later (went place field content)
       by_field None = refl
       by_field (Some field) = refl
@@ -175,7 +179,8 @@ module _ (def : AltDef) (place : List ℕ) where
       by_field : (field : Option (List ℕ))
           → pairs_changed (option_to_list (option_map (λ (pair : List ℕ). let change : PairChange =
           record { part = def.part; place = pair; added = true } in
-          change) (option_map pair_place (option_map (λ (f : List ℕ). let pair : Pair = (f, place) in
+          change) (option_map pair_place (option_map (λ (f : List ℕ). let pair : Pair = (f, place)
+          in
           pair) field)))) content ≡ came place field content
       by_field None = refl
       by_field (Some field) = refl

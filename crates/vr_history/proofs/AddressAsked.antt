@@ -1,6 +1,7 @@
 -- What a request that is done says where it is on an entry-sequenced data set.
 use Rattle.std.proofs.Common.{◌≡◌, ℕ, ◌+◌, ◌-◌, ◌*◌, ◌/◌, ◌%◌, ◌<◌, ◌≤◌, Bool, true, false, cond}
-use Rattle.std.proofs.Common.{min, zero, suc, not, ◌==◌, ◌||◌, List, [], ◌∷◌, length, Some, None, refl, sym, ap}
+use Rattle.std.proofs.Common.{min, zero, suc, not, ◌==◌, ◌||◌, List, [], ◌∷◌, length, Some, None}
+use Rattle.std.proofs.Common.{refl, sym, ap}
 use Rattle.std.proofs.Common.{◌∙◌, subst, arith}
 use Rattle.std.specs.Prelude.{Option, nat_eq, nat_le, option_map}
 use Rattle.std.specs.Int.{div_ceil}
@@ -30,7 +31,8 @@ use Rattle.vr_history.specs.Case.{Case}
 use Rattle.vr_history.specs.Change.{old_record}
 use Rattle.vr_history.specs.Opened.{ByPath, Cluster, Opened, Unknown, by_name, by_path, catalog_of}
 use Rattle.vr_history.specs.Opened.{definition_in, opened_base, opened_file}
-use Rattle.vr_history.specs.RefusedFile.{can_erase, is_unknown, kind_allows, record_wrong, refused_if}
+use Rattle.vr_history.specs.RefusedFile.{can_erase, is_unknown, kind_allows, record_wrong}
+use Rattle.vr_history.specs.RefusedFile.{refused_if}
 use Rattle.vr_history.specs.RefusedRecord.{changes_length, other_length}
 use Rattle.vr_history.specs.State.{Owned, State, areas_of}
 use Rattle.vr_history.proofs.Befores.{or_false}

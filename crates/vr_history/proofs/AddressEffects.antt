@@ -41,7 +41,8 @@ use Rattle.vr_history.proofs.AddressAsked.{IsOn, never_erased, no_cause, on_entr
 use Rattle.vr_history.proofs.AddressAsked.{record_some, same_length, within_areas}
 use Rattle.vr_history.proofs.AddressNumbers.{number_back}
 use Rattle.vr_history.proofs.Addressing.{Enters, Holds, KeepsLength, Moves, add_moves}
-use Rattle.vr_history.proofs.Addressing.{addressed_laid, change_moves, images_stay, moves_enters, put_moves}
+use Rattle.vr_history.proofs.Addressing.{addressed_laid, change_moves, images_stay, moves_enters}
+use Rattle.vr_history.proofs.Addressing.{put_moves}
 use Rattle.vr_history.proofs.Addressing.{same_moves}
 use Rattle.vr_history.proofs.Committing.{Keeps, left_if}
 use Rattle.vr_history.proofs.Laying.{all_append, lies_past}
@@ -251,7 +252,8 @@ module _ (geometry : Geometry) (part : ℕ) (state : State) (unit : UnitOfRecove
         (with_item (state.contents part) place (Standing bytes))) (sym (given_here place same))
         (subst (λ (at : List ℕ). Moves geometry (state.contents part)
         (with_item (state.contents part) at (Standing bytes)) (at ∷ [])) (sym at_next)
-        (add_moves geometry (state.contents part) (Standing bytes) allowed holds.addressed some within))
+        (add_moves geometry (state.contents part) (Standing bytes) allowed holds.addressed some
+        within))
       where
         next : ℕ
         next = next_address geometry.size (state.contents part) (length bytes)
@@ -296,7 +298,8 @@ module _ (geometry : Geometry) (part : ℕ) (state : State) (unit : UnitOfRecove
           new = Some (Standing bytes);
         } in change) place) (drops_held unit.deck (Some file) state)) (given place)
     add_enters None placed =
-        subst (Enters geometry part (state.contents part) (drops_held unit.deck (Some file) state)) (sym given_none)
+        subst (Enters geometry part (state.contents part) (drops_held unit.deck (Some file) state))
+        (sym given_none)
         (same_enters geometry part (drops_held unit.deck (Some file) state) (dropped_holds file))
     add_enters (Some place) placed =
         made_enters geometry part (drops_held unit.deck (Some file) state) add_case (record {

@@ -43,7 +43,8 @@ use Rattle.vr_history.proofs.AddressEffects.{add_enters, all_but_last, all_left,
 use Rattle.vr_history.proofs.AddressEffects.{erase_enters, keeps_enters, last_holds, same_enters}
 use Rattle.vr_history.proofs.AddressEffects.{update_enters}
 use Rattle.vr_history.proofs.Addressing.{Enters, Holds, KeepsLength, Moves, addressed_laid}
-use Rattle.vr_history.proofs.Addressing.{change_moves, images_stay, moves_enters, out_moves, put_moves}
+use Rattle.vr_history.proofs.Addressing.{change_moves, images_stay, moves_enters, out_moves}
+use Rattle.vr_history.proofs.Addressing.{put_moves}
 use Rattle.vr_history.proofs.Committing.{drops_keep, keeps_then, read_keeps, stands_keep}
 use Rattle.vr_history.proofs.OwnedAreas.{claims_owned}
 use Rattle.vr_history.proofs.Replying.{done_is, done_refused_not}

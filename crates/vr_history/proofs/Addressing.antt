@@ -20,7 +20,8 @@ use Rattle.vr_history.specs.State.{BeforeImage, State}
 use Rattle.vr_history.proofs.AddressNumbers.{number_back}
 use Rattle.vr_history.proofs.Laying.{AreLaid, LiesPast, laid_all, lies_past, next_append, none_laid}
 use Rattle.vr_history.proofs.Outlines.{addressed_outline, length_at, outline, outline_addressed}
-use Rattle.vr_history.proofs.Outlines.{outline_lengths, outline_places, outline_put, out_none, put_last}
+use Rattle.vr_history.proofs.Outlines.{outline_lengths, outline_places, outline_put, out_none}
+use Rattle.vr_history.proofs.Outlines.{put_last}
 use Rattle.vr_history.proofs.Same.{nat_same}
 
 -- from one content to another, with some addresses more: no place goes, and no item changes length
@@ -59,7 +60,8 @@ pub put_moves : (geometry : Geometry) (content : Content) (place : List ℕ) (it
     → Moves geometry content (with_item content place item) []
 put_moves geometry content place item allowed addressed same =
     stays_moves geometry content (with_item content place item) addressed
-    (outline_put place item content (addressed_laid geometry content allowed addressed).ascends same)
+    (outline_put place item content (addressed_laid geometry content allowed addressed).ascends
+    same)
 
 -- nothing, where nothing stands
 pub out_moves : (geometry : Geometry) (content : Content) (place : List ℕ)

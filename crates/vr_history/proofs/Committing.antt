@@ -280,7 +280,8 @@ agrees_by counts part state new counted counted' found contents same agrees plac
     ∙ ap (λ (kept : Option BeforeImage). record_in
     (kept_or kept (item_at (state.contents part) place))) (found place)))
 
-pub left_if : (test : Bool) (content : Content) → test ≡ true → (if test then content else []) ≡ content
+pub left_if : (test : Bool) (content : Content) → test ≡ true → (if test then content else []) ≡
+    content
 left_if true content is = refl
 left_if false content is = absurd (false≢true is)
 
@@ -300,7 +301,8 @@ ended_by counts part state counted counted' unit found has same holds =
           contents =
               contents_left (without_unit unit state);
           owned =
-              filter (λ owned. has_part (parts_laid (catalog_of (without_unit unit state))) owned.part)
+              filter (λ owned. has_part (parts_laid (catalog_of (without_unit unit state)))
+              owned.part)
               state.owned;
         })) counted'
     by_test true = record {
@@ -314,7 +316,8 @@ ended_by counts part state counted counted' unit found has same holds =
         contents =
             contents_left (without_unit unit state);
         owned =
-            filter (λ owned. has_part (parts_laid (catalog_of (without_unit unit state))) owned.part)
+            filter (λ owned. has_part (parts_laid (catalog_of (without_unit unit state)))
+            owned.part)
             state.owned;
       }) counted counted' found (left_if _ (state.contents part) has) same
           holds.agrees;

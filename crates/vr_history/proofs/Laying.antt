@@ -45,7 +45,8 @@ volume_fits geometry allowed =
   where
     within : (blocks area : ℕ) → blocks / (area + 1) * area ≤ blocks
     within blocks area =
-        let parts : blocks / (area + 1) * (area + 1) ≤ blocks = nat.div-mul-le_self blocks (area + 1) in
+        let parts : blocks / (area + 1) * (area + 1) ≤ blocks = nat.div-mul-le_self blocks
+        (area + 1) in
         omega (arith, nat.mul-add (blocks / (area + 1)) area 1)
 
 -- what is taken of an interval, with one item more at the end
@@ -90,7 +91,8 @@ last_some first (next ∷ rest) = last_some next rest
 
 none_last : (content : Content) → last_item content ≡ None → content ≡ []
 none_last [] none = refl
-none_last (first ∷ rest) none = let some = last_some first rest in absurd (no_last some.0 (sym none ∙ some.1))
+none_last (first ∷ rest) none = let some = last_some first rest in absurd
+    (no_last some.0 (sym none ∙ some.1))
   where
     no_last : (last : Placed) → None ≡ Some last → ⊥
     no_last last is = cc
@@ -117,7 +119,8 @@ pub record AreLaid (geometry : Geometry) (content : Content) : Type 0 where
 -- what is known of the next address
 pub record LiesPast (geometry : Geometry) (content : Content) (new n : ℕ) : Type 0 where
   pub fits : n < 2 ^ 32
-  pub past : AllByRecursion (λ place. place_cmp place (to_be_bytes w32 n) ≡ Less) (places_of content)
+  pub past : AllByRecursion (λ place. place_cmp place (to_be_bytes w32 n) ≡ Less)
+      (places_of content)
   pub packed : n < n / geometry.size * geometry.size
       + (lengths_taken geometry.size (n / geometry.size) content + new)
 
@@ -153,12 +156,14 @@ plain_past geometry content new last allowed laid some plain room =
     let whole : (interval + 1) * size ≤ intervals_of geometry * size =
     mul-le (interval + 1) size (intervals_of geometry) size (omega (arith, laid.ends)) (omega arith)
     in
-    let next : (interval + 1) * size ≡ interval * size + size = omega (arith, nat.add-mul interval 1 size) in
+    let next : (interval + 1) * size ≡ interval * size + size = omega
+    (arith, nat.add-mul interval 1 size) in
     let bytes : intervals_of geometry * size ≤ 2 ^ 31 = volume_fits geometry allowed in
     let fits : interval * size + taken < 2 ^ 32 = omega arith in
     let P : ℕ → Type 0 = λ i. address < i * size + lengths_taken size i content in
     let beyond : address < interval * size + taken = subst P (sym same) laid.packed in
-    let back : (interval * size + taken) / size ≡ interval = div-mul-add interval size taken small in
+    let back : (interval * size + taken) / size ≡ interval = div-mul-add interval size taken small
+    in
     let Q : ℕ → Type 0 = λ i. interval * size + taken < i * size
     + (lengths_taken size i content + new) in
     record {
@@ -182,10 +187,12 @@ next_past geometry content new last allowed laid some =
     in
     let bytes : intervals_of geometry * size ≤ 2 ^ 31 = volume_fits geometry allowed in
     let fits : (interval + 1) * size < 2 ^ 32 = omega arith in
-    let at_least : 1 ≤ intervals_for size (length_of last.1) = some_interval size (length_of last.1) least in
+    let at_least : 1 ≤ intervals_for size (length_of last.1) = some_interval size (length_of last.1)
+    least in
     let before : (address / size + 1) * size ≤ (interval + 1) * size =
     mul-le (address / size + 1) size (interval + 1) size (omega arith) (omega arith) in
-    let beyond : address < (interval + 1) * size = omega (arith, above address size (omega arith)) in
+    let beyond : address < (interval + 1) * size = omega (arith, above address size (omega arith))
+    in
     let back : (interval + 1) * size / size ≡ interval + 1 =
     ap (λ n. n / size) (omega arith) ∙ div-mul-add (interval + 1) size 0 (omega arith) in
     let Q : ℕ → Type 0 = λ i. (interval + 1) * size < i * size
@@ -197,7 +204,12 @@ next_past geometry content new last allowed laid some =
     }
   where
     above : (n size : ℕ) → 0 < size → n < (n / size + 1) * size
-    above n size some_size = omega (arith, nat.add-mul (n / size) 1 size, div-add-mod' n size, mod_below n size some_size)
+    above n size some_size = omega (
+      arith,
+      nat.add-mul (n / size) 1 size,
+      div-add-mod' n size,
+      mod_below n size some_size,
+    )
 
     some_interval : (size length : ℕ) → 512 ≤ size → 1 ≤ intervals_for size length
     some_interval size length least = by_test (is_spanned size length) refl
@@ -206,7 +218,8 @@ next_past geometry content new last allowed laid some =
             → 1 ≤ cond test (div_ceil length (size - 10)) 1
         by_test true is =
             let long : size - 6 ≤ length = grind (arith, nat_tests, is) in
-            let whole : 1 ≤ length / (size - 10) = le-div 1 length (size - 10) (omega arith) (omega arith) in
+            let whole : 1 ≤ length / (size - 10) = le-div 1 length (size - 10) (omega arith)
+            (omega arith) in
             omega arith
         by_test false is = omega arith
 
@@ -283,7 +296,8 @@ laid_next : (geometry : Geometry) (content : Content) (placed : Placed) → IsAl
 laid_next geometry content placed allowed laid next =
     let new : ℕ = length_of placed.1 in
     let n : ℕ = next_address geometry.size content new in
-    let past : LiesPast geometry content new n = lies_past geometry content new allowed laid next.some in
+    let past : LiesPast geometry content new n = lies_past geometry content new allowed laid
+    next.some in
     let number : number_of placed.0 ≡ n = ap number_of next.at ∙ number_back n past.fits in
     let places : places_of (content ++ placed ∷ []) ≡ places_of content ++ placed.0 ∷ [] =
     map-append (λ (item : Placed). item.0) content (placed ∷ []) in
@@ -326,7 +340,8 @@ laid_next geometry content placed allowed laid next =
         let itself : Below placed.0 = λ beyond less fits. ap
         (λ (place : List ℕ). place_cmp place (to_be_bytes w32 beyond)) next.at
         ∙ places_rise n beyond less fits in
-        let Top : ℕ → Type 0 = λ m. AllByRecursion (IsBelow m) (places_of (content ++ placed ∷ [])) in
+        let Top : ℕ → Type 0 = λ m. AllByRecursion (IsBelow m) (places_of (content ++ placed ∷ []))
+        in
         let Packed : ℕ → Type 0 = λ m. m < m / size * size + lengths_taken size (m / size) (content
         ++ placed ∷ []) in
         record {

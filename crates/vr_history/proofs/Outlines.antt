@@ -1,5 +1,6 @@
 -- What the addresses of a content rest on: the places and the lengths of its items.
-use Rattle.std.proofs.Common.{◌≡◌, ℕ, ◌+◌, ◌-◌, ◌*◌, ◌&&◌, Bool, true, false, cond, not, List, [], ◌∷◌, ◌++◌}
+use Rattle.std.proofs.Common.{◌≡◌, ℕ, ◌+◌, ◌-◌, ◌*◌, ◌&&◌, Bool, true, false, cond, not, List, []}
+use Rattle.std.proofs.Common.{◌∷◌, ◌++◌}
 use Rattle.std.proofs.Common.{map, filter, sum, bytes_eq, Some, None, refl, sym, ap, ◌∙◌, subst}
 use Rattle.std.specs.Prelude.{Option, nat_le, option_map}
 use Rattle.std.specs.Int.{w32, to_be_bytes}
@@ -186,7 +187,8 @@ outline_put place item (placed ∷ content) ascends same =
       where
         some_none : {n : ℕ} → None ≡ Some n → ⊥
         some_none is = cc
-    by_order Equal is there further = same_outline (equal_places place placed.0 is) (some_same there)
+    by_order Equal is there further = same_outline (equal_places place placed.0 is)
+        (some_same there)
       where
         some_same : Some (length_of placed.1) ≡ Some (length_of item)
             → length_of placed.1 ≡ length_of item
@@ -194,9 +196,11 @@ outline_put place item (placed ∷ content) ascends same =
 
         same_outline : place ≡ placed.0 → length_of placed.1 ≡ length_of item
             → outline ((place, item) ∷ content) ≡ outline (placed ∷ content)
-        same_outline at long = ap (λ (p : List ℕ). let one : Placed = (p, Withdrawn (length_of item)) in
+        same_outline at long = ap (λ (p : List ℕ). let one : Placed =
+            (p, Withdrawn (length_of item)) in
             one ∷ outline content) at
-            ∙ ap (λ n. let one : Placed = (placed.0, Withdrawn n) in one ∷ outline content) (sym long)
+            ∙ ap (λ n. let one : Placed = (placed.0, Withdrawn n) in one ∷ outline content)
+            (sym long)
     by_order Greater is there further =
         ap (λ (rest : Content). outlined placed ∷ rest) (further there)
 

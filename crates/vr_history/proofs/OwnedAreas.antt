@@ -42,7 +42,8 @@ owned_few geometry owned are =
       length-map owned (λ (this : Owned). this.area),
       length-le_from_distinct_below (map (λ (this : Owned). this.area) owned) (area_count geometry)
           are.once (owned_below (area_count geometry) owned
-          (recursion_from_All (λ (this : Owned). this.area < area_count geometry) owned are.within)),
+          (recursion_from_All (λ (this : Owned). this.area < area_count geometry) owned
+          are.within)),
     )
 
 none_owns : (owned : List Owned) (area : ℕ)
