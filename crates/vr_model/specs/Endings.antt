@@ -1,5 +1,5 @@
 -- The end of a unit of recovery, in the parts that the model makes of it.
-use Rattle.std.specs.Prelude.{ℕ, ◌+◌, Bool, ◌==◌, if◌then◌else◌, List, [], map, filter}
+use Rattle.std.specs.Prelude.{ℕ, ◌+◌, ◌==◌, if◌then◌else◌, List, [], map, filter}
 use Rattle.vr_types.specs.Content.{Content}
 use Rattle.vr_types.specs.Position.{unheld}
 use Rattle.vr_types.specs.declared.unit.Unit.{Unit as UnitOfRecovery}

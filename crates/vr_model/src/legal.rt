@@ -13,11 +13,7 @@ use vr_types::OutOfMemory;
 /// Takes entries one after another, as long as each is a step from the state that those before it
 /// give. Answers whether all were, and then the state is the one after them; else it is the state
 /// at the first that was none.
-fn take_all(
-    alloc: Global,
-    state: &mut FileState,
-    entries: &[Entry],
-) -> Result<bool, OutOfMemory>
+fn take_all(alloc: Global, state: &mut FileState, entries: &[Entry]) -> Result<bool, OutOfMemory>
     ensures { IfOk result (λ taken.
         IsTrue taken ↔ AreSteps state.old.shape (seen state.old) entries.now) }
 {
@@ -35,11 +31,7 @@ fn take_all(
 
 /// Whether entries are a run of steps from a state: each is a step of the definition from the state
 /// that those before it give. The state stays as it is. Fails only if memory runs out.
-pub fn are_steps(
-    alloc: Global,
-    state: &FileState,
-    entries: &[Entry],
-) -> Result<bool, OutOfMemory>
+pub fn are_steps(alloc: Global, state: &FileState, entries: &[Entry]) -> Result<bool, OutOfMemory>
     ensures { IfOk result (λ are.
         IsTrue are ↔ AreSteps state.now.shape (seen state.now) entries.now) }
 {
@@ -52,11 +44,7 @@ pub fn are_steps(
 /// anything, and a reply that the device failed to write is followed, at the next stamp, by the
 /// fault that stops the volume. That stamps rise is asked of `is_stamped` (`vr_merge`). Fails only
 /// if memory runs out.
-pub fn is_legal(
-    alloc: Global,
-    opening: &FileState,
-    entries: &[Entry],
-) -> Result<bool, OutOfMemory>
+pub fn is_legal(alloc: Global, opening: &FileState, entries: &[Entry]) -> Result<bool, OutOfMemory>
     ensures { IfOk result (λ legal.
         IsTrue legal ↔ IsLegal opening.now.shape (seen opening.now) entries.now) }
 {

@@ -1,4 +1,4 @@
-use Rattle.std.proofs.Common.{◌≡◌, ◌==◌, List, sym, ap, ◌∙◌}
+use Rattle.std.proofs.Common.{◌==◌, List, sym, ap, ◌∙◌}
 use Rattle.std.proofs.lemmas.Bool.{false≢true}
 use Rattle.std.specs.List.{list_any}
 use Rattle.vr_history.specs.State.{Owned}

@@ -1,5 +1,4 @@
 use Rattle.std.proofs.Common.{◌≡◌, List, ◌∙◌, ap}
-use Rattle.vr_types.specs.Position.{unheld}
 use Rattle.vr_history.specs.Effects as effects
 use Rattle.vr_model_state.specs.Seen.{position_in, seen}
 use Rattle.vr_model_state.specs.declared.state.FilePosition.{FilePosition}

@@ -1,4 +1,4 @@
-use Rattle.std.proofs.Common.{◌≡◌, ◌∙◌, ap}
+use Rattle.std.proofs.Common.{◌∙◌, ap}
 use Rattle.vr_model.specs.Endings as endings
 use Rattle.vr_model.proofs.endings.without_unit.Goals as goal
 

@@ -1,4 +1,4 @@
-use Rattle.std.proofs.Common.{◌≡◌, ◌∙◌, ap}
+use Rattle.std.proofs.Common.{◌∙◌, ap}
 use Rattle.vr_types.specs.declared.request.Request.{Request}
 use Rattle.vr_history.specs.Step.{after_asked}
 use Rattle.vr_model_state.specs.Seen.{case_in}
