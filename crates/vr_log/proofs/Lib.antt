@@ -15,3 +15,8 @@ pub mod Passing
 pub mod Ahead
 pub mod Restarting
 pub mod Unique
+pub mod RecordBytes
+pub mod BeforeBytes
+pub mod Gathered
+pub mod BackRead
+pub mod Damages

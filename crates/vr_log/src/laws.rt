@@ -7,6 +7,7 @@ ghost use Rattle.vr_types.specs.Image.{Image, block_at};
 ghost use Rattle.vr_types.specs.Moments.{Guards};
 ghost use Rattle.vr_types.specs.Regions.{Outside};
 ghost use Rattle.vr_types.specs.Seen.{Left, Only};
+ghost use Rattle.vr_log.specs.Damage.{IsDamagedAt};
 ghost use Rattle.vr_log.specs.Live.{live_in, EndsLive};
 ghost use Rattle.vr_log.specs.LogNow.{HasLog, IsForced, IsLogged, IsOf, restarted};
 ghost use Rattle.vr_log.specs.Records.{HasLengths, SpellsRecords};
@@ -32,6 +33,19 @@ pub fn one_log_at_most()
     ensures { (geometry : GeometryOf) (image : Image) (one other : Content)
         → 8 ≤ length (block_at image 1) → Spells geometry image one → Spells geometry image other
         → one ≡ other }
+{}
+
+/// Blocks that spell a log are not damaged.
+pub fn damaged_blocks_spell_no_log()
+    ensures { (geometry : GeometryOf) (image : Image) (content : Content) (n : ℕ)
+        → 8 ≤ length (block_at image 1) → Spells geometry image content
+        → IsDamagedAt geometry image n → ⊥ }
+{}
+
+/// One block at most is the first that is misspelled.
+pub fn one_damaged_block()
+    ensures { (geometry : GeometryOf) (image : Image) (one other : ℕ)
+        → IsDamagedAt geometry image one → IsDamagedAt geometry image other → one ≡ other }
 {}
 
 /// Each image that a crash may leave of a log that stands on its blocks has the records that were
