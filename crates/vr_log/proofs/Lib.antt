@@ -20,3 +20,4 @@ pub mod BeforeBytes
 pub mod Gathered
 pub mod BackRead
 pub mod Damages
+pub mod Settled
