@@ -22,6 +22,7 @@ mod read_no;
 mod reading;
 mod record;
 mod records;
+mod room;
 mod tail;
 mod writing;
 
@@ -36,3 +37,4 @@ pub use no::LogNo;
 pub use read_no::LogReadNo;
 pub use reading::read_back;
 pub use record::{Before, EndKind, LogPlace, LogRecord};
+pub use room::has_room;

@@ -1,5 +1,5 @@
 //! A log, read back from its blocks.
-ghost use Rattle.std.specs.Prelude.{◌≡◌, ◌<◌, ◌≤◌, [], IsTrue, IfOk, IfErr, OnOk};
+ghost use Rattle.std.specs.Prelude.{◌≡◌, ◌<◌, ◌≤◌, [], All, length, IsTrue, IfOk, IfErr, OnOk};
 ghost use Rattle.vr_types.specs.Blocks.{Keeps};
 ghost use Rattle.vr_types.specs.Geometry.{IsAllowed};
 ghost use Rattle.vr_log.specs.Damage.{IsFirst};
@@ -7,6 +7,8 @@ ghost use Rattle.vr_log.specs.LogNow.{IsOf};
 ghost use Rattle.vr_log.specs.Reading.{IsDamageOf, HasReadCause};
 ghost use Rattle.vr_log.specs.Spells.{Spells};
 ghost use Rattle.vr_types.specs.Image.{block_at};
+ghost use Rattle.vr_types.specs.LogSpace.{log_size};
+ghost use Rattle.vr_log.specs.Records.{HasFields, bytes_of};
 
 use crate::content::LogContent;
 use crate::gathering::{First, gather, read_first};
@@ -17,7 +19,8 @@ use vr_types::{Blocks, Geometry};
 
 /// Reads the log back from blocks 1 to L: the generation that they spell, and its records.
 /// `Damaged`: they spell none, with the first block that is misspelled. `Fault` is the device's;
-/// `Memory`: there is none for the records.
+/// `Memory`: there is none for the records. The lengths of the records are those that `undo_log`
+/// wants, also of blocks that report no content.
 pub fn read_back<B: Blocks>(
     alloc: Global,
     blocks: &mut B,
@@ -29,6 +32,9 @@ pub fn read_back<B: Blocks>(
         → IfOk result (Spells geometry.now (B.seen blocks.old).cur) }
     ensures damaged { IsTrue B.tells
         → IfErr result (IsDamageOf geometry.now (B.seen blocks.old).cur) }
+    ensures fields { IfOk result (λ content. All HasFields content.records) }
+    ensures size { IfOk result (λ content. length (bytes_of content.records)
+        ≤ log_size geometry.now) }
     ensures keeps { Keeps B.tells (B.seen blocks.old) (B.seen blocks.new) }
     ensures cause { HasReadCause (B.faults blocks.old) (B.faults blocks.new) result }
 {
@@ -53,6 +59,8 @@ fn read_generation<B: Blocks>(
         → IsFirst (block_at (B.seen blocks.old).cur 1) generation }
     ensures spelled { IsTrue B.tells → IfOk result (Spells geometry (B.seen blocks.old).cur) }
     ensures damaged { IsTrue B.tells → IfErr result (IsDamageOf geometry (B.seen blocks.old).cur) }
+    ensures fields { IfOk result (λ content. All HasFields content.records) }
+    ensures size { IfOk result (λ content. length (bytes_of content.records) ≤ log_size geometry) }
     ensures keeps { Keeps B.tells (B.seen blocks.old) (B.seen blocks.new) }
     ensures cause { HasReadCause (B.faults blocks.old) (B.faults blocks.new) result }
 {
@@ -79,6 +87,8 @@ fn read_into<B: Blocks>(
     ensures spelled { IsTrue B.tells
         → OnOk result (Spells geometry (B.seen blocks.old).cur content.new) }
     ensures damaged { IsTrue B.tells → IfErr result (IsDamageOf geometry (B.seen blocks.old).cur) }
+    ensures fields { OnOk result (All HasFields content.new.records) }
+    ensures size { OnOk result (length (bytes_of content.new.records) ≤ log_size geometry) }
     ensures keeps { Keeps B.tells (B.seen blocks.old) (B.seen blocks.new) }
     ensures cause { HasReadCause (B.faults blocks.old) (B.faults blocks.new) result }
 {
