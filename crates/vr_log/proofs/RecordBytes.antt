@@ -21,7 +21,7 @@ use Rattle.vr_log.proofs.Lives.{length-ended}
 
 -- ---- bytes
 
-IsBytes-append : (a b : List ℕ) → IsBytes a → IsBytes b → IsBytes (a ++ b)
+pub IsBytes-append : (a b : List ℕ) → IsBytes a → IsBytes b → IsBytes (a ++ b)
 IsBytes-append [] b fits under i = under i
 IsBytes-append (x ∷ a) b fits under zero = fits 0
 IsBytes-append (x ∷ a) b fits under (suc i) =
