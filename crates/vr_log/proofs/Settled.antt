@@ -266,7 +266,8 @@ module _ (geometry : Geometry) (content : Content) (seen : Seen) (allowed : IsAl
       let whole : (index + 1) * room ≤ 0 * room + length all =
       omega (arith, long, ap length has.records.spelled, length-append bytes cut) in
       let found = deep room g seen.cur index 0 geometry.log roomy
-      (λ i from to. omega (arith, sizes (1 + i) (in_log i (omega (arith, to))), log-room log allowed))
+      (λ i from to. omega
+      (arith, sizes (1 + i) (in_log i (omega (arith, to))), log-room log allowed))
       (omega arith) (omega (arith, below)) whole in
       let start : (index - 0) * room ≡ index * room =
       ap (λ (n : ℕ). n * room) (let z : index - 0 ≡ index = omega arith in z) in
