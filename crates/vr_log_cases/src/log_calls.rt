@@ -113,9 +113,33 @@ fn open_with(
     }
     let new = undo_log(alloc, &geometry, content)?;
     let live = new.live();
-    *log = Some(OpenLog { log: new, geometry });
+    keep(geometry, log, new);
     say_number(out, live as u64)?;
     say(out, " live")
+}
+
+/// The log, taken out.
+fn taken(geometry: Geometry, log: &mut Option<OpenLog>) -> Result<UndoLog, Stop>
+    ensures same { IfOk result (λ log. log.geometry ≡ geometry) }
+    ensures sound { IfOk result (λ log. log.broken ≡ false) }
+{
+    match log.take() {
+        Some(
+            OpenLog {
+                log,
+                geometry: shape,
+            },
+        ) if shape == geometry => Ok(log),
+        _ => Err(Stop::Line),
+    }
+}
+
+/// Puts the log back.
+fn keep(geometry: Geometry, log: &mut Option<OpenLog>, new: UndoLog)
+    requires same { new.geometry ≡ geometry }
+    requires sound { new.broken ≡ false }
+{
+    *log = Some(OpenLog { log: new, geometry });
 }
 
 fn append<B: Blocks>(
@@ -143,29 +167,17 @@ fn append_record<B: Blocks>(
     requires untold { B.tells ≡ false }
     requires shape { IsOf geometry (B.seen blocks.old) }
 {
-    let Some(OpenLog {
-        log: mut open,
-        geometry: shape,
-    }) = log.take()
-    else {
-        return Err(Stop::Line);
-    };
-    if shape != geometry || !has_lengths(rec) || !ends_live(&open, rec) {
+    let mut open = taken(geometry, log)?;
+    if !has_lengths(rec) || !ends_live(&open, rec) {
         return Err(Stop::Line);
     }
     match open.append(blocks, rec) {
         Ok(place) => {
-            *log = Some(OpenLog {
-                log: open,
-                geometry,
-            });
+            keep(geometry, log, open);
             say_place(out, place)
         }
         Err(LogNo::Full { used, need, size }) => {
-            *log = Some(OpenLog {
-                log: open,
-                geometry,
-            });
+            keep(geometry, log, open);
             say_full(out, used, need, size)
         }
         Err(LogNo::Write) => say_fault(out, DeviceFault::Write),
@@ -201,22 +213,13 @@ fn end<B: Blocks>(
 {
     let (unit, kind) = unit_of(rest)?;
     let kind = kind_of(kind)?;
-    let Some(OpenLog {
-        log: mut open,
-        geometry: shape,
-    }) = log.take()
-    else {
-        return Err(Stop::Line);
-    };
-    if shape != geometry || !open.is_live(unit) {
+    let mut open = taken(geometry, log)?;
+    if !open.is_live(unit) {
         return Err(Stop::Line);
     }
     match open.end_record(blocks, unit, kind) {
         Ok(()) => {
-            *log = Some(OpenLog {
-                log: open,
-                geometry,
-            });
+            keep(geometry, log, open);
             say(out, "ok")
         }
         Err(fault) => say_fault(out, fault),
@@ -232,22 +235,10 @@ fn force<B: Blocks>(
     requires untold { B.tells ≡ false }
     requires shape { IsOf geometry (B.seen blocks.old) }
 {
-    let Some(OpenLog {
-        log: mut open,
-        geometry: shape,
-    }) = log.take()
-    else {
-        return Err(Stop::Line);
-    };
-    if shape != geometry {
-        return Err(Stop::Line);
-    }
+    let mut open = taken(geometry, log)?;
     match open.force(blocks) {
         Ok(()) => {
-            *log = Some(OpenLog {
-                log: open,
-                geometry,
-            });
+            keep(geometry, log, open);
             say(out, "ok")
         }
         Err(fault) => say_fault(out, fault),
@@ -264,23 +255,14 @@ fn restart<B: Blocks>(
     requires untold { B.tells ≡ false }
     requires shape { IsOf geometry (B.seen blocks.old) }
 {
-    let Some(OpenLog {
-        log: mut open,
-        geometry: shape,
-    }) = log.take()
-    else {
-        return Err(Stop::Line);
-    };
-    if shape != geometry || open.live() > 0 {
+    let mut open = taken(geometry, log)?;
+    if open.live() > 0 {
         return Err(Stop::Line);
     }
     match open.force(blocks) {
         Ok(()) => {
             open.restart();
-            *log = Some(OpenLog {
-                log: open,
-                geometry,
-            });
+            keep(geometry, log, open);
             say(out, "ok")
         }
         Err(fault) => say_fault(out, fault),

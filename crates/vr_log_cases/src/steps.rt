@@ -2,6 +2,7 @@
 ghost use Rattle.std.specs.Prelude.{◌≡◌, false, IsTrue, IfOk};
 ghost use Rattle.vr_types.specs.Geometry.{IsAllowed};
 ghost use Rattle.vr_log.specs.LogNow.{IsOf};
+ghost use Rattle.vr_log_cases.specs.Ready.{IsReady};
 
 use crate::answers::Stop;
 use crate::expected::Expected;
@@ -29,10 +30,19 @@ pub const ALL_STEPS: usize = 29;
 /// A block has room for 496 bytes of records, and a before-image of the run takes 21 and its old
 /// record. The second record ends at its block's end, and the third is over three blocks.
 const STEPS: [Step; ALL_STEPS] = [
-    Step::Append { unit: 1, length: 40 },
+    Step::Append {
+        unit: 1,
+        length: 40,
+    },
     Step::Force,
-    Step::Append { unit: 1, length: 414 },
-    Step::Append { unit: 1, length: 979 },
+    Step::Append {
+        unit: 1,
+        length: 414,
+    },
+    Step::Append {
+        unit: 1,
+        length: 979,
+    },
     Step::Append { unit: 1, length: 5 },
     Step::Append { unit: 2, length: 5 },
     Step::Append { unit: 1, length: 0 },
@@ -47,9 +57,18 @@ const STEPS: [Step; ALL_STEPS] = [
     Step::Force,
     Step::End { unit: 2 },
     Step::Restart,
-    Step::Append { unit: 3, length: 10 },
-    Step::Append { unit: 3, length: 444 },
-    Step::Append { unit: 3, length: 479 },
+    Step::Append {
+        unit: 3,
+        length: 10,
+    },
+    Step::Append {
+        unit: 3,
+        length: 444,
+    },
+    Step::Append {
+        unit: 3,
+        length: 479,
+    },
     Step::Append { unit: 3, length: 5 },
     Step::Append { unit: 4, length: 0 },
     Step::Append { unit: 4, length: 5 },
@@ -121,8 +140,7 @@ fn run<B: Blocks>(
     expected: &mut Expected,
 ) -> Result<bool, Stop>
     requires untold { B.tells ≡ false }
-    requires sound { log.old.broken ≡ false }
-    requires shape { IsOf log.old.geometry (B.seen blocks.old) }
+    requires ready { IsReady log.old (B.seen blocks.old) }
 {
     for i in 0..steps.min(ALL_STEPS) {
         let done = make(alloc, blocks, log, STEPS[i], expected)?;
@@ -142,11 +160,8 @@ fn make<B: Blocks>(
     expected: &mut Expected,
 ) -> Result<bool, Stop>
     requires untold { B.tells ≡ false }
-    requires sound { log.old.broken ≡ false }
-    requires shape { IsOf log.old.geometry (B.seen blocks.old) }
-    ensures sound { IfOk result (λ done. IsTrue done → log.new.broken ≡ false) }
-    ensures shape { IfOk result (λ done. IsTrue done
-        → IsOf log.new.geometry (B.seen blocks.new)) }
+    requires ready { IsReady log.old (B.seen blocks.old) }
+    ensures { IfOk result (λ done. IsTrue done → IsReady log.new (B.seen blocks.new)) }
 {
     match step {
         Step::Append { unit, length } => append(alloc, blocks, log, unit, length, expected),
@@ -165,11 +180,8 @@ fn append<B: Blocks>(
     expected: &mut Expected,
 ) -> Result<bool, Stop>
     requires untold { B.tells ≡ false }
-    requires sound { log.old.broken ≡ false }
-    requires shape { IsOf log.old.geometry (B.seen blocks.old) }
-    ensures sound { IfOk result (λ done. IsTrue done → log.new.broken ≡ false) }
-    ensures shape { IfOk result (λ done. IsTrue done
-        → IsOf log.new.geometry (B.seen blocks.new)) }
+    requires ready { IsReady log.old (B.seen blocks.old) }
+    ensures { IfOk result (λ done. IsTrue done → IsReady log.new (B.seen blocks.new)) }
 {
     let rec = before(alloc, unit, length)?;
     expected.add(&rec)?;
@@ -203,11 +215,8 @@ fn append_record<B: Blocks>(
     rec: &LogRecord,
 ) -> Result<bool, Stop>
     requires untold { B.tells ≡ false }
-    requires sound { log.old.broken ≡ false }
-    requires shape { IsOf log.old.geometry (B.seen blocks.old) }
-    ensures sound { IfOk result (λ done. IsTrue done → log.new.broken ≡ false) }
-    ensures shape { IfOk result (λ done. IsTrue done
-        → IsOf log.new.geometry (B.seen blocks.new)) }
+    requires ready { IsReady log.old (B.seen blocks.old) }
+    ensures { IfOk result (λ done. IsTrue done → IsReady log.new (B.seen blocks.new)) }
 {
     if !has_lengths(rec) || !ends_live(log, rec) {
         return Err(Stop::Line);
@@ -226,11 +235,8 @@ fn end<B: Blocks>(
     expected: &mut Expected,
 ) -> Result<bool, Stop>
     requires untold { B.tells ≡ false }
-    requires sound { log.old.broken ≡ false }
-    requires shape { IsOf log.old.geometry (B.seen blocks.old) }
-    ensures sound { IfOk result (λ done. IsTrue done → log.new.broken ≡ false) }
-    ensures shape { IfOk result (λ done. IsTrue done
-        → IsOf log.new.geometry (B.seen blocks.new)) }
+    requires ready { IsReady log.old (B.seen blocks.old) }
+    ensures { IfOk result (λ done. IsTrue done → IsReady log.new (B.seen blocks.new)) }
 {
     let unit = Unit {
         deck: 1,
@@ -250,11 +256,8 @@ fn force<B: Blocks>(
     expected: &mut Expected,
 ) -> Result<bool, Stop>
     requires untold { B.tells ≡ false }
-    requires sound { log.old.broken ≡ false }
-    requires shape { IsOf log.old.geometry (B.seen blocks.old) }
-    ensures sound { IfOk result (λ done. IsTrue done → log.new.broken ≡ false) }
-    ensures shape { IfOk result (λ done. IsTrue done
-        → IsOf log.new.geometry (B.seen blocks.new)) }
+    requires ready { IsReady log.old (B.seen blocks.old) }
+    ensures { IfOk result (λ done. IsTrue done → IsReady log.new (B.seen blocks.new)) }
 {
     match log.force(blocks) {
         Ok(()) => {
@@ -273,11 +276,8 @@ fn restart<B: Blocks>(
     expected: &mut Expected,
 ) -> Result<bool, Stop>
     requires untold { B.tells ≡ false }
-    requires sound { log.old.broken ≡ false }
-    requires shape { IsOf log.old.geometry (B.seen blocks.old) }
-    ensures sound { IfOk result (λ done. IsTrue done → log.new.broken ≡ false) }
-    ensures shape { IfOk result (λ done. IsTrue done
-        → IsOf log.new.geometry (B.seen blocks.new)) }
+    requires ready { IsReady log.old (B.seen blocks.old) }
+    ensures { IfOk result (λ done. IsTrue done → IsReady log.new (B.seen blocks.new)) }
 {
     if log.live() > 0 {
         return Err(Stop::Line);
