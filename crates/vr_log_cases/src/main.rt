@@ -8,6 +8,7 @@
 #![tactic(auto)]
 
 mod answers;
+mod copies;
 mod desk;
 mod expected;
 mod images;

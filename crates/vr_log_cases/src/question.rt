@@ -3,7 +3,7 @@
 use crate::answers::{Answer, Stop};
 use crate::desk::Desk;
 use crate::words::parted;
-use crate::{images, judge, log_calls};
+use crate::{copies, images, judge, log_calls};
 use std::alloc::Global;
 
 /// Writes the answer to a line. `desk` has what the lines before it left.
@@ -15,6 +15,7 @@ pub fn answer(alloc: Global, desk: &mut Desk, line: &str, out: &mut String) -> A
         "show" => images::show(alloc, desk, rest, out),
         "stop" => images::stop(desk, rest, out),
         "crash" => images::crash(alloc, desk, rest, out),
+        "copy" => copies::copy(alloc, rest, out),
         "judge" => judge::judge(alloc, rest, out),
         _ => log_calls::call(alloc, desk, verb, rest, out),
     }

@@ -6,7 +6,7 @@ ghost use Rattle.vr_log.specs.Records.{HasLengths};
 use crate::answers::Stop;
 use crate::words::{bytes_of, number, parted};
 use std::alloc::Global;
-use vr_log::{EndKind, LogRecord, UndoLog};
+use vr_log::{Before, EndKind, LogRecord, UndoLog};
 use vr_types::{Bytes, PartNo, Place, Unit};
 
 /// A record: `before DECK NUMBER PART PLACE OLD`, where OLD is `-` for no record, or an end.
@@ -21,13 +21,23 @@ pub fn record_of(alloc: Global, text: &str) -> Result<LogRecord, Stop> {
 
 fn before_of(alloc: Global, text: &str) -> Result<LogRecord, Stop> {
     let (unit, rest) = unit_of(text)?;
-    let (part, rest) = parted(rest);
+    let Before { part, place, old } = image_of(alloc, rest)?;
+    Ok(LogRecord::Before {
+        unit,
+        part,
+        place,
+        old,
+    })
+}
+
+/// A before-image without its unit: `PART PLACE OLD`.
+pub fn image_of(alloc: Global, text: &str) -> Result<Before, Stop> {
+    let (part, rest) = parted(text);
     let part = number(part)?;
     let (place, old) = parted(rest);
     let place = bytes_of(alloc, place)?;
     let old = old_of(alloc, old)?;
-    Ok(LogRecord::Before {
-        unit,
+    Ok(Before {
         part: PartNo(part),
         place: Place::from_vec(place),
         old,

@@ -3,7 +3,7 @@
 use crate::answers::{Answer, say, say_bytes, say_number};
 use std::alloc::Global;
 use vr_log::{EndKind, LogContent, LogRecord};
-use vr_types::{Bytes, Unit};
+use vr_types::{Bytes, PartNo, Place, Unit};
 
 /// The generation, and each record after a bar.
 pub fn say_content(alloc: Global, out: &mut String, content: &LogContent) -> Answer {
@@ -15,7 +15,8 @@ pub fn say_content(alloc: Global, out: &mut String, content: &LogContent) -> Ans
     Ok(())
 }
 
-fn say_record(alloc: Global, out: &mut String, rec: &LogRecord) -> Answer {
+/// A record as a line spells it.
+pub fn say_record(alloc: Global, out: &mut String, rec: &LogRecord) -> Answer {
     match rec {
         LogRecord::Before {
             unit,
@@ -25,11 +26,7 @@ fn say_record(alloc: Global, out: &mut String, rec: &LogRecord) -> Answer {
         } => {
             say(out, "before ")?;
             say_unit(out, *unit)?;
-            say_number(out, part.0 as u64)?;
-            say(out, " ")?;
-            say_bytes(alloc, out, place.as_slice())?;
-            say(out, " ")?;
-            say_old(alloc, out, old)
+            say_image(alloc, out, *part, place, old)
         }
         LogRecord::End { unit, kind } => {
             say(out, "end ")?;
@@ -37,6 +34,21 @@ fn say_record(alloc: Global, out: &mut String, rec: &LogRecord) -> Answer {
             say(out, kind_text(*kind))
         }
     }
+}
+
+/// A before-image without its unit.
+pub fn say_image(
+    alloc: Global,
+    out: &mut String,
+    part: PartNo,
+    place: &Place,
+    old: &Option<Bytes>,
+) -> Answer {
+    say_number(out, part.0 as u64)?;
+    say(out, " ")?;
+    say_bytes(alloc, out, place.as_slice())?;
+    say(out, " ")?;
+    say_old(alloc, out, old)
 }
 
 fn say_unit(out: &mut String, unit: Unit) -> Answer {
