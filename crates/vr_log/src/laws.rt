@@ -61,8 +61,7 @@ pub fn one_damaged_block()
 {}
 
 /// Each image that a crash may leave of a log that stands on its blocks has the records that were
-/// forced and a prefix of
-/// all, or the log before while no block of this one was forced.
+/// forced and a prefix of all, or the log before while no block of this one was forced.
 pub fn each_image_has_the_log<B: Blocks>(log: &UndoLog, blocks: &B)
     ensures { IsTrue B.tells → LogStands log.now (B.seen blocks.now)
         → (image : Image) → Left (B.seen blocks.now) image → HasLog log.now image }
@@ -117,9 +116,8 @@ pub fn log_stands_while_others_put<B: Blocks>(
 }
 
 /// Replaces the content of a block outside the log: it appends the record, forces it, and then puts
-/// the block. In every
-/// image at every moment, and from then on, the block has its old content, or the image's log has
-/// the record.
+/// the block. In every image at every moment, and from then on, the block has its old content, or
+/// the image's log has the record.
 pub fn write_ahead<B: Blocks>(
     log: &mut UndoLog,
     blocks: &mut B,

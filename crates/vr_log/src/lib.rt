@@ -1,12 +1,11 @@
 //! The undo log of a volume: before-images of records and the ends of units of recovery, in blocks
-//! 1
-//! to L over any `Blocks`. It stands on vr_types.
+//! 1 to L over any `Blocks`. It stands on vr_types.
 //!
 //! It promises what any crash leaves of it. In every image at every moment of every call, failing
-//! or
-//! not, the log's blocks spell at least the records that were forced and a prefix of all records of
-//! the generation, or the log before while no block of this one was forced, whose units have all
-//! ended. No other block is touched.
+//! or not, the log's blocks spell at least the records that were forced and a prefix of all records
+//! of the generation, or the log before while no block of this one was forced, whose units have all
+//! ended. No other block is touched. Blocks are read back as the log that they spell, and where
+//! they spell none as damaged, with the first block that is misspelled.
 #![tactic(auto)]
 
 mod content;
