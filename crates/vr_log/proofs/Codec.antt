@@ -21,7 +21,7 @@ abbrev no_unit : UnitOfRecovery
 no_unit = record { deck = 0; number = 0 }
 
 -- nothing is a cut of any record
-none-cut : IsCut []
+pub none-cut : IsCut []
 unfolding record_bytes
 none-cut = record {
   whole = End no_unit Committed;
@@ -34,7 +34,7 @@ none-cut = record {
 pub All-none : {X : Type 0} (P : X → Type 0) → All P []
 All-none P i d below = absurd (omega (arith, below))
 
-All-one : {X : Type 0} (P : X → Type 0) (x : X) → P x → All P (x ∷ [])
+pub All-one : {X : Type 0} (P : X → Type 0) (x : X) → P x → All P (x ∷ [])
 All-one P x holds zero d below = holds
 All-one P x holds (suc k) d below = absurd (omega (arith, below))
 

@@ -1,3 +1,4 @@
+pub mod CallerLemmas
 pub mod Heads
 pub mod Images
 pub mod Leaving
@@ -15,3 +16,10 @@ pub mod Passing
 pub mod Ahead
 pub mod Restarting
 pub mod Unique
+pub mod RecordBytes
+pub mod BeforeBytes
+pub mod Gathered
+pub mod BackRead
+pub mod Damages
+pub mod Settled
+pub mod Total

@@ -9,3 +9,7 @@ pub mod Standing
 pub mod LiveUnits
 pub mod Memory
 pub mod Writing
+pub mod Damage
+pub mod Decoding
+pub mod Reading
+pub mod LogNo

@@ -18,7 +18,10 @@ impl Model for LogContent {
 
     ghost Value = { Content };
 
-    ghost view = { λ content. record { generation = content.generation; records = content.records.items } };
+    ghost view = { λ content. record {
+      generation = content.generation;
+      records = content.records.items;
+    } };
 }
 
 impl LogContent {

@@ -84,10 +84,8 @@ impl UndoLog {
     /// Adds a record after the others, and puts the blocks that its bytes fall into. The room of a
     /// unit's end is kept from its first before-image on. It answers where the record begins. At
     /// every moment, failing or not, each image has the records that were forced and a prefix of
-    /// all
-    /// with this one. `Full`: nothing is done, since the bytes in use and those that the record
-    /// needs
-    /// are more than the log has. `Write` is the device's; `Read` never comes.
+    /// all with this one. `Full`: nothing is done, since the bytes in use and those that the record
+    /// needs are more than the log has. `Write` is the device's; `Read` never comes.
     pub fn append<B: Blocks>(&mut self, blocks: &mut B, rec: &LogRecord) -> Result<LogPlace, LogNo>
         requires sound { self.old.broken ≡ false }
         requires shape { IsOf self.old.geometry (B.seen blocks.old) }
@@ -188,6 +186,22 @@ impl UndoLog {
         self.forced = 0;
         self.records = Kept::Nothing;
         self.forced_records = Snapshot::of(&self.records);
+    }
+
+    /// Whether the unit is live: it has a before-image and no end record after it.
+    pub fn is_live(&self, unit: Unit) -> bool
+        requires { self.now.broken ≡ false }
+        ensures { result ≡ is_in unit (live_in self.now.records) }
+    {
+        self.live.has(unit)
+    }
+
+    /// How many units are live.
+    pub fn live(&self) -> usize
+        requires { self.now.broken ≡ false }
+        ensures { result ≡ length (live_in self.now.records) }
+    {
+        self.live.len()
     }
 
     /// Adds a record that has room.

@@ -12,8 +12,7 @@ pub enum EndKind {
 }
 
 /// A record of the log: a before-image, which is what was at a place of a part before the unit
-/// first
-/// changed it, or the end of a unit.
+/// first changed it, or the end of a unit.
 #[derive(Debug, Drop)]
 pub enum LogRecord {
     Before {

@@ -39,8 +39,7 @@ ghost use Rattle.vr_log.specs.Writing.{Follows, Ends};
 use vr_types::{Blocks, DeviceFault, put_eight, put_four};
 
 /// The block of the log to which the next bytes go: its content so far, its index, the bytes used
-/// of
-/// it, and the number of blocks of the log. `begun` once a block of the log was forced.
+/// of it, and the number of blocks of the log. `begun` once a block of the log was forced.
 #[derive(Debug, Drop)]
 pub(crate) struct Tail {
     pub(crate) generation: u64,
@@ -92,8 +91,7 @@ impl Tail {
     }
 
     /// Puts a block that is full, and goes on to the next one, where there is one. The block in
-    /// which
-    /// the log was begun is forced first.
+    /// which the log was begun is forced first.
     pub(crate) fn turn<B: Blocks>(&mut self, blocks: &mut B) -> Result<(), DeviceFault>
         requires safe { IsSafe self.old (B.seen blocks.old) }
         ensures safe { OnOk result (IsSafe self.new (B.seen blocks.new)) }
