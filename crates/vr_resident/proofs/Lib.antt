@@ -8,6 +8,7 @@ pub mod Framing
 pub mod Flushing
 pub mod Over
 pub mod Resting
+pub mod Refused
 pub mod Returning
 pub mod Steps
 pub mod Taking

@@ -39,6 +39,8 @@ returns-clause-got c =
         seat =
             c.take.new.seat;
       }) (c.change.ensures r.before r.after Bare was).1;
+      of_pool = subst (λ (p : Pool). IsFrameOf p c.in_ok-frame.frame) c.deref.ensures
+          c.in_ok-frame.ensures.frame;
       got = c.in_ok-frame.ensures.some;
     }
 
