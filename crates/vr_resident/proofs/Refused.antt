@@ -1,8 +1,7 @@
 -- How the frames of a cache run out.
-use Rattle.std.proofs.Common.{◌≡◌, ◌+◌, ◌<◌, ◌≤◌, ⊎_elim, ℕ, suc, refl, sym, subst, arith, add-one}
+use Rattle.std.proofs.Common.{◌+◌, ◌<◌, ◌≤◌, ⊎_elim, ℕ, refl, sym, subst, arith, add-one}
 use Rattle.std.specs.Arc.{arc_value}
 use Rattle.vr_frames.specs.Frames.{IsFrameOf, FindsAllOut}
-use Rattle.vr_frames.specs.declared.seat.FrameSeat.{FrameSeat}
 use Rattle.vr_resident.specs.Making.{IsTaken, TakesOne, TakesSome, RunsOut}
 use Rattle.vr_resident.specs.Cache.{KeepsSeat, TakesFrame, GetsNone, bare_count, pool_of}
 use Rattle.vr_resident.specs.declared.frames.Frames.{Frames}

@@ -41,7 +41,8 @@ pub(crate) fn take_sixteen(frames: &mut Frames) -> Option<u32>
     ensures seat { KeepsSeat frames.old frames.new }
 {
     for got in 0..16 {
-        if take_frame(frames).is_none() {
+        let bare = last_fit(&frames.table, Sought::Bare);
+        if take_frame(frames, bare).is_none() {
             return Some(got);
         }
     }
