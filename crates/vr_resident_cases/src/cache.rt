@@ -9,7 +9,7 @@ use std::alloc::Global;
 use std::sync::Arc;
 use vr_device::BlockDevice;
 use vr_frames::{FrameSeat, Pool};
-use vr_resident::{Resident, ResidentNo, resident, resident_own};
+use vr_resident::{Resident, ResidentNo, ResidentWhy, resident, resident_own};
 use vr_types::{Blocks, DeviceFault};
 
 /// A cache, and the pool that it takes frames of.
@@ -30,6 +30,23 @@ pub struct Closed<D: BlockDevice> {
     pub home: u32,
 }
 
+/// Why there is no cache, and how many frames of the pool are home then.
+#[derive(Clone, Copy)]
+pub struct Refused {
+    pub why: ResidentWhy,
+    pub home: u32,
+}
+
+/// Ends a pool, and answers how many of its frames were home.
+fn close_pool(pool: Arc<Pool, Global>, seat: FrameSeat) -> u32
+    requires { IsSeatOf (arc_value pool) seat }
+{
+    match Arc::into_inner(pool) {
+        Some(pool) => pool.close(seat),
+        None => 0,
+    }
+}
+
 impl<D: BlockDevice> Cache<D> {
     /// Makes a cache over a device, with buffers of its own or frames of the pool.
     pub fn new(
@@ -39,7 +56,7 @@ impl<D: BlockDevice> Cache<D> {
         pool: Arc<Pool, Global>,
         other: Arc<Pool, Global>,
         seat: FrameSeat,
-    ) -> Result<Cache<D>, ResidentNo<D>>
+    ) -> Result<Cache<D>, Refused>
         requires count { (D.seen device).count ≡ 18 }
         requires size { (D.seen device).size ≡ 2 }
         requires seat { IsSeatOf (arc_value pool) seat }
@@ -56,7 +73,22 @@ impl<D: BlockDevice> Cache<D> {
                 blocks,
                 pool: other,
             }),
-            Err(no) => Err(no),
+            Err(no) => Err(Cache::refused(no, other)),
+        }
+    }
+
+    /// Drops the device, and ends the pool.
+    fn refused(no: ResidentNo<D>, pool: Arc<Pool, Global>) -> Refused
+        requires { IsSeatOf (arc_value pool) no.seat }
+    {
+        let ResidentNo {
+            device: _,
+            seat,
+            why,
+        } = no;
+        Refused {
+            why,
+            home: close_pool(pool, seat),
         }
     }
 
@@ -106,10 +138,7 @@ impl<D: BlockDevice> Cache<D> {
     pub fn close(self) -> Closed<D> {
         let Cache { blocks, pool } = self;
         let (device, seat, fault) = blocks.close();
-        let home = match Arc::into_inner(pool) {
-            Some(pool) => pool.close(seat),
-            None => 0,
-        };
+        let home = close_pool(pool, seat);
         Closed {
             device,
             fault,

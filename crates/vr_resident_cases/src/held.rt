@@ -1,7 +1,7 @@
 //! The cache that lines speak of.
 
 use crate::answers::{Answer, Stop, say, say_fault, say_number};
-use crate::cache::{Cache, Closed};
+use crate::cache::{Cache, Closed, Refused};
 use crate::calls::{Call, Reply};
 use crate::making::{Recorded, Setup, new_cache};
 use crate::recorder::Log;
@@ -9,7 +9,7 @@ use crate::words::{long_number, number, split};
 use std::alloc::Global;
 use std::mem;
 use vr_device::MemoryDevice;
-use vr_resident::{ResidentNo, ResidentWhy};
+use vr_resident::ResidentWhy;
 
 /// What the lines before left.
 #[derive(Drop)]
@@ -75,28 +75,31 @@ pub fn make(
 }
 
 /// Holds the cache, if one was made.
-fn hold(
-    made: Result<Cache<Recorded>, ResidentNo<Recorded>>,
-    held: &mut Held,
-    out: &mut String,
-) -> Answer {
+fn hold(made: Result<Cache<Recorded>, Refused>, held: &mut Held, out: &mut String) -> Answer {
     match made {
         Ok(cache) => {
             held.set(Held::Cache(cache));
             say(out, "ok")
         }
-        Err(no) => say_why(no.why, out),
+        Err(refused) => say_refused(refused, out),
     }
 }
 
-fn say_why(why: ResidentWhy, out: &mut String) -> Answer {
-    match why {
+fn say_refused(refused: Refused, out: &mut String) -> Answer {
+    match refused.why {
         ResidentWhy::Memory => Err(Stop::Memory),
         ResidentWhy::NoFrames { got } => {
             say(out, "no frames ")?;
-            say_number(out, u64::from(got))
+            say_number(out, u64::from(got))?;
+            say_home(refused.home, out)
         }
     }
+}
+
+/// Writes how many frames of the pool are home.
+fn say_home(home: u32, out: &mut String) -> Answer {
+    say(out, ", home ")?;
+    say_number(out, u64::from(home))
 }
 
 /// Closes the cache, and writes its fault, and how many frames of the pool are home.
@@ -112,6 +115,5 @@ pub fn close(held: &mut Held, out: &mut String) -> Answer {
         None => say(out, "ok")?,
         Some(fault) => say_fault(out, fault)?,
     }
-    say(out, ", home ")?;
-    say_number(out, u64::from(home))
+    say_home(home, out)
 }

@@ -4,14 +4,13 @@ ghost use Rattle.std.specs.Arc.{arc_value};
 ghost use Rattle.vr_frames.specs.Frames.{frame_size, IsSeatOf};
 
 use crate::answers::Stop;
-use crate::cache::Cache;
+use crate::cache::{Cache, Refused};
 use crate::calls::{BLOCKS, SIZE};
 use crate::recorder::{Log, Recorder};
 use std::alloc::Global;
 use std::sync::Arc;
 use vr_device::{BlockDevice, MemoryDevice, memory_device};
 use vr_frames::{FrameSeat, Pool, pool};
-use vr_resident::ResidentNo;
 
 /// The device of each case.
 pub type Recorded = Recorder<MemoryDevice>;
@@ -62,7 +61,7 @@ pub fn new_cache(
     alloc: Global,
     setup: Setup,
     log: &Log,
-) -> Result<Result<Cache<Recorded>, ResidentNo<Recorded>>, Stop> {
+) -> Result<Result<Cache<Recorded>, Refused>, Stop> {
     let room = new_pool(alloc, setup.frames)?;
     let log = log.clone()?;
     let device = new_device(alloc, setup, log)?;
