@@ -44,14 +44,14 @@ pub record TakesOne (pool : Pool) (old new : FrameSeat) : Type 0 where
   pub of_pool : IsFrameOf pool frame
   pub got : Gets old frame new
 
--- so many frames of the pool were taken, one after another
+-- n frames of the pool were taken, one after another
 abbrev pub TakesSome : Pool → ℕ → FrameSeat → FrameSeat → Type 0
 TakesSome pool zero old new = new ≡ old
 TakesSome pool (suc n) old new =
     (before : FrameSeat) × TakesSome pool n old before × TakesOne pool before new
 
--- So many frames were taken, and then each frame of the pool was found out. The seat's claims are
--- as that left them.
+-- `got` frames of the pool were taken, and then each of its frames was found out. The seat's claims
+-- are as that left them.
 pub record RunsOut (pool : Pool) (got : ℕ) (old new : FrameSeat) : Type 0 where
   pub last : FrameSeat
   pub took : TakesSome pool got old last
