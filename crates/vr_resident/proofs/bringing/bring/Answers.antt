@@ -14,8 +14,10 @@ use Rattle.vr_resident.proofs.bringing.bring.Goals as goal
 
 pub miss-requires-clause-not_held : goal.miss-requires-clause-not_held
 miss-requires-clause-not_held g c =
-    none_other c.args.frames.now.size c.args.n (entries_of c.args.frames.now) (none_of (Block c.args.n) (entries_of c.args.frames.now)
-    c.find_lasts-last.result.found c.find_lasts-last.ensures.found c.in-None.is)
+    let entries = entries_of c.args.frames.now in
+    none_other c.args.frames.now.size c.args.n entries
+    (none_of (Block c.args.n) entries c.find_lasts-last.result.found c.find_lasts-last.ensures.found
+    c.in-None.is)
 
 pub returns-in-Some : goal.returns-in-Some
 returns-in-Some g c =

@@ -53,8 +53,9 @@ fill-requires-in-Ok-clause-place g c =
     let frames = c.args.frames.now in
     let r = c.in-Ok.ensures.place in
     let e = empty_is r.place r.it_fits in
-    let other = none_other frames.size c.args.n (entries_of frames) (none_of (Block c.args.n) (entries_of c.args.frames.now)
-    c.find_lasts-last.result.found c.find_lasts-last.ensures.found c.in_default.is) in
+    let other = none_other frames.size c.args.n (entries_of frames)
+    (none_of (Block c.args.n) (entries_of frames) c.find_lasts-last.result.found
+    c.find_lasts-last.ensures.found c.in_default.is) in
     record {
       place = r.place;
       before = r.before;
@@ -68,8 +69,9 @@ fill-requires-in-Ok-clause-place g c =
 pub returns-in-Ok-clause-ok : goal.returns-in-Ok-clause-ok
 returns-in-Ok-clause-ok g c =
     let frames = c.args.frames.now in
-    let other = none_other frames.size c.args.n (entries_of frames) (none_of (Block c.args.n) (entries_of c.args.frames.now)
-    c.find_lasts-last.result.found c.find_lasts-last.ensures.found c.in_default.is) in
+    let other = none_other frames.size c.args.n (entries_of frames)
+    (none_of (Block c.args.n) (entries_of frames) c.find_lasts-last.result.found
+    c.find_lasts-last.ensures.found c.in_default.is) in
     let mid = room_other c.args.n frames c.room.new.frames c.in-Ok.ensures.ok other in
     ⊎_elim (λ hits. let h = hits.2 in
     absurd (there c.args.n (held_by c.room.new.frames) h.between.before h.between.after hits.0

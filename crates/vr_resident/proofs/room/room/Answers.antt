@@ -32,8 +32,8 @@ returns-in-Some-take_frame-clause-after g c =
     let hs = held_by c.args.frames.now in
     subst (λ (next : List Block). Keeps g.D.BlockDevice.tells (over d hs) (over d next))
     (sym (kept_taken g.D.BlockDevice.tells d c.args.frames.now c.take_frame.new.frames
-    (no_empty c.args.frames.now c.args.last.empty
-    c.requires.last.1.empty c.in_default.is) c.in-Some-take_frame.ensures.got c.take_frame.ensures.seated
+    (no_empty c.args.frames.now c.args.last.empty c.requires.last.1.empty c.in_default.is)
+    c.in-Some-take_frame.ensures.got c.take_frame.ensures.seated
     c.requires.kept).0.held)
     (no_call g.D.BlockDevice.tells d hs hs
     (λ told image left. g.met.D.BlockDevice.images_may c.args.device.now image told left)
@@ -46,8 +46,8 @@ unwrap-number-requires g c =
     (kept_none g.D.BlockDevice.tells (g.D.BlockDevice.seen c.args.device.now) c.args.frames.now
     c.take_frame.new.frames t.none c.take_frame.ensures.seat c.take_frame.ensures.seated
     c.requires.kept).framed
-    (subst (λ (x : LruCache ℕ Place). AreNone Empty x.entries) (sym t.none.0) (no_empty c.args.frames.now c.args.last.empty
-    c.requires.last.1.empty c.in_default.is))
+    (subst (λ (x : LruCache ℕ Place). AreNone Empty x.entries) (sym t.none.0)
+    (no_empty c.args.frames.now c.args.last.empty c.requires.last.1.empty c.in_default.is))
     (subst (λ (x : LruCache ℕ Place). IsLastOf Held x.entries c.args.last.held)
     (sym t.none.0) c.requires.last.1.held)
 

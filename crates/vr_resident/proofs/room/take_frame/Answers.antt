@@ -16,7 +16,8 @@ returns-in_err-number-clause-none c =
     if_none c.from_residual.result _ (
       refl,
       inl (count_none sought.Bare (entries_of c.args.frames.now)
-          (none_of sought.Bare (entries_of c.args.frames.now) c.args.bare c.requires.last c.in_err-number.was)),
+          (none_of sought.Bare (entries_of c.args.frames.now) c.args.bare c.requires.last
+          c.in_err-number.was)),
     )
 
 pub returns-in_err-frame-clause-seated : goal.returns-in_err-frame-clause-seated
