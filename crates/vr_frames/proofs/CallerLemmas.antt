@@ -16,6 +16,8 @@ use Rattle.vr_frames.specs.Lends.{with_bytes}
 use Rattle.vr_frames.specs.Keeper.{HoldsEach, others_of}
 use Rattle.vr_frames.proofs.Counts.{one_if-same, one_if-other, times-cons, times-one, times-append}
 use Rattle.vr_frames.proofs.Counts.{times-without_same, times-without_other}
+-- A pool may be shared and sent to another thread, and a seat may be sent.
+pub use Rattle.vr_frames.proofs.Sending.{seat_send, pool_send, pool_sync}
 
 -- the list `more` has this number once, which `numbers` has not, and each other as often
 pub record OneMore (number : ℕ) (numbers more : List ℕ) : Type 0 where

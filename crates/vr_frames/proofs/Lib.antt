@@ -4,3 +4,4 @@ pub mod Steps
 pub mod Claims
 pub mod HomeCounts
 pub mod NewPool
+pub mod Sending

@@ -1,6 +1,6 @@
 -- A place of the table, found by its number: no number stands twice.
 use Rattle.std.proofs.Common.{◌≡◌, ℕ, true, false, List, [], ◌∷◌, ◌++◌, Option, Some, None}
-use Rattle.std.proofs.Common.{MatchOption, refl, ap, ◌∙◌, arith, nat_eq, map, append_assoc}
+use Rattle.std.proofs.Common.{MatchOption, refl, subst, ap, ◌∙◌, arith, nat_eq, map, append_assoc}
 use Rattle.std.specs.List.{AllByRecursion, IsDistinct}
 use Rattle.std.specs.Map.{keys_of, lookup, lookup_entry, remove_entry, set_value}
 use Rattle.std.proofs.lemmas.Bool.Decides.{nat_tests}
@@ -8,6 +8,7 @@ use Rattle.std.proofs.Common.{Bor}
 use Rattle.std.proofs.lemmas.List.{map-append}
 use Rattle.std.specs.Map.Iter.{deref_pair}
 use Rattle.vr_resident.specs.Places.{Entry, AreNone, IsLast, is_at, fits}
+use Rattle.vr_resident.specs.Table.{IsLastOf}
 use Rattle.vr_resident.specs.declared.place.Place.{Place}
 use Rattle.vr_resident.specs.declared.place.Sought.{Sought}
 
@@ -96,6 +97,18 @@ last_new which entries number place it_fits =
           it_fits;
       none_after = tt;
     }
+
+-- what a search answered
+pub none_of : (which : Sought) (entries : List Entry) (o : Option ℕ) → IsLastOf which entries o
+    → o ≡ None → AreNone which entries
+none_of which entries None none is = none
+none_of which entries (Some number) last is = cc
+
+pub some_of : (which : Sought) (entries : List Entry) (o : Option ℕ) (number : ℕ)
+    → IsLastOf which entries o → o ≡ Some number → IsLast which entries number
+some_of which entries None number none is = cc
+some_of which entries (Some m) number last is =
+    let same : m ≡ number = cc in subst (IsLast which entries) same last
 
 -- the same of a loop over the places, which has each as two references
 module _ (which : Sought) where

@@ -1,4 +1,5 @@
 pub mod Beginning
+pub mod CallerLemmas
 pub mod Entries
 pub mod Entering
 pub mod Given
@@ -8,6 +9,8 @@ pub mod Framing
 pub mod Flushing
 pub mod Over
 pub mod Resting
+pub mod Sending
+pub mod Refused
 pub mod Returning
 pub mod Steps
 pub mod Taking

@@ -13,7 +13,8 @@ use Rattle.vr_types.specs.declared.fault.DeviceFault.TheVariants.{Read, Write}
 use Rattle.vr_frames.specs.declared.shared.Pool.{Pool}
 use Rattle.vr_frames.specs.declared.seat.FrameSeat.{FrameSeat}
 use Rattle.vr_frames.specs.declared.frame.Frame.{Frame}
-use Rattle.vr_frames.specs.Frames.{IsSeatOf, IsSameSeat, FindsAllOut, Gets, parts_of, frame_size}
+use Rattle.vr_frames.specs.Frames.{IsSeatOf, IsSameSeat, IsFrameOf, FindsAllOut, Gets, parts_of}
+use Rattle.vr_frames.specs.Frames.{frame_size}
 use Rattle.vr_frames.specs.Keeper.{HoldsEach, others_of}
 use Rattle.vr_resident.specs.Held.{Held, IsOther, IsHeld, IsBetween, forced, flushed}
 use Rattle.vr_resident.specs.Places.{Entry, block_in, IsBufferOf, buffers_of, numbers_of, held_of}
@@ -142,6 +143,7 @@ pub record TakesFrame (old new : Frames) : Type 0 where
   pub frame : Frame
   pub was : entries_of old ≡ before ++ (number, Bare) ∷ after
   pub is : new ≡ reseated old (before ++ (number, Empty (Shared frame)) ∷ after) new.seat
+  pub of_pool : IsFrameOf (pool_of old) frame
   pub got : Gets old.seat frame new.seat
 
 -- A place is bare, wherever the table is cut there, and its frame went back to the pool.

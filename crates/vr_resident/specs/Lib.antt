@@ -1,4 +1,5 @@
 pub mod Held
+pub mod Lasts
 pub mod Places
 pub mod Cache
 pub mod Refill

@@ -1,7 +1,8 @@
 -- How a cache begins. It is this project's own.
 use Rattle.std.specs.Prelude.{◌≡◌, ◌+◌, ◌<◌, ℕ, zero, suc, List, [], ◌∷◌, length}
 use Rattle.vr_frames.specs.Frames.{IsSameSeat, IsSeatOf, frame_count, frames_of, parts_of}
-use Rattle.vr_frames.specs.Frames.{failed_claims}
+use Rattle.vr_frames.specs.Frames.{failed_claims, IsFrameOf, Gets, FindsAllOut}
+use Rattle.vr_frames.specs.declared.frame.Frame.{Frame}
 use Rattle.vr_frames.specs.declared.shared.Pool.{Pool}
 use Rattle.vr_frames.specs.declared.seat.FrameSeat.{FrameSeat}
 use Rattle.vr_resident.specs.Places.{Entry, buffers_of}
@@ -36,6 +37,27 @@ pub record IsNew (pool : Pool) (seat : FrameSeat) (size : ℕ) (frames : Frames)
 abbrev pub FoundAllOut : Pool → FrameSeat → FrameSeat → Type 0
 FoundAllOut pool old new =
     (number : ℕ) → number < frame_count pool → failed_claims old number < failed_claims new number
+
+-- one more frame of the pool was taken, which the seat did not hold
+pub record TakesOne (pool : Pool) (old new : FrameSeat) : Type 0 where
+  pub frame : Frame
+  pub of_pool : IsFrameOf pool frame
+  pub got : Gets old frame new
+
+-- n frames of the pool were taken, one after another
+abbrev pub TakesSome : Pool → ℕ → FrameSeat → FrameSeat → Type 0
+TakesSome pool zero old new = new ≡ old
+TakesSome pool (suc n) old new =
+    (before : FrameSeat) × TakesSome pool n old before × TakesOne pool before new
+
+-- `got` frames of the pool were taken, and then each of its frames was found out. The seat's claims
+-- are as that left them.
+pub record RunsOut (pool : Pool) (got : ℕ) (old new : FrameSeat) : Type 0 where
+  pub last : FrameSeat
+  pub took : TakesSome pool got old last
+  pub refused : FrameSeat
+  pub none_home : FindsAllOut pool last refused
+  pub claims : (k : ℕ) → failed_claims new k ≡ failed_claims refused k
 
 -- The seat is as it was handed in.
 pub record IsBack (pool : Pool) (old new : FrameSeat) : Type 0 where

@@ -5,6 +5,7 @@ ghost use Rattle.vr_types.specs.Faults.{CountsRead, HasCause, HasWriteCause};
 ghost use Rattle.vr_types.specs.declared.fault.DeviceFault.TheVariants.{Read, Write};
 ghost use Rattle.vr_resident.specs.Held.{over, IsOther};
 ghost use Rattle.vr_resident.specs.Table.{IsFit};
+ghost use Rattle.vr_resident.specs.Lasts.{AreLasts};
 ghost use Rattle.vr_resident.specs.Cache.{
   IsKept,
   KeepsSeat,
@@ -21,9 +22,9 @@ ghost use Rattle.vr_resident.specs.Cache.{
 ghost use Rattle.vr_resident.specs.declared.place.Sought.TheVariants.{Empty};
 
 use crate::frames::Frames;
-use crate::place::{Place, Sought};
+use crate::place::Place;
 use crate::room::room;
-use crate::table::{change, last_fit, lift, put_first, use_place};
+use crate::table::{Lasts, change, find_lasts, lift, put_first, use_place};
 use vr_device::BlockDevice;
 use vr_types::{DeviceFault, Failed};
 
@@ -60,8 +61,14 @@ fn read_in<D: BlockDevice>(
 }
 
 /// Makes room for a block that isn't held, and reads it.
-fn miss<D: BlockDevice>(device: &mut D, frames: &mut Frames, n: u32) -> Result<(), DeviceFault>
+fn miss<D: BlockDevice>(
+    device: &mut D,
+    frames: &mut Frames,
+    n: u32,
+    last: Lasts,
+) -> Result<(), DeviceFault>
     requires kept { IsKept D.tells (D.seen device.old) frames.old }
+    requires last { AreLasts n frames.old.table.entries last }
     requires block { n < (D.seen device.old).count }
     requires not_held { IsOther n (held_by frames.old) }
     ensures ok { OnOk result (GetsBlock n frames.old frames.new) }
@@ -74,7 +81,7 @@ fn miss<D: BlockDevice>(device: &mut D, frames: &mut Frames, n: u32) -> Result<(
         (over (D.seen device.new) (held_by frames.new)) }
     ensures cause { HasCause (D.faults device.old) (D.faults device.new) result }
 {
-    match room(device, frames) {
+    match room(device, frames, last) {
         Err(Failed) => Err(DeviceFault::Write),
         Ok(number) => match read_in(device, frames, number, n) {
             Ok(()) => Ok(()),
@@ -101,12 +108,13 @@ pub(crate) fn bring<D: BlockDevice>(
         (over (D.seen device.new) (held_by frames.new)) }
     ensures cause { HasCause (D.faults device.old) (D.faults device.new) result }
 {
-    match last_fit(&frames.table, Sought::Block(n)) {
+    let last = find_lasts(&frames.table, n);
+    match last.found {
         Some(number) => {
             use_place(&mut frames.table, number);
             Ok(())
         }
-        None => miss(device, frames, n),
+        None => miss(device, frames, n, last),
     }
 }
 
@@ -130,11 +138,12 @@ pub(crate) fn store<D: BlockDevice>(
         (over (D.seen device.new) (held_by frames.new)) }
     ensures cause { HasWriteCause (D.faults device.old) (D.faults device.new) result }
 {
-    if let Some(number) = last_fit(&frames.table, Sought::Block(n)) {
+    let last = find_lasts(&frames.table, n);
+    if let Some(number) = last.found {
         fill(device, frames, number, n, bytes);
         return Ok(());
     }
-    match room(device, frames) {
+    match room(device, frames, last) {
         Ok(number) => {
             fill(device, frames, number, n, bytes);
             Ok(())

@@ -8,6 +8,7 @@
 #![tactic(auto)]
 
 mod bringing;
+mod crossing;
 mod frames;
 mod giving;
 mod making;

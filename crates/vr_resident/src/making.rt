@@ -3,7 +3,7 @@ ghost use Rattle.std.specs.Prelude.{◌≡◌, ◌<◌, ◌≤◌, ℕ, IfOk, If
 ghost use Rattle.std.specs.Arc.{arc_value};
 ghost use Rattle.lru.specs.LruCache.{lru_cache};
 ghost use Rattle.vr_frames.specs.Frames.{failed_claims};
-ghost use Rattle.vr_resident.specs.Making.{bare_places, IsTaken, FoundAllOut};
+ghost use Rattle.vr_resident.specs.Making.{bare_places, IsTaken, FoundAllOut, RunsOut};
 ghost use Rattle.vr_resident.specs.Cache.{IsSeated, KeepsSeat, bare_count, pool_of};
 
 use crate::frames::Frames;
@@ -35,11 +35,14 @@ pub(crate) fn take_sixteen(frames: &mut Frames) -> Option<u32>
     ensures fewer { IfSome result (λ got. got < 16) }
     ensures out { IfSome result
         (λ got. FoundAllOut (pool_of frames.old) frames.old.seat frames.new.seat) }
+    ensures after { IfSome result
+        (λ got. RunsOut (pool_of frames.old) got frames.old.seat frames.new.seat) }
     ensures seated { IsSeated frames.new }
     ensures seat { KeepsSeat frames.old frames.new }
 {
     for got in 0..16 {
-        if take_frame(frames).is_none() {
+        let bare = last_fit(&frames.table, Sought::Bare);
+        if take_frame(frames, bare).is_none() {
             return Some(got);
         }
     }

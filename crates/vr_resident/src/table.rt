@@ -3,6 +3,7 @@ ghost use Rattle.std.specs.Prelude.{◌≡◌, ◌∷◌, ◌++◌, [], List, Ma
 ghost use Rattle.lru.specs.LruCache.{lru_cache};
 ghost use Rattle.vr_resident.specs.Places.{Entry, AreNone, IsLast, buffers_at, buffers_of};
 ghost use Rattle.vr_resident.specs.Table.{IsEntry, HasBuffer};
+ghost use Rattle.vr_resident.specs.Lasts.{AreLasts};
 ghost use Rattle.vr_resident.specs.declared.place.Place.{Place};
 ghost use Rattle.vr_resident.specs.declared.place.Place.TheVariants.{Bare};
 
@@ -25,6 +26,44 @@ pub(crate) fn last_fit(table: &Table, sought: Sought) -> Option<u32>
         }
     }
     last
+}
+
+/// The last place with a block that is looked for, with an empty frame, without a frame, and with
+/// any block.
+#[derive(Clone, Copy)]
+pub struct Lasts {
+    pub(crate) found: Option<u32>,
+    pub(crate) empty: Option<u32>,
+    pub(crate) bare: Option<u32>,
+    pub(crate) held: Option<u32>,
+}
+
+/// The last places, found in one walk. `n` is the block that is looked for.
+pub(crate) fn find_lasts(table: &Table, n: u32) -> Lasts
+    ensures { AreLasts n table.now.entries result }
+{
+    let mut found = None;
+    let mut empty = None;
+    let mut bare = None;
+    let mut held = None;
+    for (number, place) in table {
+        match place {
+            Place::Empty(_) => empty = Some(*number),
+            Place::Bare => bare = Some(*number),
+            Place::Taken(block, _, _) => {
+                held = Some(*number);
+                if *block == n {
+                    found = held;
+                }
+            }
+        }
+    }
+    Lasts {
+        found,
+        empty,
+        bare,
+        held,
+    }
 }
 
 /// Makes the place the most recently used.

@@ -8,7 +8,7 @@ ghost use Rattle.vr_types.specs.Blocks.{Keeps, Puts, Forced, AllForced, AddsNone
 ghost use Rattle.vr_types.specs.Seen.{Left};
 ghost use Rattle.vr_types.specs.Moments.{During};
 ghost use Rattle.vr_frames.specs.Frames.{IsSeatOf, IsSameSeat, frames_of, parts_of};
-ghost use Rattle.vr_resident.specs.Held.{changed_count};
+ghost use Rattle.vr_resident.specs.Held.{AreClean, changed_count};
 ghost use Rattle.vr_resident.specs.Places.{buffers_of, count_of, gave};
 ghost use Rattle.vr_resident.specs.declared.place.Sought.TheVariants.{Free};
 ghost use Rattle.vr_types.specs.Faults.{HasCause, HasWriteCause};
@@ -148,6 +148,16 @@ impl<D: BlockDevice> Resident<D> {
         ensures frames { result.frames ≡ frames }
     {
         Resident { device, frames }
+    }
+
+    /// A block that is held and isn't changed is what the device reads. This is a law: it does
+    /// nothing.
+    pub fn clean_block_is_the_devices(&self)
+        ensures { IsTrue D.tells → AreClean (D.seen self.now.device).cur
+            (held_in (D.seen self.now.device) self.now.frames) }
+    {
+        // What always holds of a cache is known where one of its fields is used.
+        let _ = &self.device;
     }
 
     /// Writes so many changed blocks, or all where there are fewer, the least recently used first,

@@ -5,6 +5,8 @@ use Rattle.vr_resident.specs.Held.{over}
 use Rattle.vr_resident.specs.Cache.{IsKept, KeepsSeat, GetsBlock, IsFirst, held_by, entries_of}
 use Rattle.vr_resident.specs.declared.place.Place.{Place}
 use Rattle.vr_resident.specs.declared.place.Place.TheVariants.{Taken}
+use Rattle.vr_resident.specs.declared.place.Sought.TheVariants.{Block}
+use Rattle.vr_resident.proofs.Entries.{none_of, some_of}
 use Rattle.vr_resident.proofs.Framing.{held_in}
 use Rattle.vr_resident.proofs.Entering.{none_other, same_buffer, is_first, hit, hit_seat, used_kept}
 use Rattle.vr_resident.proofs.Entering.{taken_is}
@@ -12,14 +14,18 @@ use Rattle.vr_resident.proofs.bringing.bring.Goals as goal
 
 pub miss-requires-clause-not_held : goal.miss-requires-clause-not_held
 miss-requires-clause-not_held g c =
-    none_other c.args.frames.now.size c.args.n (entries_of c.args.frames.now) c.in-None.ensures
+    let entries = entries_of c.args.frames.now in
+    none_other c.args.frames.now.size c.args.n entries
+    (none_of (Block c.args.n) entries c.find_lasts-last.result.found c.find_lasts-last.ensures.found
+    c.in-None.is)
 
 pub returns-in-Some : goal.returns-in-Some
 returns-in-Some g c =
     let tells = g.D.BlockDevice.tells in
     let device = g.D.BlockDevice.seen c.args.device.now in
     let frames = c.args.frames.now in
-    let r = c.in-Some.ensures in
+    let r = some_of (Block c.args.n) (entries_of frames) c.find_lasts-last.result.found
+    c.in-Some.number c.find_lasts-last.ensures.found c.in-Some.is in
     let t = taken_is c.args.n r.place r.it_fits in
     let mark = t.0 in
     let b = t.1 in

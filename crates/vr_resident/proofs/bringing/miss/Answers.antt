@@ -1,5 +1,6 @@
 use Rattle.std.proofs.Common.{ℕ, sym, subst, inr}
-use Rattle.vr_resident.specs.Held.{IsOther}
+use Rattle.vr_types.proofs.CallerLemmas.{keeps-then}
+use Rattle.vr_resident.specs.Held.{IsOther, over}
 use Rattle.vr_resident.specs.Cache.{held_by}
 use Rattle.vr_resident.proofs.Entering.{room_other}
 use Rattle.vr_resident.proofs.bringing.miss.Goals as goal
@@ -25,3 +26,11 @@ returns-in-Ok-read_in-clause-ok g c =
         },
       ),
     )
+
+pub returns-in-Ok-read_in-clause-after : goal.returns-in-Ok-read_in-clause-after
+returns-in-Ok-read_in-clause-after g c =
+    keeps-then g.D.BlockDevice.tells
+    (over (g.D.BlockDevice.seen c.args.device.now) (held_by c.args.frames.now))
+    (over (g.D.BlockDevice.seen c.room.new.device) (held_by c.room.new.frames))
+    (over (g.D.BlockDevice.seen c.read_in.new.device) (held_by c.read_in.new.frames))
+    c.in-Ok.ensures.after c.in-Ok-read_in.ensures.after

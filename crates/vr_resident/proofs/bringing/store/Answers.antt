@@ -3,6 +3,8 @@ use Rattle.vr_resident.specs.Held.{Held, IsOther}
 use Rattle.vr_resident.specs.Cache.{held_by, entries_of}
 use Rattle.vr_resident.specs.declared.place.Place.{Place}
 use Rattle.vr_resident.specs.declared.place.Place.TheVariants.{Taken}
+use Rattle.vr_resident.specs.declared.place.Sought.TheVariants.{Block}
+use Rattle.vr_resident.proofs.Entries.{none_of, some_of}
 use Rattle.vr_resident.proofs.Framing.{held_in}
 use Rattle.vr_resident.proofs.Taking.{empty_is}
 use Rattle.vr_resident.proofs.Entering.{none_other, room_other, same_buffer}
@@ -18,7 +20,8 @@ there n held xs ys k is same other =
 
 pub fill-requires-clause-place : goal.fill-requires-clause-place
 fill-requires-clause-place g c =
-    let r = c.in-Some.ensures in
+    let r = some_of (Block c.args.n) (entries_of c.args.frames.now) c.find_lasts-last.result.found
+    c.in-Some.number c.find_lasts-last.ensures.found c.in-Some.is in
     let t = taken_is c.args.n r.place r.it_fits in
     record {
       place = r.place;
@@ -33,7 +36,8 @@ fill-requires-clause-place g c =
 pub returns-in-Some-clause-ok : goal.returns-in-Some-clause-ok
 returns-in-Some-clause-ok g c =
     let frames = c.args.frames.now in
-    let r = c.in-Some.ensures in
+    let r = some_of (Block c.args.n) (entries_of c.args.frames.now) c.find_lasts-last.result.found
+    c.in-Some.number c.find_lasts-last.ensures.found c.in-Some.is in
     let t = taken_is c.args.n r.place r.it_fits in
     let was : entries_of frames ≡ r.before ++ (c.in-Some.number, Taken c.args.n t.0 t.1) ∷ r.after =
     r.split ∙ ap (λ (p : Place). r.before ++ (c.in-Some.number, p) ∷ r.after) t.2 in
@@ -49,7 +53,9 @@ fill-requires-in-Ok-clause-place g c =
     let frames = c.args.frames.now in
     let r = c.in-Ok.ensures.place in
     let e = empty_is r.place r.it_fits in
-    let other = none_other frames.size c.args.n (entries_of frames) c.in_default.ensures in
+    let other = none_other frames.size c.args.n (entries_of frames)
+    (none_of (Block c.args.n) (entries_of frames) c.find_lasts-last.result.found
+    c.find_lasts-last.ensures.found c.in_default.is) in
     record {
       place = r.place;
       before = r.before;
@@ -63,7 +69,9 @@ fill-requires-in-Ok-clause-place g c =
 pub returns-in-Ok-clause-ok : goal.returns-in-Ok-clause-ok
 returns-in-Ok-clause-ok g c =
     let frames = c.args.frames.now in
-    let other = none_other frames.size c.args.n (entries_of frames) c.in_default.ensures in
+    let other = none_other frames.size c.args.n (entries_of frames)
+    (none_of (Block c.args.n) (entries_of frames) c.find_lasts-last.result.found
+    c.find_lasts-last.ensures.found c.in_default.is) in
     let mid = room_other c.args.n frames c.room.new.frames c.in-Ok.ensures.ok other in
     ⊎_elim (λ hits. let h = hits.2 in
     absurd (there c.args.n (held_by c.room.new.frames) h.between.before h.between.after hits.0

@@ -1,7 +1,8 @@
-use Rattle.std.proofs.Common.{◌≡◌, ◌<◌, ℕ, sym, subst}
+use Rattle.std.proofs.Common.{◌≡◌, ◌<◌, ◌∙◌, ℕ, sym, subst}
+use Rattle.std.specs.Arc.{arc_value}
 use Rattle.vr_frames.specs.Frames.{failed_claims}
 use Rattle.vr_resident.specs.Cache.{pool_of}
-use Rattle.vr_resident.specs.Making.{IsNew}
+use Rattle.vr_resident.specs.Making.{IsNew, TakesSome}
 use Rattle.vr_resident.specs.declared.frames.Frames.{Frames}
 use Rattle.vr_resident.proofs.Beginning.{is_new, is_back}
 use Rattle.vr_resident.specs.declared.why.ResidentWhy.TheVariants.{NoFrames}
@@ -41,8 +42,19 @@ returns-in-Some-clause-seat_back g c =
     c.take_sixteen.ensures.seat e.home e.of_pool e.same e.parts
 
 pub returns-in-Some-clause-why : goal.returns-in-Some-clause-why
-returns-in-Some-clause-why g c got is = (
-  subst (λ (n : ℕ). n < 16) (same_count c.in-Some.got got is) c.in-Some.ensures.fewer,
-  λ number within. subst (λ (n : ℕ). failed_claims c.args.seat number < n)
-      (sym (c.give_all.ensures.claims number)) (c.in-Some.ensures.out number within),
-)
+returns-in-Some-clause-why g c got is =
+    let same = same_count c.in-Some.got got is in
+    let ran = c.in-Some.ensures.after in
+    record {
+      fewer = subst (λ (n : ℕ). n < 16) same c.in-Some.ensures.fewer;
+      all_out = λ number within. subst (λ (n : ℕ). failed_claims c.args.seat number < n)
+          (sym (c.give_all.ensures.claims number)) (c.in-Some.ensures.out number within);
+      after = record {
+        last = ran.last;
+        took = subst (λ (n : ℕ). TakesSome (arc_value c.args.pool) n c.args.seat ran.last) same
+            ran.took;
+        refused = ran.refused;
+        none_home = ran.none_home;
+        claims = λ k. c.give_all.ensures.claims k ∙ ran.claims k;
+      };
+    }
