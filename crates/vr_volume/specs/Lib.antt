@@ -1,0 +1,5 @@
+pub mod Header
+pub mod Laid
+pub mod PutBack
+pub mod Volume
+pub mod Safe
