@@ -1,1 +1,5 @@
+pub mod CallerLemmas
+pub mod Items
+pub mod Leading
+pub mod Led
 pub mod Sorting

@@ -1,11 +1,13 @@
 -- What a change of one base record does to the pairs of the alternate indexes over it, as Using
 -- Data Sets tells of upgrading them. Their order is this project's own.
-use Rattle.std.specs.Prelude.{ℕ, Bool, false, true, if◌then◌else◌, List, [], ◌++◌, Option, bytes_eq}
+use Rattle.std.specs.Prelude.{ℕ, Bool, false, true, if◌then◌else◌, List, [], ◌∷◌, ◌++◌, Option, Some}
+use Rattle.std.specs.Prelude.{None, ◌==◌, bytes_eq, filter}
 use Rattle.std.specs.List.{flat_map}
 use Rattle.std.specs.Option.{option_and_then, option_eq, option_map, option_to_list}
 use Rattle.vr_altkey.specs.declared.definition.AltDef.{AltDef}
 use Rattle.vr_altkey.specs.declared.definition.PairChange.{PairChange}
 use Rattle.vr_altkey.specs.Pairs.{field_of, pair_place_of}
+use Rattle.vr_types.specs.Content.{Content, Item, Standing, record_of, with_item, without_item}
 
 -- the alternate field of a record, if there is a record that has it
 abbrev pub field_in : ℕ → ℕ → Option (List ℕ) → Option (List ℕ)
@@ -30,3 +32,27 @@ changes_in place old new def =
 -- the changes of the pairs of all alternate indexes, in their order
 abbrev pub pair_changes : List AltDef → List ℕ → Option (List ℕ) → Option (List ℕ) → List PairChange
 pair_changes alternates place old new = flat_map (changes_in place old new) alternates
+
+-- the changes of one alternate index, by its part number
+abbrev pub changes_to : ℕ → List PairChange → List PairChange
+changes_to part changes = filter (λ change. change.part.0 == part) changes
+
+-- the content of an alternate index once a pair came or went
+abbrev pub pair_changed : PairChange → Content → Content
+pair_changed change content =
+    if change.added then with_item content change.place (Standing change.place) else
+    without_item content change.place
+
+-- and once several did, one after another
+abbrev pub pairs_changed : List PairChange → Content → Content
+pairs_changed [] content = content
+pairs_changed (change ∷ later) content = pairs_changed later (pair_changed change content)
+
+-- a base with an item at a place from now on, or none
+abbrev pub with_base : Content → List ℕ → Option Item → Content
+with_base base place None = without_item base place
+with_base base place (Some item) = with_item base place item
+
+-- the record that such an item is, if it is one
+abbrev pub record_in : Option Item → Option (List ℕ)
+record_in item = option_and_then record_of item

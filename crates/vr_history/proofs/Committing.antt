@@ -33,8 +33,9 @@ use Rattle.vr_history.specs.Case.{Case, file_of, new_record}
 use Rattle.vr_history.specs.Change.{Change, change_of, pair_moves, place_changed}
 use Rattle.vr_history.specs.Committed.{commits, counted_entry, counted_run, is_kept_of, kept_or}
 use Rattle.vr_history.specs.Committed.{left_at_end, changed}
-use Rattle.vr_history.specs.Effects.{contents_left, drops_held, ends_unit, has_part, is_other}
-use Rattle.vr_history.specs.Effects.{is_utility_live, parts_laid, without_unit, with_change}
+use Rattle.vr_history.specs.Effects.{claims, contents_left, drops_held, ends_unit, has_part}
+use Rattle.vr_history.specs.Effects.{is_other, is_utility_live, parts_laid, without_unit}
+use Rattle.vr_history.specs.Effects.{with_change}
 use Rattle.vr_history.specs.Laws.{HasPart, HasPartThroughout, record_in}
 use Rattle.vr_history.specs.Legal.{AreSteps, state_of}
 use Rattle.vr_history.specs.Names.{change_names, keys_moved, lock_names, record_name, with_locks}
@@ -63,11 +64,13 @@ pub record Holds (counts : UnitOfRecovery → Bool) (part : ℕ) (state : State)
   pub sound : Sound state.befores state.locks
   pub agrees : Agrees counts state counted part
 
--- an entry that changes no content, keeps no before-image and takes locks away from nobody
-record Keeps (state new : State) : Type 0 where
-  contents : new.contents ≡ state.contents
-  befores : new.befores ≡ state.befores
-  more : HoldMore state.locks new.locks
+-- an entry that changes no content, keeps no before-image, claims no area and takes locks away from
+-- nobody
+pub record Keeps (state new : State) : Type 0 where
+  pub contents : new.contents ≡ state.contents
+  pub befores : new.befores ≡ state.befores
+  pub owned : new.owned ≡ state.owned
+  pub more : HoldMore state.locks new.locks
 
 kept_sound : (befores befores' : List BeforeImage) (locks locks' : List Lock) → befores' ≡ befores
     → HoldMore locks locks' → Sound befores locks → Sound befores' locks'
@@ -103,34 +106,36 @@ kept_holds counts part state new counted unit keeps holds =
     })
 
 -- positions have nothing to do with it
-keeps_then : (one two three : State) → Keeps one two → Keeps two three → Keeps one three
+pub keeps_then : (one two three : State) → Keeps one two → Keeps two three → Keeps one three
 keeps_then one two three first second = record {
   contents = second.contents ∙ first.contents;
   befores = second.befores ∙ first.befores;
+  owned = second.owned ∙ first.owned;
   more = λ unit name held. second.more unit name (first.more unit name held);
 }
 
-keeps_none : (state : State) → Keeps state state
-keeps_none state = record { contents = refl; befores = refl; more = λ unit name held. held }
+pub keeps_none : (state : State) → Keeps state state
+keeps_none state =
+    record { contents = refl; befores = refl; owned = refl; more = λ unit name held. held }
 
-stands_keep : (deck : ℕ) (file : Option FileRef) (stand : Option Stand) (state : State)
+pub stands_keep : (deck : ℕ) (file : Option FileRef) (stand : Option Stand) (state : State)
     → Keeps state (stands_in deck file stand state)
 stands_keep deck None stand state = keeps_none state
 stands_keep deck (Some file) None state = keeps_none state
 stands_keep deck (Some file) (Some stand) state =
-    record { contents = refl; befores = refl; more = λ unit name held. held }
+    record { contents = refl; befores = refl; owned = refl; more = λ unit name held. held }
 
-drops_keep : (deck : ℕ) (file : Option FileRef) (state : State)
+pub drops_keep : (deck : ℕ) (file : Option FileRef) (state : State)
     → Keeps state (drops_held deck file state)
 drops_keep deck None state = keeps_none state
 drops_keep deck (Some file) state =
-    record { contents = refl; befores = refl; more = λ unit name held. held }
+    record { contents = refl; befores = refl; owned = refl; more = λ unit name held. held }
 
 holds_keep : (deck : ℕ) (file : FileRef) (place : Option (List ℕ)) (state : State)
     → Keeps state (option_map_or (λ at. moves_file deck file.slot (holding at) state) place state)
 holds_keep deck file None state = keeps_none state
 holds_keep deck file (Some place) state =
-    record { contents = refl; befores = refl; more = λ unit name held. held }
+    record { contents = refl; befores = refl; owned = refl; more = λ unit name held. held }
 
 -- each request that is done and changes nothing
 abbrev done_state : Geometry → State → UnitOfRecovery → Request → State
@@ -138,7 +143,7 @@ done_state geometry state unit request =
     done_effect (case_of geometry state unit request) request
     (drops_held unit.deck (file_of request) state)
 
-read_keeps : (geometry : Geometry) (state : State) (unit : UnitOfRecovery) (file : FileRef)
+pub read_keeps : (geometry : Geometry) (state : State) (unit : UnitOfRecovery) (file : FileRef)
     (find : Find) (update : Bool) (integrity : Integrity)
     → Keeps state (done_state geometry state unit (Get file find update integrity))
 read_keeps geometry state unit file find true integrity =
@@ -156,6 +161,7 @@ read_keeps geometry state unit file find true integrity =
     (keeps_then dropped locked _ (record {
       contents = refl;
       befores = refl;
+      owned = refl;
       more =
           λ other name holds. all_hold other unit name Exclusive (lock_names case case.request)
           dropped.locks holds;
@@ -182,6 +188,7 @@ read_keeps geometry state unit file find false Cre =
     (keeps_then dropped locked _ (record {
       contents = refl;
       befores = refl;
+      owned = refl;
       more =
           λ other name holds. all_hold other unit name Shared (lock_names case case.request)
           dropped.locks holds;
@@ -273,7 +280,7 @@ agrees_by counts part state new counted counted' found contents same agrees plac
     ∙ ap (λ (kept : Option BeforeImage). record_in
     (kept_or kept (item_at (state.contents part) place))) (found place)))
 
-left_if : (test : Bool) (content : Content) → test ≡ true → (if test then content else []) ≡ content
+pub left_if : (test : Bool) (content : Content) → test ≡ true → (if test then content else []) ≡ content
 left_if true content is = refl
 left_if false content is = absurd (false≢true is)
 
@@ -454,18 +461,18 @@ entry_holds counts part geometry state counted unit stamp line (Asked request (R
 entry_holds counts part geometry state counted unit stamp line (Undone of_part place) may commit has
     holds = undone_holds counts part state counted unit (last_kept state unit) refl holds
 entry_holds counts part geometry state counted unit stamp line (Claimed of_part area) may commit has
-    holds = kept_holds counts part state _ counted unit (record {
-      contents = refl;
-      befores =
-          refl;
-      more = λ other name held. held;
-    }) holds
+    holds = subst (Holds counts part (claims area.0 of_part.0 state))
+    (sym (same_counted (counts unit) counted)) (record {
+      sound = holds.sound;
+      agrees = holds.agrees;
+    })
 entry_holds counts part geometry state counted unit stamp line (Split of_part) may commit has holds
     = kept_holds counts part state state counted unit (keeps_none state) holds
 entry_holds counts part geometry state counted unit stamp line (Faulted fault) may commit has holds
     = kept_holds counts part state _ counted unit (record {
       contents = refl;
       befores = refl;
+      owned = refl;
       more =
           λ other name held. held;
     }) holds

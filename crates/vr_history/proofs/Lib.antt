@@ -1,3 +1,8 @@
+pub mod AddressAsked
+pub mod AddressEffects
+pub mod AddressNumbers
+pub mod AddressRuns
+pub mod Addressing
 pub mod Befores
 pub mod CallerLemmas
 pub mod Committing
@@ -5,9 +10,12 @@ pub mod Counting
 pub mod Endings
 pub mod Holding
 pub mod Items
+pub mod Laying
 pub mod LockLemmas
 pub mod LockRuns
 pub mod Merging
+pub mod Outlines
+pub mod OwnedAreas
 pub mod Positions
 pub mod Replying
 pub mod Same

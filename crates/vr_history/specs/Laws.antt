@@ -1,7 +1,7 @@
 -- What readers of the record file expect of it, stated of its words.
 use Rattle.std.specs.Prelude.{◌≡◌, ℕ, Bool, true, false, cond, List, [], ◌∷◌, Option, Some, None}
 use Rattle.std.specs.Prelude.{All, option_and_then}
-use Rattle.vr_types.specs.Locks.{Conflict, Lock, conflicts, same_unit}
+use Rattle.vr_types.specs.Locks.{Conflict, Lock, same_unit}
 use Rattle.vr_catalog.specs.Catalog.{entries_in, parts_in}
 use Rattle.vr_types.specs.Content.{Content, Item, item_at, record_of}
 use Rattle.vr_types.specs.declared.geometry.Geometry.{Geometry}

@@ -1,4 +1,5 @@
 pub mod Address
+pub mod Addresses
 pub mod Case
 pub mod Change
 pub mod Committed

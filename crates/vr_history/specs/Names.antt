@@ -2,9 +2,9 @@
 -- on its record, and for a change on each key of a unique alternate index that it gives up or
 -- takes. Which reads keep a lock is that guide's too; that a refused lock is answered at once is
 -- this project's own rule.
-use Rattle.std.specs.Prelude.{ℕ, Bool, true, false, not, cond, List, [], ◌∷◌, ◌++◌, Option, Some}
-use Rattle.std.specs.Prelude.{None, ◌&&◌, ◌||◌, find, filter, map, flat_map, option_to_list}
-use Rattle.std.specs.Option.{option_map_or, option_or}
+use Rattle.std.specs.Prelude.{ℕ, Bool, true, false, cond, List, [], ◌∷◌, ◌++◌, Option, Some}
+use Rattle.std.specs.Prelude.{None, ◌&&◌, find, filter, map, flat_map, option_to_list}
+use Rattle.std.specs.Option.{option_map_or}
 use Rattle.std.specs.List.{list_any}
 use Rattle.vr_types.specs.LockName.{lock_name_eq}
 use Rattle.vr_types.specs.Locks.{Lock, same_unit}
@@ -22,7 +22,6 @@ use Rattle.vr_history.specs.Case.{Case}
 use Rattle.vr_history.specs.Change.{PairMove, pair_moves, place_changed}
 use Rattle.vr_history.specs.Found.{place_read}
 use Rattle.vr_history.specs.Opened.{base_of}
-use Rattle.vr_history.specs.State.{State}
 
 abbrev pub record_name : Case → List ℕ → LockName
 record_name case place = Record (record { 0 = base_of case }) place

@@ -7,7 +7,7 @@ use Rattle.std.specs.Prelude.{◌||◌, length, bytes_eq, find, is_none, is_some
 use Rattle.std.specs.Prelude.{option_and_then}
 use Rattle.std.specs.List.{list_any}
 use Rattle.std.specs.Option.{option_map_or}
-use Rattle.vr_types.specs.Locks.{Lock, conflict_on, conflicts}
+use Rattle.vr_types.specs.Locks.{Lock, conflict_on}
 use Rattle.vr_catalog.specs.declared.definition.Definition.{Definition}
 use Rattle.vr_catalog.specs.Definition.{key_of}
 use Rattle.vr_types.specs.Content.{record_at}

@@ -2,15 +2,13 @@
 -- locks, before-images and log records of units of recovery, where files stand, and which areas are
 -- owned. Locks, before-images and units are those of the DFSMStvs Planning and Operating Guide; how
 -- they are kept is this project's own.
-use Rattle.std.specs.Prelude.{ℕ, Bool, List, [], Option, None, ◌==◌, ◌&&◌, false, length, filter}
+use Rattle.std.specs.Prelude.{ℕ, Bool, List, [], Option, None, ◌==◌, ◌&&◌, length, filter}
 use Rattle.std.specs.Prelude.{bytes_eq}
 use Rattle.std.specs.List.{list_any}
 use Rattle.vr_types.specs.Locks.{Lock, same_unit}
 use Rattle.vr_types.specs.Content.{Content, Item}
 use Rattle.vr_types.specs.Position.{first_position}
 use Rattle.vr_types.specs.declared.position.Position.{Position}
-use Rattle.vr_types.specs.declared.lock_name.LockName.{LockName}
-use Rattle.vr_types.specs.declared.lock_name.LockName.TheVariants.{Record, Unique}
 use Rattle.vr_types.specs.declared.unit.Unit.{Unit as UnitOfRecovery}
 
 -- what stood at a place of a cluster before a unit first changed it

@@ -1,5 +1,6 @@
 //! Laws of the record file, each the contract of a function that does nothing.
-ghost use Rattle.std.specs.Prelude.{◌≡◌, ℕ, List, [], ◌∷◌, ◌++◌, Option};
+ghost use Rattle.std.specs.Prelude.{◌≡◌, ◌≢◌, ℕ, List, [], ◌∷◌, ◌++◌, Option};
+ghost use Rattle.std.specs.List.{AllPairs};
 ghost use Rattle.vr_types.specs.declared.geometry.Geometry.{Geometry};
 ghost use Rattle.vr_types.specs.declared.reply.Refusal.{Refusal as RefusalOf};
 ghost use Rattle.vr_types.specs.declared.reply.Reply.TheVariants.{Done, Refused};
@@ -7,6 +8,7 @@ ghost use Rattle.vr_types.specs.declared.request.Request.TheVariants.{Backout};
 ghost use Rattle.vr_types.specs.declared.unit.Unit.{Unit as UnitOfRecovery};
 ghost use Rattle.vr_history.specs.declared.entry.Entry.{Entry};
 ghost use Rattle.vr_history.specs.declared.entry.What.TheVariants.{Asked};
+ghost use Rattle.vr_history.specs.Addresses.{IsInOrder, RunsOver, addresses_given};
 ghost use Rattle.vr_history.specs.Case.{Case};
 ghost use Rattle.vr_history.specs.Committed.{committed, is_counted};
 ghost use Rattle.vr_history.specs.Effects.{ends_unit};
@@ -22,7 +24,7 @@ ghost use Rattle.vr_history.specs.Laws.{
 ghost use Rattle.vr_history.specs.Legal.{AreSteps, state_of};
 ghost use Rattle.vr_history.specs.Merged.{merged};
 ghost use Rattle.vr_history.specs.State.{Owned, State, opening_state};
-ghost use Rattle.vr_types.specs.Content.{Content};
+ghost use Rattle.vr_types.specs.Content.{Content, places_of};
 ghost use Rattle.vr_history.specs.Step.{after_asked};
 
 /// A refused request changes nothing but where its file stands and what it holds.
@@ -83,4 +85,27 @@ pub fn backed_out_changes_nothing()
         → last.what ≡ Asked Backout (Done feedback place bytes)
         → committed geometry opening (entries ++ last ∷ []) others
         ≡ committed geometry opening entries others }
+{}
+
+/// An entry-sequenced address that was once given is never given again, whichever deck or unit of
+/// recovery adds, and whether the record was backed out or not. The data set's places after a
+/// history are those of the opening and then those that its entries gave, in their order (`kept`);
+/// no two of them are one (`apart`); and what the history leaves is in order again, so that the
+/// volume's next history goes on from there (`in_order`). The catalog has the data set throughout.
+pub fn addresses_never_again()
+    ensures kept { (geometry : Geometry) (part : ℕ) (contents : ℕ → Content) (owned : List Owned)
+        (entries : List Entry)
+        → RunsOver geometry part contents owned entries
+        → places_of ((state_of geometry (opening_state contents owned) entries).contents part)
+        ≡ places_of (contents part) ++ addresses_given part entries }
+    ensures apart { (geometry : Geometry) (part : ℕ) (contents : ℕ → Content) (owned : List Owned)
+        (entries : List Entry)
+        → RunsOver geometry part contents owned entries
+        → AllPairs (λ one other. one ≢ other)
+        (places_of (contents part) ++ addresses_given part entries) }
+    ensures in_order { (geometry : Geometry) (part : ℕ) (contents : ℕ → Content)
+        (owned : List Owned) (entries : List Entry)
+        → RunsOver geometry part contents owned entries
+        → let after = state_of geometry (opening_state contents owned) entries in
+        IsInOrder geometry (after.contents part) after.owned }
 {}

@@ -13,6 +13,6 @@ mod laws;
 pub use entry::{Entry, What};
 pub use history::History;
 pub use laws::{
-    backed_out_changes_nothing, committed_is_current, committed_is_settled, ended_holds_nothing,
-    merged_in_order, no_two_locks_conflict, refused_changes_nothing,
+    addresses_never_again, backed_out_changes_nothing, committed_is_current, committed_is_settled,
+    ended_holds_nothing, merged_in_order, no_two_locks_conflict, refused_changes_nothing,
 };

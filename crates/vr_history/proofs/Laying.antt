@@ -1,0 +1,366 @@
+-- The next address lies past the last item, and below 2^31.
+use Rattle.std.proofs.Common.{◌≡◌, ℕ, ◌+◌, ◌-◌, ◌*◌, ◌/◌, ◌^◌, ◌<◌, ◌≤◌, Bool, true}
+use Rattle.std.proofs.Common.{false, cond, ◌&&◌, List, [], ◌∷◌, ◌++◌, map, filter, sum, Some, None}
+use Rattle.std.proofs.Common.{refl, sym, ap, ◌∙◌, subst, arith}
+use Rattle.std.specs.Prelude.{Option, nat_le}
+use Rattle.std.specs.Int.{div_ceil, w32, to_be_bytes}
+use Rattle.std.specs.List.{AllByRecursion, sum_by}
+use Rattle.std.specs.List.Sorted.{IsStrictlySortedBy}
+use Rattle.std.specs.declared.cmp.Ordering.TheVariants.{Less}
+use Rattle.std.proofs.Common.{eq-eqb}
+use Rattle.std.proofs.lemmas.Bool.{true≢false}
+use Rattle.std.proofs.lemmas.Bool.Decides.{nat_tests}
+use Rattle.std.proofs.lemmas.Cmp.{nat_list_cmp_total}
+use native.Mathlib.Nat as nat
+use Rattle.std.proofs.lemmas.List.{append_assoc, append-nil, map-append}
+use Rattle.std.proofs.lemmas.List.Elements.{filter-append}
+use Rattle.std.proofs.lemmas.List.Sums.{sum-map, sum_by-cons, sum_by_push}
+use Rattle.std.proofs.lemmas.Nat.{div-add-mod', div-mul-add, le-div, mod_below, mul-le}
+use Rattle.vr_types.specs.Content.{Ascends, Content, Placed, place_cmp, places_of}
+use Rattle.vr_types.specs.Geometry.{IsAllowed, area_count}
+use Rattle.vr_types.specs.declared.geometry.Geometry.{Geometry}
+use Rattle.vr_types.proofs.CallerLemmas.{block_size_least}
+use Rattle.vr_history.specs.Address.{begins_in, intervals_for, is_spanned, last_interval, last_item}
+use Rattle.vr_history.specs.Address.{length_of, lengths_taken, next_address, next_after, number_of}
+use Rattle.vr_history.specs.Address.{room_taken}
+use Rattle.vr_history.specs.Addresses.{AreNext, IsNext}
+use Rattle.vr_history.proofs.AddressNumbers.{number_back, places_rise}
+use Rattle.vr_history.proofs.Same.{first_holds, second_holds}
+
+-- the intervals of a volume
+abbrev pub intervals_of : Geometry → ℕ
+intervals_of geometry = area_count geometry * geometry.area
+
+-- their bytes: at most half of what four bytes count
+pub volume_fits : (geometry : Geometry) → IsAllowed geometry
+    → intervals_of geometry * geometry.size ≤ 2 ^ 31
+volume_fits geometry allowed =
+    let count : ℕ = area_count geometry in
+    let held : count * geometry.area ≤ geometry.blocks - 1 - geometry.log =
+    within (geometry.blocks - 1 - geometry.log) geometry.area in
+    let bytes : count * geometry.area * geometry.size ≤ geometry.blocks * geometry.size =
+    mul-le (count * geometry.area) geometry.size geometry.blocks geometry.size (omega arith)
+    (omega arith) in
+    omega (arith, allowed.bytes, nat.mul_comm geometry.blocks geometry.size)
+  where
+    within : (blocks area : ℕ) → blocks / (area + 1) * area ≤ blocks
+    within blocks area =
+        let parts : blocks / (area + 1) * (area + 1) ≤ blocks = nat.div-mul-le_self blocks (area + 1) in
+        omega (arith, nat.mul-add (blocks / (area + 1)) area 1)
+
+-- what is taken of an interval, with one item more at the end
+taken_append : (size interval : ℕ) (content : Content) (placed : Placed)
+    → begins_in size interval placed ≡ true
+    → lengths_taken size interval (content ++ placed ∷ []) ≡ lengths_taken size interval content
+    + length_of placed.1
+taken_append size interval content placed begins =
+    let long : Placed → ℕ = λ (item : Placed). length_of item.1 in
+    let here : Placed → Bool = begins_in size interval in
+    sum-map long (filter here (content ++ placed ∷ []))
+    ∙ (ap (sum_by long) (filter-append here content (placed ∷ [])
+    ∙ ap (λ (test : Bool). filter here content ++ cond test (placed ∷ []) []) begins)
+    ∙ (sum_by_push long (filter here content) placed
+    ∙ ap (λ n. n + long placed) (sym (sum-map long (filter here content)))))
+
+-- the items alone take less than they do with their control information
+lengths_within : (items : Content)
+    → sum (map (λ (item : Placed). length_of item.1) items) ≤ sum
+    (map (λ (item : Placed). length_of item.1 + 3) items)
+lengths_within [] = omega arith
+lengths_within (placed ∷ items) =
+    let long : List ℕ = map (λ (item : Placed). length_of item.1) items in
+    let longer : List ℕ = map (λ (item : Placed). length_of item.1 + 3) items in
+    omega (
+      arith,
+      lengths_within items,
+      sum_by-cons (λ (n : ℕ). n) (length_of placed.1) long,
+      sum_by-cons (λ (n : ℕ). n) (length_of placed.1 + 3) longer,
+    )
+
+last_append : (content : Content) (placed : Placed)
+    → last_item (content ++ placed ∷ []) ≡ Some placed
+last_append [] placed = refl
+last_append (first ∷ []) placed = refl
+last_append (first ∷ next ∷ rest) placed = last_append (next ∷ rest) placed
+
+last_some : (first : Placed) (rest : Content)
+    → (last : Placed) × (last_item (first ∷ rest) ≡ Some last)
+last_some first [] = (first, refl)
+last_some first (next ∷ rest) = last_some next rest
+
+none_last : (content : Content) → last_item content ≡ None → content ≡ []
+none_last [] none = refl
+none_last (first ∷ rest) none = let some = last_some first rest in absurd (no_last some.0 (sym none ∙ some.1))
+  where
+    no_last : (last : Placed) → None ≡ Some last → ⊥
+    no_last last is = cc
+
+-- an address beyond a place's
+abbrev pub IsBelow : ℕ → List ℕ → Type 0
+IsBelow n place = (beyond : ℕ) → n < beyond → beyond < 2 ^ 32
+    → place_cmp place (to_be_bytes w32 beyond) ≡ Less
+
+-- what is known of the last item: none stands above it, and within its interval it lies among what
+-- is taken there
+pub record IsLastLaid (geometry : Geometry) (content : Content) (last : Placed) : Type 0 where
+  pub top : AllByRecursion (IsBelow (number_of last.0)) (places_of content)
+  pub packed : number_of last.0 < number_of last.0 / geometry.size * geometry.size + lengths_taken
+      geometry.size (number_of last.0 / geometry.size) content
+  pub ends : last_interval geometry.size (number_of last.0) (length_of last.1) < intervals_of
+      geometry
+
+pub record AreLaid (geometry : Geometry) (content : Content) : Type 0 where
+  pub ascends : Ascends content
+  pub last : (placed : Placed) → last_item content ≡ Some placed
+      → IsLastLaid geometry content placed
+
+-- what is known of the next address
+pub record LiesPast (geometry : Geometry) (content : Content) (new n : ℕ) : Type 0 where
+  pub fits : n < 2 ^ 32
+  pub past : AllByRecursion (λ place. place_cmp place (to_be_bytes w32 n) ≡ Less) (places_of content)
+  pub packed : n < n / geometry.size * geometry.size
+      + (lengths_taken geometry.size (n / geometry.size) content + new)
+
+all_beyond : (n beyond : ℕ) (places : List (List ℕ)) → n < beyond → beyond < 2 ^ 32
+    → AllByRecursion (IsBelow n) places
+    → AllByRecursion (λ place. place_cmp place (to_be_bytes w32 beyond) ≡ Less) places
+all_beyond n beyond [] less fits below = tt
+all_beyond n beyond (place ∷ places) less fits below =
+    (below.0 beyond less fits, all_beyond n beyond places less fits below.1)
+
+-- a plain record goes among those of the last interval
+plain_past : (geometry : Geometry) (content : Content) (new : ℕ) (last : Placed)
+    → IsAllowed geometry → IsLastLaid geometry content last → 0 < new
+    → is_spanned geometry.size (length_of last.1) ≡ false
+    → room_taken geometry.size
+    (last_interval geometry.size (number_of last.0) (length_of last.1)) content
+    + new + 3 ≤ geometry.size - 4
+    → let interval : ℕ = last_interval geometry.size (number_of last.0) (length_of last.1) in
+    LiesPast geometry content new (interval * geometry.size
+    + lengths_taken geometry.size interval content)
+plain_past geometry content new last allowed laid some plain room =
+    let size : ℕ = geometry.size in
+    let address : ℕ = number_of last.0 in
+    let interval : ℕ = last_interval size address (length_of last.1) in
+    let taken : ℕ = lengths_taken size interval content in
+    let one : intervals_for size (length_of last.1) ≡ 1 =
+    ap (λ (test : Bool). cond test (div_ceil (length_of last.1) (size - 10)) 1) plain in
+    let same : interval ≡ address / size = omega (arith, one) in
+    let few : taken ≤ room_taken size interval content =
+    lengths_within (filter (begins_in size interval) content) in
+    let least : 512 ≤ size = block_size_least size allowed.size in
+    let small : taken < size = omega arith in
+    let whole : (interval + 1) * size ≤ intervals_of geometry * size =
+    mul-le (interval + 1) size (intervals_of geometry) size (omega (arith, laid.ends)) (omega arith)
+    in
+    let next : (interval + 1) * size ≡ interval * size + size = omega (arith, nat.add-mul interval 1 size) in
+    let bytes : intervals_of geometry * size ≤ 2 ^ 31 = volume_fits geometry allowed in
+    let fits : interval * size + taken < 2 ^ 32 = omega arith in
+    let P : ℕ → Type 0 = λ i. address < i * size + lengths_taken size i content in
+    let beyond : address < interval * size + taken = subst P (sym same) laid.packed in
+    let back : (interval * size + taken) / size ≡ interval = div-mul-add interval size taken small in
+    let Q : ℕ → Type 0 = λ i. interval * size + taken < i * size
+    + (lengths_taken size i content + new) in
+    record {
+      fits = fits;
+      past = all_beyond address (interval * size + taken) (places_of content) beyond fits laid.top;
+      packed = subst Q (sym back) (omega arith);
+    }
+
+-- another goes to the start of the next interval
+next_past : (geometry : Geometry) (content : Content) (new : ℕ) (last : Placed)
+    → IsAllowed geometry → IsLastLaid geometry content last → 0 < new
+    → LiesPast geometry content new
+    ((last_interval geometry.size (number_of last.0) (length_of last.1) + 1) * geometry.size)
+next_past geometry content new last allowed laid some =
+    let size : ℕ = geometry.size in
+    let address : ℕ = number_of last.0 in
+    let interval : ℕ = last_interval size address (length_of last.1) in
+    let least : 512 ≤ size = block_size_least size allowed.size in
+    let whole : (interval + 1) * size ≤ intervals_of geometry * size =
+    mul-le (interval + 1) size (intervals_of geometry) size (omega (arith, laid.ends)) (omega arith)
+    in
+    let bytes : intervals_of geometry * size ≤ 2 ^ 31 = volume_fits geometry allowed in
+    let fits : (interval + 1) * size < 2 ^ 32 = omega arith in
+    let at_least : 1 ≤ intervals_for size (length_of last.1) = some_interval size (length_of last.1) least in
+    let before : (address / size + 1) * size ≤ (interval + 1) * size =
+    mul-le (address / size + 1) size (interval + 1) size (omega arith) (omega arith) in
+    let beyond : address < (interval + 1) * size = omega (arith, above address size (omega arith)) in
+    let back : (interval + 1) * size / size ≡ interval + 1 =
+    ap (λ n. n / size) (omega arith) ∙ div-mul-add (interval + 1) size 0 (omega arith) in
+    let Q : ℕ → Type 0 = λ i. (interval + 1) * size < i * size
+    + (lengths_taken size i content + new) in
+    record {
+      fits = fits;
+      past = all_beyond address ((interval + 1) * size) (places_of content) beyond fits laid.top;
+      packed = subst Q (sym back) (omega arith);
+    }
+  where
+    above : (n size : ℕ) → 0 < size → n < (n / size + 1) * size
+    above n size some_size = omega (arith, nat.add-mul (n / size) 1 size, div-add-mod' n size, mod_below n size some_size)
+
+    some_interval : (size length : ℕ) → 512 ≤ size → 1 ≤ intervals_for size length
+    some_interval size length least = by_test (is_spanned size length) refl
+      where
+        by_test : (test : Bool) → is_spanned size length ≡ test
+            → 1 ≤ cond test (div_ceil length (size - 10)) 1
+        by_test true is =
+            let long : size - 6 ≤ length = grind (arith, nat_tests, is) in
+            let whole : 1 ≤ length / (size - 10) = le-div 1 length (size - 10) (omega arith) (omega arith) in
+            omega arith
+        by_test false is = omega arith
+
+not_spanned : (spanned : Bool) → cond spanned false true ≡ true → spanned ≡ false
+not_spanned true is = absurd (true≢false (sym is))
+not_spanned false is = refl
+
+room_of : (m n : ℕ) → nat_le m n ≡ true → m ≤ n
+room_of m n is = grind (arith, nat_tests, is)
+
+pub lies_past : (geometry : Geometry) (content : Content) (new : ℕ) → IsAllowed geometry
+    → AreLaid geometry content → 0 < new
+    → LiesPast geometry content new (next_address geometry.size content new)
+lies_past geometry content new allowed laid some = by_last (last_item content) refl
+  where
+    by_last : (last : Option Placed) → last_item content ≡ last
+        → LiesPast geometry content new (next_after geometry.size content new last)
+    by_last None none = record {
+      fits = omega arith;
+      past = subst (λ (c : Content). AllByRecursion
+          (λ place. place_cmp place (to_be_bytes w32 0) ≡ Less) (places_of c))
+          (sym (none_last content none)) tt;
+      packed = omega arith;
+    }
+    by_last (Some last) is = by_test _ refl
+      where
+        by_test : (test : Bool)
+            → (cond (is_spanned geometry.size (length_of last.1)) false true
+            && (cond (is_spanned geometry.size new) false true
+            && nat_le (room_taken geometry.size (last_interval geometry.size (number_of last.0)
+            (length_of last.1)) content + new + 3) (geometry.size - 4))) ≡ test
+            → LiesPast geometry content new (cond test
+            (last_interval geometry.size (number_of last.0) (length_of last.1) * geometry.size
+            + lengths_taken geometry.size
+            (last_interval geometry.size (number_of last.0) (length_of last.1)) content)
+            ((last_interval geometry.size (number_of last.0) (length_of last.1) + 1)
+            * geometry.size))
+        by_test true test =
+            plain_past geometry content new last allowed (laid.last last is) some
+            (not_spanned (is_spanned geometry.size (length_of last.1)) (first_holds _ _ test))
+            (room_of _ _ (second_holds _ _
+            (second_holds (cond (is_spanned geometry.size (length_of last.1)) false true) _ test)))
+        by_test false test = next_past geometry content new last allowed (laid.last last is) some
+
+pub all_append : {X : Type 0} (P : X → Type 0) (these : List X) (last : X)
+    → AllByRecursion P these → P last → AllByRecursion P (these ++ last ∷ [])
+all_append P [] last all one = (one, tt)
+all_append P (first ∷ these) last all one = (all.0, all_append P these last all.1 one)
+
+-- one item more is laid where it stands at the next address
+ascends_append : (places : List (List ℕ)) (place : List ℕ) → IsStrictlySortedBy place_cmp places
+    → AllByRecursion (λ other. place_cmp other place ≡ Less) places
+    → IsStrictlySortedBy place_cmp (places ++ place ∷ [])
+unfolding IsStrictlySortedBy
+ascends_append [] place ascends below = (tt, tt)
+ascends_append (first ∷ places) place ascends below = (
+  all_append (λ other. place_cmp first other ≡ Less) places place ascends.0 below.0,
+  ascends_append places place ascends.1 below.1,
+)
+
+below_further : (n : ℕ) (places : List (List ℕ))
+    → AllByRecursion (λ place. place_cmp place (to_be_bytes w32 n) ≡ Less) places
+    → AllByRecursion (IsBelow n) places
+below_further n [] below = tt
+below_further n (place ∷ places) below = (
+  λ beyond less fits. nat_list_cmp_total.trans place (to_be_bytes w32 n) (to_be_bytes w32 beyond)
+      below.0 (places_rise n beyond less fits),
+  below_further n places below.1,
+)
+
+laid_next : (geometry : Geometry) (content : Content) (placed : Placed) → IsAllowed geometry
+    → AreLaid geometry content → IsNext geometry content placed
+    → AreLaid geometry (content ++ placed ∷ [])
+laid_next geometry content placed allowed laid next =
+    let new : ℕ = length_of placed.1 in
+    let n : ℕ = next_address geometry.size content new in
+    let past : LiesPast geometry content new n = lies_past geometry content new allowed laid next.some in
+    let number : number_of placed.0 ≡ n = ap number_of next.at ∙ number_back n past.fits in
+    let places : places_of (content ++ placed ∷ []) ≡ places_of content ++ placed.0 ∷ [] =
+    map-append (λ (item : Placed). item.0) content (placed ∷ []) in
+    let P : List ℕ → Type 0 = λ place. AllByRecursion (λ other. place_cmp other place ≡ Less)
+    (places_of content) in
+    record {
+      ascends = subst (IsStrictlySortedBy place_cmp) (sym places)
+          (ascends_append (places_of content) placed.0 laid.ascends
+          (subst P (sym next.at) past.past));
+      last = λ last is. subst (IsLastLaid geometry (content ++ placed ∷ []))
+          (same_some placed last (sym (last_append content placed) ∙ is)) here;
+    }
+  where
+    new : ℕ
+    new = length_of placed.1
+
+    n : ℕ
+    n = next_address geometry.size content new
+
+    size : ℕ
+    size = geometry.size
+
+    same_some : (one other : Placed) → Some one ≡ Some other → one ≡ other
+    same_some one other is = cc
+
+    here : IsLastLaid geometry (content ++ placed ∷ []) placed
+    here =
+        let past : LiesPast geometry content new n =
+        lies_past geometry content new allowed laid next.some in
+        let number : number_of placed.0 ≡ n = ap number_of next.at ∙ number_back n past.fits in
+        let places : places_of (content ++ placed ∷ []) ≡ places_of content ++ placed.0 ∷ [] =
+        map-append (λ (item : Placed). item.0) content (placed ∷ []) in
+        let begins : begins_in size (n / size) placed ≡ true =
+        eq-eqb (number_of placed.0 / size) (n / size) (ap (λ m. m / size) number) in
+        let taken : lengths_taken size (n / size) (content ++ placed ∷ []) ≡ lengths_taken size
+        (n / size) content + new = taken_append size (n / size) content placed begins in
+        let within : n < n / size * size + lengths_taken size (n / size) (content ++ placed ∷ []) =
+        omega (arith, past.packed, taken) in
+        let Below : List ℕ → Type 0 = IsBelow n in
+        let itself : Below placed.0 = λ beyond less fits. ap
+        (λ (place : List ℕ). place_cmp place (to_be_bytes w32 beyond)) next.at
+        ∙ places_rise n beyond less fits in
+        let Top : ℕ → Type 0 = λ m. AllByRecursion (IsBelow m) (places_of (content ++ placed ∷ [])) in
+        let Packed : ℕ → Type 0 = λ m. m < m / size * size + lengths_taken size (m / size) (content
+        ++ placed ∷ []) in
+        record {
+          top = subst Top (sym number) (subst (AllByRecursion (IsBelow n)) (sym places)
+              (all_append (IsBelow n) (places_of content) placed.0
+              (below_further n (places_of content) past.past) itself));
+          packed = subst Packed (sym number) within;
+          ends = next.ends;
+        }
+
+-- and so are all that stand each at the next address
+pub laid_all : (geometry : Geometry) (before content : Content) → IsAllowed geometry
+    → AreLaid geometry before → AreNext geometry before content
+    → AreLaid geometry (before ++ content)
+laid_all geometry before [] allowed laid next =
+    subst (AreLaid geometry) (sym (append-nil before)) laid
+laid_all geometry before (placed ∷ content) allowed laid next =
+    subst (AreLaid geometry) (append_assoc before (placed ∷ []) content)
+    (laid_all geometry (before ++ placed ∷ []) content allowed
+    (laid_next geometry before placed allowed laid next.0) next.1)
+
+pub none_laid : (geometry : Geometry) → AreLaid geometry []
+unfolding IsStrictlySortedBy
+none_laid geometry = record { ascends = tt; last = λ placed is. absurd cc }
+
+-- the next item comes last
+pub next_append : (geometry : Geometry) (before content : Content) (placed : Placed)
+    → AreNext geometry before content → IsNext geometry (before ++ content) placed
+    → AreNext geometry before (content ++ placed ∷ [])
+next_append geometry before [] placed next this =
+    (subst (λ (c : Content). IsNext geometry c placed) (append-nil before) this, tt)
+next_append geometry before (first ∷ content) placed next this = (
+  next.0,
+  next_append geometry (before ++ first ∷ []) content placed next.1
+      (subst (λ (c : Content). IsNext geometry c placed)
+      (sym (append_assoc before (first ∷ []) content)) this),
+)
