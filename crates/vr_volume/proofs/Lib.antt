@@ -1,1 +1,4 @@
-pub mod Contents
+pub mod PuttingBack
+pub mod Standings
+pub mod Recovering
+pub mod Unique

@@ -10,7 +10,8 @@ use Rattle.vr_types.specs.declared.unit.AreaNo.{AreaNo}
 use Rattle.vr_types.specs.declared.unit.Kind.{Kind}
 use Rattle.vr_types.specs.declared.unit.Kind.TheVariants.{Keyed, Entry, Relative}
 use Rattle.vr_catalog.specs.Catalog.{entries_in, entry_with_part, cluster_definition}
-use Rattle.vr_catalog.specs.Definition.{Definition, catalog_definition}
+use Rattle.vr_catalog.specs.Definition.{catalog_definition}
+use Rattle.vr_catalog.specs.declared.definition.Definition.{Definition}
 use Rattle.vr_catalog.specs.declared.entry.CatEntry.{CatEntry}
 use Rattle.vr_space.specs.Part.{Shape, KeyedShape}
 
