@@ -21,6 +21,7 @@ use Rattle.vr_log.specs.Content.{Content as LogContent}
 use Rattle.vr_log.specs.LogNow.{LogNow, HasLog, IsLogOf}
 use Rattle.vr_log.specs.Spells.{Spells}
 use Rattle.vr_log.specs.declared.record.LogRecord.{LogRecord}
+use Rattle.vr_volume.specs.CatalogRules.{IsCatalog}
 use Rattle.vr_volume.specs.Header.{header_block}
 use Rattle.vr_volume.specs.Laid.{shape_by, catalog_shape}
 use Rattle.vr_volume.specs.PutBack.{images_of, oldest, put_back, lengths_kept}
@@ -136,6 +137,7 @@ module _ (geometry : Geometry) (number : ℕ) (image : Image) (now : Seen) (log 
     stands = record {
       header = header (block_at image 0) (left.each 0 some);
       log_is = spells;
+      catalog = subst (IsCatalog geometry) (sym (is-back 0)) safe.catalog;
       apart = subst (λ (c : Content). AreApart (shape_by geometry c)) (sym (is-back 0)) safe.apart;
       laid = λ part shape is. held-stands part (shape_by geometry (committed 0) part) refl shape
           (sym (laid-same part) ∙ is);

@@ -1,5 +1,6 @@
 pub mod Header
 pub mod Laid
+pub mod CatalogRules
 pub mod PutBack
 pub mod Volume
 pub mod Safe

@@ -12,6 +12,7 @@ use Rattle.vr_space.specs.Part.{Shape, KeyedShape, IsSound, HasKeptRoom, MayHold
 use Rattle.vr_log.specs.Content.{Content as LogContent}
 use Rattle.vr_log.specs.LogNow.{LogNow, HasLog, IsLogOf}
 use Rattle.vr_log.specs.declared.record.LogRecord.{LogRecord}
+use Rattle.vr_volume.specs.CatalogRules.{IsCatalog}
 use Rattle.vr_volume.specs.Header.{header_block}
 use Rattle.vr_volume.specs.Laid.{shape_by}
 use Rattle.vr_history.specs.State.{BeforeImage}
@@ -36,6 +37,7 @@ pub record IsPartSafe (shape : Shape) (part : ℕ) (images : List BeforeImage) (
 pub record IsSafeBy (geometry : Geometry) (records : List LogRecord) (contents : ℕ → ContentOf)
     (now : Seen) : Type 0 where
   pub each : (part : ℕ) → Ascends (contents part)
+  pub catalog : IsCatalog geometry (contents 0)
   pub apart : AreApart (shape_by geometry (contents 0))
   pub others : (part : ℕ) → shape_by geometry (contents 0) part ≡ None → contents part ≡ []
   pub olds : (part : ℕ) (place : List ℕ) (image : BeforeImage)

@@ -12,6 +12,7 @@ use Rattle.vr_space.specs.Keyed.{Keyed, entries_of, entry_block, range_of, lengt
 use Rattle.vr_space.specs.Part.{Shape, KeyedShape, StandsFor, InPart}
 use Rattle.vr_log.specs.Content.{Content as LogContent}
 use Rattle.vr_log.specs.Spells.{Spells}
+use Rattle.vr_volume.specs.CatalogRules.{IsCatalog}
 use Rattle.vr_volume.specs.Header.{header_block}
 use Rattle.vr_volume.specs.Laid.{shape_by}
 use Rattle.vr_volume.specs.PutBack.{images_of, put_back, lengths_kept}
@@ -46,6 +47,7 @@ pub record VolumeStandsFor (geometry : Geometry) (number : ℕ) (image : Image) 
     (contents : ℕ → ContentOf) : Type 0 where
   pub header : block_at image 0 ≡ header_block geometry number
   pub log_is : Spells geometry image log
+  pub catalog : IsCatalog geometry (catalog_back log contents)
   pub apart : AreApart (shapes_by geometry log contents)
   pub laid : (part : ℕ) (shape : Shape) → shapes_by geometry log contents part ≡ Some shape
       → StandsFor shape image (contents part)
