@@ -3,5 +3,7 @@ pub mod Room
 pub mod Whence
 pub mod Keyed
 pub mod Split
+pub mod UnderWay
 pub mod Part
+pub mod Search
 pub mod Composed

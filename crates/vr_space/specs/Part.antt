@@ -22,6 +22,7 @@ use Rattle.vr_space.specs.declared.room.Room.TheVariants.{Stage}
 use Rattle.vr_space.specs.Whence.{allows}
 use Rattle.vr_space.specs.Room.{Lengths, length_at}
 use Rattle.vr_space.specs.Split.{SplitNow, keyed_room, keyed_stage, keyed_fits}
+use Rattle.vr_space.specs.UnderWay.{KeyedUnderWay}
 use Rattle.vr_space.specs.Keyed.{Keyed, keyed_way, KeyedStandsFor, IsKeyedSound, IsKeyedAtRest}
 use Rattle.vr_space.specs.Keyed.{KeepsRoom, IsValid, key_of}
 
@@ -159,6 +160,10 @@ fits_at (KeyedShape part) image kept place n = keyed_fits part image kept place 
 -- the stage of a split under way that comes before any change at the place
 abbrev pub stage_of : Shape → Option SplitNow → Image → List ℕ → Option StageKind
 stage_of (KeyedShape part) split image place = keyed_stage part split image place
+
+-- the blocks are as the split under way left them
+abbrev pub IsUnderWay : Shape → Option SplitNow → Seen → Type 0
+IsUnderWay (KeyedShape part) split now = KeyedUnderWay part split now
 
 -- a stage comes before such a record
 abbrev pub IsStageDue : Shape → Option SplitNow → Image → ℕ → Lengths → List ℕ → ℕ → Type 0

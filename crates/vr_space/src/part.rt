@@ -1,11 +1,12 @@
 //! The contract of every part of a volume.
 ghost use Rattle.std.specs.Prelude.{◌≡◌, ◌≤◌, ℕ, List, Option, [], None, Some, IsTrue, length};
-ghost use Rattle.std.specs.Prelude.{IfOk, OnOk, MatchOption, All};
+ghost use Rattle.std.specs.Prelude.{IfOk, OnOk, IfErr, OnErr, MatchOption, All};
 ghost use Rattle.std.specs.Borrow.{sem};
 ghost use Rattle.std.specs.Io.BufRead.{Rests};
 ghost use Rattle.vr_types.specs.Blocks.{Keeps};
 ghost use Rattle.vr_types.specs.Faults.{HasCause};
 ghost use Rattle.vr_types.specs.Space.{free_count};
+ghost use Rattle.vr_types.specs.declared.fault.DeviceFault.TheVariants.{Read};
 ghost use Rattle.vr_types.specs.declared.unit.StageKind.{StageKind};
 ghost use Rattle.vr_space.specs.declared.room.Room.TheVariants as answers;
 ghost use Rattle.vr_space.specs.Split.{SplitNow};
@@ -24,6 +25,7 @@ ghost use Rattle.vr_space.specs.Part.{
   IsAtRest,
   HasKeptRoom,
   IsStageDue,
+  IsUnderWay,
   OwnersAfter,
   CanSet,
   given,
@@ -131,6 +133,8 @@ pub trait Part {
         requires rests { IsTrue B.tells → IsAtRest (shape self.old) (B.seen blocks.old) }
         requires room { IsTrue B.tells → HasKeptRoom (shape self.old)
             (K.kept kept.now (part_no (shape self.old))) (B.seen blocks.old) }
+        requires way { IsTrue B.tells → IsUnderWay (shape self.old) (split self.old)
+            (B.seen blocks.old) }
         requires due { IsTrue B.tells → IsStageDue (shape self.old) (split self.old)
             (B.seen blocks.old).cur (free_count space.old)
             (K.kept kept.now (part_no (shape self.old))) place.now length }
@@ -150,6 +154,12 @@ pub trait Part {
             (IsAtRest (shape self.old) (B.seen blocks.new)) }
         ensures room { IsTrue B.tells → HasKeptRoom (shape self.old)
             (K.kept kept.now (part_no (shape self.old))) (B.seen blocks.new) }
+        ensures way { IsTrue B.tells → OnOk result
+            (IsUnderWay (shape self.old) (split self.new) (B.seen blocks.new)) }
+        ensures split { OnErr result (split self.new ≡ split self.old) }
+        // It reads before it puts.
+        ensures unread { IfErr result (λ fault. fault ≡ Read
+            → Keeps B.tells (B.seen blocks.old) (B.seen blocks.new)) }
         ensures count { (B.seen blocks.new).count ≡ (B.seen blocks.old).count }
         ensures size { (B.seen blocks.new).size ≡ (B.seen blocks.old).size }
         ensures cause { HasCause (B.faults blocks.old) (B.faults blocks.new) result }
@@ -169,6 +179,8 @@ pub trait Part {
         requires rests { IsTrue B.tells → IsAtRest (shape self.old) (B.seen blocks.old) }
         requires room { IsTrue B.tells → HasKeptRoom (shape self.old)
             (K.kept kept.now (part_no (shape self.old))) (B.seen blocks.old) }
+        requires way { IsTrue B.tells → IsUnderWay (shape self.old) (split self.old)
+            (B.seen blocks.old) }
         requires can { IsTrue B.tells → CanSet (shape self.old) (split self.old)
             (B.seen blocks.old).cur (K.kept kept.now (part_no (shape self.old))) place.now
             (given bytes) }
@@ -184,6 +196,11 @@ pub trait Part {
             (IsAtRest (shape self.old) (B.seen blocks.new)) }
         ensures room { IsTrue B.tells → HasKeptRoom (shape self.old)
             (K.kept kept.now (part_no (shape self.old))) (B.seen blocks.new) }
+        ensures way { IsTrue B.tells → OnOk result
+            (IsUnderWay (shape self.old) (split self.old) (B.seen blocks.new)) }
+        // It reads before it puts.
+        ensures unread { IfErr result (λ fault. fault ≡ Read
+            → Keeps B.tells (B.seen blocks.old) (B.seen blocks.new)) }
         ensures count { (B.seen blocks.new).count ≡ (B.seen blocks.old).count }
         ensures size { (B.seen blocks.new).size ≡ (B.seen blocks.old).size }
         ensures cause { HasCause (B.faults blocks.old) (B.faults blocks.new) result }
