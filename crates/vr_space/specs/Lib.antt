@@ -4,6 +4,7 @@ pub mod Whence
 pub mod Keyed
 pub mod Split
 pub mod UnderWay
+pub mod Met
 pub mod Part
 pub mod Search
 pub mod Composed

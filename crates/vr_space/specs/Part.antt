@@ -1,7 +1,7 @@
 -- A part of a volume on its blocks: what they stand for, which items each place may hold in the
 -- images that a crash may leave, and what a call adds to that. The rules are this project's own.
 use Rattle.std.specs.Prelude.{◌≡◌, ◌≢◌, ◌⊎◌, ◌<◌, ◌≤◌, ◌+◌, ℕ, Bool, List, Option, Some, None}
-use Rattle.std.specs.Prelude.{Contains, length}
+use Rattle.std.specs.Prelude.{All, Contains, length}
 use Rattle.vr_types.specs.Content.{Content, record_at}
 use Rattle.vr_types.specs.Image.{Block, Image}
 use Rattle.vr_types.specs.Seen.{Seen}
@@ -23,6 +23,7 @@ use Rattle.vr_space.specs.Whence.{allows}
 use Rattle.vr_space.specs.Room.{Lengths, length_at}
 use Rattle.vr_space.specs.Split.{SplitNow, keyed_room, keyed_stage, keyed_fits}
 use Rattle.vr_space.specs.UnderWay.{KeyedUnderWay}
+use Rattle.vr_space.specs.Met.{Met, IsMet}
 use Rattle.vr_space.specs.Keyed.{Keyed, keyed_way, KeyedStandsFor, IsKeyedSound, IsKeyedAtRest}
 use Rattle.vr_space.specs.Keyed.{KeepsRoom, IsValid, key_of}
 
@@ -164,6 +165,16 @@ stage_of (KeyedShape part) split image place = keyed_stage part split image plac
 -- the blocks are as the split under way left them
 abbrev pub IsUnderWay : Shape → Option SplitNow → Seen → Type 0
 IsUnderWay (KeyedShape part) split now = KeyedUnderWay part split now
+
+-- the blocks that were met are as they were
+abbrev pub AreMet : Shape → List Met → Image → Type 0
+AreMet (KeyedShape part) met image = All (IsMet part image) met
+
+-- The blocks are as the part knows them: by its split under way, and those that it met.
+pub record Knows (shape : Shape) (split : Option SplitNow) (met : List Met) (now : Seen) : Type 0
+  where
+    pub way : IsUnderWay shape split now
+    pub met : AreMet shape met now.cur
 
 -- a stage comes before such a record
 abbrev pub IsStageDue : Shape → Option SplitNow → Image → ℕ → Lengths → List ℕ → ℕ → Type 0
