@@ -8,7 +8,8 @@ pub use Rattle.vr_space.proofs.KeyedContent.{AscendFrom, content-above, way-cont
 pub use Rattle.vr_space.proofs.KeyedSound.{head-ascends, AreIn, head-in, entry-in, IsBlock}
 pub use Rattle.vr_space.proofs.KeyedSound.{keyed-within, keyed-image, each-less, keyed-less}
 pub use Rattle.vr_space.proofs.UnderWay.{IsSplitBlock, StaysAt, AllStay, found-in, free-in}
-pub use Rattle.vr_space.proofs.UnderWay.{begun-stays, way-stays, way-keeps, way-puts, way-outside}
+pub use Rattle.vr_space.proofs.UnderWay.{begun-stays, way-stays, way-keeps, way-puts, met-stays}
+pub use Rattle.vr_space.proofs.UnderWay.{knows-keeps, knows-puts}
 pub use Rattle.vr_space.proofs.Searching.{low_at, found-entry, found-none, items-read}
 pub use Rattle.vr_space.proofs.Rising.{stands_content, one_content}
 pub use Rattle.vr_space.proofs.Adding.{only-weaken, adds-weaken, adds-then, nothing-then}

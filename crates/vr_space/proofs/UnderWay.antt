@@ -1,9 +1,10 @@
--- A split under way, as calls leave the blocks that it names.
+-- A split under way, as calls leave the blocks that it names, and what a part met of its blocks.
 use Rattle.std.proofs.Common.{◌≡◌, ◌≢◌, ◌⊎◌, inl, inr, ⊎_elim, ◌<◌, ◌≤◌, ◌+◌, ◌-◌, ◌/◌, ℕ, zero, suc}
 use Rattle.std.proofs.Common.{Bool, IsTrue, true, false, List, Option, Some, None}
-use Rattle.std.proofs.Common.{refl, sym, ap, subst, ◌∙◌, arith, unwrap_or}
+use Rattle.std.proofs.Common.{All, refl, sym, ap, subst, ◌∙◌, arith, unwrap_or}
 use Rattle.std.specs.Prelude.{cond, IfSome, slice_index, nat_eq, min}
 use Rattle.std.specs.List.{list_any, flat_map}
+use Rattle.std.proofs.lemmas.List.Elements.{All-weaker}
 use Rattle.vr_types.specs.Image.{Block, Image, block_at}
 use Rattle.vr_types.specs.Seen.{Seen, Left}
 use Rattle.vr_types.specs.Blocks.{Keeps, Puts}
@@ -19,7 +20,8 @@ use Rattle.vr_space.specs.Keyed.{records_in}
 use Rattle.vr_space.specs.Split.{SplitNow, free_from, free_interval}
 use Rattle.vr_space.specs.UnderWay.{IsBegun, IsCopied, IsSwitched, IsReadyFor, KeyedUnderWay}
 use Rattle.vr_space.specs.UnderWay.{interval_block, above_cut}
-use Rattle.vr_space.specs.Part.{Shape, KeyedShape, InPart, IsSound, IsUnderWay}
+use Rattle.vr_space.specs.Met.{Met, IsMet}
+use Rattle.vr_space.specs.Part.{Shape, KeyedShape, InPart, IsSound, IsUnderWay, Knows}
 use Rattle.vr_space.proofs.KeyedSound.{IsBlock, entry-in, head-in}
 
 -- the blocks that a split under way has to do with
@@ -156,6 +158,21 @@ way-stays part None a b sound left stay is = tt
 way-stays part (Some split) a b sound left stay is =
     ready-stays part split a b split.stage sound left (stay split refl) is
 
+-- what was met is as it was where its block and the head stay
+pub met-stays : (part : Keyed) (a b : Image) (met : Met) → IsHead part (block_at a part.head)
+    → block_at b part.head ≡ block_at a part.head
+    → (InPart (KeyedShape part) met.number → block_at b met.number ≡ block_at a met.number)
+    → IsMet part a met → IsMet part b met
+met-stays part a b met head top still is =
+    let below : slice_index is.entry.intervals 0 < part.area =
+    found-in part (block_at a part.head) met.place (met.range, is.entry) head is.leads in
+    record {
+      entry = is.entry;
+      leads = ap (λ (block : Block). entry_for None (entries_of block) met.place) top ∙ is.leads;
+      number = is.number;
+      still = still (omega (arith, is.number), omega (arith, is.number, below)) ∙ is.still;
+    }
+
 module _ (tells : Bool) (told : IsTrue tells) where
   -- a call that puts nothing leaves a split under way
   pub way-keeps : (shape : Shape) (split : Option SplitNow) (a b : Seen) → Keeps tells a b
@@ -184,10 +201,38 @@ module _ (tells : Bool) (told : IsTrue tells) where
       }) is
 
   -- as into one outside the part
-  pub way-outside : (shape : Shape) (split : Option SplitNow) (n : ℕ) (bytes : Block) (a b : Seen)
-      → Puts tells n bytes a b → (InPart shape n → ⊥) → IsSound shape a → Left a a.cur
-      → IsUnderWay shape split a → IsUnderWay shape split b
-  way-outside (KeyedShape part) split n bytes a b call outside sound left is =
+  way-outside : (part : Keyed) (split : Option SplitNow) (n : ℕ) (bytes : Block) (a b : Seen)
+      → Puts tells n bytes a b → (InPart (KeyedShape part) n → ⊥) → IsKeyedSound part a
+      → Left a a.cur → KeyedUnderWay part split a → KeyedUnderWay part split b
+  way-outside part split n bytes a b call outside sound left is =
       way-puts part split n bytes a b call sound left
       (λ now some m inside named same.
       outside (subst (InPart (KeyedShape part)) same inside)) is
+
+  -- what a part knows of its blocks stays where nothing is put
+  pub knows-keeps : (shape : Shape) (split : Option SplitNow) (met : List Met) (a b : Seen)
+      → Keeps tells a b → IsSound shape a → Left a a.cur → Knows shape split met a
+      → Knows shape split met b
+  knows-keeps (KeyedShape part) split met a b call sound left knows = record {
+    way = way-keeps (KeyedShape part) split a b call sound left knows.way;
+    blocks = subst (λ (image : Image). All (IsMet part image) met) (sym (call.content told))
+        knows.blocks;
+  }
+
+  -- and where something is put outside the part
+  pub knows-puts : (shape : Shape) (split : Option SplitNow) (met : List Met) (n : ℕ)
+      (bytes : Block) (a b : Seen) → Puts tells n bytes a b → (InPart shape n → ⊥)
+      → IsSound shape a → Left a a.cur → Knows shape split met a → Knows shape split met b
+  knows-puts (KeyedShape part) split met n bytes a b call outside sound left knows =
+      let top : Block = block_at a.cur part.head in
+      let head : IsHead part top = sound.heads _ (left.each part.head (omega (arith, sound.area)))
+      in
+      let still : (m : ℕ) → InPart (KeyedShape part) m → block_at b.cur m ≡ block_at a.cur m =
+      λ m inside. cur-elsewhere tells a b m n bytes told
+      (λ same. outside (subst (InPart (KeyedShape part)) same inside)) call in
+      record {
+        way = way-outside part split n bytes a b call outside sound left knows.way;
+        blocks = All-weaker (IsMet part a.cur) (IsMet part b.cur)
+            (λ one is. met-stays part a.cur b.cur one head (still part.head
+            (omega arith, omega arith)) (still one.number) is) met knows.blocks;
+      }

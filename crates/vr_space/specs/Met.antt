@@ -1,6 +1,6 @@
 -- What a part keeps of the blocks that its last calls of `room` met, so that `set` at one of their
 -- places reads nothing. The rules are this project's own.
-use Rattle.std.specs.Prelude.{◌≡◌, ℕ, List, [], ◌∷◌, All, Contains, Option, Some, None, map, take}
+use Rattle.std.specs.Prelude.{◌≡◌, ℕ, List, ◌∷◌, Contains, Some, None, map, take}
 use Rattle.std.specs.Prelude.{filter, not, bytes_eq}
 use Rattle.vr_types.specs.Image.{Block, Image, block_at}
 use Rattle.vr_seqset.specs.Entry.{Entry}
@@ -31,4 +31,5 @@ HasMet met place = Contains (places_met met) place
 
 -- the places after another was met: that one, and the last before it
 abbrev pub met_next : List (List ℕ) → List ℕ → List (List ℕ)
-met_next places place = place ∷ take 1 (filter (λ (other : List ℕ). not (bytes_eq other place)) places)
+met_next places place =
+    place ∷ take 1 (filter (λ (other : List ℕ). not (bytes_eq other place)) places)

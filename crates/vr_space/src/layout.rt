@@ -9,7 +9,7 @@ use vr_types::PartNo;
 
 /// Where a keyed part of one area is, and what its records are: the number of the part, the block
 /// of its head, the intervals of an area, the bytes of a block, the length and offset of the key,
-/// and the longest record.
+/// and the longest record, which has room in an interval of its own.
 #[derive(Debug, Drop)]
 pub struct Layout {
     pub part: PartNo,
@@ -22,6 +22,7 @@ pub struct Layout {
 }
 
 impl Model for Layout {
+    ghost use Rattle.std.specs.Prelude.{◌+◌, ◌≤◌};
     ghost use Rattle.vr_space.specs.Keyed.{Keyed};
 
     ghost Value = { Keyed };
@@ -35,6 +36,8 @@ impl Model for Layout {
       offset = layout.offset;
       most = layout.most;
     } };
+
+    ghost invariant = { λ layout. layout.most + 7 ≤ layout.size };
 }
 
 impl Layout {

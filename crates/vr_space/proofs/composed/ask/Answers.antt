@@ -1,9 +1,8 @@
 use Rattle.std.proofs.Common.{Option, sym, subst}
 use Rattle.vr_space.specs.Split.{SplitNow}
-use Rattle.vr_space.specs.Part.{Shape, IsUnderWay}
+use Rattle.vr_space.specs.Part.{Shape, Knows}
 use Rattle.vr_space.proofs.Adding.{rest-sound, rest-stands, keeps-adds, same-keeps, due-keeps}
 use Rattle.vr_space.proofs.Adding.{rest-keeps, room-keeps}
-use Rattle.vr_space.proofs.UnderWay.{way-keeps}
 use Rattle.vr_space.proofs.composed.ask.Goals as goal
 
 pub room-requires-clause-stands : goal.room-requires-clause-stands
@@ -46,15 +45,11 @@ returns-clause-room g c told =
     (rest-sound shape (g.B.Blocks.seen c.args.blocks.now) (c.requires.rests told))
     (c.requires.room told)
 
-pub returns-clause-way : goal.returns-clause-way
-returns-clause-way g c told =
-    let shape = g.P.Part.shape c.args.part.now in
-    let split = g.P.Part.split c.args.part.now in
-    let old = g.B.Blocks.seen c.args.blocks.now in
+pub returns-clause-knows : goal.returns-clause-knows
+returns-clause-knows g c told =
+    let met = g.P.Part.met c.room.new.self in
     let new = g.B.Blocks.seen c.room.new.blocks in
-    subst (λ (s : Shape). IsUnderWay s (g.P.Part.split c.room.new.self) new)
+    subst (λ (s : Shape). Knows s (g.P.Part.split c.room.new.self) met new)
     (sym c.room.ensures.shape)
-    (subst (λ (now : Option SplitNow). IsUnderWay shape now new) (sym c.room.ensures.split)
-    (way-keeps g.B.Blocks.tells told shape split old new c.room.ensures.keeps
-    (rest-sound shape old (c.requires.rests told)) (g.met.B.Blocks.cur_may c.args.blocks.now told)
-    (c.requires.way told)))
+    (subst (λ (now : Option SplitNow). Knows (g.P.Part.shape c.args.part.now) now met new)
+    (sym c.room.ensures.split) (c.room.ensures.knows told))

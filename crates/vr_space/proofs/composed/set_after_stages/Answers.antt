@@ -15,7 +15,7 @@ loop-turn-init g c =
       same = λ told place. refl;
       due = λ told listed place due within. due;
       rests = c.requires.rests;
-      way = c.requires.way;
+      knows = c.requires.knows;
       room = c.requires.room;
       count = refl;
       size = refl;
@@ -97,7 +97,7 @@ loop-turn-preserved g c =
           turns.Staged b d c.loop-turn.invariant.shape c.in-Staged.is
           (c.in_ok-take_turn.ensures.turn told))).1;
       rests = search rules;
-      way = search rules;
+      knows = search rules;
       room = search rules;
       count = search rules;
       size = search rules;
