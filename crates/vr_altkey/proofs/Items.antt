@@ -13,6 +13,7 @@ use Rattle.std.proofs.lemmas.Map.Text.{is_eq-slice_cmp}
 use Rattle.std.proofs.lemmas.Slice.Eq.{bytes_eq-Decides}
 use Rattle.vr_types.specs.Content.{Ascends, Content, Item, Placed, found_by, item_at, place_cmp}
 use Rattle.vr_types.specs.Content.{places_of, put_by, with_item, without_item}
+use Rattle.vr_altkey.specs.Placing.{placed_in}
 
 -- a place is found where it is compared equal, and nowhere else
 found_of : {X : Type 0} (order : Ordering) (here further : Option X)
@@ -278,3 +279,22 @@ out_ascends place (first ∷ content) ascends =
         (without_item content place))
     by_test true further = further
     by_test false further = (below_out first.0 place content ascends.0, further)
+
+-- a place has what was put there
+pub placed_here : (place : List ℕ) (item : Option Item) (content : Content)
+    → item_at (placed_in place item content) place ≡ item
+placed_here place None content = out_here place content
+placed_here place (Some item) content = put_here place item content
+
+-- and the others have what they had
+pub placed_elsewhere : (place : List ℕ) (item : Option Item) (content : Content) (other : List ℕ)
+    → other ≢ place → item_at (placed_in place item content) other ≡ item_at content other
+placed_elsewhere place None content other apart = out_elsewhere place content other apart
+placed_elsewhere place (Some item) content other apart =
+    put_elsewhere place item content other apart
+
+-- and the places ascend as before
+pub placed_ascends : (place : List ℕ) (item : Option Item) (content : Content) → Ascends content
+    → Ascends (placed_in place item content)
+placed_ascends place None content ascends = out_ascends place content ascends
+placed_ascends place (Some item) content ascends = put_ascends place item content ascends

@@ -22,11 +22,12 @@ use Rattle.vr_types.specs.Content.{without_item}
 use Rattle.vr_altkey.specs.declared.definition.AltDef.{AltDef}
 use Rattle.vr_altkey.specs.declared.definition.PairChange.{PairChange}
 use Rattle.vr_altkey.specs.Changes.{change_of, changes_in, changes_to, field_in}
-use Rattle.vr_altkey.specs.Changes.{pair_changes, pairs_changed, record_in, with_base}
+use Rattle.vr_altkey.specs.Changes.{pair_changes, pairs_changed}
 use Rattle.vr_altkey.specs.Pairs.{Pair, field_of, pair_cmp, pair_of, pair_place, pair_place_of}
 use Rattle.vr_altkey.specs.Pairs.{pairs_content, pairs_of}
+use Rattle.vr_altkey.specs.Placing.{placed_in, record_in}
 use Rattle.vr_altkey.proofs.Items.{out_ascends, out_elsewhere, out_here, put_ascends, put_elsewhere}
-use Rattle.vr_altkey.proofs.Items.{put_here, same_items}
+use Rattle.vr_altkey.proofs.Items.{placed_ascends, placed_elsewhere, placed_here, put_here, same_items}
 use Rattle.vr_altkey.proofs.Leading.{drop_field, field_length, has_field, index_at, pairs_over, stood}
 use Rattle.vr_altkey.proofs.Sorting.{folded_sorted, none_sorted, pairs_in}
 
@@ -285,27 +286,17 @@ record_item (placed ∷ content) place =
     by_order Equal further = refl
     by_order Greater further = further
 
-base_ascends : (base : Content) (place : List ℕ) (item : Option Item) → Ascends base
-    → Ascends (with_base base place item)
-base_ascends base place None ascends = out_ascends place base ascends
-base_ascends base place (Some item) ascends = put_ascends place item base ascends
-
 base_here : (base : Content) (place : List ℕ) (item : Option Item)
-    → record_at (with_base base place item) place ≡ record_in item
-base_here base place None =
-    record_item (without_item base place) place ∙ ap record_in (out_here place base)
-base_here base place (Some item) =
-    record_item (with_item base place item) place ∙ ap record_in (put_here place item base)
+    → record_at (placed_in place item base) place ≡ record_in item
+base_here base place item =
+    record_item (placed_in place item base) place ∙ ap record_in (placed_here place item base)
 
 base_elsewhere : (base : Content) (place : List ℕ) (item : Option Item) (other : List ℕ)
     → other ≢ place
-    → record_at (with_base base place item) other ≡ record_at base other
-base_elsewhere base place None other apart =
-    record_item (without_item base place) other
-    ∙ (ap record_in (out_elsewhere place base other apart) ∙ sym (record_item base other))
-base_elsewhere base place (Some item) other apart =
-    record_item (with_item base place item) other
-    ∙ (ap record_in (put_elsewhere place item base other apart) ∙ sym (record_item base other))
+    → record_at (placed_in place item base) other ≡ record_at base other
+base_elsewhere base place item other apart =
+    record_item (placed_in place item base) other
+    ∙ (ap record_in (placed_elsewhere place item base other apart) ∙ sym (record_item base other))
 
 -- ---- one alternate index
 
@@ -321,7 +312,7 @@ module _ (def : AltDef) (base : Content) (place : List ℕ) (item : Option Item)
   before = pairs_content def.length def.offset base
 
   abbrev after : Content
-  after = pairs_content def.length def.offset (with_base base place item)
+  after = pairs_content def.length def.offset (placed_in place item base)
 
   abbrev field_at : Option (List ℕ) → Option (List ℕ)
   field_at bytes = field_in def.length def.offset bytes
@@ -333,9 +324,9 @@ module _ (def : AltDef) (base : Content) (place : List ℕ) (item : Option Item)
 
   after_at : (at : List ℕ)
       → item_at after at ≡ stood (has_field def.length at
-      (field_at (record_at (with_base base place item) (drop def.length at)))) at
-  after_at at = index_at def.length def.offset at (with_base base place item)
-      (base_ascends base place item ascends)
+      (field_at (record_at (placed_in place item base) (drop def.length at)))) at
+  after_at at = index_at def.length def.offset at (placed_in place item base)
+      (placed_ascends place item base ascends)
 
   before_here : (at : List ℕ) → drop def.length at ≡ place
       → item_at before at ≡ stood (has_field def.length at old) at
@@ -346,7 +337,7 @@ module _ (def : AltDef) (base : Content) (place : List ℕ) (item : Option Item)
       → item_at after at ≡ stood (has_field def.length at new) at
   after_here at here = after_at at
       ∙ (ap (λ (p : List ℕ). stood
-      (has_field def.length at (field_at (record_at (with_base base place item) p))) at) here
+      (has_field def.length at (field_at (record_at (placed_in place item base) p))) at) here
       ∙ ap (λ (bytes : Option (List ℕ)). stood (has_field def.length at (field_at bytes)) at)
       (base_here base place item))
 
@@ -376,7 +367,7 @@ module _ (def : AltDef) (base : Content) (place : List ℕ) (item : Option Item)
   moved = same_items (came place new (went place old before)) after
       (came_ascends place new (went place old before)
       (went_ascends place old before (content_ascends def.length def.offset base)))
-      (content_ascends def.length def.offset (with_base base place item))
+      (content_ascends def.length def.offset (placed_in place item base))
       (λ at. moved_at at (bytes_eq (drop def.length at) place) refl)
 
   stayed_at : old ≡ new → (at : List ℕ) (test : Bool) → bytes_eq (drop def.length at) place ≡ test
@@ -392,7 +383,7 @@ module _ (def : AltDef) (base : Content) (place : List ℕ) (item : Option Item)
 
   stayed : old ≡ new → before ≡ after
   stayed same = same_items before after (content_ascends def.length def.offset base)
-      (content_ascends def.length def.offset (with_base base place item))
+      (content_ascends def.length def.offset (placed_in place item base))
       (λ at. stayed_at same at (bytes_eq (drop def.length at) place) refl)
 
   same_fields : (one other : Option (List ℕ)) → option_eq bytes_eq one other ≡ true → one ≡ other
@@ -535,7 +526,7 @@ pub led_on : (alternates : List AltDef) (def : AltDef) (base : Content) (place :
     → pairs_changed (changes_to def.part.0
     (pair_changes alternates place (record_at base place) (record_in item)))
     (pairs_content def.length def.offset base) ≡ pairs_content def.length def.offset
-    (with_base base place item)
+    (placed_in place item base)
 led_on alternates def base place item ascends distinct among =
     ap (λ (changes : List PairChange). pairs_changed changes
     (pairs_content def.length def.offset base))

@@ -1,13 +1,13 @@
 -- What a change of one base record does to the pairs of the alternate indexes over it, as Using
 -- Data Sets tells of upgrading them. Their order is this project's own.
-use Rattle.std.specs.Prelude.{ℕ, Bool, false, true, if◌then◌else◌, List, [], ◌∷◌, ◌++◌, Option, Some}
-use Rattle.std.specs.Prelude.{None, ◌==◌, bytes_eq, filter}
+use Rattle.std.specs.Prelude.{ℕ, Bool, false, true, if◌then◌else◌, List, [], ◌∷◌, ◌++◌, Option, ◌==◌}
+use Rattle.std.specs.Prelude.{bytes_eq, filter}
 use Rattle.std.specs.List.{flat_map}
 use Rattle.std.specs.Option.{option_and_then, option_eq, option_map, option_to_list}
 use Rattle.vr_altkey.specs.declared.definition.AltDef.{AltDef}
 use Rattle.vr_altkey.specs.declared.definition.PairChange.{PairChange}
 use Rattle.vr_altkey.specs.Pairs.{field_of, pair_place_of}
-use Rattle.vr_types.specs.Content.{Content, Item, Standing, record_of, with_item, without_item}
+use Rattle.vr_types.specs.Content.{Content, Standing, with_item, without_item}
 
 -- the alternate field of a record, if there is a record that has it
 abbrev pub field_in : ℕ → ℕ → Option (List ℕ) → Option (List ℕ)
@@ -47,12 +47,3 @@ pair_changed change content =
 abbrev pub pairs_changed : List PairChange → Content → Content
 pairs_changed [] content = content
 pairs_changed (change ∷ later) content = pairs_changed later (pair_changed change content)
-
--- a base with an item at a place from now on, or none
-abbrev pub with_base : Content → List ℕ → Option Item → Content
-with_base base place None = without_item base place
-with_base base place (Some item) = with_item base place item
-
--- the record that such an item is, if it is one
-abbrev pub record_in : Option Item → Option (List ℕ)
-record_in item = option_and_then record_of item

@@ -4,14 +4,9 @@ ghost use Rattle.std.specs.List.{Contains, IsDistinct};
 ghost use Rattle.std.specs.List.Sorted.{IsStrictlySortedBy};
 ghost use Rattle.vr_types.specs.Content.{Ascends, Content, Item, record_at};
 ghost use Rattle.vr_altkey.specs.declared.definition.AltDef.{AltDef};
-ghost use Rattle.vr_altkey.specs.Changes.{
-  changes_to,
-  pair_changes,
-  pairs_changed,
-  record_in,
-  with_base,
-};
+ghost use Rattle.vr_altkey.specs.Changes.{changes_to, pair_changes, pairs_changed};
 ghost use Rattle.vr_altkey.specs.Pairs.{pair_cmp, pairs_content, pairs_of};
+ghost use Rattle.vr_altkey.specs.Placing.{placed_in, record_in};
 
 /// The pairs of an alternate index ascend, by the alternate key and then by the base place, so none
 /// comes twice.
@@ -33,5 +28,5 @@ pub fn changes_lead_on()
         → IsDistinct nat_eq (map (λ other. other.part.0) alternates) → Contains alternates def
         → let changes = pair_changes alternates place (record_at base place) (record_in item) in
         pairs_changed (changes_to def.part.0 changes) (pairs_content def.length def.offset base)
-        ≡ pairs_content def.length def.offset (with_base base place item) }
+        ≡ pairs_content def.length def.offset (placed_in place item base) }
 {}

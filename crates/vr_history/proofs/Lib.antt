@@ -9,7 +9,6 @@ pub mod Committing
 pub mod Counting
 pub mod Endings
 pub mod Holding
-pub mod Items
 pub mod Laying
 pub mod LockLemmas
 pub mod LockRuns

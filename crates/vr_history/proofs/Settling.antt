@@ -31,7 +31,7 @@ use Rattle.vr_history.proofs.Befores.{find_append_new, find_append_other, find_f
 use Rattle.vr_history.proofs.Befores.{is_place, last_found, last_gone, or_false, out_apart}
 use Rattle.vr_history.proofs.Befores.{out_other}
 use Rattle.vr_history.proofs.Holding.{Holds, filtered_holds, free_unheld}
-use Rattle.vr_history.proofs.Items.{placed_elsewhere, placed_here}
+use Rattle.vr_altkey.proofs.CallerLemmas.{placed_elsewhere, placed_here}
 use Rattle.vr_history.proofs.LockLemmas.{FreeIn}
 use Rattle.vr_history.proofs.Same.{first_holds, nat_same, second_holds, unit_same, unit_self}
 

@@ -8,7 +8,7 @@ use Rattle.vr_catalog.specs.Catalog.{parts_in}
 use Rattle.vr_catalog.specs.declared.entry.CatEntry.{CatEntry}
 use Rattle.vr_catalog.specs.declared.entry.EntryKind.{EntryKind}
 use Rattle.vr_catalog.specs.declared.entry.EntryKind.TheVariants.{Cluster, Alternate, Path}
-use Rattle.vr_types.specs.Content.{Content, Item, item_at, with_item, without_item}
+use Rattle.vr_types.specs.Content.{Content, item_at}
 use Rattle.vr_types.specs.Position.{unheld}
 use Rattle.vr_types.specs.declared.position.Position.{Position}
 use Rattle.vr_types.specs.declared.position.Stand.{Stand}
@@ -16,6 +16,7 @@ use Rattle.vr_types.specs.declared.lock_name.LockName.{LockName}
 use Rattle.vr_types.specs.declared.request.FileRef.{FileRef}
 use Rattle.vr_types.specs.declared.unit.Mode.{Mode}
 use Rattle.vr_types.specs.declared.unit.Unit.{Unit as UnitOfRecovery}
+pub use Rattle.vr_altkey.specs.Placing.{placed_in}
 use Rattle.vr_history.specs.Change.{Change}
 use Rattle.vr_history.specs.LogSpace.{Logging}
 use Rattle.vr_history.specs.Names.{with_locks}
@@ -44,11 +45,6 @@ drops_held deck (Some file) state = moves_file deck file.slot unheld state
 -- the unit takes its locks
 abbrev pub locks : UnitOfRecovery → Mode → List LockName → State → State
 locks unit mode names state = record state { locks = with_locks unit mode names state.locks }
-
--- a place of a content has an item from now on, or none
-abbrev pub placed_in : List ℕ → Option Item → Content → Content
-placed_in place None content = without_item content place
-placed_in place (Some item) content = with_item content place item
 
 abbrev pub with_change : Change → (ℕ → Content) → ℕ → Content
 with_change change contents part =

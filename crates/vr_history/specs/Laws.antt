@@ -1,9 +1,9 @@
 -- What readers of the record file expect of it, stated of its words.
 use Rattle.std.specs.Prelude.{◌≡◌, ℕ, Bool, true, false, cond, List, [], ◌∷◌, Option, Some, None}
-use Rattle.std.specs.Prelude.{All, option_and_then}
+use Rattle.std.specs.Prelude.{All}
 use Rattle.vr_types.specs.Locks.{Conflict, Lock, same_unit}
 use Rattle.vr_catalog.specs.Catalog.{entries_in, parts_in}
-use Rattle.vr_types.specs.Content.{Content, Item, item_at, record_of}
+use Rattle.vr_types.specs.Content.{Content, item_at}
 use Rattle.vr_types.specs.declared.geometry.Geometry.{Geometry}
 use Rattle.vr_types.specs.declared.position.Position.{Position}
 use Rattle.vr_types.specs.declared.position.Stand.{Stand}
@@ -11,6 +11,7 @@ use Rattle.vr_types.specs.declared.reply.Refusal.{Refusal}
 use Rattle.vr_types.specs.declared.request.FileRef.{FileRef}
 use Rattle.vr_types.specs.declared.request.Request.{Request}
 use Rattle.vr_types.specs.declared.unit.Unit.{Unit as UnitOfRecovery}
+pub use Rattle.vr_altkey.specs.Placing.{record_in}
 use Rattle.vr_history.specs.declared.entry.Entry.{Entry}
 use Rattle.vr_history.specs.Case.{Case, file_of}
 use Rattle.vr_history.specs.Committed.{counted_entry, settled_item}
@@ -83,10 +84,6 @@ HasPartThroughout geometry part counts state contents (entry ∷ entries) =
     HasPart part state contents
     × HasPartThroughout geometry part counts (state_after geometry state entry)
     (cond (counts entry.unit) (counted_entry geometry state entry contents) contents) entries
-
--- the record that an item is, if there is one
-abbrev pub record_in : Option Item → Option (List ℕ)
-record_in item = option_and_then record_of item
 
 -- the record of some contents at a place, and the record that a state settles on there: its own, or
 -- the one that a unit which doesn't count keeps

@@ -8,7 +8,7 @@ ghost use Rattle.vr_types.specs.declared.request.Request.TheVariants.{Backout};
 ghost use Rattle.vr_types.specs.declared.unit.Unit.{Unit as UnitOfRecovery};
 ghost use Rattle.vr_history.specs.declared.entry.Entry.{Entry};
 ghost use Rattle.vr_history.specs.declared.entry.What.TheVariants.{Asked};
-ghost use Rattle.vr_history.specs.Addresses.{IsInOrder, RunsOver, addresses_given};
+ghost use Rattle.vr_history.specs.Addresses.{AreOwned, IsInOrder, RunsOver, addresses_given};
 ghost use Rattle.vr_history.specs.Case.{Case};
 ghost use Rattle.vr_history.specs.Committed.{committed, is_counted};
 ghost use Rattle.vr_history.specs.Effects.{ends_unit};
@@ -91,7 +91,8 @@ pub fn backed_out_changes_nothing()
 /// recovery adds, and whether the record was backed out or not. The data set's places after a
 /// history are those of the opening and then those that its entries gave, in their order (`kept`);
 /// no two of them are one (`apart`); and what the history leaves is in order again, so that the
-/// volume's next history goes on from there (`in_order`). The catalog has the data set throughout.
+/// volume's next history goes on from there (`in_order`). An empty data set is in order (`empty`).
+/// The catalog has the data set as an entry-sequenced one throughout.
 pub fn addresses_never_again()
     ensures kept { (geometry : Geometry) (part : ℕ) (contents : ℕ → Content) (owned : List Owned)
         (entries : List Entry)
@@ -108,4 +109,6 @@ pub fn addresses_never_again()
         → RunsOver geometry part contents owned entries
         → let after = state_of geometry (opening_state contents owned) entries in
         IsInOrder geometry (after.contents part) after.owned }
+    ensures empty { (geometry : Geometry) (owned : List Owned)
+        → AreOwned geometry owned → IsInOrder geometry [] owned }
 {}

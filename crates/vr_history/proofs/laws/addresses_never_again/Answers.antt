@@ -7,4 +7,5 @@ returns c = record {
       (over_run geometry part contents owned entries runs).places;
   apart = all_apart;
   in_order = in_order_again;
+  empty = λ geometry owned areas. record { addressed = tt; areas = areas };
 }
