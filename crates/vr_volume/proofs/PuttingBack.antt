@@ -5,16 +5,10 @@ use Rattle.std.proofs.lemmas.Bool.{true≢false}
 use Rattle.std.proofs.lemmas.Slice.Eq.{bytes_eq-Decides}
 use Rattle.vr_types.specs.Content.{Content, Item, Ascends, item_at}
 use Rattle.vr_history.specs.Committed.{kept_or}
-use Rattle.vr_history.specs.Effects.{placed_in}
 use Rattle.vr_history.specs.State.{BeforeImage}
-use Rattle.vr_history.proofs.Items.{placed_here, placed_elsewhere}
-use Rattle.vr_altkey.proofs.Items.{put_ascends, out_ascends}
+use Rattle.vr_altkey.specs.Placing.{placed_in}
+use Rattle.vr_altkey.proofs.CallerLemmas.{placed_here, placed_elsewhere, placed_ascends}
 use Rattle.vr_volume.specs.PutBack.{is_image_of, oldest, put_back}
-
-placed-ascends : (place : List ℕ) (item : Option Item) (content : Content) → Ascends content
-    → Ascends (placed_in place item content)
-placed-ascends place None content ascends = out_ascends place content ascends
-placed-ascends place (Some item) content ascends = put_ascends place item content ascends
 
 pub back-ascends : (part : ℕ) (images : List BeforeImage) (content : Content) → Ascends content
     → Ascends (put_back part images content)
@@ -25,7 +19,7 @@ back-ascends part (image ∷ images) content ascends =
     by_part : (mine : Bool) → Ascends (put_back part images content)
         → Ascends (cond mine (placed_in image.place image.old (put_back part images content))
         (put_back part images content))
-    by_part true further = placed-ascends image.place image.old (put_back part images content)
+    by_part true further = placed_ascends image.place image.old (put_back part images content)
         further
     by_part false further = further
 

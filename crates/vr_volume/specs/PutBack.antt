@@ -10,9 +10,9 @@ use Rattle.vr_types.specs.declared.unit.Unit.{Unit as UnitOfRecovery}
 use Rattle.vr_log.specs.declared.record.LogRecord.{LogRecord}
 use Rattle.vr_log.specs.declared.record.LogRecord.TheVariants.{Before, End}
 use Rattle.vr_log.specs.Live.{live_in, is_in}
-use Rattle.vr_history.specs.Effects.{placed_in}
+use Rattle.vr_altkey.specs.Placing.{placed_in}
 use Rattle.vr_history.specs.State.{BeforeImage}
-use Rattle.vr_space.specs.Room.{Lengths}
+use Rattle.vr_space.specs.Room.{Lengths, with_lengths}
 
 -- the before-image that a record of the log is, where its unit is one of these
 abbrev pub image_in : List UnitOfRecovery → LogRecord → Option BeforeImage
@@ -54,5 +54,6 @@ length_in part image =
     if image.part == part then length_of image.place (option_and_then record_of image.old)
     else None
 
+-- the longest of each place, in the order of places
 abbrev pub lengths_kept : List BeforeImage → ℕ → Lengths
-lengths_kept images part = filter_map (length_in part) images
+lengths_kept images part = with_lengths [] (filter_map (length_in part) images)

@@ -1,15 +1,11 @@
 -- What the blocks of a whole volume stand for: its log, and a content of each part. And what they
 -- recover to: the contents with the before-images of units that haven't ended put back. The rules
 -- are this project's own.
-use Rattle.std.specs.Prelude.{◌≡◌, ◌≢◌, ◌<◌, ℕ, List, [], ◌∷◌, Option, Some, None}
+use Rattle.std.specs.Prelude.{◌≡◌, ◌≢◌, ℕ, [], Option, Some, None}
 use Rattle.vr_types.specs.Content.{Content as ContentOf}
 use Rattle.vr_types.specs.Image.{Image, block_at}
-use Rattle.vr_types.specs.Geometry.{area_count}
 use Rattle.vr_types.specs.declared.geometry.Geometry.{Geometry}
-use Rattle.vr_seqset.specs.Entry.{Entry}
-use Rattle.vr_space.specs.Room.{Lengths, HaveRoom}
-use Rattle.vr_space.specs.Keyed.{Keyed, entries_of, entry_block, range_of, lengths_of}
-use Rattle.vr_space.specs.Part.{Shape, KeyedShape, StandsFor, InPart}
+use Rattle.vr_space.specs.Part.{Shape, StandsFor, InPart, HasRoom}
 use Rattle.vr_log.specs.Content.{Content as LogContent}
 use Rattle.vr_log.specs.Spells.{Spells}
 use Rattle.vr_volume.specs.CatalogRules.{IsCatalog}
@@ -21,18 +17,6 @@ use Rattle.vr_volume.specs.PutBack.{images_of, put_back, lengths_kept}
 abbrev pub AreApart : (ℕ → Option Shape) → Type 0
 AreApart shapes = (one other : ℕ) (here there : Shape) → shapes one ≡ Some here
     → shapes other ≡ Some there → one ≢ other → (n : ℕ) → InPart here n → InPart there n → ⊥
-
--- each interval has room for its records, and for the before-images of its range beside them
-abbrev pub HaveRooms : Keyed → Lengths → Image → Option (List ℕ) → List Entry → Type 0
-HaveRooms part kept image low [] = Unit {0}
-HaveRooms part kept image low (entry ∷ entries) =
-    HaveRoom part.size
-    (lengths_of part kept (range_of low entry) (block_at image (entry_block part entry)))
-    × HaveRooms part kept image (Some entry.high) entries
-
-abbrev pub HasRoom : Shape → Lengths → Image → Type 0
-HasRoom (KeyedShape part) kept image =
-    HaveRooms part kept image None (entries_of (block_at image part.head))
 
 -- the content of part 0 once the before-images are put back: it says which parts there are
 abbrev pub catalog_back : LogContent → (ℕ → ContentOf) → ContentOf
@@ -59,6 +43,7 @@ pub record Recovers (geometry : Geometry) (number : ℕ) (image : Image)
   pub log : LogContent
   pub contents : ℕ → ContentOf
   pub stands : VolumeStandsFor geometry number image log contents
+  -- each interval has room for the before-images of its range beside its records
   pub room : (part : ℕ) (shape : Shape) → shapes_by geometry log contents part ≡ Some shape
       → HasRoom shape (lengths_kept (images_of log.records) part) image
   pub back : (part : ℕ) → recovered part ≡ put_back part (images_of log.records) (contents part)

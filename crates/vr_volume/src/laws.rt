@@ -6,9 +6,9 @@ ghost use Rattle.vr_types.specs.Image.{Image, block_at};
 ghost use Rattle.vr_types.specs.Seen.{Left};
 ghost use Rattle.vr_types.specs.declared.geometry.Geometry.{Geometry};
 ghost use Rattle.vr_log.specs.Content.{Content as LogContent};
-ghost use Rattle.vr_log.specs.LogNow.{LogNow, IsLogOf};
+ghost use Rattle.vr_log.specs.LogNow.{LogNow};
 ghost use Rattle.vr_log.specs.declared.record.LogRecord.{LogRecord};
-ghost use Rattle.vr_volume.specs.Safe.{IsSafe};
+ghost use Rattle.vr_volume.specs.Safe.{IsImageSafe, IsSafe, IsSafeImage};
 ghost use Rattle.vr_volume.specs.Volume.{Recovers, VolumeStandsFor};
 
 use vr_types::Blocks;
@@ -29,13 +29,18 @@ pub fn one_recovery()
         → Recovers geometry number image other → (part : ℕ) → one part ≡ other part }
 {}
 
-/// Each image that a crash may leave of a volume at rest recovers to the contents that are committed
-/// by its log.
-pub fn each_image_recovers<B: Blocks>(blocks: &B)
+/// A safe image recovers to the contents that are committed by its log.
+pub fn image_recovers()
+    ensures { (geometry : Geometry) (number : ℕ) (log : LogContent) (committed : ℕ → Content)
+        (image : Image) → IsImageSafe geometry number log committed image
+        → Recovers geometry number image committed }
+{}
+
+/// Each image that a crash may leave of a safe volume is a safe one.
+pub fn each_image_is_safe<B: Blocks>(blocks: &B)
     ensures { (geometry : Geometry) (number : ℕ) (log : LogNow)
         (committed : List LogRecord → ℕ → Content)
         → IsSafe geometry number log committed (B.seen blocks.now)
         → (image : Image) → Left (B.seen blocks.now) image
-        → (content : LogContent) × IsLogOf log content
-        × Recovers geometry number image (committed content.records) }
+        → IsSafeImage geometry number log committed image }
 {}

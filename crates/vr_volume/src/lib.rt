@@ -7,4 +7,4 @@
 
 mod laws;
 
-pub use laws::{each_image_recovers, one_recovery, one_volume};
+pub use laws::{each_image_is_safe, image_recovers, one_recovery, one_volume};

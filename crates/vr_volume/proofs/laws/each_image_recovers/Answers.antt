@@ -1,7 +1,0 @@
-use Rattle.vr_volume.proofs.Recovering.{each_image_recovers}
-use Rattle.vr_volume.proofs.laws.each_image_recovers.Goals as goal
-
-pub returns : goal.returns
-returns g c geometry number log committed safe image left =
-    each_image_recovers geometry number log committed (g.B.Blocks.seen c.args.blocks.now) safe image
-    left
