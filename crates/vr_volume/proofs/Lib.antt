@@ -1,4 +1,6 @@
 pub mod PuttingBack
 pub mod Standings
 pub mod Recovering
+pub mod Apart
+pub mod Calls
 pub mod Unique
