@@ -12,7 +12,7 @@ use Rattle.vr_types.specs.declared.geometry.Geometry.{Geometry}
 use Rattle.vr_types.proofs.CallerLemmas.{during-weaken}
 use Rattle.vr_space.specs.Keyed.{entries_of, keyed_way}
 use Rattle.vr_space.specs.Part.{AddsTo, HasKeptRoom, HasOnly, HasRoom, InPart, IsSound, KeyedShape}
-use Rattle.vr_space.specs.Part.{MayAlsoHold, MayHold, Shape}
+use Rattle.vr_space.specs.Part.{Just, MayAlsoHold, MayHold, Nothing, Shape}
 use Rattle.vr_space.specs.Room.{Lengths}
 use Rattle.vr_space.proofs.CallerLemmas.{each-less, find-more, head-in, IsBlock, keyed-less}
 use Rattle.vr_space.proofs.CallerLemmas.{keyed-within, only-weaken, within-less}
@@ -23,7 +23,8 @@ use Rattle.vr_log.specs.Spells.{Spells}
 use Rattle.vr_log.specs.Standing.{InLog}
 use Rattle.vr_log.specs.declared.record.LogRecord.{LogRecord}
 use Rattle.vr_volume.specs.Laid.{shape_by}
-use Rattle.vr_volume.specs.PutBack.{images_of, lengths_kept}
+use Rattle.vr_volume.specs.Laying.{IsFreeIn, IsLaidSo}
+use Rattle.vr_volume.specs.PutBack.{images_of, lengths_kept, oldest}
 use Rattle.vr_volume.specs.Safe.{IsImageSafe, IsItemOf, IsPartIn, IsPartSafe, IsSafe, IsSafeBy}
 use Rattle.vr_volume.specs.Safe.{IsSafeImage}
 use Rattle.vr_volume.proofs.Apart.{part-past}
@@ -107,13 +108,6 @@ abbrev pub AddsSafe : Geometry → LogNow → (List LogRecord → ℕ → Conten
 AddsSafe geometry log committed part shape A = (content : LogContent) → IsLogOf log content
     → (place : List ℕ) (found : Option (List ℕ)) → A place found
     → IsItemOf shape part (images_of content.records) (committed content.records part) place found
-
--- Whichever log an image has, the part is laid so, and this is what is put back into it.
-abbrev pub IsLaidSo : Geometry → LogNow → (List LogRecord → ℕ → Content) → ℕ → Shape → Lengths
-    → Type 0
-IsLaidSo geometry log committed part shape kept = (content : LogContent) → IsLogOf log content
-    → (shape_by geometry (committed content.records 0) part ≡ Some shape)
-    × (kept ≡ lengths_kept (images_of content.records) part)
 
 module _ (geometry : Geometry) (number : ℕ) (log : LogNow)
     (committed : List LogRecord → ℕ → Content) (part : ℕ) (shape : Shape) (kept : Lengths)
@@ -296,3 +290,20 @@ module _ (geometry : Geometry) (number : ℕ) (log : LogNow)
       };
       rest = each_image_is_safe geometry number log committed b part-after;
     }
+
+-- ---- what may be added
+
+-- a call that adds nothing
+pub nothing-safe : (geometry : Geometry) (log : LogNow)
+    (committed : List LogRecord → ℕ → Content) (part : ℕ) (shape : Shape)
+    → AddsSafe geometry log committed part shape Nothing
+nothing-safe geometry log committed part shape content is place found none = absurd none
+
+-- one that adds an item at a free place
+pub free-safe : (geometry : Geometry) (log : LogNow)
+    (committed : List LogRecord → ℕ → Content) (part : ℕ) (shape : Shape) (at : List ℕ)
+    (new : Option (List ℕ)) → IsFreeIn log part at
+    → AddsSafe geometry log committed part shape (Just at new)
+free-safe geometry log committed part shape at new free content is place found here none =
+    absurd (free content is (subst (λ (p : List ℕ). oldest (images_of content.records) part p ≡ None)
+    here.0 none))

@@ -4,3 +4,4 @@ pub mod CatalogRules
 pub mod PutBack
 pub mod Volume
 pub mod Safe
+pub mod Laying

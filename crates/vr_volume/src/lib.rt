@@ -5,6 +5,8 @@
 //! There are definitions and laws alone yet: the value that one event changes will stand on them.
 #![tactic(auto)]
 
+mod changing;
 mod laws;
 
+pub use changing::{do_stage, force_blocks, set_free};
 pub use laws::{each_image_is_safe, image_recovers, one_recovery, one_volume};
