@@ -8,4 +8,5 @@ pub mod Adding
 pub mod Composing
 pub mod Rising
 pub mod Rooms
+pub mod Keeping
 pub mod CallerLemmas
