@@ -21,7 +21,7 @@ abbrev no_unit : UnitOfRecovery
 no_unit = record { deck = 0; number = 0 }
 
 -- nothing is a cut of any record
-none-cut : IsCut []
+pub none-cut : IsCut []
 unfolding record_bytes
 none-cut = record {
   whole = End no_unit Committed;

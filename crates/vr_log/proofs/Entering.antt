@@ -15,6 +15,7 @@ use Rattle.vr_types.specs.Seen.{Seen}
 use Rattle.vr_types.specs.declared.geometry.Geometry.{Geometry}
 use Rattle.vr_log.specs.declared.kept.Older.{Older}
 use Rattle.vr_log.specs.declared.record.LogRecord.{LogRecord}
+use Rattle.vr_log.specs.declared.record.LogRecord.TheVariants.{Before, End}
 use Rattle.vr_log.specs.declared.tail.Tail.{Tail}
 use Rattle.vr_log.specs.Content.{Content}
 use Rattle.vr_log.specs.LogBlock.{room_of}
@@ -96,10 +97,11 @@ pub start_writing : (told : Bool) (log : LogNow) (total : List ℕ) (tail : Tail
     (seen : Seen) → IsSeenAs log tail older → IsAllowed log.geometry → IsOf log.geometry seen
     → tail.generation < 2 ^ 64 → IsTail log.geometry (bytes_of log.records) tail
     → IsTurned log.geometry tail
-    → IsPrefix (bytes_of log.records) total → length total ≤ log_size log.geometry
+    → IsPrefix (bytes_of log.records) total → 0 < length total
+    → length total ≤ log_size log.geometry
     → (IsTrue told → LogStands log seen) → IsWriting log total (bytes_of log.records) tail told seen
-start_writing told log total tail older seen known allowed shape young buffer turned prefix most
-    stands =
+start_writing told log total tail older seen known allowed shape young buffer turned prefix some
+    most stands =
     let room = room_of log.geometry in
     let bytes = bytes_of log.records in
     record {
@@ -113,6 +115,7 @@ start_writing told log total tail older seen known allowed shape young buffer tu
       behind = λ not. let some = behind-some tail.begun older not in
           (some.0, known.behind ∙ some.1);
       stable = bytes-take log.forced log.records;
+      some = some;
       most = most;
       begun = λ t. (stands t).begun;
       leaves = λ t. during-same log tail.begun total seen.count seen.may (λ is. known.behind
@@ -139,6 +142,22 @@ start_writing told log total tail older seen known allowed shape young buffer tu
           inside ((stands t).current more index (omega (arith, inside, log-room log allowed))
           from);
     }
+
+-- a record has some bytes
+record-some : (rec : LogRecord) → 0 < length (record_bytes rec)
+unfolding record_bytes
+record-some (Before unit part place old) = omega arith
+record-some (End unit kind) = omega arith
+
+pub total-some : (records : List LogRecord) (rec : LogRecord)
+    → 0 < length (bytes_of (records ++ rec ∷ []))
+total-some records rec =
+    omega (
+      arith,
+      record-some rec,
+      ap length (bytes-push records rec),
+      length-append (bytes_of records) (record_bytes rec),
+    )
 
 -- the log with one record more
 abbrev pub Grown : LogNow → LogRecord → Option Content → LogNow
@@ -186,6 +205,7 @@ leaves-grown log rec behind bytes count may below opened leaves = record {
         ours.0,
         left-grown log rec behind behind bytes (open_index log)
             (block_at image (1 + open_index log)) below ours.1,
+        ours.2,
       )))
       (leaves.older older is image on);
 }

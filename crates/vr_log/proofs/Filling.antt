@@ -87,6 +87,7 @@ fill_kept told log total written bytes count tail next a w below fits same_gener
       opened = λ not. same_index ∙ w.opened (sym same_begun ∙ not);
       behind = λ not. w.behind (sym same_begun ∙ not);
       stable = omega (arith, w.stable, length-append written x);
+      some = w.some;
       most = w.most;
       begun = w.begun;
       leaves = λ t. subst (λ (flag : Bool). Leaves (log_during log flag) total a.count a.may)

@@ -3,6 +3,7 @@ use Rattle.std.proofs.Common.{◌≡◌, inl, inr, ⊎_elim, ℕ, zero, suc, ◌
 use Rattle.std.proofs.Common.{false, List, length, drop, Option, Some, None, nat_eq, ◌&&◌, refl}
 use Rattle.std.proofs.Common.{sym, ap, subst, ◌∙◌, arith, eqb-true, eq-eqb, true≢false}
 use Rattle.std.proofs.lemmas.Bool.{cases_eq}
+use Rattle.std.proofs.lemmas.List.{length-append}
 use Rattle.vr_types.specs.Image.{Block, Image, MayAlso, block_at}
 use Rattle.vr_types.specs.Regions.{IsImageOn}
 use Rattle.vr_log.specs.Content.{Content}
@@ -57,6 +58,7 @@ leaves-more log bytes total count may prefix leaves = record {
         ours.0,
         left-more log bytes total (open_index log) (block_at image (1 + open_index log))
             prefix ours.1,
+        omega (arith, ours.2, ap length prefix.1, length-append bytes prefix.0),
       )) (leaves.older older is image on);
 }
 
@@ -89,10 +91,10 @@ module _ (log : LogNow) (total : List ℕ) (count index : ℕ) (may : ℕ → Bl
       (subst (λ (b : Block). P index b) (sym is.1) holds)
 
   pub leaves-put : index < log.geometry.log → log.geometry.log < count
-      → is_next log.generation index new ≡ true → IsLeft log total index new
+      → is_next log.generation index new ≡ true → IsLeft log total index new → 0 < length total
       → ((older : Content) → log.behind ≡ Some older → index ≡ open_index log)
       → Leaves log total count may → Leaves log total count (MayAlso may (1 + index) new)
-  leaves-put below within next left opened leaves = record {
+  leaves-put below within next left some opened leaves = record {
     young = λ at block inside is. ⊎_elim (leaves.young at block inside)
         (λ new_is. omega
         (arith, ap generation_in new_is.1, (next-has log.generation index new next).0)) is;
@@ -119,6 +121,7 @@ module _ (log : LogNow) (total : List ℕ) (count index : ℕ) (may : ℕ → Bl
           there q (block_at image (1 + q)) (λ n b. is_next log.generation n b ≡ true) next
               new_is,
           there q (block_at image (1 + q)) (λ n b. IsLeft log total n b) left new_is,
+          some,
         ))
         (on.each (1 + q) inside in_log);
   }

@@ -15,3 +15,9 @@ pub mod Passing
 pub mod Ahead
 pub mod Restarting
 pub mod Unique
+pub mod RecordBytes
+pub mod BeforeBytes
+pub mod Gathered
+pub mod BackRead
+pub mod Damages
+pub mod Settled

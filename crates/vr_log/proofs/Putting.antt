@@ -146,7 +146,7 @@ module _ (told : Bool) (is_told : IsTrue told) (log : LogNow) (total written : L
         (MayAlso a.may (1 + tail.index) block)
     left-put =
         leaves-put During total a.count tail.index a.may block w.buffer.index inside exact.next
-        (exact-left During written total tail.index block prefix w.stable exact)
+        (exact-left During written total tail.index block prefix w.stable exact) w.some
         (during-open log tail.begun tail.index w.opened) (w.leaves is_told)
 
     pub touches-put : Touches (InLog log.geometry) (IsFound log total) a b

@@ -1,22 +1,24 @@
 -- A log that is restarted, and one beside which another block is put.
 use Rattle.std.proofs.Common.{◌≡◌, inl, inr, ⊎_elim, ℕ, ◌+◌, ◌*◌, ◌/◌, ◌^◌, ◌<◌, ◌≤◌, Bool, IsTrue}
-use Rattle.std.proofs.Common.{[], length, Option, Some, None, refl, sym, ap, subst, ◌∙◌, arith}
+use Rattle.std.proofs.Common.{List, [], length, Option, Some, None, refl, sym, ap, subst, ◌∙◌, arith}
 use Rattle.std.proofs.Math.Nat.{mul-le-mul_right}
 use Rattle.std.proofs.lemmas.Bool.{cases_lt}
-use Rattle.std.proofs.lemmas.List.{take_all}
+use Rattle.std.proofs.lemmas.List.{take_all, nil_from_length}
 use Rattle.std.proofs.lemmas.Nat.{div-mul-add}
 use Rattle.vr_types.specs.Image.{Block, Image, block_at}
 use Rattle.vr_types.specs.Blocks.{Puts}
-use Rattle.vr_types.specs.Regions.{Outside}
+use Rattle.vr_types.specs.Regions.{IsImageOn, Outside}
 use Rattle.vr_types.specs.Seen.{Seen}
 use Rattle.vr_types.proofs.CallerLemmas.{cur-elsewhere}
 use Rattle.vr_log.specs.Content.{Content}
+use Rattle.vr_log.specs.declared.record.LogRecord.{LogRecord}
 use Rattle.vr_log.specs.Live.{live_in}
 use Rattle.vr_log.specs.LogBlock.{generation_in, room_of}
-use Rattle.vr_log.specs.LogNow.{LogNow, HasLog, IsForced, first_of, left_by, restarted}
+use Rattle.vr_log.specs.LogNow.{LogNow, HasLog, IsForced, IsPrefixOf, first_of, left_by}
+use Rattle.vr_log.specs.LogNow.{restarted}
 use Rattle.vr_log.specs.Records.{bytes_of, HasFields}
 use Rattle.vr_log.specs.Spells.{Spells}
-use Rattle.vr_log.specs.Standing.{InLog, IsLeft, IsExact, LogStands, open_index}
+use Rattle.vr_log.specs.Standing.{InLog, IsLeft, IsOurs, IsExact, LogStands, open_index}
 use Rattle.vr_log.proofs.Codec.{All-none}
 use Rattle.vr_log.proofs.Growing.{stands_has}
 use Rattle.vr_log.proofs.Leaving.{next-has}
@@ -27,30 +29,83 @@ left-none None last is = absurd cc
 left-none (Some older) last is = absurd cc
 
 module _ (log : LogNow) (seen : Seen) (stands : LogStands log seen) (forced : IsForced log)
-    (dead : live_in log.records ≡ []) (some : 0 < length log.records)
-    (room_left : log.generation + 1 < 2 ^ 64) where
+    (dead : live_in log.records ≡ []) (room_left : log.generation + 1 < 2 ^ 64) where
   abbrev Last : Content
   Last = first_of log (length log.records)
 
-  was-last : (older : Content) → log.behind ≡ Some older → older ≡ Last
-  was-last older is =
-      ⊎_elim (λ (mine : older ≡ first_of log log.forced). mine
-      ∙ ap (first_of log) forced) (λ none. absurd (omega (arith, none.0, forced, some)))
-      (stands.behind older is)
+  -- the log that is left has no live unit
+  last-dead : live_in Last.records ≡ []
+  last-dead =
+      ap live_in (take_all (length log.records) log.records (omega arith)) ∙ dead
 
-  left-last : (behind : Option Content) → log.behind ≡ behind → (older : Content)
-      → left_by behind Last ≡ Some older → older ≡ Last
-  left-last None is older left = cc
-  left-last (Some was) is older left = let same : older ≡ was = cc in same ∙ was-last was is
+  older-dead : (older : Content) → log.behind ≡ Some older → live_in older.records ≡ []
+  older-dead older is =
+      ⊎_elim (λ (mine : older ≡ first_of log log.forced). ap (λ (c : Content). live_in c.records)
+      (mine ∙ ap (first_of log) forced) ∙ last-dead) (λ none. none.1) (stands.behind older is)
 
-  spelled : (image : Image) → HasLog log image → Spells log.geometry image Last
-  spelled image (content, spells, inl prefix) =
+  left-dead : (behind : Option Content) → log.behind ≡ behind → (older : Content)
+      → left_by behind Last ≡ Some older → live_in older.records ≡ []
+  left-dead None is older left =
+      ap (λ (c : Content). live_in c.records) (let same : older ≡ Last = cc in same) ∙ last-dead
+  left-dead (Some was) is older left =
+      ap (λ (c : Content). live_in c.records) (let same : older ≡ was = cc in same)
+      ∙ older-dead was is
+
+  prefix-last : (image : Image) (content : Content) → Spells log.geometry image content
+      → IsPrefixOf log content → Spells log.geometry image Last
+  prefix-last image content spells prefix =
       let all : prefix.count ≡ length log.records =
       omega (arith, prefix.forced, prefix.all, forced) in
       subst (λ (c : Content). Spells log.geometry image c) (prefix.is
       ∙ ap (first_of log) all) spells
-  spelled image (content, spells, inr behind) =
-      subst (λ (c : Content). Spells log.geometry image c) (was-last content behind) spells
+
+  -- no block of it was forced, and it has records: the log before has them all
+  was-last : (older : Content) → log.behind ≡ Some older → 0 < length log.records → older ≡ Last
+  was-last older is some =
+      ⊎_elim (λ (mine : older ≡ first_of log log.forced). mine
+      ∙ ap (first_of log) forced) (λ none. absurd (omega (arith, none.0, forced, some)))
+      (stands.behind older is)
+
+  spelled-last : (image : Image) → log.behind ≡ None → HasLog log image
+      → Spells log.geometry image Last
+  spelled-last image none (content, spells, inl prefix) = prefix-last image content spells prefix
+  spelled-last image none (content, spells, inr behind) = absurd cc
+
+  spelled-older : (image : Image) (older : Content) → log.behind ≡ Some older
+      → 0 < length log.records → HasLog log image → Spells log.geometry image older
+  spelled-older image older is some (content, spells, inl prefix) =
+      subst (λ (c : Content). Spells log.geometry image c) (sym (was-last older is some))
+      (prefix-last image content spells prefix)
+  spelled-older image older is some (content, spells, inr behind) =
+      subst (λ (c : Content). Spells log.geometry image c)
+      (let same : content ≡ older = cc in same) spells
+
+  no-bytes : length log.records ≤ 0 → length (bytes_of log.records) ≡ 0
+  no-bytes none =
+      ap (λ (rs : List LogRecord). length (bytes_of rs))
+      (nil_from_length log.records (omega (arith, none)))
+
+  -- each image spells the log that is left
+  spells-left : (image : Image) → IsImageOn (InLog log.geometry) seen.count seen.may image
+      → (behind : Option Content) → log.behind ≡ behind → (older : Content)
+      → left_by behind Last ≡ Some older → Spells log.geometry image older
+  spells-left image on None is older left =
+      subst (λ (c : Content). Spells log.geometry image c)
+      (let same : Last ≡ older = cc in same)
+      (spelled-last image is
+      (stands_has log seen image stands.allowed stands.fits stands on))
+  spells-left image on (Some was) is older left =
+      subst (λ (c : Content). Spells log.geometry image c)
+      (let same : was ≡ older = cc in same)
+      (⊎_elim
+      (λ (some : 0 < length log.records). spelled-older image was is some
+      (stands_has log seen image stands.allowed stands.fits stands on))
+      (λ (none : length log.records ≤ 0). ⊎_elim
+      (λ (spells : Spells log.geometry image was). spells)
+      (λ (ours : IsOurs log (bytes_of log.records) (open_index log)
+      (block_at image (1 + open_index log))). absurd (omega (arith, ours.2, no-bytes none)))
+      (stands.leaves.older was is image on))
+      (cases_lt 0 (length log.records)))
 
   next : (restarted log).generation ≡ log.generation + 1
   next = omega (arith, room_left)
@@ -83,21 +138,14 @@ module _ (log : LogNow) (seen : Seen) (stands : LogStands log seen) (forced : Is
     fields = All-none HasFields;
     fits = omega arith;
     forced = omega arith;
-    behind = λ older is. inr (
-      refl,
-      ap (λ (c : Content). live_in c.records) (left-last log.behind refl older is)
-          ∙ ap live_in (take_all (length log.records) log.records (omega arith)) ∙ dead,
-    );
+    behind = λ older is. inr (refl, left-dead log.behind refl older is);
     begun = λ older is. omega (arith, ap (λ (n : ℕ). n * room_of log.geometry) first-index);
     leaves = record {
       young = λ index block below is. omega (arith, stands.leaves.young index block below is, next);
       each = λ index block below closed is. fresh index block
           (stands.leaves.young index block below is);
       first = λ none. absurd (left-none log.behind Last none);
-      older = λ older is image on. inl
-          (subst (λ (c : Content). Spells log.geometry image c)
-          (sym (left-last log.behind refl older is))
-          (spelled image (stands_has log seen image stands.allowed stands.fits stands on)));
+      older = λ older is image on. inl (spells-left image on log.behind refl older is);
     };
     current = λ more. absurd (more refl);
   }

@@ -175,6 +175,7 @@ module _ (told : Bool) (log : LogNow) (total written : List ℕ) (tail : Tail) (
         opened = λ not. absurd (true≢false (sym begun ∙ not));
         behind = λ not. absurd (true≢false (sym begun ∙ not));
         stable = w.stable;
+        some = w.some;
         most = w.most;
         begun = w.begun;
         leaves = λ is_told. subst
@@ -234,6 +235,7 @@ module _ (told : Bool) (log : LogNow) (total written : List ℕ) (tail : Tail) (
         opened = λ not. same_index ∙ w.opened (sym same_begun ∙ not);
         behind = λ not. w.behind (sym same_begun ∙ not);
         stable = w.stable;
+        some = w.some;
         most = w.most;
         begun = w.begun;
         leaves = λ is_told. subst

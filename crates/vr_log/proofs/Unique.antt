@@ -23,14 +23,14 @@ use Rattle.vr_log.specs.declared.record.LogRecord.TheVariants.{Before, End}
 use Rattle.vr_log.specs.Records.{record_bytes, bytes_of, unit_bytes, old_bytes, end_number}
 use Rattle.vr_log.specs.Records.{HasFields, IsUnit, IsBefore, IsCut, SpellsRecords}
 
-two-both : (a b : ℕ) (x y : List ℕ) → a < 2 ^ 16 → b < 2 ^ 16 → two a ++ x ≡ two b ++ y → (a ≡ b)
+pub two-both : (a b : ℕ) (x y : List ℕ) → a < 2 ^ 16 → b < 2 ^ 16 → two a ++ x ≡ two b ++ y → (a ≡ b)
     × (x ≡ y)
 two-both a b x y below under same = (
   sym (two_at-two a x below) ∙ ap (two_at 0) same ∙ two_at-two b y under,
   sym (drop-two a x) ∙ ap (λ (l : List ℕ). drop 2 l) same ∙ drop-two b y,
 )
 
-four-both : (a b : ℕ) (x y : List ℕ) → a < 2 ^ 32 → b < 2 ^ 32 → four a ++ x ≡ four b ++ y
+pub four-both : (a b : ℕ) (x y : List ℕ) → a < 2 ^ 32 → b < 2 ^ 32 → four a ++ x ≡ four b ++ y
     → (a ≡ b) × (x ≡ y)
 four-both a b x y below under same = (
   sym (four_at-four a x below) ∙ ap (four_at 0) same ∙ four_at-four b y under,
@@ -55,7 +55,7 @@ unit-both u v x y fits other same =
     )
 
 -- bytes of a known length, and others
-known-both : (p q x y : List ℕ) → length p ≡ length q → p ++ x ≡ q ++ y → (p ≡ q) × (x ≡ y)
+pub known-both : (p q x y : List ℕ) → length p ≡ length q → p ++ x ≡ q ++ y → (p ≡ q) × (x ≡ y)
 known-both p q x y long same = (
   sym (take_at p x (length p) refl) ∙ ap (λ (l : List ℕ). take (length p) l) same
       ∙ take_at q y (length p) (sym long),
@@ -69,7 +69,7 @@ end-kind BackedOut BackedOut same = refl
 end-kind Committed BackedOut same = absurd (omega (arith, same))
 end-kind BackedOut Committed same = absurd (omega (arith, same))
 
-end-number : (kind : EndKind) → 2 ≤ end_number kind
+pub end-number : (kind : EndKind) → 2 ≤ end_number kind
 end-number Committed = omega arith
 end-number BackedOut = omega arith
 
@@ -122,9 +122,14 @@ record_one (Before u n p o) (Before v m q r) x y fits under same =
     ∙ ap (λ (s : List ℕ). Before v m s o) place.0
     ∙ ap (λ (t : Option (List ℕ)). Before v m q t) old
 
-cut-none : (r : LogRecord) (more cut : List ℕ) → HasFields r → IsCut cut → cut ≡ record_bytes r
-    ++ more → ⊥
-cut-none r more cut fields is same =
+-- bytes that begin with no record
+abbrev pub BeginsNone : List ℕ → Type 0
+BeginsNone bytes = (r : LogRecord) (more : List ℕ) → HasFields r → bytes ≡ record_bytes r ++ more
+    → ⊥
+
+-- a record that isn't whole begins with none
+pub cut-none : (cut : List ℕ) → IsCut cut → BeginsNone cut
+cut-none cut is r more fields same =
     let begins : record_bytes r ++ (more ++ is.missing) ≡ record_bytes is.whole ++ [] =
     sym (append_assoc (record_bytes r) more is.missing)
     ∙ ap (λ (l : List ℕ). l ++ is.missing) (sym same) ∙ is.begins
@@ -143,17 +148,18 @@ cut-none r more cut fields is same =
           (λ (w : LogRecord). length (record_bytes w)) one,
     )
 
-records-one : (one other : List LogRecord) (cut rest : List ℕ) → All HasFields one
-    → All HasFields other → IsCut cut → IsCut rest → bytes_of one ++ cut ≡ bytes_of other ++ rest
-    → one ≡ other
-records-one [] [] cut rest fits under is has same = refl
-records-one [] (r ∷ other) cut rest fits under is has same =
-    absurd (cut-none r (bytes_of other ++ rest) cut (All-head HasFields r other under) is (same
+-- bytes are those of one list of records, up to bytes that begin with none
+pub ends_one : (one other : List LogRecord) (cut rest : List ℕ) → All HasFields one
+    → All HasFields other → BeginsNone cut → BeginsNone rest
+    → bytes_of one ++ cut ≡ bytes_of other ++ rest → (one ≡ other) × (cut ≡ rest)
+ends_one [] [] cut rest fits under is has same = (refl, same)
+ends_one [] (r ∷ other) cut rest fits under is has same =
+    absurd (is r (bytes_of other ++ rest) (All-head HasFields r other under) (same
     ∙ append_assoc (record_bytes r) (bytes_of other) rest))
-records-one (r ∷ one) [] cut rest fits under is has same =
-    absurd (cut-none r (bytes_of one ++ cut) rest (All-head HasFields r one fits) has (sym same
+ends_one (r ∷ one) [] cut rest fits under is has same =
+    absurd (has r (bytes_of one ++ cut) (All-head HasFields r one fits) (sym same
     ∙ append_assoc (record_bytes r) (bytes_of one) cut))
-records-one (r ∷ one) (s ∷ other) cut rest fits under is has same =
+ends_one (r ∷ one) (s ∷ other) cut rest fits under is has same =
     let whole : record_bytes r ++ (bytes_of one ++ cut) ≡ record_bytes s
     ++ (bytes_of other ++ rest) = sym (append_assoc (record_bytes r) (bytes_of one) cut) ∙ same
     ∙ append_assoc (record_bytes s) (bytes_of other) rest in
@@ -163,18 +169,21 @@ records-one (r ∷ one) (s ∷ other) cut rest fits under is has same =
     let further : bytes_of one ++ cut ≡ bytes_of other ++ rest =
     append_cancel_left (record_bytes r) (bytes_of one ++ cut) (bytes_of other ++ rest) (whole
     ∙ ap (λ (w : LogRecord). record_bytes w ++ (bytes_of other ++ rest)) (sym first)) in
-    ap (λ (w : LogRecord). w ∷ one) first
-    ∙ ap (λ (l : List LogRecord). s ∷ l)
-    (records-one one other cut rest (All-tail HasFields r one fits)
-    (All-tail HasFields s other under) is has further)
+    let others = ends_one one other cut rest (All-tail HasFields r one fits)
+    (All-tail HasFields s other under) is has further in (
+      ap (λ (w : LogRecord). w ∷ one) first ∙ ap (λ (l : List LogRecord). s ∷ l) others.0,
+      others.1,
+    )
 
 pub spelled_one : (bytes : List ℕ) (one other : List LogRecord) → SpellsRecords bytes one
     → SpellsRecords bytes other → one ≡ other
 spelled_one bytes one other first second =
-    records-one one other first.cut second.cut first.fields second.fields first.is_cut second.is_cut
-    (sym first.spelled ∙ second.spelled)
+    (ends_one one other first.cut second.cut first.fields second.fields
+    (cut-none first.cut first.is_cut) (cut-none second.cut second.is_cut)
+    (sym first.spelled ∙ second.spelled)).0
 
-zeros-generation : (block : List ℕ) → 8 ≤ length block → AreZeros block → eight_at 0 block ≡ 0
+-- zeros have generation 0
+pub zeros-generation : (block : List ℕ) → 8 ≤ length block → AreZeros block → eight_at 0 block ≡ 0
 unfolding eight
 zeros-generation block long zeros =
     let n = length block - 8 in

@@ -9,3 +9,6 @@ pub mod Standing
 pub mod LiveUnits
 pub mod Memory
 pub mod Writing
+pub mod Damage
+pub mod Decoding
+pub mod Reading

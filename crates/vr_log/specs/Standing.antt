@@ -6,7 +6,7 @@ use Rattle.vr_types.specs.Geometry.{IsAllowed}
 use Rattle.vr_types.specs.LogSpace.{log_size}
 use Rattle.vr_types.specs.Image.{Block, Image, block_at}
 use Rattle.vr_types.specs.Regions.{IsImageOn}
-use Rattle.vr_types.specs.Seen.{Seen}
+use Rattle.vr_types.specs.Seen.{Seen, Only}
 use Rattle.vr_types.specs.declared.geometry.Geometry.{Geometry}
 use Rattle.vr_log.specs.Content.{Content}
 use Rattle.vr_log.specs.LogBlock.{generation_in, used_in, payload_in, is_next, room_of}
@@ -52,10 +52,10 @@ pub record IsLeft (log : LogNow) (bytes : List ℕ) (index : ℕ) (block : Block
   pub reaches : index * room_of log.geometry < forced_length log
       → Reaches (room_of log.geometry) log.generation (forced_length log) index block
 
--- such a block that goes on with this log
+-- such a block that goes on with this log, which has some bytes
 abbrev pub IsOurs : LogNow → List ℕ → ℕ → Block → Type 0
 IsOurs log bytes index block = (is_next log.generation index block ≡ true)
-    × IsLeft log bytes index block
+    × IsLeft log bytes index block × (0 < length bytes)
 
 -- the block to which the next bytes of the log go
 abbrev pub open_index : LogNow → ℕ
@@ -80,6 +80,18 @@ pub record Leaves (log : LogNow) (bytes : List ℕ) (count : ℕ) (may : ℕ →
       → IsImageOn (InLog log.geometry) count may image
       → Spells log.geometry image older
       ⊎ IsOurs log bytes (open_index log) (block_at image (1 + open_index log))
+
+-- a crash leaves each block of the log as it is read
+abbrev pub IsSettled : Geometry → Seen → Type 0
+IsSettled geometry seen = (n : ℕ) → InLog geometry n
+    → Only seen n (λ block. block ≡ block_at seen.cur n)
+
+-- No block after the last one goes on with the log, and none has a later generation.
+pub record EndsThere (log : LogNow) (image : Image) : Type 0 where
+  pub none_on : (index : ℕ) → index < log.geometry.log → open_index log < index
+      → is_next log.generation index (block_at image (1 + index)) ≡ true → ⊥
+  pub none_later : (index : ℕ) → index < log.geometry.log
+      → generation_in (block_at image (1 + index)) ≤ log.generation
 
 -- The log stands on the blocks.
 pub record LogStands (log : LogNow) (seen : Seen) : Type 0 where

@@ -63,6 +63,7 @@ pub record IsWriting (log : LogNow) (total written : List ℕ) (tail : Tail) (to
   pub opened : tail.begun ≡ false → tail.index ≡ open_index log
   pub behind : tail.begun ≡ false → (older : Content) × (log.behind ≡ Some older)
   pub stable : forced_length log ≤ length written
+  pub some : 0 < length total
   pub most : length total ≤ log.geometry.log * room_of log.geometry
   pub begun : IsTrue told → (older : Content) → log.behind ≡ Some older
       → open_index log * room_of log.geometry ≤ forced_length log

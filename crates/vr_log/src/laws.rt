@@ -3,23 +3,27 @@
 ghost use Rattle.std.specs.Prelude.{◌≡◌, ◌<◌, ◌≤◌, ◌+◌, ◌^◌, [], length, ℕ, List, IsTrue, false};
 ghost use Rattle.std.specs.Prelude.{OnOk};
 ghost use Rattle.vr_types.specs.Faults.{HasWriteCause};
+ghost use Rattle.vr_types.specs.Fields.{AreZeros};
+ghost use Rattle.vr_types.specs.Geometry.{IsAllowed};
 ghost use Rattle.vr_types.specs.Image.{Image, block_at};
 ghost use Rattle.vr_types.specs.Moments.{Guards};
 ghost use Rattle.vr_types.specs.Regions.{Outside};
 ghost use Rattle.vr_types.specs.Seen.{Left, Only};
+ghost use Rattle.vr_log.specs.Damage.{IsDamagedAt};
 ghost use Rattle.vr_log.specs.Live.{live_in, EndsLive};
-ghost use Rattle.vr_log.specs.LogNow.{HasLog, IsForced, IsLogged, IsOf, restarted};
+ghost use Rattle.vr_log.specs.LogNow.{HasLog, IsForced, IsLogged, IsOf, made, restarted};
 ghost use Rattle.vr_log.specs.Records.{HasLengths, SpellsRecords};
 ghost use Rattle.vr_log.specs.declared.record.LogRecord.{LogRecord as RecordOf};
 ghost use Rattle.vr_log.specs.Content.{Content};
 ghost use Rattle.vr_log.specs.Spells.{Spells};
 ghost use Rattle.vr_types.specs.declared.geometry.Geometry.{Geometry as GeometryOf};
-ghost use Rattle.vr_log.specs.Standing.{InLog, LogStands};
+ghost use Rattle.vr_log.specs.Standing.{EndsThere, InLog, IsSettled, LogStands};
 
+use crate::content::LogContent;
 use crate::log::UndoLog;
 use crate::no::LogNo;
 use crate::record::LogRecord;
-use vr_types::{Blocks, DeviceFault};
+use vr_types::{Blocks, DeviceFault, Geometry};
 
 /// Bytes spell one list of records at most.
 pub fn one_list_of_records()
@@ -34,6 +38,19 @@ pub fn one_log_at_most()
         → one ≡ other }
 {}
 
+/// Blocks that spell a log are not damaged.
+pub fn damaged_blocks_spell_no_log()
+    ensures { (geometry : GeometryOf) (image : Image) (content : Content) (n : ℕ)
+        → 8 ≤ length (block_at image 1) → Spells geometry image content
+        → IsDamagedAt geometry image n → ⊥ }
+{}
+
+/// One block at most is the first that is misspelled.
+pub fn one_damaged_block()
+    ensures { (geometry : GeometryOf) (image : Image) (one other : ℕ)
+        → IsDamagedAt geometry image one → IsDamagedAt geometry image other → one ≡ other }
+{}
+
 /// Each image that a crash may leave of a log that stands on its blocks has the records that were
 /// forced and a prefix of
 /// all, or the log before while no block of this one was forced.
@@ -42,14 +59,33 @@ pub fn each_image_has_the_log<B: Blocks>(log: &UndoLog, blocks: &B)
         → (image : Image) → Left (B.seen blocks.now) image → HasLog log.now image }
 {}
 
-/// A log with records that stands on its blocks, all of them forced and no unit live, stands after
-/// `restart` too: what each
-/// image then has is the log before. The generation is below its greatest value, at which it stands
-/// still.
+/// A log that stands on its blocks, with all records forced and no unit live, stands after
+/// `restart` too: what each image then has is the log before. The generation is below its greatest
+/// value, at which it stands still.
 pub fn restarted_log_stands<B: Blocks>(log: &UndoLog, blocks: &B)
     ensures { IsTrue B.tells → LogStands log.now (B.seen blocks.now) → IsForced log.now
-        → live_in log.now.records ≡ [] → 0 < length log.now.records
-        → log.now.generation + 1 < 2 ^ 64 → LogStands (restarted log.now) (B.seen blocks.now) }
+        → live_in log.now.records ≡ [] → log.now.generation + 1 < 2 ^ 64
+        → LogStands (restarted log.now) (B.seen blocks.now) }
+{}
+
+/// A log that is made of what its blocks spell, as `read_back` gives it, stands on them, where a
+/// crash leaves them as they are read, no block after the last one goes on with the log, and none
+/// has a later generation.
+pub fn made_log_stands<B: Blocks>(geometry: &Geometry, content: &LogContent, blocks: &B)
+    ensures { IsTrue B.tells → IsAllowed geometry.now → IsOf geometry.now (B.seen blocks.now)
+        → IsSettled geometry.now (B.seen blocks.now)
+        → Spells geometry.now (B.seen blocks.now).cur content.now
+        → EndsThere (made geometry.now content.now) (B.seen blocks.now).cur
+        → LogStands (made geometry.now content.now) (B.seen blocks.now) }
+{}
+
+/// A log without records stands on blocks of zeros, where a crash leaves them.
+pub fn fresh_log_stands<B: Blocks>(geometry: &Geometry, blocks: &B)
+    ensures { IsTrue B.tells → IsAllowed geometry.now → IsOf geometry.now (B.seen blocks.now)
+        → IsSettled geometry.now (B.seen blocks.now)
+        → ((n : ℕ) → InLog geometry.now n → AreZeros (block_at (B.seen blocks.now).cur n))
+        → LogStands (made geometry.now (record { generation = 0; records = [] }))
+        (B.seen blocks.now) }
 {}
 
 /// A log stays standing while a block outside it is put, whether that fails or not.

@@ -10,21 +10,31 @@
 #![tactic(auto)]
 
 mod content;
+mod decoding;
+mod gathering;
 mod kept;
 mod laws;
 mod live;
 mod log;
 mod making;
 mod no;
+mod read_no;
+mod reading;
 mod record;
+mod records;
+mod room;
 mod tail;
 mod writing;
 
 pub use content::LogContent;
 pub use laws::{
-    each_image_has_the_log, log_stands_while_others_put, one_list_of_records, one_log_at_most,
-    restarted_log_stands, write_ahead,
+    damaged_blocks_spell_no_log, each_image_has_the_log, fresh_log_stands,
+    log_stands_while_others_put, made_log_stands, one_damaged_block, one_list_of_records,
+    one_log_at_most, restarted_log_stands, write_ahead,
 };
 pub use log::{UndoLog, undo_log};
 pub use no::LogNo;
+pub use read_no::LogReadNo;
+pub use reading::read_back;
 pub use record::{Before, EndKind, LogPlace, LogRecord};
+pub use room::has_room;

@@ -190,6 +190,22 @@ impl UndoLog {
         self.forced_records = Snapshot::of(&self.records);
     }
 
+    /// Whether the unit is live: it has a before-image and no end record after it.
+    pub fn is_live(&self, unit: Unit) -> bool
+        requires { self.now.broken ≡ false }
+        ensures { result ≡ is_in unit (live_in self.now.records) }
+    {
+        self.live.has(unit)
+    }
+
+    /// How many units are live.
+    pub fn live(&self) -> usize
+        requires { self.now.broken ≡ false }
+        ensures { result ≡ length (live_in self.now.records) }
+    {
+        self.live.len()
+    }
+
     /// Adds a record that has room.
     fn enter<B: Blocks>(&mut self, blocks: &mut B, rec: &LogRecord) -> Result<(), DeviceFault>
         requires sound { self.old.broken ≡ false }

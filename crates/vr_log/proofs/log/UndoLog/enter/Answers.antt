@@ -15,7 +15,7 @@ use Rattle.vr_log.specs.LogNow.{LogNow, IsOf, HasLog, with_record, IsAppended}
 use Rattle.vr_log.specs.Memory.{behind_in, IsKept}
 use Rattle.vr_log.specs.Records.{record_bytes, bytes_of, HasFields}
 use Rattle.vr_log.specs.Standing.{InLog, LogStands}
-use Rattle.vr_log.proofs.Entering.{start_writing, stands_grown, bytes-push}
+use Rattle.vr_log.proofs.Entering.{start_writing, stands_grown, bytes-push, total-some}
 use Rattle.vr_log.proofs.Growing.{live_below, record_fits, fits_grown, live_grown, moments_grown}
 use Rattle.vr_log.proofs.Growing.{turned_of, seen_grown, behind_now, behind_kept}
 use Rattle.vr_log.proofs.log.UndoLog.enter.Goals as goal
@@ -99,7 +99,7 @@ returns-in_err-put_record-clause-moments g c told =
       behind =
           refl;
     }) c.self.invariant.0 shape kept.young kept.last kept.turned
-    (record_bytes rec, sym (bytes-push log.records rec)) most stands in
+    (record_bytes rec, sym (bytes-push log.records rec)) (total-some log.records rec) most stands in
     subst (λ (v : LogNow). Touches (InLog v.geometry) (HasLog (with_record v rec)) a
     (B.seen c.put_record.new.blocks)) is
     (moments_grown log rec total a (B.seen c.put_record.new.blocks) (stands told)
@@ -178,7 +178,7 @@ invariant_of-self-2 g c =
       behind =
           refl;
     }) c.self.invariant.0 shape kept.young kept.last kept.turned
-    (record_bytes rec, sym (bytes-push log.records rec)) most stands in
+    (record_bytes rec, sym (bytes-push log.records rec)) (total-some log.records rec) most stands in
     let ends = c.in_ok-put_record.ensures.ending log total (bytes_of log.records) w
     (sym (bytes-push log.records rec)) in
     let now = ends.writing in
@@ -264,7 +264,7 @@ returns-clause-log g c =
       behind =
           refl;
     }) c.self.invariant.0 shape kept.young kept.last kept.turned
-    (record_bytes rec, sym (bytes-push log.records rec)) most stands in
+    (record_bytes rec, sym (bytes-push log.records rec)) (total-some log.records rec) most stands in
     let ends = c.in_ok-put_record.ensures.ending log total (bytes_of log.records) w
     (sym (bytes-push log.records rec)) in
     let now = ends.writing in
@@ -342,7 +342,7 @@ returns-clause-stands g c told =
       behind =
           refl;
     }) c.self.invariant.0 shape kept.young kept.last kept.turned
-    (record_bytes rec, sym (bytes-push log.records rec)) most stands in
+    (record_bytes rec, sym (bytes-push log.records rec)) (total-some log.records rec) most stands in
     let ends = c.in_ok-put_record.ensures.ending log total (bytes_of log.records) w
     (sym (bytes-push log.records rec)) in
     let now = ends.writing in
@@ -409,7 +409,7 @@ returns-clause-moments g c told =
       behind =
           refl;
     }) c.self.invariant.0 shape kept.young kept.last kept.turned
-    (record_bytes rec, sym (bytes-push log.records rec)) most stands in
+    (record_bytes rec, sym (bytes-push log.records rec)) (total-some log.records rec) most stands in
     subst (λ (v : LogNow). Touches (InLog v.geometry) (HasLog (with_record v rec)) a
     (B.seen c.put_record.new.blocks)) is
     (moments_grown log rec total a (B.seen c.put_record.new.blocks) (stands told)
@@ -462,7 +462,7 @@ returns-clause-shape g c =
       behind =
           refl;
     }) c.self.invariant.0 shape kept.young kept.last kept.turned
-    (record_bytes rec, sym (bytes-push log.records rec)) most stands in
+    (record_bytes rec, sym (bytes-push log.records rec)) (total-some log.records rec) most stands in
     let ends = c.in_ok-put_record.ensures.ending log total (bytes_of log.records) w
     (sym (bytes-push log.records rec)) in
     let now = ends.writing in

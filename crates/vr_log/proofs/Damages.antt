@@ -1,0 +1,136 @@
+-- Blocks that are damaged spell no log, and one of them at most is the first.
+use Rattle.std.proofs.Common.{◌≡◌, ◌⊎◌, inl, inr, ⊎_elim, ℕ, zero, suc, ◌+◌, ◌/◌, ◌<◌, ◌≤◌, List}
+use Rattle.std.proofs.Common.{◌++◌, length, All, sym, ap, subst, ◌∙◌, arith}
+use Rattle.std.proofs.lemmas.Bool.{cases_lt}
+use Rattle.vr_types.specs.Image.{Image, block_at}
+use Rattle.vr_types.specs.declared.geometry.Geometry.{Geometry}
+use Rattle.vr_log.specs.declared.record.LogRecord.{LogRecord}
+use Rattle.vr_log.specs.Content.{Content}
+use Rattle.vr_log.specs.Damage.{IsMisspelled, IsFirst, IsBadFirst, IsOver, IsBadBlock}
+use Rattle.vr_log.specs.Damage.{IsBadRecord, IsBadLog, IsDamagedAt}
+use Rattle.vr_log.specs.LogBlock.{room_of}
+use Rattle.vr_log.specs.Records.{HasFields, bytes_of, IsCut, SpellsRecords}
+use Rattle.vr_log.specs.Spells.{Spells, SpellsLog, Fits, log_bytes}
+use Rattle.vr_log.proofs.Unique.{ends_one, cut-none, zeros-generation}
+
+-- bytes that are spelled are nowhere misspelled
+spelled-well : (bytes : List ℕ) (records before : List LogRecord) (rest : List ℕ)
+    → SpellsRecords bytes records → All HasFields before → bytes ≡ bytes_of before ++ rest
+    → IsMisspelled rest → ⊥
+spelled-well bytes records before rest spelled fields is bad =
+    let one = ends_one records before spelled.cut rest spelled.fields fields
+    (cut-none spelled.cut spelled.is_cut) bad.no_record (sym spelled.spelled ∙ is) in
+    bad.no_cut (subst IsCut one.1 spelled.is_cut)
+
+-- where each block that goes on has room for what it uses, none is over
+fits-over : (geometry : Geometry) (generation : ℕ) (image : Image) (index : ℕ)
+    → IsOver geometry generation image index → (from left : ℕ) → from ≤ index → index < from + left
+    → Fits (room_of geometry) generation from left image → ⊥
+fits-over geometry generation image index over from zero low high fits =
+    omega (arith, low, high)
+fits-over geometry generation image index over from (suc left) low high fits =
+    ⊎_elim
+    (λ (less : from < index). let full = over.full from less in
+    fits-over geometry generation image index over (from + 1) left (omega (arith, less))
+    (omega (arith, high)) ((fits full.next).1 full.used))
+    (λ (most : index ≤ from). let same : index ≡ from = omega (arith, low, most) in
+    let here : IsOver geometry generation image from =
+    subst (λ (n : ℕ). IsOver geometry generation image n) same over in
+    omega (arith, (fits here.next).0, here.over))
+    (cases_lt from index)
+
+-- one block is over at most
+one-over : (geometry : Geometry) (generation : ℕ) (image : Image) (one other : ℕ)
+    → IsOver geometry generation image one → IsOver geometry generation image other → one < other
+    → ⊥
+one-over geometry generation image one other first second less =
+    omega (arith, (second.full one less).used, first.over)
+
+-- a block 1 that begins a generation is neither zeros nor bad
+first-bad : (image : Image) (generation : ℕ) → IsFirst (block_at image 1) generation
+    → IsBadFirst (block_at image 1) → ⊥
+first-bad image generation first bad =
+    ⊎_elim (λ none. omega (arith, none, first.generation, first.some))
+    (λ other. other first.first) bad.bad
+
+module _ (geometry : Geometry) (image : Image) where
+  same-first : (one other : ℕ) → IsFirst (block_at image 1) one → IsFirst (block_at image 1) other
+      → other ≡ one
+  same-first one other first second = sym second.generation ∙ first.generation
+
+  log-damaged : (content : Content) (n : ℕ) → SpellsLog geometry image content
+      → IsBadLog geometry image n → ⊥
+  log-damaged content n spells bad =
+      let same : bad.generation ≡ content.generation = sym bad.first.generation
+      ∙ spells.generation in
+      ⊎_elim
+      (λ (block : IsBadBlock geometry bad.generation image n).
+      fits-over geometry content.generation image block.index
+      (subst (λ (g : ℕ). IsOver geometry g image block.index) same block.over) 0 geometry.log
+      (omega arith) (omega (arith, block.over.within)) spells.fits)
+      (λ (wrong : IsBadRecord geometry bad.generation image n).
+      spelled-well (log_bytes geometry content.generation image) content.records wrong.records
+      wrong.rest spells.records wrong.fields
+      (ap (λ (g : ℕ). log_bytes geometry g image) (sym same) ∙ wrong.bytes) wrong.misspelled)
+      bad.bad
+
+  -- damaged blocks spell no log
+  pub damaged_none : (content : Content) (n : ℕ) → 8 ≤ length (block_at image 1)
+      → Spells geometry image content → IsDamagedAt geometry image n → ⊥
+  damaged_none content n long (inl none) (inl first) = first.1.some none.zeros
+  damaged_none content n long (inl none) (inr bad) =
+      omega (
+        arith,
+        zeros-generation (block_at image 1) long none.zeros,
+        bad.first.generation,
+        bad.first.some,
+      )
+  damaged_none content n long (inr spells) (inl first) =
+      first-bad image content.generation
+      (record { generation = spells.generation; some = spells.some; first = spells.first })
+      first.1
+  damaged_none content n long (inr spells) (inr bad) = log-damaged content n spells bad
+
+  one-block : (generation one other : ℕ) → IsBadBlock geometry generation image one
+      ⊎ IsBadRecord geometry generation image one → IsBadBlock geometry generation image other
+      ⊎ IsBadRecord geometry generation image other → one ≡ other
+  one-block generation one other (inl first) (inl second) =
+      let less : first.index < second.index → ⊥ =
+      one-over geometry generation image first.index second.index first.over second.over in
+      let more : second.index < first.index → ⊥ =
+      one-over geometry generation image second.index first.index second.over first.over in
+      let same : first.index ≡ second.index =
+      ⊎_elim (λ (below : first.index < second.index). absurd (less below))
+      (λ (above : second.index ≤ first.index).
+      ⊎_elim (λ (under : second.index < first.index). absurd (more under))
+      (λ (at : first.index ≤ second.index). omega (arith, above, at))
+      (cases_lt second.index first.index)) (cases_lt first.index second.index) in
+      first.block ∙ ap (λ (n : ℕ). 1 + n) same ∙ sym second.block
+  one-block generation one other (inl first) (inr second) =
+      absurd (spelled-well (log_bytes geometry generation image) first.records second.records
+      second.rest first.before second.fields second.bytes second.misspelled)
+  one-block generation one other (inr first) (inl second) =
+      absurd (spelled-well (log_bytes geometry generation image) second.records first.records
+      first.rest second.before first.fields first.bytes first.misspelled)
+  one-block generation one other (inr first) (inr second) =
+      let same : first.records ≡ second.records =
+      (ends_one first.records second.records first.rest second.rest first.fields second.fields
+      first.misspelled.no_record second.misspelled.no_record
+      (sym first.bytes ∙ second.bytes)).0 in
+      first.block
+      ∙ ap (λ (rs : List LogRecord). 1 + length (bytes_of rs) / room_of geometry) same
+      ∙ sym second.block
+
+  -- one block at most is the first that is misspelled
+  pub damaged_one : (one other : ℕ) → IsDamagedAt geometry image one
+      → IsDamagedAt geometry image other → one ≡ other
+  damaged_one one other (inl first) (inl second) = first.0 ∙ sym second.0
+  damaged_one one other (inl first) (inr second) =
+      absurd (first-bad image second.generation second.first first.1)
+  damaged_one one other (inr first) (inl second) =
+      absurd (first-bad image first.generation first.first second.1)
+  damaged_one one other (inr first) (inr second) =
+      let same = same-first first.generation second.generation first.first second.first in
+      one-block first.generation one other first.bad
+      (subst (λ (g : ℕ). IsBadBlock geometry g image other
+      ⊎ IsBadRecord geometry g image other) same second.bad)

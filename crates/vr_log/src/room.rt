@@ -1,0 +1,52 @@
+//! Whether a log has room for records that were read back.
+ghost use Rattle.std.specs.Prelude.{◌≡◌, ◌<◌, ◌≤◌, ◌*◌, ◌↔◌, [], length, All, IsTrue, IfOk};
+ghost use Rattle.vr_types.specs.Geometry.{IsAllowed};
+ghost use Rattle.vr_types.specs.LogSpace.{log_size};
+ghost use Rattle.vr_log.specs.Live.{live_in, used_by};
+ghost use Rattle.vr_log.specs.Records.{HasFields, bytes_of};
+
+use crate::content::LogContent;
+use crate::live::Live;
+use crate::making::new_live;
+use crate::record::LogRecord;
+use crate::writing::{note_unit, record_length};
+use std::alloc::Global;
+use vr_types::{Geometry, OutOfMemory};
+
+/// Whether the log has room for these records and the ends of their live units, which `undo_log`
+/// wants. A log that was written by `append` and `end_record` alone has it. Fails only if memory
+/// runs out for the live units.
+pub fn has_room(
+    alloc: Global,
+    geometry: &Geometry,
+    content: &LogContent,
+) -> Result<bool, OutOfMemory>
+    requires allowed { IsAllowed geometry.now }
+    requires fields { All HasFields content.now.records }
+    requires size { length (bytes_of content.now.records) ≤ log_size geometry.now }
+    ensures { IfOk result (λ room. IsTrue room
+        ↔ (used_by content.now.records ≤ log_size geometry.now)) }
+{
+    let mut live = new_live(alloc, *geometry)?;
+    let bytes = count_bytes(&mut live, content.records());
+    let size = geometry.log as u64 * (geometry.size as u64 - 16);
+    Ok(bytes + 9 * live.len() as u64 <= size)
+}
+
+/// The bytes of records, whose live units it notes.
+fn count_bytes(live: &mut Live, records: &[LogRecord]) -> u64
+    requires units { live.old.units ≡ [] }
+    requires room { length (bytes_of records.now) < 20 * live.old.room }
+    requires small { length (bytes_of records.now) < 4294967296 }
+    requires fields { All HasFields records.now }
+    ensures bytes { result ≡ length (bytes_of records.now) }
+    ensures units { live.new.units ≡ live_in records.now }
+    ensures few { 20 * length live.new.units ≤ length (bytes_of records.now) }
+{
+    let mut bytes = 0;
+    for rec in records {
+        bytes += record_length(rec);
+        note_unit(live, rec);
+    }
+    bytes
+}
