@@ -5,3 +5,4 @@ pub mod PutBack
 pub mod Volume
 pub mod Safe
 pub mod Laying
+pub mod Logged
