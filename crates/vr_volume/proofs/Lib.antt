@@ -4,5 +4,6 @@ pub mod Recovering
 pub mod Apart
 pub mod Calls
 pub mod Images
-pub mod Logging
+pub mod Befores
+pub mod LogCalls
 pub mod Unique

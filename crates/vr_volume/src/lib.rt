@@ -7,6 +7,8 @@
 
 mod changing;
 mod laws;
+mod logging;
 
 pub use changing::{do_stage, force_blocks, set_free};
 pub use laws::{each_image_is_safe, image_recovers, one_recovery, one_volume};
+pub use logging::{append_before, force_log};
