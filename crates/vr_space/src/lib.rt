@@ -18,7 +18,7 @@ mod whence;
 
 pub use composed::{Turn, set_after_stages, take_turn};
 pub use kept::{Kept, NoneKept};
-pub use laws::{content_is_read, one_content};
+pub use laws::{content_is_read, kept_takes_no_room, one_content};
 pub use layout::Layout;
 pub use pair::{NewRecord, set_pair};
 pub use part::Part;

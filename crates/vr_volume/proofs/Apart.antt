@@ -1,6 +1,6 @@
 -- Where the parts of a volume are: past the header and the log, and within the volume.
-use Rattle.std.proofs.Common.{◌≡◌, ◌≤◌, ◌+◌, ◌*◌, ℕ, Bool, true, false, List, Option, Some, None, cond}
-use Rattle.std.proofs.Common.{refl, subst, sym, arith, ◌==◌}
+use Rattle.std.proofs.Common.{◌≡◌, ◌≤◌, ◌+◌, ℕ, Bool, true, false, List, Option, Some, None, cond}
+use Rattle.std.proofs.Common.{subst, arith, ◌==◌}
 use Rattle.std.specs.Prelude.{IfSome}
 use Rattle.std.specs.Option.{option_and_then}
 use Rattle.vr_types.specs.Content.{Content}
@@ -11,8 +11,8 @@ use Rattle.vr_types.specs.declared.unit.Kind.TheVariants.{Keyed, Entry, Relative
 use Rattle.vr_catalog.specs.Catalog.{entries_in, entry_with_part, cluster_definition}
 use Rattle.vr_catalog.specs.declared.definition.Definition.{Definition}
 use Rattle.vr_catalog.specs.declared.entry.CatEntry.{CatEntry}
-use Rattle.vr_space.specs.Part.{Shape, KeyedShape, InPart}
-use Rattle.vr_volume.specs.Laid.{catalog_shape, shape_by, shape_by_kind, shape_from, shape_in}
+use Rattle.vr_space.specs.Part.{Shape, InPart}
+use Rattle.vr_volume.specs.Laid.{catalog_shape, shape_by, shape_by_kind, shape_from}
 use Rattle.vr_volume.specs.Laid.{shape_of}
 
 -- the part is past the log

@@ -1,44 +1,36 @@
 -- What a log with one before-image more leaves of a safe volume.
-use Rattle.std.proofs.Common.{◌≡◌, ◌≢◌, ◌⊎◌, inl, inr, ⊎_elim, ◌≤◌, ◌<◌, ◌+◌, ℕ, Bool, IsTrue, true}
+use Rattle.std.proofs.Common.{◌≡◌, ◌⊎◌, inl, inr, ⊎_elim, ◌≤◌, ◌<◌, ℕ, Bool, true}
 use Rattle.std.proofs.Common.{false, cond, List, [], ◌∷◌, ◌++◌, Option, Some, None, refl, sym, ap}
-use Rattle.std.proofs.Common.{subst, ◌∙◌, arith, length, take, bytes_eq, ◌==◌, ◌&&◌}
+use Rattle.std.proofs.Common.{subst, ◌∙◌, arith, length, bytes_eq, ◌==◌, ◌&&◌}
 use Rattle.std.specs.Prelude.{IfSome}
 use Rattle.std.specs.Option.{option_and_then, option_map, option_or}
 use Rattle.std.proofs.lemmas.Bool.{cases_lt, true≢false}
 use Rattle.std.proofs.lemmas.List.{length-append, take-append-le, take_all}
 use Rattle.std.proofs.lemmas.Slice.Eq.{bytes_eq-Decides}
 use Rattle.std.proofs.lemmas.Bool.Decides.{Decides-eqb}
-use Rattle.vr_types.specs.Content.{Content, Item, Standing, item_at, record_of}
-use Rattle.vr_types.specs.Image.{Image, block_at}
-use Rattle.vr_types.specs.Moments.{Guards}
-use Rattle.vr_types.specs.Regions.{IsImageOn, Outside, Touches}
-use Rattle.vr_types.specs.Seen.{Left, Seen}
+use Rattle.vr_types.specs.Content.{Content, Standing, item_at, record_of}
+use Rattle.vr_types.specs.Seen.{Seen}
 use Rattle.vr_types.specs.declared.geometry.Geometry.{Geometry}
 use Rattle.vr_types.specs.declared.unit.PartNo.{PartNo}
 use Rattle.vr_types.specs.declared.unit.Unit.{Unit as UnitOfRecovery}
-use Rattle.vr_space.specs.Part.{HasKeptRoom, InPart, IsPlaceOf, KeyedShape, MayHold, Shape}
+use Rattle.vr_space.specs.Part.{HasKeptRoom, IsPlaceOf, KeyedShape, Shape}
 use Rattle.vr_space.specs.Room.{Lengths, with_length}
 use Rattle.vr_space.proofs.CallerLemmas.{keep-room}
 use Rattle.vr_history.specs.State.{BeforeImage}
 use Rattle.vr_history.proofs.CallerLemmas.{unit_self}
 use Rattle.vr_log.specs.Content.{Content as LogContent}
-use Rattle.vr_log.specs.LogNow.{HasLog, IsLogOf, IsPrefixOf, LogNow, first_of, with_record}
-use Rattle.vr_log.specs.Spells.{Spells}
-use Rattle.vr_log.specs.Standing.{InLog}
+use Rattle.vr_log.specs.LogNow.{IsLogOf, IsPrefixOf, LogNow, first_of, with_record}
 use Rattle.vr_log.specs.declared.record.LogRecord.{LogRecord}
 use Rattle.vr_log.specs.declared.record.LogRecord.TheVariants.{Before}
 use Rattle.vr_volume.specs.Laid.{shape_by}
 use Rattle.vr_volume.specs.Logged.{IsFirstBefore}
-use Rattle.vr_volume.specs.PutBack.{images_of, is_image_of, length_in, length_of, lengths_kept}
+use Rattle.vr_volume.specs.PutBack.{images_of, is_image_of, length_of, lengths_kept}
 use Rattle.vr_volume.specs.PutBack.{oldest}
 use Rattle.vr_log.proofs.Growing.{has_more}
-use Rattle.vr_volume.specs.Safe.{AreCommitted, IsImageSafe, IsItemOf, IsPartSafe, IsSafe, IsSafeBy}
-use Rattle.vr_volume.specs.Safe.{IsSafeImage, item_held}
-use Rattle.vr_volume.proofs.Apart.{part-past}
-use Rattle.vr_volume.proofs.Calls.{safe-less}
+use Rattle.vr_volume.specs.Safe.{IsPartSafe, IsSafe, IsSafeBy}
+use Rattle.vr_volume.specs.Safe.{item_held}
 use Rattle.vr_volume.proofs.Images.{image_of, images-append, kept_more, kept-append}
 use Rattle.vr_volume.proofs.Images.{oldest-append}
-use Rattle.vr_volume.proofs.Recovering.{each_image_is_safe, part-in}
 
 -- ---- which logs there may be with one record more
 

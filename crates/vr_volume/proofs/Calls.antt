@@ -1,18 +1,18 @@
 -- What calls leave of a safe volume: those that put nothing, and those of a part.
-use Rattle.std.proofs.Common.{◌≡◌, ◌≢◌, ◌⊎◌, inl, inr, ⊎_elim, ◌≤◌, ◌<◌, ◌+◌, ℕ, Bool, IsTrue, List}
-use Rattle.std.proofs.Common.{[], Option, Some, None, refl, sym, ap, subst, ◌∙◌, arith}
+use Rattle.std.proofs.Common.{◌≡◌, ◌≢◌, ◌⊎◌, inl, inr, ⊎_elim, ◌<◌, ℕ, Bool, IsTrue, List}
+use Rattle.std.proofs.Common.{Option, Some, None, sym, subst, ◌∙◌, arith}
 use Rattle.std.proofs.lemmas.Bool.{cases_lt}
 use Rattle.vr_types.specs.Blocks.{Keeps}
 use Rattle.vr_types.specs.Content.{Content}
 use Rattle.vr_types.specs.Image.{Block, Image, block_at}
-use Rattle.vr_types.specs.Moments.{During, Guards}
+use Rattle.vr_types.specs.Moments.{Guards}
 use Rattle.vr_types.specs.Regions.{IsImageOn, Outside, Touches}
 use Rattle.vr_types.specs.Seen.{Left, Seen}
 use Rattle.vr_types.specs.declared.geometry.Geometry.{Geometry}
 use Rattle.vr_types.proofs.CallerLemmas.{during-weaken}
 use Rattle.vr_space.specs.Keyed.{entries_of, keyed_way}
 use Rattle.vr_space.specs.Part.{AddsTo, HasKeptRoom, HasOnly, HasRoom, InPart, IsSound, KeyedShape}
-use Rattle.vr_space.specs.Part.{Just, MayAlsoHold, MayHold, Nothing, Shape}
+use Rattle.vr_space.specs.Part.{Just, MayAlsoHold, Nothing, Shape}
 use Rattle.vr_space.specs.Room.{Lengths}
 use Rattle.vr_space.proofs.CallerLemmas.{each-less, find-more, head-in, IsBlock, keyed-less}
 use Rattle.vr_space.proofs.CallerLemmas.{keyed-within, only-weaken, within-less}
@@ -24,8 +24,8 @@ use Rattle.vr_log.specs.Standing.{InLog}
 use Rattle.vr_log.specs.declared.record.LogRecord.{LogRecord}
 use Rattle.vr_volume.specs.Laid.{shape_by}
 use Rattle.vr_volume.specs.Laying.{IsFreeIn, IsLaidSo}
-use Rattle.vr_volume.specs.PutBack.{images_of, lengths_kept, oldest}
-use Rattle.vr_volume.specs.Safe.{IsImageSafe, IsItemOf, IsPartIn, IsPartSafe, IsSafe, IsSafeBy}
+use Rattle.vr_volume.specs.PutBack.{images_of, oldest}
+use Rattle.vr_volume.specs.Safe.{IsItemOf, IsPartIn, IsPartSafe, IsSafe}
 use Rattle.vr_volume.specs.Safe.{IsSafeImage}
 use Rattle.vr_volume.proofs.Apart.{part-past}
 use Rattle.vr_volume.proofs.Recovering.{each_image_is_safe, part-in}
@@ -116,7 +116,6 @@ module _ (geometry : Geometry) (number : ℕ) (log : LogNow)
     (laid : IsLaidSo geometry log committed part shape kept)
     (added : AddsSafe geometry log committed part shape A) (adds : AddsTo shape A a b)
     (rooms : Touches (InPart shape) (HasRoom shape kept) a b) where
-
   equal-or : (one other : ℕ) → (one ≡ other) ⊎ (one ≢ other)
   equal-or one other = ⊎_elim
       (λ less. inr (λ same. omega (arith, less, same)))
@@ -130,14 +129,21 @@ module _ (geometry : Geometry) (number : ℕ) (log : LogNow)
   -- the header and the log are outside the part
   out-header : (content : LogContent) → IsLogOf log content → Outside (InPart shape) 0
   out-header content is inside =
-      omega (arith, part-past geometry (committed content.records 0) part shape
-      (laid content is).0 0 inside)
+      omega (
+        arith,
+        part-past geometry (committed content.records 0) part shape
+            (laid content is).0 0 inside,
+      )
 
   out-log : (content : LogContent) → IsLogOf log content → (n : ℕ) → InLog geometry n
       → Outside (InPart shape) n
   out-log content is n inside there =
-      omega (arith, inside.1, part-past geometry (committed content.records 0) part shape
-      (laid content is).0 n there)
+      omega (
+        arith,
+        inside.1,
+        part-past geometry (committed content.records 0) part shape
+            (laid content is).0 n there,
+      )
 
   -- what a call leaves of the part in an image
   part-image : (content : LogContent) (is : IsLogOf log content) (image : Image)

@@ -1,18 +1,18 @@
 -- What calls of the log leave of a safe volume.
-use Rattle.std.proofs.Common.{◌≡◌, ◌≢◌, ◌⊎◌, inl, inr, ⊎_elim, ◌≤◌, ◌<◌, ◌+◌, ℕ, Bool, IsTrue, true}
+use Rattle.std.proofs.Common.{◌≡◌, ◌≢◌, ◌⊎◌, inl, inr, ⊎_elim, ◌≤◌, ℕ, Bool, true}
 use Rattle.std.proofs.Common.{false, cond, List, [], ◌∷◌, ◌++◌, Option, Some, None, refl, sym, ap}
 use Rattle.std.proofs.Common.{subst, ◌∙◌, arith, length, take}
 use Rattle.std.specs.Option.{option_or}
 use Rattle.std.proofs.lemmas.Bool.{true≢false}
 use Rattle.std.proofs.lemmas.Bool.Decides.{Decides-eqb}
-use Rattle.std.proofs.lemmas.List.{length-append, take_all}
+use Rattle.std.proofs.lemmas.List.{take_all}
 use Rattle.std.proofs.lemmas.Slice.Eq.{bytes_eq-Decides}
 use Rattle.std.specs.Prelude.{nat_eq, bytes_eq, ◌==◌, ◌&&◌}
 use Rattle.vr_types.specs.Content.{Content}
 use Rattle.vr_types.specs.Image.{Image, block_at}
 use Rattle.vr_types.specs.Moments.{Guards}
 use Rattle.vr_types.specs.Regions.{IsImageOn, Outside, Touches}
-use Rattle.vr_types.specs.Seen.{Left, Seen}
+use Rattle.vr_types.specs.Seen.{Seen}
 use Rattle.vr_types.specs.declared.geometry.Geometry.{Geometry}
 use Rattle.vr_types.specs.declared.unit.PartNo.{PartNo}
 use Rattle.vr_types.specs.declared.unit.Unit.{Unit as UnitOfRecovery}
@@ -32,11 +32,10 @@ use Rattle.vr_volume.specs.Laid.{shape_by}
 use Rattle.vr_volume.specs.Laying.{IsFreeIn}
 use Rattle.vr_volume.specs.Logged.{IsFirstBefore}
 use Rattle.vr_volume.specs.PutBack.{images_of, is_image_of, oldest}
-use Rattle.vr_volume.specs.Safe.{IsImageSafe, IsSafe, IsSafeBy, IsSafeImage}
+use Rattle.vr_volume.specs.Safe.{IsSafe, IsSafeImage}
 use Rattle.vr_volume.proofs.Apart.{part-past}
 use Rattle.vr_volume.proofs.Calls.{safe-less}
 use Rattle.vr_volume.proofs.Images.{image_of, images-append, oldest-append}
-use Rattle.vr_volume.proofs.Befores.{log-cases}
 use Rattle.vr_volume.proofs.Recovering.{each_image_is_safe, part-in}
 
 module _ (geometry : Geometry) (number : ℕ) (committed : List LogRecord → ℕ → Content) where
@@ -49,8 +48,12 @@ module _ (geometry : Geometry) (number : ℕ) (committed : List LogRecord → �
         → shape_by geometry (committed content.records 0) part ≡ Some shape → (n : ℕ)
         → InPart shape n → Outside (InLog geometry) n
     part-out content is part shape laid n inside there =
-        omega (arith, there.1, part-past geometry (committed content.records 0) part shape laid n
-        inside)
+        omega (
+          arith,
+          there.1,
+          part-past geometry (committed content.records 0) part shape laid n
+              inside,
+        )
 
     image-safe : (image : Image) → IsImageOn (Outside (InLog geometry)) a.count a.may image
         × HasLog log image → IsSafeImage geometry number log committed image

@@ -1,6 +1,6 @@
 -- What stands in a content once before-images were put back into it.
-use Rattle.std.proofs.Common.{◌≡◌, ◌≢◌, ℕ, Bool, true, false, cond, List, [], ◌∷◌, Option, Some, None}
-use Rattle.std.proofs.Common.{refl, sym, ap, ◌∙◌, bytes_eq, find, ◌==◌, ◌&&◌}
+use Rattle.std.proofs.Common.{◌≡◌, ℕ, Bool, true, false, cond, List, [], ◌∷◌, Option, Some}
+use Rattle.std.proofs.Common.{refl, sym, ap, ◌∙◌, bytes_eq, ◌==◌, ◌&&◌}
 use Rattle.std.proofs.lemmas.Bool.{true≢false}
 use Rattle.std.proofs.lemmas.Slice.Eq.{bytes_eq-Decides}
 use Rattle.vr_types.specs.Content.{Content, Item, Ascends, item_at}
@@ -8,7 +8,7 @@ use Rattle.vr_history.specs.Committed.{kept_or}
 use Rattle.vr_history.specs.State.{BeforeImage}
 use Rattle.vr_altkey.specs.Placing.{placed_in}
 use Rattle.vr_altkey.proofs.CallerLemmas.{placed_here, placed_elsewhere, placed_ascends}
-use Rattle.vr_volume.specs.PutBack.{is_image_of, oldest, put_back}
+use Rattle.vr_volume.specs.PutBack.{oldest, put_back}
 
 pub back-ascends : (part : ℕ) (images : List BeforeImage) (content : Content) → Ascends content
     → Ascends (put_back part images content)

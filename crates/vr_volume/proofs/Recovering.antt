@@ -1,8 +1,8 @@
 -- Why a safe image recovers to the committed contents, and each image of a safe volume is one.
-use Rattle.std.proofs.Common.{◌≡◌, ◌+◌, ◌<◌, ℕ, List, [], Option, Some, None, refl, sym, ap}
+use Rattle.std.proofs.Common.{◌≡◌, ℕ, List, [], Option, Some, None, refl, sym, ap}
 use Rattle.std.proofs.Common.{subst, ◌∙◌, arith}
 use Rattle.std.specs.List.Sorted.{IsStrictlySortedBy}
-use Rattle.vr_types.specs.Content.{Content, Ascends, item_at, record_at}
+use Rattle.vr_types.specs.Content.{Content, Ascends, item_at}
 use Rattle.vr_types.specs.Image.{Image, block_at}
 use Rattle.vr_types.specs.Seen.{Seen, Left}
 use Rattle.vr_types.specs.declared.geometry.Geometry.{Geometry}
@@ -12,7 +12,7 @@ use Rattle.vr_altkey.proofs.CallerLemmas.{same_items}
 use Rattle.vr_history.specs.Committed.{kept_or}
 use Rattle.vr_history.specs.State.{BeforeImage}
 use Rattle.vr_log.specs.Content.{Content as LogContent}
-use Rattle.vr_log.specs.LogNow.{LogNow, HasLog, IsLogOf}
+use Rattle.vr_log.specs.LogNow.{LogNow, HasLog}
 use Rattle.vr_log.specs.Spells.{Spells}
 use Rattle.vr_log.specs.declared.record.LogRecord.{LogRecord}
 use Rattle.vr_volume.specs.CatalogRules.{IsCatalog}
@@ -131,7 +131,7 @@ pub each_image_is_safe : (geometry : Geometry) (number : ℕ) (log : LogNow)
     → IsSafeImage geometry number log committed image
 each_image_is_safe geometry number log committed now safe image left =
     let has : HasLog log image =
-    safe.logs image (record { each = λ n below inside. left.each n below; }) in (
+    safe.logs image (record { each = λ n below inside. left.each n below }) in (
       has.0,
       has.2,
       record {
@@ -142,6 +142,6 @@ each_image_is_safe geometry number log committed now safe image left =
         parts = λ part shape is. part-in shape part (images_of has.0.records)
             (committed has.0.records part) now
             ((safe.by_log has.0 has.2).parts part shape is) image
-            (record { each = λ n below inside. left.each n below; });
+            (record { each = λ n below inside. left.each n below });
       },
     )

@@ -1,5 +1,5 @@
 -- A volume recovers to one list of contents at most.
-use Rattle.std.proofs.Common.{◌≡◌, ◌≤◌, ℕ, [], Option, Some, None, refl, sym, ap, subst, ◌∙◌, length}
+use Rattle.std.proofs.Common.{◌≡◌, ◌≤◌, ℕ, Option, Some, None, refl, sym, ap, subst, ◌∙◌, length}
 use Rattle.vr_types.specs.Content.{Content}
 use Rattle.vr_types.specs.Image.{Image, block_at}
 use Rattle.vr_types.specs.declared.geometry.Geometry.{Geometry}
@@ -9,7 +9,7 @@ use Rattle.vr_log.specs.Content.{Content as LogContent}
 use Rattle.vr_log.proofs.Unique.{one_log}
 use Rattle.vr_volume.specs.Laid.{shape_by, catalog_shape}
 use Rattle.vr_volume.specs.PutBack.{images_of, put_back}
-use Rattle.vr_volume.specs.Volume.{Recovers, VolumeStandsFor, catalog_back, shapes_by}
+use Rattle.vr_volume.specs.Volume.{Recovers, VolumeStandsFor, shapes_by}
 
 module _ (geometry : Geometry) (number : ℕ) (image : Image) (log : LogContent)
     (one other : ℕ → Content) (first : VolumeStandsFor geometry number image log one)

@@ -1,7 +1,7 @@
 -- Where the parts of a volume are on its blocks: the catalog, which is part 0, in area 0, and each
 -- cluster of it in the area that its entry names. There are keyed clusters of one area yet. The
 -- rules are this project's own.
-use Rattle.std.specs.Prelude.{ℕ, Bool, true, false, List, Option, Some, None, if◌then◌else◌, ◌==◌}
+use Rattle.std.specs.Prelude.{ℕ, List, Option, Some, None, if◌then◌else◌, ◌==◌}
 use Rattle.std.specs.Option.{option_and_then}
 use Rattle.vr_types.specs.Content.{Content}
 use Rattle.vr_types.specs.Geometry.{head_block}

@@ -1,6 +1,6 @@
 -- How a part that a call changes goes with the logs that an image may have. The rules are this
 -- project's own.
-use Rattle.std.specs.Prelude.{◌≡◌, ◌≢◌, ℕ, List, Option, Some, None}
+use Rattle.std.specs.Prelude.{◌≡◌, ◌≢◌, ℕ, List, Some, None}
 use Rattle.vr_types.specs.Content.{Content}
 use Rattle.vr_types.specs.declared.geometry.Geometry.{Geometry}
 use Rattle.vr_space.specs.Part.{Shape}

@@ -1,5 +1,5 @@
 -- A before-image that a unit logs as it first changes a place. The rules are this project's own.
-use Rattle.std.specs.Prelude.{◌≡◌, ◌⊎◌, ◌≤◌, ℕ, Bool, true, false, List, [], ◌∷◌, ◌++◌, length, Option}
+use Rattle.std.specs.Prelude.{◌≡◌, ◌⊎◌, ◌≤◌, ℕ, true, false, List, [], ◌∷◌, ◌++◌, length, Option}
 use Rattle.std.specs.Prelude.{None, IfSome}
 use Rattle.std.specs.Option.{option_map}
 use Rattle.vr_types.specs.Content.{Content, Standing, item_at}

@@ -5,7 +5,7 @@ use Rattle.std.specs.Prelude.{ℕ, Bool, List, [], ◌∷◌, length, Option, So
 use Rattle.std.specs.Prelude.{◌==◌, ◌&&◌, if◌then◌else◌, bytes_eq}
 use Rattle.std.specs.List.{filter_map}
 use Rattle.std.specs.Option.{option_map, option_and_then}
-use Rattle.vr_types.specs.Content.{Content, Item, Standing, record_of}
+use Rattle.vr_types.specs.Content.{Content, Standing, record_of}
 use Rattle.vr_types.specs.declared.unit.Unit.{Unit as UnitOfRecovery}
 use Rattle.vr_log.specs.declared.record.LogRecord.{LogRecord}
 use Rattle.vr_log.specs.declared.record.LogRecord.TheVariants.{Before, End}

@@ -1,7 +1,7 @@
 -- What makes the blocks of a volume recover to the committed contents: off the places that the log
 -- has free, each block that a crash may leave has the committed item, and each before-image of a
 -- unit without an end is the committed item of its place. The rules are this project's own.
-use Rattle.std.specs.Prelude.{◌≡◌, ◌<◌, ℕ, List, [], Option, Some, None}
+use Rattle.std.specs.Prelude.{◌≡◌, ℕ, List, [], Option, Some, None}
 use Rattle.std.specs.Option.{option_map}
 use Rattle.vr_types.specs.Content.{Content as ContentOf, Item, Standing, Ascends, item_at}
 use Rattle.vr_types.specs.Geometry.{IsAllowed}

@@ -1,12 +1,14 @@
 //! Calls of a part on a volume: what each leaves of it in the image of each moment.
-ghost use Rattle.std.specs.Prelude.{◌≡◌, ◌<◌, ℕ, List, IsTrue, OnOk, IfErr, All};
-ghost use Rattle.vr_types.specs.Blocks.{Keeps};
+ghost use Rattle.std.specs.Prelude.{◌≡◌, ◌<◌, [], ℕ, List, IsTrue, IfOk, OnOk, IfErr};
+ghost use Rattle.std.specs.Prelude.{OnErr, All};
+ghost use Rattle.vr_types.specs.Blocks.{Forced, Keeps};
 ghost use Rattle.vr_types.specs.Content.{Content};
 ghost use Rattle.vr_types.specs.Faults.{HasCause, HasWriteCause};
 ghost use Rattle.vr_types.specs.Moments.{Guards};
 ghost use Rattle.vr_types.specs.Space.{free_count};
-ghost use Rattle.vr_types.specs.declared.fault.DeviceFault.TheVariants.{Write};
+ghost use Rattle.vr_types.specs.declared.fault.DeviceFault.TheVariants.{Read, Write};
 ghost use Rattle.vr_types.specs.declared.geometry.Geometry.{Geometry};
+ghost use Rattle.vr_space.specs.declared.room.Room.TheVariants as answers;
 ghost use Rattle.vr_space.specs.Met.{HasMet, places_met};
 ghost use Rattle.vr_space.specs.Part.{
   CanSet,
@@ -20,10 +22,12 @@ ghost use Rattle.vr_space.specs.Part.{
   IsPlaceOf,
   IsStageDue,
   Knows,
+  OwnersAfter,
   SameRecords,
   SetsOne,
   given,
   part_no,
+  room_of,
 };
 ghost use Rattle.vr_log.specs.LogNow.{LogNow};
 ghost use Rattle.vr_log.specs.declared.record.LogRecord.{LogRecord};
@@ -76,6 +80,10 @@ pub fn set_free<B: Blocks, P: Part, K: Kept>(
         (P.met part.new) (B.seen blocks.new)) }
     ensures met { HasMet (P.met part.old) place.now → OnOk result
         (places_met (P.met part.new) ≡ places_met (P.met part.old)) }
+    ensures unread { IfErr result (λ fault. fault ≡ Read
+        → Keeps B.tells (B.seen blocks.old) (B.seen blocks.new)
+        × (IsTrue B.tells → Knows (P.shape part.old) (P.split part.old) (P.met part.new)
+        (B.seen blocks.new))) }
     ensures reads { HasMet (P.met part.old) place.now → IfErr result (λ fault. fault ≡ Write) }
     ensures cause { HasCause (B.faults blocks.old) (B.faults blocks.new) result }
     ensures shape { P.shape part.new ≡ P.shape part.old }
@@ -113,14 +121,26 @@ pub fn do_stage<B: Blocks, P: Part, K: Kept>(
         → Guards (B.seen blocks.old) (B.seen blocks.new)
         (IsSafeImage geometry number log committed)
         × IsSafe geometry number log committed (B.seen blocks.new) }
+    ensures stage { IsTrue B.tells → IfOk result (λ kind. answers.Stage kind
+        ≡ room_of (P.shape part.old) (P.split part.old) (B.seen blocks.old).cur
+        (free_count space.old) (K.kept kept.now (part_no (P.shape part.old))) place.now length) }
+    ensures owners { IfOk result (λ kind.
+        OwnersAfter (part_no (P.shape part.old)) kind space.old space.new) }
     ensures same { IsTrue B.tells → SameRecords (P.shape part.old)
         (B.seen blocks.old).cur (B.seen blocks.new).cur }
+    ensures due { IsTrue B.tells → OnOk result
+        (DueMore (P.shape part.old) [] (B.seen blocks.old) (B.seen blocks.new)) }
     ensures rests { IsTrue B.tells → OnOk result
         (IsAtRest (P.shape part.old) (B.seen blocks.new)) }
     ensures room { IsTrue B.tells → HasKeptRoom (P.shape part.old)
         (K.kept kept.now (part_no (P.shape part.old))) (B.seen blocks.new) }
     ensures knows { IsTrue B.tells → OnOk result (Knows (P.shape part.old) (P.split part.new)
         (P.met part.new) (B.seen blocks.new)) }
+    ensures split { OnErr result (P.split part.new ≡ P.split part.old) }
+    ensures unread { IfErr result (λ fault. fault ≡ Read
+        → Keeps B.tells (B.seen blocks.old) (B.seen blocks.new)
+        × (IsTrue B.tells → Knows (P.shape part.old) (P.split part.old) (P.met part.new)
+        (B.seen blocks.new))) }
     ensures cause { HasCause (B.faults blocks.old) (B.faults blocks.new) result }
     ensures shape { P.shape part.new ≡ P.shape part.old }
 {
@@ -137,6 +157,8 @@ pub fn force_blocks<B: Blocks>(blocks: &mut B, list: &[u32]) -> Result<(), Devic
         → Guards (B.seen blocks.old) (B.seen blocks.new)
         (IsSafeImage geometry number log committed)
         × IsSafe geometry number log committed (B.seen blocks.new) }
+    ensures forced { IsTrue B.tells → OnOk result
+        (Forced list.now (B.seen blocks.old).cur (B.seen blocks.new).may) }
     ensures after { Keeps B.tells (B.seen blocks.old) (B.seen blocks.new) }
     ensures cause { HasWriteCause (B.faults blocks.old) (B.faults blocks.new) result }
 {

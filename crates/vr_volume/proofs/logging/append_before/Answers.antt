@@ -1,14 +1,8 @@
-use Rattle.std.proofs.Common.{◌≡◌, ◌≢◌, ◌++◌, ◌∷◌, [], IsTrue, List, None, Option, subst, sym, ap, ◌∙◌}
-use Rattle.vr_types.specs.Blocks.{Keeps}
-use Rattle.vr_types.specs.Content.{Content}
-use Rattle.vr_types.specs.Moments.{Guards}
-use Rattle.vr_types.specs.Regions.{Touches}
-use Rattle.vr_types.specs.Seen.{Seen}
-use Rattle.vr_log.specs.LogNow.{HasLog, with_record}
-use Rattle.vr_log.specs.Standing.{InLog}
+use Rattle.std.proofs.Common.{◌≢◌, ◌++◌, ◌∷◌, [], List, None, subst, sym, ap, ◌∙◌}
+use Rattle.vr_log.specs.LogNow.{with_record}
 use Rattle.vr_log.specs.declared.record.LogRecord.{LogRecord}
 use Rattle.vr_volume.specs.PutBack.{images_of, oldest}
-use Rattle.vr_volume.specs.Safe.{IsSafe, IsSafeImage}
+use Rattle.vr_volume.specs.Safe.{IsSafe}
 use Rattle.vr_volume.proofs.Befores.{safe-more}
 use Rattle.vr_volume.proofs.LogCalls.{appended-less, first-there, log-after, log-guards, safe-fewer}
 use Rattle.vr_volume.proofs.logging.append_before.Goals as goal

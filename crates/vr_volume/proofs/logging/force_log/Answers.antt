@@ -1,7 +1,5 @@
 use Rattle.std.proofs.Common.{subst, sym, ap, ◌∙◌}
-use Rattle.vr_log.specs.LogNow.{IsLogOf, LogNow, forced_now}
-use Rattle.vr_log.specs.Content.{Content as LogContent}
-use Rattle.vr_log.specs.Standing.{LogStands}
+use Rattle.vr_log.specs.LogNow.{IsLogOf, LogNow}
 use Rattle.vr_volume.specs.Laying.{IsFreeIn}
 use Rattle.vr_volume.proofs.LogCalls.{forced-free, forced-geometry, forced-less, log-after}
 use Rattle.vr_volume.proofs.LogCalls.{log-guards, safe-fewer}
