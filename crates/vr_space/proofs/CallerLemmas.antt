@@ -20,3 +20,5 @@ pub use Rattle.vr_space.proofs.Adding.{same-keeps, due-keeps, forced-firm, firm-
 pub use Rattle.vr_space.proofs.Adding.{ready-can, records-then, sets-after, on-still, record-length}
 pub use Rattle.vr_space.proofs.Rooms.{room-image, keeps-rooms}
 pub use Rattle.vr_space.proofs.Keeping.{keep-room}
+pub use Rattle.vr_space.proofs.Framing.{StaysPart, rest-stays, room-stays, knows-stays, can-stays}
+pub use Rattle.vr_space.proofs.Framing.{same-stays}

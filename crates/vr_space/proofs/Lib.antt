@@ -9,4 +9,5 @@ pub mod Composing
 pub mod Rising
 pub mod Rooms
 pub mod Keeping
+pub mod Framing
 pub mod CallerLemmas

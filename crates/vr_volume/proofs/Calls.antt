@@ -14,7 +14,7 @@ use Rattle.vr_space.specs.Keyed.{entries_of, keyed_way}
 use Rattle.vr_space.specs.Part.{AddsTo, HasKeptRoom, HasOnly, HasRoom, InPart, IsSound, KeyedShape}
 use Rattle.vr_space.specs.Part.{Just, MayAlsoHold, Nothing, Shape}
 use Rattle.vr_space.specs.Room.{Lengths}
-use Rattle.vr_space.proofs.CallerLemmas.{each-less, find-more, head-in, IsBlock, keyed-less}
+use Rattle.vr_space.proofs.CallerLemmas.{each-less, find-more, head-in, IsBlock, keyed-less, StaysPart}
 use Rattle.vr_space.proofs.CallerLemmas.{keyed-within, only-weaken, within-less}
 use Rattle.vr_history.specs.State.{BeforeImage}
 use Rattle.vr_log.specs.Content.{Content as LogContent}
@@ -132,7 +132,7 @@ module _ (geometry : Geometry) (number : ℕ) (log : LogNow)
       omega (
         arith,
         part-past geometry (committed content.records 0) part shape
-            (laid content is).0 0 inside,
+            (laid content is).laid 0 inside,
       )
 
   out-log : (content : LogContent) → IsLogOf log content → (n : ℕ) → InLog geometry n
@@ -142,7 +142,7 @@ module _ (geometry : Geometry) (number : ℕ) (log : LogNow)
         arith,
         inside.1,
         part-past geometry (committed content.records 0) part shape
-            (laid content is).0 n there,
+            (laid content is).laid n there,
       )
 
   -- what a call leaves of the part in an image
@@ -152,10 +152,10 @@ module _ (geometry : Geometry) (number : ℕ) (log : LogNow)
   part-image content is image has room = record {
     has = only-weaken shape (MayAlsoHold shape a.may A) _
         (λ place found. ⊎_elim
-        (((safe.by_log content is).parts part shape (laid content is).0).items place found)
+        (((safe.by_log content is).parts part shape (laid content is).laid).items place found)
         (added content is place found))
         image has;
-    room = subst (λ (lengths : Lengths). HasRoom shape lengths image) (laid content is).1 room;
+    room = subst (λ (lengths : Lengths). HasRoom shape lengths image) (laid content is).kept_is room;
   }
 
   -- the other parts are as they were
@@ -169,7 +169,7 @@ module _ (geometry : Geometry) (number : ℕ) (log : LogNow)
       (record {
         each = λ n below inside. left.each n below
             ((safe.by_log content is).committed.apart other part there shape at
-            (laid content is).0 apart n inside);
+            (laid content is).laid apart n inside);
       })
 
   each-image : (content : LogContent) (is : IsLogOf log content) (image : Image)
@@ -186,7 +186,7 @@ module _ (geometry : Geometry) (number : ℕ) (log : LogNow)
       (committed content.records p) image) (sym same)
       (subst (λ (s : Shape). IsPartIn s part (images_of content.records)
       (committed content.records part) image)
-      (some-same shape there (sym (laid content is).0 ∙ here))
+      (some-same shape there (sym (laid content is).laid ∙ here))
       (part-image content is image has room)))
       (λ apart. other-image content is image left other there at apart)
       (equal-or other part)
@@ -253,7 +253,7 @@ module _ (geometry : Geometry) (number : ℕ) (log : LogNow)
             (images_of content.records) (committed content.records other)
             (λ n block below inside may. adds.touches.adds_none n block below
             ((safe.by_log content is).committed.apart other part there shape at
-            (laid content is).0 apart n inside) may)
+            (laid content is).laid apart n inside) may)
             ((safe.by_log content is).parts other there at))
             (equal-or other part);
       };
@@ -264,9 +264,9 @@ module _ (geometry : Geometry) (number : ℕ) (log : LogNow)
         mine-after content is = record {
           sound = adds.sound;
           items = λ place found held. ⊎_elim
-              (((safe.by_log content is).parts part shape (laid content is).0).items place found)
+              (((safe.by_log content is).parts part shape (laid content is).laid).items place found)
               (added content is place found) (adds.rest place found held);
-          room = subst (λ (lengths : Lengths). HasKeptRoom shape lengths b) (laid content is).1 room;
+          room = subst (λ (lengths : Lengths). HasKeptRoom shape lengths b) (laid content is).kept_is room;
         }
 
         here-after : (content : LogContent) → IsLogOf log content → (other : ℕ) (there : Shape)
@@ -281,7 +281,7 @@ module _ (geometry : Geometry) (number : ℕ) (log : LogNow)
             (committed content.records p) b) (sym same)
             (subst (λ (s : Shape). IsPartSafe s part (images_of content.records)
             (committed content.records part) b)
-            (some-same shape there (sym (laid content is).0 ∙ here)) (mine-after content is))
+            (some-same shape there (sym (laid content is).laid ∙ here)) (mine-after content is))
 
     -- At each moment of it each image is a safe one, and so is each that is left.
     pub part-guards : Guards a b (IsSafeImage geometry number log committed)
@@ -313,3 +313,17 @@ pub free-safe : (geometry : Geometry) (log : LogNow)
 free-safe geometry log committed part shape at new free content is place found here none =
     absurd (free content is (subst (λ (p : List ℕ). oldest (images_of content.records) part p ≡ None)
     here.0 none))
+
+-- ---- a part while the log is put
+
+-- a part past the log stays as it is
+pub stays-part : (geometry : Geometry) (shape : Shape) (Q : Image → Type 0) (a b : Seen)
+    → ((n : ℕ) → InPart shape n → geometry.log < n) → Touches (InLog geometry) Q a b
+    → StaysPart shape a b
+stays-part geometry shape Q a b past call = record {
+  count = call.count_same;
+  size = call.size_same;
+  same = λ n inside. call.content n (λ there. omega (arith, there.1, past n inside));
+  fewer = λ n block below inside may. call.adds_none n block below
+      (λ there. omega (arith, there.1, past n inside)) may;
+}

@@ -5,7 +5,7 @@ use Rattle.std.proofs.Common.{subst, ◌∙◌, arith, length, take}
 use Rattle.std.specs.Option.{option_or}
 use Rattle.std.proofs.lemmas.Bool.{true≢false}
 use Rattle.std.proofs.lemmas.Bool.Decides.{Decides-eqb}
-use Rattle.std.proofs.lemmas.List.{take_all}
+use Rattle.std.proofs.lemmas.List.{length-append, take_all}
 use Rattle.std.proofs.lemmas.Slice.Eq.{bytes_eq-Decides}
 use Rattle.std.specs.Prelude.{nat_eq, bytes_eq, ◌==◌, ◌&&◌}
 use Rattle.vr_types.specs.Content.{Content}
@@ -29,7 +29,8 @@ use Rattle.vr_log.specs.declared.record.LogRecord.{LogRecord}
 use Rattle.vr_log.specs.declared.record.LogRecord.TheVariants.{Before}
 use Rattle.vr_log.proofs.Growing.{stands_has}
 use Rattle.vr_volume.specs.Laid.{shape_by}
-use Rattle.vr_volume.specs.Laying.{IsFreeIn}
+use Rattle.vr_space.specs.Room.{Lengths}
+use Rattle.vr_volume.specs.Laying.{IsFreeIn, IsLaidBy, IsLaidSo, IsLogged}
 use Rattle.vr_volume.specs.Logged.{IsFirstBefore}
 use Rattle.vr_volume.specs.PutBack.{images_of, is_image_of, oldest}
 use Rattle.vr_volume.specs.Safe.{IsSafe, IsSafeImage}
@@ -259,3 +260,70 @@ first-there geometry log committed unit part place old next none = some-none (sy
         (cond (is_image_of part.0 place (image_of unit part place old))
         (Some (image_of unit part place old)) None)) next.first
         ∙ ap (λ (mine : Bool). cond mine (Some (image_of unit part place old)) None) self
+
+-- ---- appended and forced
+
+module _ (log : LogNow) (rec : LogRecord) (mid new : LogNow) (most : log.forced ≤ length log.records)
+    (appended : IsAppended log rec mid) (forced : new ≡ forced_now mid)
+    (behind : (older : LogContent) → mid.behind ≡ Some older → IsBehind mid older)
+    (within : mid.forced ≤ length mid.records) where
+  some-more : mid.records ≡ [] → ⊥
+  some-more none = omega (
+    arith,
+    sym (ap length appended.records ∙ length-append log.records (rec ∷ [])),
+    ap length none,
+  )
+
+  pub is-logged : IsLogged log rec new
+  is-logged = record {
+    geometry = ap (λ (l : LogNow). l.geometry) forced ∙ forced-geometry mid ∙ appended.geometry;
+    less = λ content is. appended-less log rec mid appended content
+        (forced-less mid within content (subst (λ (l : LogNow). IsLogOf l content) forced is));
+    all = λ content is. ⊎_elim (λ all. all ∙ appended.records)
+        (λ none. absurd (some-more none))
+        (forced-all mid within behind content
+        (subst (λ (l : LogNow). IsLogOf l content) forced is));
+  }
+
+-- what an image has of the log at each moment of it
+pub has-less : (log : LogNow) (rec : LogRecord) (mid : LogNow) → IsAppended log rec mid
+    → (image : Image) → HasLog mid image → HasLog (with_record log rec) image
+has-less log rec mid appended image has = (
+  has.0,
+  subst (λ (g : Geometry). Spells g image has.0) appended.geometry has.1,
+  appended-less log rec mid appended has.0 has.2,
+)
+
+-- an image that is safe by fewer logs is so by more
+pub image-less : (geometry : Geometry) (number : ℕ) (fewer more : LogNow)
+    (committed : List LogRecord → ℕ → Content)
+    → ((content : LogContent) → IsLogOf fewer content → IsLogOf more content) → (image : Image)
+    → IsSafeImage geometry number fewer committed image
+    → IsSafeImage geometry number more committed image
+image-less geometry number fewer more committed less image has =
+    (has.0, less has.0 has.1, has.2)
+
+-- Once the record is forced the volume is safe by the log as it is then, the part is laid by it,
+-- and the place is free.
+pub change-then : (geometry : Geometry) (number : ℕ) (log new : LogNow) (rec : LogRecord)
+    (committed : List LogRecord → ℕ → Content) (part : ℕ) (shape : Shape) (kept : Lengths)
+    (a b : Seen) → IsSafe geometry number (with_record log rec) committed a
+    → Touches (InLog geometry) (HasLog (with_record log rec)) a b → IsLogged log rec new
+    → LogStands new b
+    → IsLaidBy geometry (log.records ++ rec ∷ []) committed part shape kept
+    → (place : List ℕ)
+    → oldest (images_of (log.records ++ rec ∷ [])) part place ≢ None
+    → IsSafe geometry number new committed b
+    × IsLaidSo geometry new committed part shape kept × IsFreeIn new part place
+change-then geometry number log new rec committed part shape kept a b more call logged stands laid
+    place there = (
+      safe-fewer geometry number committed (with_record log rec) new b
+          (log-after geometry number committed (with_record log rec) a b more call)
+          (logged.geometry ∙ more.shape) logged.less stands,
+      λ content is. subst
+          (λ (records : List LogRecord). IsLaidBy geometry records committed part shape kept)
+          (sym (logged.all content is)) laid,
+      λ content is none. there
+          (subst (λ (records : List LogRecord). oldest (images_of records) part place ≡ None)
+          (logged.all content is) none),
+    )
