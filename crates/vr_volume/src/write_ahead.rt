@@ -1,6 +1,7 @@
 //! A change of a record under a unit of recovery: its before-image is logged and forced before the
 //! first block of the part is put.
 ghost use Rattle.std.specs.Prelude.{◌≡◌, ◌<◌, ◌∷◌, ◌++◌, [], ℕ, List, Option, IsTrue, OnOk, false};
+ghost use Rattle.std.specs.Prelude.{All};
 ghost use Rattle.vr_types.specs.Content.{Content};
 ghost use Rattle.vr_types.specs.Moments.{Guards};
 ghost use Rattle.vr_types.specs.Regions.{Touches};
@@ -97,6 +98,25 @@ pub fn change<B: Blocks, P: Part, K: Kept>(
         (K.kept kept.now (part_no (P.shape part.old)))
         → Guards (B.seen blocks.old) (B.seen blocks.new)
         (IsSafeImage log.old.geometry number (with_record log.old rec.now) committed) }
+    ensures after { IsTrue B.tells → OnOk result ((number : ℕ) (committed : List Rec → ℕ → Content)
+        (unit : UnitOfRecovery) (old : Option (List ℕ))
+        → rec.now ≡ Before unit (part_no (P.shape part.old)) place.now old
+        → IsSafe log.old.geometry number log.old committed (B.seen blocks.old)
+        → IsFirstBefore log.old.geometry log.old committed unit (part_no (P.shape part.old))
+        place.now old
+        → IsLaidBy log.old.geometry (log.old.records ++ rec.now ∷ []) committed
+        (part_no (P.shape part.old)).0 (P.shape part.old)
+        (K.kept kept.now (part_no (P.shape part.old)))
+        → IsSafe log.old.geometry number log.new committed (B.seen blocks.new)) }
+    ensures log { IsTrue B.tells → OnOk result (IsLogged log.old rec.now log.new) }
+    ensures rests { IsTrue B.tells → OnOk result
+        (IsAtRest (P.shape part.old) (B.seen blocks.new)) }
+    ensures room { IsTrue B.tells → OnOk result (HasKeptRoom (P.shape part.old)
+        (K.kept kept.now (part_no (P.shape part.old))) (B.seen blocks.new)) }
+    ensures knows { IsTrue B.tells → OnOk result (Knows (P.shape part.old) (P.split part.old)
+        (P.met part.new) (B.seen blocks.new)) }
+    ensures put { OnOk result (All (InPart (P.shape part.old)) (P.put part.new)) }
+    ensures part { OnOk result (P.shape part.new ≡ P.shape part.old) }
     ensures set { IsTrue B.tells → OnOk result (SetsOne (P.shape part.old) place.now
         (given bytes.entry) (B.seen blocks.old).cur (B.seen blocks.new).cur) }
 {

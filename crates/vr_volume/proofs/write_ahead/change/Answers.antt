@@ -150,3 +150,26 @@ returns-clause-any_moment g c told number committed unit old is safe next laid =
     (c.set_free.ensures.safe told log.geometry number new committed then.0 then.1 then.2).0
     (image-less log.geometry number new (with_record log rec) committed logged.less))
 
+pub returns-clause-after : goal.returns-clause-after
+returns-clause-after g c told number committed unit old is safe next laid =
+    let B = g.B.Blocks in
+    let log = c.args.log.now in
+    let new = c.log_forced.new.log in
+    let rec = c.args.rec.now in
+    let shape = g.P.Part.shape c.args.part.now in
+    let part = part_no shape in
+    let a = B.seen c.args.blocks.now in
+    let b = B.seen c.log_forced.new.blocks in
+    let more = subst
+    (λ (r : LogRecord). IsSafe log.geometry number (with_record log r) committed a) (sym is)
+    (safe-more log.geometry number log committed a unit _ _ old safe next) in
+    let touches = c.log_forced.ensures.touches told in
+    let logged = c.in_ok-log_forced.ensures.logged told in
+    let then = change-then log.geometry number log new rec committed part.0 shape
+    (g.K.Kept.kept c.args.kept.now part) a b more touches logged
+    (c.in_ok-log_forced.ensures.stands told) laid c.args.place.now
+    (subst (λ (r : LogRecord). oldest (images_of (log.records ++ r ∷ [])) part.0 c.args.place.now
+    ≢ None) (sym is)
+    (first-there log.geometry log committed unit part c.args.place.now old next)) in
+    (c.set_free.ensures.safe told log.geometry number new committed then.0 then.1 then.2).1
+
