@@ -35,11 +35,7 @@ use vr_space::{Kept, Part};
 use vr_types::{Blocks, Place};
 
 /// Logs a record and forces it. Nothing outside the log is touched.
-fn log_forced<B: Blocks>(
-    blocks: &mut B,
-    log: &mut UndoLog,
-    rec: &LogRecord,
-) -> Result<(), LogNo>
+fn log_forced<B: Blocks>(blocks: &mut B, log: &mut UndoLog, rec: &LogRecord) -> Result<(), LogNo>
     requires sound { log.old.broken ≡ false }
     requires shape { IsOf log.old.geometry (B.seen blocks.old) }
     requires lengths { HasLengths rec.now }

@@ -172,4 +172,3 @@ returns-clause-after g c told number committed unit old is safe next laid =
     ≢ None) (sym is)
     (first-there log.geometry log committed unit part c.args.place.now old next)) in
     (c.set_free.ensures.safe told log.geometry number new committed then.0 then.1 then.2).1
-
