@@ -1,5 +1,6 @@
 -- Room once a record is kept that stands: it takes no more.
-use Rattle.std.proofs.Common.{◌≡◌, ◌≢◌, ◌≤◌, ◌+◌, ◌-◌, ◌<◌, ℕ, Bool, true, false, cond, List, [], ◌∷◌, map}
+use Rattle.std.proofs.Common.{◌≡◌, ◌≢◌, ◌≤◌, ◌+◌, ◌-◌, ◌<◌, ℕ, Bool, true, false, cond, List, []}
+use Rattle.std.proofs.Common.{◌∷◌, map}
 use Rattle.std.proofs.Common.{Option, Some, None, refl, sym, ap, subst, ◌∙◌, arith, length}
 use Rattle.std.specs.Prelude.{max}
 use Rattle.std.proofs.lemmas.Bool.{true≢false}
@@ -18,7 +19,8 @@ use Rattle.vr_types.specs.Seen.{Seen}
 use Rattle.vr_types.proofs.CallerLemmas.{same_place}
 use Rattle.vr_ci.specs.Interval as ci
 use Rattle.vr_seqset.specs.Entry.{Entry}
-use Rattle.vr_space.specs.Keyed.{EachMayLeave, HoldsRange, IsKeyedSound, Keyed, KeepsRoom, entries_of}
+use Rattle.vr_space.specs.Keyed.{EachMayLeave, HoldsRange, IsKeyedSound, Keyed, KeepsRoom}
+use Rattle.vr_space.specs.Keyed.{entries_of}
 use Rattle.vr_space.specs.Keyed.{entry_block, entry_for, items_of, key_of, length_of, lengths_of}
 use Rattle.vr_space.specs.Keyed.{placed, range_of, records_in, records_of}
 use Rattle.vr_space.specs.Part.{HasKeptRoom, IsPlaceOf, IsSound, KeyedShape, MayHold, Shape}
@@ -58,7 +60,8 @@ absorbs (entry ∷ lengths) place n more holds =
     by_order : (order : Ordering) → holds_by order n entry.1 (Holds lengths place n)
         → (Holds lengths place n
         → with_length lengths place (max n more) ≡ with_length lengths place more)
-        → lengthen_by order place (max n more) entry lengths (with_length lengths place (max n more))
+        → lengthen_by order place (max n more) entry lengths
+            (with_length lengths place (max n more))
         ≡ lengthen_by order place more entry lengths (with_length lengths place more)
     by_order Less here further = absurd here
     by_order Equal here further =
@@ -154,7 +157,8 @@ kept-stands range lengths (entry ∷ kept) place n holds =
         ≡ with_lengths lengths (cond inside (entry ∷ lengths_in range kept)
         (lengths_in range kept))
     same-in true at = ap (λ (l : Lengths). with_lengths l (lengths_in range kept))
-        (subst (λ (q : List ℕ). with_length lengths q (max n entry.1) ≡ with_length lengths q entry.1)
+        (subst (λ (q : List ℕ). with_length lengths q (max n entry.1)
+            ≡ with_length lengths q entry.1)
         at (absorbs lengths place n entry.1 holds))
     same-in false at = refl
 
@@ -272,7 +276,8 @@ holds-read part range (item ∷ items) place bytes n sorted inside reads most =
     by_order Equal is there further =
         here (same_place place (key_of part item.bytes) is) there
         (is_in range (key_of part item.bytes)) refl
-    by_order Greater is there further = past is (further there) (is_in range (key_of part item.bytes))
+    by_order Greater is there further = past is (further there)
+        (is_in range (key_of part item.bytes))
 
 -- ---- the intervals
 

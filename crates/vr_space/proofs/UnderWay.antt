@@ -1,5 +1,6 @@
 -- A split under way, as calls leave the blocks that it names, and what a part met of its blocks.
-use Rattle.std.proofs.Common.{◌≡◌, ◌≢◌, ◌⊎◌, inl, inr, ⊎_elim, ◌<◌, ◌≤◌, ◌+◌, ◌-◌, ◌/◌, ℕ, zero, suc}
+use Rattle.std.proofs.Common.{◌≡◌, ◌≢◌, ◌⊎◌, inl, inr, ⊎_elim, ◌<◌, ◌≤◌, ◌+◌, ◌-◌, ◌/◌, ℕ, zero}
+use Rattle.std.proofs.Common.{suc}
 use Rattle.std.proofs.Common.{Bool, IsTrue, true, false, List, Option, Some, None}
 use Rattle.std.proofs.Common.{All, refl, sym, ap, subst, ◌∙◌, arith, unwrap_or}
 use Rattle.std.specs.Prelude.{cond, IfSome, slice_index, nat_eq, min}

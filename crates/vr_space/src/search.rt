@@ -10,7 +10,8 @@ ghost use Rattle.vr_ci.specs.Interval as ci;
 ghost use Rattle.vr_seqset.specs.Entry.{IsWhole};
 ghost use Rattle.vr_seqset.specs.SequenceSet.{KeepsRules};
 ghost use Rattle.vr_space.specs.Room.{Range};
-ghost use Rattle.vr_space.specs.Keyed.{IsHead, HoldsRange, IsKept, entries_of, entry_for, records_of};
+ghost use Rattle.vr_space.specs.Keyed.{IsHead, HoldsRange, IsKept, entries_of, entry_for};
+ghost use Rattle.vr_space.specs.Keyed.{records_of};
 ghost use Rattle.vr_space.specs.Keyed.{placed, key_of};
 ghost use Rattle.vr_space.specs.Search.{IsEntryFor, HasPlaces, AreUpTo, keys_of, low_before};
 

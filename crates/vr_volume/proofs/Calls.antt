@@ -14,7 +14,8 @@ use Rattle.vr_space.specs.Keyed.{entries_of, keyed_way}
 use Rattle.vr_space.specs.Part.{AddsTo, HasKeptRoom, HasOnly, HasRoom, InPart, IsSound, KeyedShape}
 use Rattle.vr_space.specs.Part.{Just, MayAlsoHold, Nothing, Shape}
 use Rattle.vr_space.specs.Room.{Lengths}
-use Rattle.vr_space.proofs.CallerLemmas.{each-less, find-more, head-in, IsBlock, keyed-less, StaysPart}
+use Rattle.vr_space.proofs.CallerLemmas.{each-less, find-more, head-in, IsBlock, keyed-less}
+use Rattle.vr_space.proofs.CallerLemmas.{StaysPart}
 use Rattle.vr_space.proofs.CallerLemmas.{keyed-within, only-weaken, within-less}
 use Rattle.vr_history.specs.State.{BeforeImage}
 use Rattle.vr_log.specs.Content.{Content as LogContent}
@@ -155,7 +156,8 @@ module _ (geometry : Geometry) (number : ℕ) (log : LogNow)
         (((safe.by_log content is).parts part shape (laid content is).laid).items place found)
         (added content is place found))
         image has;
-    room = subst (λ (lengths : Lengths). HasRoom shape lengths image) (laid content is).kept_is room;
+    room = subst (λ (lengths : Lengths). HasRoom shape lengths image) (laid content is).kept_is
+        room;
   }
 
   -- the other parts are as they were
@@ -266,7 +268,8 @@ module _ (geometry : Geometry) (number : ℕ) (log : LogNow)
           items = λ place found held. ⊎_elim
               (((safe.by_log content is).parts part shape (laid content is).laid).items place found)
               (added content is place found) (adds.rest place found held);
-          room = subst (λ (lengths : Lengths). HasKeptRoom shape lengths b) (laid content is).kept_is room;
+          room = subst (λ (lengths : Lengths). HasKeptRoom shape lengths b)
+              (laid content is).kept_is room;
         }
 
         here-after : (content : LogContent) → IsLogOf log content → (other : ℕ) (there : Shape)
@@ -311,7 +314,8 @@ pub free-safe : (geometry : Geometry) (log : LogNow)
     (new : Option (List ℕ)) → IsFreeIn log part at
     → AddsSafe geometry log committed part shape (Just at new)
 free-safe geometry log committed part shape at new free content is place found here none =
-    absurd (free content is (subst (λ (p : List ℕ). oldest (images_of content.records) part p ≡ None)
+    absurd (free content is (subst (λ (p : List ℕ). oldest (images_of content.records) part p
+        ≡ None)
     here.0 none))
 
 -- ---- a part while the log is put

@@ -1,5 +1,6 @@
 -- The before-images of a log with one record more.
-use Rattle.std.proofs.Common.{◌≡◌, ◌⊎◌, ⊎_elim, ℕ, Bool, true, false, cond, List, [], ◌∷◌, ◌++◌, Option}
+use Rattle.std.proofs.Common.{◌≡◌, ◌⊎◌, ⊎_elim, ℕ, Bool, true, false, cond, List, [], ◌∷◌, ◌++◌}
+use Rattle.std.proofs.Common.{Option}
 use Rattle.std.proofs.Common.{Some, None, refl, sym, ap, ◌∙◌}
 use Rattle.std.specs.List.{filter_map, list_any}
 use Rattle.std.specs.Option.{option_and_then, option_map, option_or}
@@ -16,7 +17,8 @@ use Rattle.vr_log.specs.Live.{is_in, live_after, live_from, live_in}
 use Rattle.vr_log.specs.declared.record.LogRecord.{LogRecord}
 use Rattle.vr_log.specs.declared.record.LogRecord.TheVariants.{Before, End}
 use Rattle.vr_volume.specs.Logged.{HasNoneOf}
-use Rattle.vr_volume.specs.PutBack.{image_in, images_of, is_image_of, length_in, lengths_kept, oldest}
+use Rattle.vr_volume.specs.PutBack.{image_in, images_of, is_image_of, length_in, lengths_kept}
+use Rattle.vr_volume.specs.PutBack.{oldest}
 
 -- the image that a before record is
 abbrev pub image_of : UnitOfRecovery → PartNo → List ℕ → Option (List ℕ) → BeforeImage

@@ -216,7 +216,8 @@ module _ (log : LogNow) (most : log.forced ≤ length log.records) where
   forced-free behind part place has content is none = ⊎_elim
       (λ same. has (sym (ap (λ (records : List LogRecord). oldest (images_of records) part place)
       same) ∙ none))
-      (λ empty. has (ap (λ (records : List LogRecord). oldest (images_of records) part place) empty))
+      (λ empty. has
+          (ap (λ (records : List LogRecord). oldest (images_of records) part place) empty))
       (forced-all behind content is)
 
 -- forcing leaves the shape
@@ -263,7 +264,8 @@ first-there geometry log committed unit part place old next none = some-none (sy
 
 -- ---- appended and forced
 
-module _ (log : LogNow) (rec : LogRecord) (mid new : LogNow) (most : log.forced ≤ length log.records)
+module _ (log : LogNow) (rec : LogRecord) (mid new : LogNow)
+    (most : log.forced ≤ length log.records)
     (appended : IsAppended log rec mid) (forced : new ≡ forced_now mid)
     (behind : (older : LogContent) → mid.behind ≡ Some older → IsBehind mid older)
     (within : mid.forced ≤ length mid.records) where

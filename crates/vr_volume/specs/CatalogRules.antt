@@ -1,7 +1,8 @@
 -- The rules that the catalog of a volume keeps, beside those of its blocks: its records spell
 -- entries, no part number comes twice, an alternate index or a path stands over what it may, and
 -- the sizes are those that DEFINE of Access Method Services Commands allows.
-use Rattle.std.specs.Prelude.{ℕ, ◌+◌, Bool, true, false, not, ◌&&◌, ◌||◌, List, ◌∷◌, All, IsTrue, nat_eq}
+use Rattle.std.specs.Prelude.{ℕ, ◌+◌, Bool, true, false, not, ◌&&◌, ◌||◌, List, ◌∷◌, All, IsTrue}
+use Rattle.std.specs.Prelude.{nat_eq}
 use Rattle.std.specs.Prelude.{Option, Some, None, is_some, is_none}
 use Rattle.std.specs.List.{IsDistinct}
 use Rattle.std.specs.Option.{option_and_then, option_map_or}
@@ -33,7 +34,8 @@ is_cluster Path = false
 abbrev pub is_over_by : EntryKind → CatEntry → Option CatEntry → Bool
 is_over_by Cluster entry base = is_none entry.related
 is_over_by Alternate entry base =
-    option_map_or (λ (other : CatEntry). is_cluster other.entry_kind && not (is_relative other.kind))
+    option_map_or (λ (other : CatEntry). is_cluster other.entry_kind
+        && not (is_relative other.kind))
     base false
 is_over_by Path entry base =
     option_map_or (λ (other : CatEntry). not (is_path_kind other.entry_kind)) base false
