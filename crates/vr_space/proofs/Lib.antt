@@ -10,4 +10,5 @@ pub mod Rising
 pub mod Rooms
 pub mod Keeping
 pub mod Framing
+pub mod Fewer
 pub mod CallerLemmas

@@ -29,7 +29,7 @@ image_of unit part place old = record {
   old = option_map Standing old;
 }
 
-live-append : (live : List UnitOfRecovery) (records : List LogRecord) (rec : LogRecord)
+pub live-append : (live : List UnitOfRecovery) (records : List LogRecord) (rec : LogRecord)
     → live_from live (records ++ rec ∷ []) ≡ live_after (live_from live records) rec
 live-append live [] rec = refl
 live-append live (first ∷ records) rec = live-append (live_after live first) records rec

@@ -6,4 +6,5 @@ pub mod Calls
 pub mod Images
 pub mod Befores
 pub mod LogCalls
+pub mod Endings
 pub mod Unique

@@ -6,3 +6,4 @@ pub mod Volume
 pub mod Safe
 pub mod Laying
 pub mod Logged
+pub mod Ended
