@@ -2,7 +2,8 @@
 use Rattle.std.proofs.Common.{◌≡◌, ℕ, ◌+◌, ◌-◌, ◌^◌, ◌<◌, ◌≤◌, List, [], ◌∷◌, ◌++◌, length, take}
 use Rattle.std.proofs.Common.{drop, Option, None, IfSome, get_or, sym, ap}
 use Rattle.std.proofs.Common.{subst, ◌∙◌, arith}
-use Rattle.std.proofs.lemmas.List.{append-nil, append_assoc, length-append, length-take, length-drop}
+use Rattle.std.proofs.lemmas.List.{append-nil, append_assoc, length-append, length-take}
+use Rattle.std.proofs.lemmas.List.{length-drop}
 use Rattle.std.proofs.lemmas.List.{drop_at, take-append-drop, drop-drop}
 use Rattle.std.proofs.lemmas.List.{take_all}
 use Rattle.vr_types.specs.Fields.{IsBytes, two, four, two_at, four_at}

@@ -34,7 +34,7 @@ none-cut = record {
 pub All-none : {X : Type 0} (P : X → Type 0) → All P []
 All-none P i d below = absurd (omega (arith, below))
 
-All-one : {X : Type 0} (P : X → Type 0) (x : X) → P x → All P (x ∷ [])
+pub All-one : {X : Type 0} (P : X → Type 0) (x : X) → P x → All P (x ∷ [])
 All-one P x holds zero d below = holds
 All-one P x holds (suc k) d below = absurd (omega (arith, below))
 

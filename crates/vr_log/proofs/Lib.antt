@@ -1,3 +1,4 @@
+pub mod CallerLemmas
 pub mod Heads
 pub mod Images
 pub mod Leaving
@@ -21,3 +22,4 @@ pub mod Gathered
 pub mod BackRead
 pub mod Damages
 pub mod Settled
+pub mod Total

@@ -3,7 +3,8 @@ use Rattle.std.proofs.Common.{◌≡◌, inl, inr, ℕ, zero, suc, ◌+◌, ◌-
 use Rattle.std.proofs.Common.{◌∷◌, ◌++◌, length, take, drop, Option, Some, None, get_or}
 use Rattle.std.proofs.Common.{replicate, refl, sym, ap, subst, ◌∙◌, arith}
 use Rattle.std.proofs.lemmas.Bool.{cases_lt}
-use Rattle.std.proofs.lemmas.List.{append-nil, append_assoc, length-append, length-take, length-drop}
+use Rattle.std.proofs.lemmas.List.{append-nil, append_assoc, length-append, length-take}
+use Rattle.std.proofs.lemmas.List.{length-drop}
 use Rattle.std.proofs.lemmas.List.{length-replicate, take-append-drop, drop-drop}
 use Rattle.std.proofs.lemmas.List.{nil_from_length, get_or_append_left, get_or-take}
 use Rattle.std.proofs.lemmas.List.{replicate-append-replicate}
@@ -21,7 +22,7 @@ use Rattle.vr_log.proofs.Lives.{length-ended}
 
 -- ---- bytes
 
-IsBytes-append : (a b : List ℕ) → IsBytes a → IsBytes b → IsBytes (a ++ b)
+pub IsBytes-append : (a b : List ℕ) → IsBytes a → IsBytes b → IsBytes (a ++ b)
 IsBytes-append [] b fits under i = under i
 IsBytes-append (x ∷ a) b fits under zero = fits 0
 IsBytes-append (x ∷ a) b fits under (suc i) =

@@ -1,6 +1,6 @@
 -- A log that is made of what its blocks spell stands on them.
-use Rattle.std.proofs.Common.{◌≡◌, ◌⊎◌, inl, inr, ⊎_elim, ℕ, zero, suc, ◌+◌, ◌-◌, ◌*◌, ◌/◌, ◌<◌, ◌≤◌}
-use Rattle.std.proofs.Common.{Bool, true, false, List, [], ◌∷◌, ◌++◌, length, take, drop, Option, Some}
+use Rattle.std.proofs.Common.{◌≡◌, inl, inr, ⊎_elim, ℕ, zero, suc, ◌+◌, ◌-◌, ◌*◌, ◌/◌, ◌<◌, ◌≤◌}
+use Rattle.std.proofs.Common.{Bool, true, false, List, [], ◌++◌, length, take, drop, Some}
 use Rattle.std.proofs.Common.{None, min, max, nat_eq, nat_le, refl, sym, ap, subst, ◌∙◌, arith}
 use Rattle.std.proofs.Common.{All, eqb-true}
 use Rattle.std.proofs.Math.Nat.{mul-le-mul_right}
@@ -11,16 +11,15 @@ use Rattle.vr_types.specs.Fields.{AreZeros}
 use Rattle.vr_types.specs.Geometry.{IsAllowed}
 use Rattle.vr_types.specs.Image.{Block, Image, block_at}
 use Rattle.vr_types.specs.LogSpace.{log_size}
-use Rattle.vr_types.specs.Regions.{IsImageOn}
 use Rattle.vr_types.specs.Seen.{Seen}
 use Rattle.vr_types.specs.declared.geometry.Geometry.{Geometry}
 use Rattle.vr_log.specs.Content.{Content}
 use Rattle.vr_log.specs.Damage.{IsFull}
 use Rattle.vr_log.specs.Live.{live_in}
 use Rattle.vr_log.specs.LogBlock.{generation_in, index_in, used_in, payload_in, is_next, room_of}
-use Rattle.vr_log.specs.LogNow.{LogNow, IsOf, made, first_of, IsBehind}
+use Rattle.vr_log.specs.LogNow.{LogNow, IsOf, made, IsBehind}
 use Rattle.vr_log.specs.Records.{bytes_of, HasFields, SpellsRecords}
-use Rattle.vr_log.specs.Spells.{joined, bytes_from, log_bytes, Fits, Spells, SpellsNone, SpellsLog}
+use Rattle.vr_log.specs.Spells.{joined, bytes_from, log_bytes, Fits, Spells, SpellsNone}
 use Rattle.vr_log.specs.Standing.{InLog, place_of, IsExact, IsLeft, LogStands, open_index}
 use Rattle.vr_log.specs.Standing.{forced_length, IsSettled, EndsThere}
 use Rattle.vr_log.specs.declared.record.LogRecord.{LogRecord}
@@ -52,12 +51,12 @@ fits-same room generation index zero image other same fits = tt
 fits-same room generation index (suc left) image other same fits =
     let here = same index (omega arith) (omega arith) in
     λ next.
-        let has = fits (subst (λ (b : Block). is_next generation index b ≡ true) here next) in (
-          subst (λ (b : Block). used_in b ≤ room) (sym here) has.0,
-          λ full. fits-same room generation (index + 1) left image other
-              (λ i from to. same i (omega (arith, from)) (omega (arith, to)))
-              (has.1 (subst (λ (b : Block). used_in b ≡ room) here full)),
-        )
+    let has = fits (subst (λ (b : Block). is_next generation index b ≡ true) here next) in (
+      subst (λ (b : Block). used_in b ≤ room) (sym here) has.0,
+      λ full. fits-same room generation (index + 1) left image other
+          (λ i from to. same i (omega (arith, from)) (omega (arith, to)))
+          (has.1 (subst (λ (b : Block). used_in b ≡ room) here full)),
+    )
 
 pub spells-same : (geometry : Geometry) (image other : Image) (content : Content)
     → 1 ≤ geometry.log
@@ -267,7 +266,8 @@ module _ (geometry : Geometry) (content : Content) (seen : Seen) (allowed : IsAl
       let whole : (index + 1) * room ≤ 0 * room + length all =
       omega (arith, long, ap length has.records.spelled, length-append bytes cut) in
       let found = deep room g seen.cur index 0 geometry.log roomy
-      (λ i from to. omega (arith, sizes (1 + i) (in_log i (omega (arith, to))), log-room log allowed))
+      (λ i from to. omega
+      (arith, sizes (1 + i) (in_log i (omega (arith, to))), log-room log allowed))
       (omega arith) (omega (arith, below)) whole in
       let start : (index - 0) * room ≡ index * room =
       ap (λ (n : ℕ). n * room) (let z : index - 0 ≡ index = omega arith in z) in

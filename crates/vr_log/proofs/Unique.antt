@@ -23,8 +23,8 @@ use Rattle.vr_log.specs.declared.record.LogRecord.TheVariants.{Before, End}
 use Rattle.vr_log.specs.Records.{record_bytes, bytes_of, unit_bytes, old_bytes, end_number}
 use Rattle.vr_log.specs.Records.{HasFields, IsUnit, IsBefore, IsCut, SpellsRecords}
 
-pub two-both : (a b : ℕ) (x y : List ℕ) → a < 2 ^ 16 → b < 2 ^ 16 → two a ++ x ≡ two b ++ y → (a ≡ b)
-    × (x ≡ y)
+pub two-both : (a b : ℕ) (x y : List ℕ) → a < 2 ^ 16 → b < 2 ^ 16 → two a ++ x ≡ two b ++ y
+    → (a ≡ b) × (x ≡ y)
 two-both a b x y below under same = (
   sym (two_at-two a x below) ∙ ap (two_at 0) same ∙ two_at-two b y under,
   sym (drop-two a x) ∙ ap (λ (l : List ℕ). drop 2 l) same ∙ drop-two b y,

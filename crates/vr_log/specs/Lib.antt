@@ -12,3 +12,4 @@ pub mod Writing
 pub mod Damage
 pub mod Decoding
 pub mod Reading
+pub mod LogNo

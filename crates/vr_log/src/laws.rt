@@ -1,17 +1,18 @@
 //! Laws of a log, each the contract of a function that does nothing, and a block that is replaced
 //! under a log record.
 ghost use Rattle.std.specs.Prelude.{◌≡◌, ◌<◌, ◌≤◌, ◌+◌, ◌^◌, [], length, ℕ, List, IsTrue, false};
-ghost use Rattle.std.specs.Prelude.{OnOk};
+ghost use Rattle.std.specs.Prelude.{OnOk, slice_set, ◌⊎◌};
 ghost use Rattle.vr_types.specs.Faults.{HasWriteCause};
-ghost use Rattle.vr_types.specs.Fields.{AreZeros};
+ghost use Rattle.vr_types.specs.Fields.{AreZeros, IsBytes};
 ghost use Rattle.vr_types.specs.Geometry.{IsAllowed};
 ghost use Rattle.vr_types.specs.Image.{Image, block_at};
 ghost use Rattle.vr_types.specs.Moments.{Guards};
 ghost use Rattle.vr_types.specs.Regions.{Outside};
 ghost use Rattle.vr_types.specs.Seen.{Left, Only};
 ghost use Rattle.vr_log.specs.Damage.{IsDamagedAt};
-ghost use Rattle.vr_log.specs.Live.{live_in, EndsLive};
-ghost use Rattle.vr_log.specs.LogNow.{HasLog, IsForced, IsLogged, IsOf, made, restarted};
+ghost use Rattle.vr_log.specs.Live.{live_in, need_of, EndsLive};
+ghost use Rattle.vr_log.specs.LogNow.{HasLog, HasLogCause, IsForced, IsFullWhere, IsLogged};
+ghost use Rattle.vr_log.specs.LogNow.{IsOf, made, restarted};
 ghost use Rattle.vr_log.specs.Records.{HasLengths, SpellsRecords};
 ghost use Rattle.vr_log.specs.declared.record.LogRecord.{LogRecord as RecordOf};
 ghost use Rattle.vr_log.specs.Content.{Content};
@@ -43,6 +44,14 @@ pub fn damaged_blocks_spell_no_log()
     ensures { (geometry : GeometryOf) (image : Image) (content : Content) (n : ℕ)
         → 8 ≤ length (block_at image 1) → Spells geometry image content
         → IsDamagedAt geometry image n → ⊥ }
+{}
+
+/// Blocks of bytes spell a log, or are damaged at some block.
+pub fn blocks_spell_a_log_or_are_damaged()
+    ensures { (geometry : GeometryOf) (image : Image) → 1 ≤ geometry.log
+        → ((i : ℕ) → i < geometry.log → IsBytes (block_at image (1 + i)))
+        → ((content : Content) × Spells geometry image content)
+        ⊎ ((n : ℕ) × IsDamagedAt geometry image n) }
 {}
 
 /// One block at most is the first that is misspelled.
@@ -100,6 +109,9 @@ pub fn log_stands_while_others_put<B: Blocks>(
     requires whole { length bytes.now ≡ (B.seen blocks.old).size }
     requires stands { IsTrue B.tells → LogStands log.now (B.seen blocks.old) }
     ensures stands { IsTrue B.tells → LogStands log.now (B.seen blocks.new) }
+    ensures put { IsTrue B.tells → OnOk result
+        ((B.seen blocks.new).cur ≡ slice_set (B.seen blocks.old).cur home bytes.now) }
+    ensures cause { HasWriteCause (B.faults blocks.old) (B.faults blocks.new) result }
 {
     blocks.put(home, bytes)
 }
@@ -127,6 +139,8 @@ pub fn write_ahead<B: Blocks>(
         block ≡ block_at (B.seen blocks.old).cur home) }
     ensures any_moment { IsTrue B.tells → Guards (B.seen blocks.old) (B.seen blocks.new)
         (IsLogged log.old rec.now home (block_at (B.seen blocks.old).cur home)) }
+    ensures full { IsFullWhere log.old (need_of (live_in log.old.records) rec.now) result }
+    ensures cause { HasLogCause (B.faults blocks.old) (B.faults blocks.new) result }
 {
     log.append(blocks, rec)?;
     log.force(blocks)?;

@@ -28,9 +28,9 @@ mod writing;
 
 pub use content::LogContent;
 pub use laws::{
-    damaged_blocks_spell_no_log, each_image_has_the_log, fresh_log_stands,
-    log_stands_while_others_put, made_log_stands, one_damaged_block, one_list_of_records,
-    one_log_at_most, restarted_log_stands, write_ahead,
+    blocks_spell_a_log_or_are_damaged, damaged_blocks_spell_no_log, each_image_has_the_log,
+    fresh_log_stands, log_stands_while_others_put, made_log_stands, one_damaged_block,
+    one_list_of_records, one_log_at_most, restarted_log_stands, write_ahead,
 };
 pub use log::{UndoLog, undo_log};
 pub use no::LogNo;

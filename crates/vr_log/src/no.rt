@@ -1,4 +1,7 @@
 //! What the log answers where it can't do what was asked.
+ghost use Rattle.std.specs.Prelude.{◌≡◌};
+ghost use Rattle.vr_log.specs.LogNo.{no_of};
+
 use vr_types::DeviceFault;
 
 /// `Full`: the bytes in use and those that the record needs are more than the log has. `Write` and
@@ -11,6 +14,8 @@ pub enum LogNo {
 }
 
 impl From<DeviceFault> for LogNo {
+    ghost from_gives = { λ fault no. no ≡ no_of fault };
+
     fn from(fault: DeviceFault) -> LogNo {
         match fault {
             DeviceFault::Read => LogNo::Read,

@@ -8,4 +8,5 @@ returns-then-is_empty c = old-none c.args.bytes.now (grind (arith, common_steps)
 
 pub returns-in_default : goal.returns-in_default
 returns-in_default c =
-    no-flag c.args.bytes.now (grind (arith, common_steps)) (λ flag. let h = c.in_default in grind (arith, common_steps))
+    no-flag c.args.bytes.now (grind (arith, common_steps))
+    (λ flag. let h = c.in_default in grind (arith, common_steps))

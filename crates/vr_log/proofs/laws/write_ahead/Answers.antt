@@ -35,127 +35,121 @@ put-requires-clause-whole g c =
       c.force.ensures.keeps.size_same,
     )
 
-pub returns-in_err-force : goal.returns-in_err-force
-returns-in_err-force g c = record {
-  any_moment = λ told.
-      let B = g.B.Blocks in
-      let log = c.args.log.now in
-      let rec = c.args.rec.now in
-      let home = c.args.home in
-      let a = B.seen c.args.blocks.now in
-      let b = B.seen c.append.new.blocks in
-      let before = block_at a.cur home in
-      let P = IsLogged log rec home before in
-      let one = log_guards (InLog log.geometry) _ P home before a b c.requires.home
-      c.requires.outside (c.requires.settled told) (λ image is. inl is)
-      (c.append.ensures.moments told) in
-      let only = only_outside (InLog log.geometry) _ home before a b c.requires.home
-      c.requires.outside (c.requires.settled told) (c.append.ensures.moments told) in
-      let now = c.append.new.self in
-      let appended = c.in_ok-append.ensures.log in
-      let out : Outside (InLog now.geometry) home =
-      subst (λ (v : Geometry). Outside (InLog v) home) (sym appended.geometry)
-      c.requires.outside in
-      let inside : home < b.count =
-      omega (
-        arith,
-        c.requires.home,
-        c.requires.shape.count,
-        c.in_ok-append.ensures.shape.count,
-        ap (λ (v : Geometry). v.blocks) appended.geometry,
-      ) in
-      let last = B.seen c.force.new.blocks in
-      let two = log_guards (InLog now.geometry) _ P home before b last inside out only
-      (λ image is. inl is) (c.force.ensures.moments told) in
-      guards-then a b last P one two;
-}
+pub returns-in_err-force-clause-any_moment : goal.returns-in_err-force-clause-any_moment
+returns-in_err-force-clause-any_moment g c told =
+    let B = g.B.Blocks in
+    let log = c.args.log.now in
+    let rec = c.args.rec.now in
+    let home = c.args.home in
+    let a = B.seen c.args.blocks.now in
+    let b = B.seen c.append.new.blocks in
+    let before = block_at a.cur home in
+    let P = IsLogged log rec home before in
+    let one = log_guards (InLog log.geometry) _ P home before a b c.requires.home
+    c.requires.outside (c.requires.settled told) (λ image is. inl is)
+    (c.append.ensures.moments told) in
+    let only = only_outside (InLog log.geometry) _ home before a b c.requires.home
+    c.requires.outside (c.requires.settled told) (c.append.ensures.moments told) in
+    let now = c.append.new.self in
+    let appended = c.in_ok-append.ensures.log in
+    let out : Outside (InLog now.geometry) home =
+    subst (λ (v : Geometry). Outside (InLog v) home) (sym appended.geometry)
+    c.requires.outside in
+    let inside : home < b.count =
+    omega (
+      arith,
+      c.requires.home,
+      c.requires.shape.count,
+      c.in_ok-append.ensures.shape.count,
+      ap (λ (v : Geometry). v.blocks) appended.geometry,
+    ) in
+    let last = B.seen c.force.new.blocks in
+    let two = log_guards (InLog now.geometry) _ P home before b last inside out only
+    (λ image is. inl is) (c.force.ensures.moments told) in
+    guards-then a b last P one two
 
-pub returns-in_err-put : goal.returns-in_err-put
-returns-in_err-put g c = record {
-  any_moment = λ told.
-      let B = g.B.Blocks in
-      let log = c.args.log.now in
-      let rec = c.args.rec.now in
-      let home = c.args.home in
-      let a = B.seen c.args.blocks.now in
-      let b = B.seen c.append.new.blocks in
-      let before = block_at a.cur home in
-      let P = IsLogged log rec home before in
-      let one = log_guards (InLog log.geometry) _ P home before a b c.requires.home
-      c.requires.outside (c.requires.settled told) (λ image is. inl is)
-      (c.append.ensures.moments told) in
-      let only = only_outside (InLog log.geometry) _ home before a b c.requires.home
-      c.requires.outside (c.requires.settled told) (c.append.ensures.moments told) in
-      let now = c.append.new.self in
-      let appended = c.in_ok-append.ensures.log in
-      let out : Outside (InLog now.geometry) home =
-      subst (λ (v : Geometry). Outside (InLog v) home) (sym appended.geometry)
-      c.requires.outside in
-      let inside : home < b.count =
-      omega (
-        arith,
-        c.requires.home,
-        c.requires.shape.count,
-        c.in_ok-append.ensures.shape.count,
-        ap (λ (v : Geometry). v.blocks) appended.geometry,
-      ) in
-      let last = B.seen c.force.new.blocks in
-      let two = log_guards (InLog now.geometry) _ P home before b last inside out only
-      (λ image is. inl is) (c.force.ensures.moments told) in
-      let forced = c.force.new.self in
-      let path : forced ≡ forced_now now = c.in_ok-force.ensures.forced in
-      let apart : Outside (InLog forced.geometry) home =
-      subst (λ (v : Geometry). Outside (InLog v) home)
-      (sym (ap (λ (v : LogNow). v.geometry) path ∙ forced_geometry now)) out in
-      let three = put_guards B.tells forced P home c.args.bytes.now last (B.seen c.put.new.self)
-      told apart (c.in_ok-force.ensures.stands told)
-      (λ image has. inr
-      (has_record log now rec image appended (c.requires.stands told).forced
-      (subst (λ (v : LogNow). HasLog v image) path has))) c.put.ensures.after in
-      guards-then a last (B.seen c.put.new.self) P (guards-then a b last P one two) three;
-}
+pub returns-in_err-put-clause-any_moment : goal.returns-in_err-put-clause-any_moment
+returns-in_err-put-clause-any_moment g c told =
+    let B = g.B.Blocks in
+    let log = c.args.log.now in
+    let rec = c.args.rec.now in
+    let home = c.args.home in
+    let a = B.seen c.args.blocks.now in
+    let b = B.seen c.append.new.blocks in
+    let before = block_at a.cur home in
+    let P = IsLogged log rec home before in
+    let one = log_guards (InLog log.geometry) _ P home before a b c.requires.home
+    c.requires.outside (c.requires.settled told) (λ image is. inl is)
+    (c.append.ensures.moments told) in
+    let only = only_outside (InLog log.geometry) _ home before a b c.requires.home
+    c.requires.outside (c.requires.settled told) (c.append.ensures.moments told) in
+    let now = c.append.new.self in
+    let appended = c.in_ok-append.ensures.log in
+    let out : Outside (InLog now.geometry) home =
+    subst (λ (v : Geometry). Outside (InLog v) home) (sym appended.geometry)
+    c.requires.outside in
+    let inside : home < b.count =
+    omega (
+      arith,
+      c.requires.home,
+      c.requires.shape.count,
+      c.in_ok-append.ensures.shape.count,
+      ap (λ (v : Geometry). v.blocks) appended.geometry,
+    ) in
+    let last = B.seen c.force.new.blocks in
+    let two = log_guards (InLog now.geometry) _ P home before b last inside out only
+    (λ image is. inl is) (c.force.ensures.moments told) in
+    let forced = c.force.new.self in
+    let path : forced ≡ forced_now now = c.in_ok-force.ensures.forced in
+    let apart : Outside (InLog forced.geometry) home =
+    subst (λ (v : Geometry). Outside (InLog v) home)
+    (sym (ap (λ (v : LogNow). v.geometry) path ∙ forced_geometry now)) out in
+    let three = put_guards B.tells forced P home c.args.bytes.now last (B.seen c.put.new.self)
+    told apart (c.in_ok-force.ensures.stands told)
+    (λ image has. inr
+    (has_record log now rec image appended (c.requires.stands told).forced
+    (subst (λ (v : LogNow). HasLog v image) path has))) c.put.ensures.after in
+    guards-then a last (B.seen c.put.new.self) P (guards-then a b last P one two) three
 
-pub returns : goal.returns
-returns g c = record {
-  any_moment = λ told.
-      let B = g.B.Blocks in
-      let log = c.args.log.now in
-      let rec = c.args.rec.now in
-      let home = c.args.home in
-      let a = B.seen c.args.blocks.now in
-      let b = B.seen c.append.new.blocks in
-      let before = block_at a.cur home in
-      let P = IsLogged log rec home before in
-      let one = log_guards (InLog log.geometry) _ P home before a b c.requires.home
-      c.requires.outside (c.requires.settled told) (λ image is. inl is)
-      (c.append.ensures.moments told) in
-      let only = only_outside (InLog log.geometry) _ home before a b c.requires.home
-      c.requires.outside (c.requires.settled told) (c.append.ensures.moments told) in
-      let now = c.append.new.self in
-      let appended = c.in_ok-append.ensures.log in
-      let out : Outside (InLog now.geometry) home =
-      subst (λ (v : Geometry). Outside (InLog v) home) (sym appended.geometry)
-      c.requires.outside in
-      let inside : home < b.count =
-      omega (
-        arith,
-        c.requires.home,
-        c.requires.shape.count,
-        c.in_ok-append.ensures.shape.count,
-        ap (λ (v : Geometry). v.blocks) appended.geometry,
-      ) in
-      let last = B.seen c.force.new.blocks in
-      let two = log_guards (InLog now.geometry) _ P home before b last inside out only
-      (λ image is. inl is) (c.force.ensures.moments told) in
-      let forced = c.force.new.self in
-      let path : forced ≡ forced_now now = c.in_ok-force.ensures.forced in
-      let apart : Outside (InLog forced.geometry) home =
-      subst (λ (v : Geometry). Outside (InLog v) home)
-      (sym (ap (λ (v : LogNow). v.geometry) path ∙ forced_geometry now)) out in
-      let three = put_guards B.tells forced P home c.args.bytes.now last (B.seen c.put.new.self)
-      told apart (c.in_ok-force.ensures.stands told)
-      (λ image has. inr
-      (has_record log now rec image appended (c.requires.stands told).forced
-      (subst (λ (v : LogNow). HasLog v image) path has))) c.put.ensures.after in
-      guards-then a last (B.seen c.put.new.self) P (guards-then a b last P one two) three;
-}
+pub returns-clause-any_moment : goal.returns-clause-any_moment
+returns-clause-any_moment g c told =
+    let B = g.B.Blocks in
+    let log = c.args.log.now in
+    let rec = c.args.rec.now in
+    let home = c.args.home in
+    let a = B.seen c.args.blocks.now in
+    let b = B.seen c.append.new.blocks in
+    let before = block_at a.cur home in
+    let P = IsLogged log rec home before in
+    let one = log_guards (InLog log.geometry) _ P home before a b c.requires.home
+    c.requires.outside (c.requires.settled told) (λ image is. inl is)
+    (c.append.ensures.moments told) in
+    let only = only_outside (InLog log.geometry) _ home before a b c.requires.home
+    c.requires.outside (c.requires.settled told) (c.append.ensures.moments told) in
+    let now = c.append.new.self in
+    let appended = c.in_ok-append.ensures.log in
+    let out : Outside (InLog now.geometry) home =
+    subst (λ (v : Geometry). Outside (InLog v) home) (sym appended.geometry)
+    c.requires.outside in
+    let inside : home < b.count =
+    omega (
+      arith,
+      c.requires.home,
+      c.requires.shape.count,
+      c.in_ok-append.ensures.shape.count,
+      ap (λ (v : Geometry). v.blocks) appended.geometry,
+    ) in
+    let last = B.seen c.force.new.blocks in
+    let two = log_guards (InLog now.geometry) _ P home before b last inside out only
+    (λ image is. inl is) (c.force.ensures.moments told) in
+    let forced = c.force.new.self in
+    let path : forced ≡ forced_now now = c.in_ok-force.ensures.forced in
+    let apart : Outside (InLog forced.geometry) home =
+    subst (λ (v : Geometry). Outside (InLog v) home)
+    (sym (ap (λ (v : LogNow). v.geometry) path ∙ forced_geometry now)) out in
+    let three = put_guards B.tells forced P home c.args.bytes.now last (B.seen c.put.new.self)
+    told apart (c.in_ok-force.ensures.stands told)
+    (λ image has. inr
+    (has_record log now rec image appended (c.requires.stands told).forced
+    (subst (λ (v : LogNow). HasLog v image) path has))) c.put.ensures.after in
+    guards-then a last (B.seen c.put.new.self) P (guards-then a b last P one two) three

@@ -7,5 +7,5 @@ abbrev pub invariant-loop-rec : goal.invariant-loop-rec
 invariant-loop-rec l = record {
   bytes : l.bytes ≡ length (bytes_of (take l.rec-index l.records));
   units : l.live.units ≡ live_in (take l.rec-index l.records);
-  room : l.live.room ≡ l.fn.live.room
+  room : l.live.room ≡ l.fn.live.room;
 }
