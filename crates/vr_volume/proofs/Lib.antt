@@ -7,4 +7,5 @@ pub mod Images
 pub mod Befores
 pub mod LogCalls
 pub mod Endings
+pub mod Restarting
 pub mod Unique
