@@ -7,6 +7,8 @@ use Rattle.vr_history.specs.Legal.{AreSteps, state_of}
 use Rattle.vr_history.specs.Merged.{IsStamped, last_stamp}
 use Rattle.vr_history.specs.State.{State}
 use Rattle.vr_history.specs.Step.{Step, state_after}
+-- a unit is itself
+pub use Rattle.vr_history.proofs.Same.{unit_self}
 
 -- stamps rise on, where the new entry's is above the last
 pub stamped-append : (before : ℕ) (entries : List Entry) (entry : Entry) → IsStamped before entries

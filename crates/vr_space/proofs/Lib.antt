@@ -2,7 +2,13 @@ pub mod Ways
 pub mod Places
 pub mod KeyedContent
 pub mod KeyedSound
+pub mod UnderWay
+pub mod Searching
 pub mod Adding
 pub mod Composing
 pub mod Rising
+pub mod Rooms
+pub mod Keeping
+pub mod Framing
+pub mod Fewer
 pub mod CallerLemmas

@@ -3,5 +3,8 @@ pub mod Room
 pub mod Whence
 pub mod Keyed
 pub mod Split
+pub mod UnderWay
+pub mod Met
 pub mod Part
+pub mod Search
 pub mod Composed

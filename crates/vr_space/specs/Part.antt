@@ -1,9 +1,9 @@
 -- A part of a volume on its blocks: what they stand for, which items each place may hold in the
 -- images that a crash may leave, and what a call adds to that. The rules are this project's own.
 use Rattle.std.specs.Prelude.{◌≡◌, ◌≢◌, ◌⊎◌, ◌<◌, ◌≤◌, ◌+◌, ℕ, Bool, List, Option, Some, None}
-use Rattle.std.specs.Prelude.{Contains, length}
+use Rattle.std.specs.Prelude.{All, Contains, length}
 use Rattle.vr_types.specs.Content.{Content, record_at}
-use Rattle.vr_types.specs.Image.{Block, Image}
+use Rattle.vr_types.specs.Image.{Block, Image, block_at}
 use Rattle.vr_types.specs.Seen.{Seen}
 use Rattle.vr_types.specs.Regions.{Touches}
 use Rattle.vr_space.specs.Way.{Way, found_on, MayFind, MayOnceForced}
@@ -22,8 +22,10 @@ use Rattle.vr_space.specs.declared.room.Room.TheVariants.{Stage}
 use Rattle.vr_space.specs.Whence.{allows}
 use Rattle.vr_space.specs.Room.{Lengths, length_at}
 use Rattle.vr_space.specs.Split.{SplitNow, keyed_room, keyed_stage, keyed_fits}
+use Rattle.vr_space.specs.UnderWay.{KeyedUnderWay}
+use Rattle.vr_space.specs.Met.{Met, IsMet}
 use Rattle.vr_space.specs.Keyed.{Keyed, keyed_way, KeyedStandsFor, IsKeyedSound, IsKeyedAtRest}
-use Rattle.vr_space.specs.Keyed.{KeepsRoom, IsValid, key_of}
+use Rattle.vr_space.specs.Keyed.{KeepsRoom, HaveRooms, IsValid, entries_of, key_of}
 
 -- Where a part is on its blocks and how they are spelled, by its kind.
 pub data Shape : Type 0 where
@@ -80,6 +82,11 @@ IsAtRest (KeyedShape part) now = IsKeyedAtRest part now
 -- whatever a crash leaves of an interval, what is kept for its places has room beside it
 abbrev pub HasKeptRoom : Shape → Lengths → Seen → Type 0
 HasKeptRoom (KeyedShape part) kept now = KeepsRoom part kept now
+
+-- the same in one image
+abbrev pub HasRoom : Shape → Lengths → Image → Type 0
+HasRoom (KeyedShape part) kept image =
+    HaveRooms part kept image None (entries_of (block_at image part.head))
 
 -- the record that is read at a place
 abbrev pub item_of : Shape → Image → List ℕ → Option (List ℕ)
@@ -159,6 +166,20 @@ fits_at (KeyedShape part) image kept place n = keyed_fits part image kept place 
 -- the stage of a split under way that comes before any change at the place
 abbrev pub stage_of : Shape → Option SplitNow → Image → List ℕ → Option StageKind
 stage_of (KeyedShape part) split image place = keyed_stage part split image place
+
+-- the blocks are as the split under way left them
+abbrev pub IsUnderWay : Shape → Option SplitNow → Seen → Type 0
+IsUnderWay (KeyedShape part) split now = KeyedUnderWay part split now
+
+-- the blocks that were met are as they were
+abbrev pub AreMet : Shape → List Met → Image → Type 0
+AreMet (KeyedShape part) met image = All (IsMet part image) met
+
+-- The blocks are as the part knows them: by its split under way, and those that it met.
+pub record Knows (shape : Shape) (split : Option SplitNow) (met : List Met) (now : Seen) : Type 0
+  where
+    pub way : IsUnderWay shape split now
+    pub blocks : AreMet shape met now.cur
 
 -- a stage comes before such a record
 abbrev pub IsStageDue : Shape → Option SplitNow → Image → ℕ → Lengths → List ℕ → ℕ → Type 0

@@ -14,10 +14,11 @@ use Rattle.vr_space.specs.Room.{Lengths, Range, with_length, have_room}
 use Rattle.vr_space.specs.Keyed.{Keyed, entries_of, entry_block, entry_for, lengths_of}
 
 -- A split of a control interval under way: the interval that is cut, the free one that gets the
--- upper records, and the stage that is next.
+-- upper records, the greatest place that stays below the cut, and the stage that is next.
 pub record SplitNow : Type 0 where
   pub old : ℕ
   pub into : ℕ
+  pub cut : List ℕ
   pub stage : StageKind
 
 -- the least number from n on, of so many, that isn't among these

@@ -11,6 +11,7 @@ ghost use Rattle.vr_space.specs.Part.{
   IsAtRest,
   HasKeptRoom,
   IsLengthOf,
+  Knows,
   AddsTo,
   Just,
   Nothing,
@@ -51,6 +52,8 @@ fn ask<B: Blocks, P: Part, K: Kept>(
     requires place { IsPlaceOf (P.shape part.old) place.now }
     requires length { IsLengthOf (P.shape part.old) length }
     requires rests { IsTrue B.tells → IsAtRest (P.shape part.old) (B.seen blocks.old) }
+    requires knows { IsTrue B.tells → Knows (P.shape part.old) (P.split part.old)
+        (P.met part.old) (B.seen blocks.old) }
     requires room { IsTrue B.tells → HasKeptRoom (P.shape part.old)
         (K.kept kept.now (part_no (P.shape part.old))) (B.seen blocks.old) }
     ensures answer { IsTrue B.tells → IfOk result (λ room. room
@@ -63,6 +66,8 @@ fn ask<B: Blocks, P: Part, K: Kept>(
     ensures due { IsTrue B.tells → DueMore (P.shape part.old) []
         (B.seen blocks.old) (B.seen blocks.new) }
     ensures rests { IsTrue B.tells → IsAtRest (P.shape part.old) (B.seen blocks.new) }
+    ensures knows { IsTrue B.tells → Knows (P.shape part.new) (P.split part.new)
+        (P.met part.new) (B.seen blocks.new) }
     ensures room { IsTrue B.tells → HasKeptRoom (P.shape part.old)
         (K.kept kept.now (part_no (P.shape part.old))) (B.seen blocks.new) }
     ensures count { (B.seen blocks.new).count ≡ (B.seen blocks.old).count }
@@ -89,6 +94,8 @@ pub fn take_turn<B: Blocks, P: Part, K: Kept>(
     requires record { IsRecordOf (P.shape part.old) place.now bytes.now }
     requires short { length bytes.now < 2 ^ 32 }
     requires rests { IsTrue B.tells → IsAtRest (P.shape part.old) (B.seen blocks.old) }
+    requires knows { IsTrue B.tells → Knows (P.shape part.old) (P.split part.old)
+        (P.met part.old) (B.seen blocks.old) }
     requires room { IsTrue B.tells → HasKeptRoom (P.shape part.old)
         (K.kept kept.now (part_no (P.shape part.old))) (B.seen blocks.old) }
     ensures adds { IsTrue B.tells → AddsTo (P.shape part.old) (Just place.now (Some bytes.now))
@@ -99,6 +106,8 @@ pub fn take_turn<B: Blocks, P: Part, K: Kept>(
         → All (InPart (P.shape part.old)) (P.put part.new)) }
     ensures rests { IsTrue B.tells → OnOk result
         (IsAtRest (P.shape part.old) (B.seen blocks.new)) }
+    ensures knows { IsTrue B.tells → OnOk result (Knows (P.shape part.old) (P.split part.new)
+        (P.met part.new) (B.seen blocks.new)) }
     ensures room { IsTrue B.tells → HasKeptRoom (P.shape part.old)
         (K.kept kept.now (part_no (P.shape part.old))) (B.seen blocks.new) }
     ensures count { (B.seen blocks.new).count ≡ (B.seen blocks.old).count }
@@ -135,6 +144,8 @@ pub fn set_after_stages<B: Blocks, P: Part, K: Kept>(
     requires record { IsRecordOf (P.shape part.old) place.now bytes.now }
     requires short { length bytes.now < 2 ^ 32 }
     requires rests { IsTrue B.tells → IsAtRest (P.shape part.old) (B.seen blocks.old) }
+    requires knows { IsTrue B.tells → Knows (P.shape part.old) (P.split part.old)
+        (P.met part.old) (B.seen blocks.old) }
     requires room { IsTrue B.tells → HasKeptRoom (P.shape part.old)
         (K.kept kept.now (part_no (P.shape part.old))) (B.seen blocks.old) }
     ensures adds { IsTrue B.tells → AddsTo (P.shape part.old) (Just place.now (Some bytes.now))
@@ -145,6 +156,8 @@ pub fn set_after_stages<B: Blocks, P: Part, K: Kept>(
         → All (InPart (P.shape part.old)) (P.put part.new)) }
     ensures rests { IsTrue B.tells → OnOk result
         (IsAtRest (P.shape part.old) (B.seen blocks.new)) }
+    ensures knows { IsTrue B.tells → OnOk result (Knows (P.shape part.old) (P.split part.new)
+        (P.met part.new) (B.seen blocks.new)) }
     ensures room { IsTrue B.tells → HasKeptRoom (P.shape part.old)
         (K.kept kept.now (part_no (P.shape part.old))) (B.seen blocks.new) }
     ensures count { (B.seen blocks.new).count ≡ (B.seen blocks.old).count }

@@ -1,8 +1,12 @@
 //! Laws of what blocks stand for.
-ghost use Rattle.std.specs.Prelude.{◌≡◌, ℕ, List};
+ghost use Rattle.std.specs.Prelude.{◌≡◌, ◌≤◌, ℕ, List, Option, Some, length};
 ghost use Rattle.vr_types.specs.Content.{Content, IsContent, record_at};
 ghost use Rattle.vr_types.specs.Image.{Image};
-ghost use Rattle.vr_space.specs.Part.{Shape, StandsFor, item_of};
+ghost use Rattle.vr_space.specs.Part.{Shape, StandsFor, HasKeptRoom, IsPlaceOf, IsSound, MayHold};
+ghost use Rattle.vr_space.specs.Part.{item_of};
+ghost use Rattle.vr_space.specs.Room.{Lengths, with_length};
+
+use vr_types::Blocks;
 
 /// Blocks stand for one content at most.
 #[tactic(auto, using(crate::proofs::Rising::one_content))]
@@ -20,4 +24,14 @@ pub fn content_is_read()
     ensures read { (shape : Shape) (image : Image) (content : Content)
         → StandsFor shape image content
         → (place : List ℕ) → record_at content place ≡ item_of shape image place }
+{}
+
+/// The record of a place may be kept beside it, where a crash leaves no shorter one there: it takes
+/// no room.
+pub fn kept_takes_no_room<B: Blocks>(blocks: &B)
+    ensures { (shape : Shape) (kept : Lengths) (place : List ℕ) (n : ℕ) → IsPlaceOf shape place
+        → IsSound shape (B.seen blocks.now) → HasKeptRoom shape kept (B.seen blocks.now)
+        → ((item : Option (List ℕ)) → MayHold shape (B.seen blocks.now).may place item
+        → (bytes : List ℕ) × (item ≡ Some bytes) × (n ≤ length bytes))
+        → HasKeptRoom shape (with_length kept place n) (B.seen blocks.now) }
 {}

@@ -9,15 +9,19 @@
 mod composed;
 mod kept;
 mod laws;
+mod layout;
 mod pair;
 mod part;
 mod room;
+mod search;
 mod whence;
 
 pub use composed::{Turn, set_after_stages, take_turn};
 pub use kept::{Kept, NoneKept};
-pub use laws::{content_is_read, one_content};
+pub use laws::{content_is_read, kept_takes_no_room, one_content};
+pub use layout::Layout;
 pub use pair::{NewRecord, set_pair};
 pub use part::Part;
 pub use room::Room;
+pub use search::{FoundEntry, count_up_to, entry_for, record_at};
 pub use whence::Whence;

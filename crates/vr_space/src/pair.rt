@@ -13,6 +13,7 @@ ghost use Rattle.vr_space.specs.Part.{
   IsPlaceOf,
   IsRecordOf,
   IsAtRest,
+  Knows,
   HasKeptRoom,
   HasOnly,
   AddsTo,
@@ -72,6 +73,8 @@ fn set_both<B: Blocks, P: Part, K: Kept>(
         × IsRecordOf (P.shape part.old) other.place.now other.bytes.now }
     requires short { (length one.bytes.now < 2 ^ 32) × (length other.bytes.now < 2 ^ 32) }
     requires rests { IsTrue B.tells → IsAtRest (P.shape part.old) (B.seen blocks.old) }
+    requires knows { IsTrue B.tells → Knows (P.shape part.old) (P.split part.old)
+        (P.met part.old) (B.seen blocks.old) }
     requires room { IsTrue B.tells → HasKeptRoom (P.shape part.old)
         (K.kept kept.now (part_no (P.shape part.old))) (B.seen blocks.old) }
     ensures adds { IsTrue B.tells → AddsTo (P.shape part.old)
@@ -85,6 +88,8 @@ fn set_both<B: Blocks, P: Part, K: Kept>(
         × All (InPart (P.shape part.old)) (P.put part.new))) }
     ensures rests { IsTrue B.tells → OnOk result
         (IsAtRest (P.shape part.old) (B.seen blocks.new)) }
+    ensures knows { IsTrue B.tells → OnOk result (Knows (P.shape part.old) (P.split part.new)
+        (P.met part.new) (B.seen blocks.new)) }
     ensures count { (B.seen blocks.new).count ≡ (B.seen blocks.old).count }
     ensures size { (B.seen blocks.new).size ≡ (B.seen blocks.old).size }
     ensures cause { HasCause (B.faults blocks.old) (B.faults blocks.new) result }
@@ -129,6 +134,8 @@ pub fn set_pair<B: Blocks, P: Part, K: Kept>(
         × IsRecordOf (P.shape part.old) other.place.now other.bytes.now }
     requires short { (length one.bytes.now < 2 ^ 32) × (length other.bytes.now < 2 ^ 32) }
     requires rests { IsTrue B.tells → IsAtRest (P.shape part.old) (B.seen blocks.old) }
+    requires knows { IsTrue B.tells → Knows (P.shape part.old) (P.split part.old)
+        (P.met part.old) (B.seen blocks.old) }
     requires room { IsTrue B.tells → HasKeptRoom (P.shape part.old)
         (K.kept kept.now (part_no (P.shape part.old))) (B.seen blocks.old) }
     requires firm { IsTrue B.tells → AllFirm (P.shape part.old) (B.seen blocks.old) }
@@ -146,6 +153,8 @@ pub fn set_pair<B: Blocks, P: Part, K: Kept>(
         → HasOnly (P.shape part.old) (AsRead (P.shape part.old) (B.seen blocks.new).cur) image) }
     ensures rests { IsTrue B.tells → OnOk result
         (IsAtRest (P.shape part.old) (B.seen blocks.new)) }
+    ensures knows { IsTrue B.tells → OnOk result (Knows (P.shape part.old) (P.split part.new)
+        (P.met part.new) (B.seen blocks.new)) }
     ensures cause { HasCause (B.faults blocks.old) (B.faults blocks.new) result }
     ensures shape { P.shape part.new ≡ P.shape part.old }
 {

@@ -1,13 +1,16 @@
 //! The contract of every part of a volume.
 ghost use Rattle.std.specs.Prelude.{◌≡◌, ◌≤◌, ℕ, List, Option, [], None, Some, IsTrue, length};
-ghost use Rattle.std.specs.Prelude.{IfOk, OnOk, MatchOption, All};
+ghost use Rattle.std.specs.Prelude.{IfOk, OnOk, IfErr, OnErr, MatchOption, All};
 ghost use Rattle.std.specs.Borrow.{sem};
 ghost use Rattle.std.specs.Io.BufRead.{Rests};
 ghost use Rattle.vr_types.specs.Blocks.{Keeps};
 ghost use Rattle.vr_types.specs.Faults.{HasCause};
+ghost use Rattle.vr_types.specs.Regions.{Touches};
 ghost use Rattle.vr_types.specs.Space.{free_count};
+ghost use Rattle.vr_types.specs.declared.fault.DeviceFault.TheVariants.{Read, Write};
 ghost use Rattle.vr_types.specs.declared.unit.StageKind.{StageKind};
 ghost use Rattle.vr_space.specs.declared.room.Room.TheVariants as answers;
+ghost use Rattle.vr_space.specs.Met.{Met, HasMet, places_met, met_next};
 ghost use Rattle.vr_space.specs.Split.{SplitNow};
 ghost use Rattle.vr_space.specs.Part.{
   Shape,
@@ -23,7 +26,9 @@ ghost use Rattle.vr_space.specs.Part.{
   Stands,
   IsAtRest,
   HasKeptRoom,
+  HasRoom,
   IsStageDue,
+  Knows,
   OwnersAfter,
   CanSet,
   given,
@@ -51,6 +56,9 @@ pub trait Part {
     /// The split that is under way.
     ghost split: { Self → Option SplitNow };
 
+    /// What it keeps of the blocks that its last two calls of `room` met, the last one first.
+    ghost met: { Self → List Met };
+
     /// The blocks that the last `set` put.
     ghost put: { Self → List ℕ };
 
@@ -68,6 +76,7 @@ pub trait Part {
             (λ s. item_of (shape part.old) (B.seen blocks.old).cur place.now ≡ Some s.now)) }
         ensures shape { shape part.new ≡ shape part.old }
         ensures split { split part.new ≡ split part.old }
+        ensures met { met part.new ≡ met part.old }
         ensures put { put part.new ≡ put part.old }
         ensures* after { sem 𝓛 (Rests B.row blocks.entry (λ new.
             Keeps B.tells (B.seen blocks.old) (B.seen new)
@@ -90,10 +99,11 @@ pub trait Part {
         ensures cause { HasCause (B.faults blocks.old) (B.faults blocks.new) result }
         ensures shape { shape self.new ≡ shape self.old }
         ensures split { split self.new ≡ split self.old }
+        ensures met { met self.new ≡ met self.old }
         ensures put { put self.new ≡ put self.old };
 
     /// Whether a record of this length has room at the place, beside what stands there and what is
-    /// kept.
+    /// kept. The part keeps what it met, so that `set` at the place reads nothing.
     fn room<B: Blocks, K: Kept>(
         &mut self,
         blocks: &mut B,
@@ -106,9 +116,17 @@ pub trait Part {
         requires place { IsPlaceOf (shape self.old) place.now }
         requires length { IsLengthOf (shape self.old) length }
         requires stands { IsTrue B.tells → Stands (shape self.old) (B.seen blocks.old).cur }
+        requires room { IsTrue B.tells → HasKeptRoom (shape self.old)
+            (K.kept kept.now (part_no (shape self.old))) (B.seen blocks.old) }
+        requires knows { IsTrue B.tells → Knows (shape self.old) (split self.old) (met self.old)
+            (B.seen blocks.old) }
         ensures answer { IsTrue B.tells → IfOk result (λ room. room
             ≡ room_of (shape self.old) (split self.old) (B.seen blocks.old).cur
             (free_count space.now) (K.kept kept.now (part_no (shape self.old))) place.now length) }
+        ensures knows { IsTrue B.tells → Knows (shape self.old) (split self.old) (met self.new)
+            (B.seen blocks.new) }
+        ensures met { OnOk result
+            (places_met (met self.new) ≡ met_next (places_met (met self.old)) place.now) }
         ensures keeps { Keeps B.tells (B.seen blocks.old) (B.seen blocks.new) }
         ensures cause { HasCause (B.faults blocks.old) (B.faults blocks.new) result }
         ensures shape { shape self.new ≡ shape self.old }
@@ -131,6 +149,8 @@ pub trait Part {
         requires rests { IsTrue B.tells → IsAtRest (shape self.old) (B.seen blocks.old) }
         requires room { IsTrue B.tells → HasKeptRoom (shape self.old)
             (K.kept kept.now (part_no (shape self.old))) (B.seen blocks.old) }
+        requires knows { IsTrue B.tells → Knows (shape self.old) (split self.old) (met self.old)
+            (B.seen blocks.old) }
         requires due { IsTrue B.tells → IsStageDue (shape self.old) (split self.old)
             (B.seen blocks.old).cur (free_count space.old)
             (K.kept kept.now (part_no (shape self.old))) place.now length }
@@ -150,6 +170,17 @@ pub trait Part {
             (IsAtRest (shape self.old) (B.seen blocks.new)) }
         ensures room { IsTrue B.tells → HasKeptRoom (shape self.old)
             (K.kept kept.now (part_no (shape self.old))) (B.seen blocks.new) }
+        ensures rooms { IsTrue B.tells → Touches (InPart (shape self.old))
+            (HasRoom (shape self.old) (K.kept kept.now (part_no (shape self.old))))
+            (B.seen blocks.old) (B.seen blocks.new) }
+        ensures knows { IsTrue B.tells → OnOk result
+            (Knows (shape self.old) (split self.new) (met self.new) (B.seen blocks.new)) }
+        ensures split { OnErr result (split self.new ≡ split self.old) }
+        // It reads before it puts.
+        ensures unread { IfErr result (λ fault. fault ≡ Read
+            → Keeps B.tells (B.seen blocks.old) (B.seen blocks.new)
+            × (IsTrue B.tells → Knows (shape self.old) (split self.old) (met self.new)
+            (B.seen blocks.new))) }
         ensures count { (B.seen blocks.new).count ≡ (B.seen blocks.old).count }
         ensures size { (B.seen blocks.new).size ≡ (B.seen blocks.old).size }
         ensures cause { HasCause (B.faults blocks.old) (B.faults blocks.new) result }
@@ -169,6 +200,8 @@ pub trait Part {
         requires rests { IsTrue B.tells → IsAtRest (shape self.old) (B.seen blocks.old) }
         requires room { IsTrue B.tells → HasKeptRoom (shape self.old)
             (K.kept kept.now (part_no (shape self.old))) (B.seen blocks.old) }
+        requires knows { IsTrue B.tells → Knows (shape self.old) (split self.old) (met self.old)
+            (B.seen blocks.old) }
         requires can { IsTrue B.tells → CanSet (shape self.old) (split self.old)
             (B.seen blocks.old).cur (K.kept kept.now (part_no (shape self.old))) place.now
             (given bytes) }
@@ -184,6 +217,20 @@ pub trait Part {
             (IsAtRest (shape self.old) (B.seen blocks.new)) }
         ensures room { IsTrue B.tells → HasKeptRoom (shape self.old)
             (K.kept kept.now (part_no (shape self.old))) (B.seen blocks.new) }
+        ensures rooms { IsTrue B.tells → Touches (InPart (shape self.old))
+            (HasRoom (shape self.old) (K.kept kept.now (part_no (shape self.old))))
+            (B.seen blocks.old) (B.seen blocks.new) }
+        ensures knows { IsTrue B.tells → OnOk result
+            (Knows (shape self.old) (split self.old) (met self.new) (B.seen blocks.new)) }
+        // Where `room` met the place it reads nothing, and what it met elsewhere stays.
+        ensures met { HasMet (met self.old) place.now → OnOk result
+            (places_met (met self.new) ≡ places_met (met self.old)) }
+        ensures reads { HasMet (met self.old) place.now → IfErr result (λ fault. fault ≡ Write) }
+        // It reads before it puts.
+        ensures unread { IfErr result (λ fault. fault ≡ Read
+            → Keeps B.tells (B.seen blocks.old) (B.seen blocks.new)
+            × (IsTrue B.tells → Knows (shape self.old) (split self.old) (met self.new)
+            (B.seen blocks.new))) }
         ensures count { (B.seen blocks.new).count ≡ (B.seen blocks.old).count }
         ensures size { (B.seen blocks.new).size ≡ (B.seen blocks.old).size }
         ensures cause { HasCause (B.faults blocks.old) (B.faults blocks.new) result }

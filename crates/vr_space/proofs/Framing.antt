@@ -1,0 +1,135 @@
+-- What a part keeps while others put: what rests on its own blocks alone.
+use Rattle.std.proofs.Common.{◌≡◌, ◌≢◌, ⊎_elim, inl, inr, ◌<◌, ◌+◌, ℕ, Bool, IsTrue, List, Option}
+use Rattle.std.proofs.Common.{Some}
+use Rattle.std.proofs.Common.{None, refl, sym, ap, subst, ◌∙◌, arith, length}
+use Rattle.std.specs.Prelude.{All}
+use Rattle.std.proofs.lemmas.List.Elements.{All-weaker}
+use Rattle.vr_types.specs.Image.{Block, Image, block_at}
+use Rattle.vr_types.specs.Seen.{Left, Seen}
+use Rattle.vr_types.specs.declared.unit.StageKind.{StageKind}
+use Rattle.vr_seqset.specs.Entry.{Entry}
+use Rattle.vr_space.specs.Keyed.{IsHead, Keyed, entries_of, entry_block, entry_for}
+use Rattle.vr_space.specs.Met.{IsMet, Met}
+use Rattle.vr_space.specs.Part.{CanSet, HasKeptRoom, HasRoomFor, InPart, IsAtRest, IsOn, IsSound}
+use Rattle.vr_space.specs.Part.{KeyedShape, Knows, Shape, fits_at, stage_of}
+use Rattle.vr_types.specs.Content.{record_at}
+use Rattle.vr_space.specs.Keyed.{records_of, way_in, way_under}
+use Rattle.vr_space.specs.Part.{SameRecords}
+use Rattle.vr_space.specs.Way.{found_on}
+use Rattle.vr_space.specs.Room.{Lengths, Range}
+use Rattle.vr_space.specs.Split.{SplitNow, fits_in, keyed_fits, stage_in}
+use Rattle.vr_space.proofs.KeyedSound.{IsBlock, each-less, head-in, keyed-less}
+use Rattle.vr_space.proofs.UnderWay.{found-in, met-stays, way-stays}
+
+-- the part's blocks have what they had, and a crash may leave no more of them
+pub record StaysPart (shape : Shape) (a b : Seen) : Type 0 where
+  pub count : b.count ≡ a.count
+  pub size : b.size ≡ a.size
+  pub same : (n : ℕ) → InPart shape n → block_at b.cur n ≡ block_at a.cur n
+  pub fewer : (n : ℕ) (block : Block) → n < a.count → InPart shape n → b.may n block
+      → a.may n block
+
+module _ (a b : Seen) where
+  pub rest-stays : (shape : Shape) → StaysPart shape a b → IsAtRest shape a → IsAtRest shape b
+  rest-stays (KeyedShape part) stays rests =
+      let less : (n : ℕ) (block : Block) → IsBlock part a n → b.may n block → a.may n block =
+      λ n block is. stays.fewer n block is.0 is.1 in
+      record {
+        sound = keyed-less part a b stays.count stays.size less rests.sound;
+        one_head = λ top may. rests.one_head top
+            (less part.head top (omega (arith, rests.sound.area), (omega arith, omega arith)) may)
+            ∙ sym (stays.same part.head (omega arith, omega arith));
+      }
+
+  pub room-stays : (shape : Shape) (kept : Lengths) → StaysPart shape a b → IsSound shape a
+      → HasKeptRoom shape kept a → HasKeptRoom shape kept b
+  room-stays (KeyedShape part) kept stays sound room =
+      let less : (n : ℕ) (block : Block) → IsBlock part a n → b.may n block → a.may n block =
+      λ n block is. stays.fewer n block is.0 is.1 in
+      record {
+        places = room.places;
+        each = λ top may.
+            let before : a.may part.head top =
+            less part.head top (omega (arith, sound.area), (omega arith, omega arith)) may in
+            each-less part a b _ None (entries_of top) less sound.area
+            (head-in part top (sound.heads top before)) (room.each top before);
+      }
+
+  pub knows-stays : (shape : Shape) (split : Option SplitNow) (met : List Met)
+      → StaysPart shape a b → IsSound shape a → Left a a.cur → Knows shape split met a
+      → Knows shape split met b
+  knows-stays (KeyedShape part) split met stays sound left knows = record {
+    way = way-stays part split a b sound left
+        (λ now some n block named. record {
+          cur = stays.same n block.1;
+          less = λ bytes may. stays.fewer n bytes block.0 block.1 may;
+        }) knows.way;
+    blocks = All-weaker (IsMet part a.cur) (IsMet part b.cur)
+        (λ one is. met-stays part a.cur b.cur one
+        (sound.heads _ (left.each part.head (omega (arith, sound.area))))
+        (stays.same part.head (omega arith, omega arith))
+        (λ inside. stays.same one.number inside) is) met knows.blocks;
+  }
+
+  -- the record that fits where the interval is as it was
+  fits-stays : (part : Keyed) (kept : Lengths) (place : List ℕ) (n : ℕ)
+      → StaysPart (KeyedShape part) a b → (found : Option (Range × Entry))
+      → ((at : Range × Entry) → found ≡ Some at → InPart (KeyedShape part) (entry_block part at.1))
+      → fits_in part b.cur kept place n found ≡ fits_in part a.cur kept place n found
+  fits-stays part kept place n stays None inside = refl
+  fits-stays part kept place n stays (Some at) inside =
+      ap (λ (block : Block). Rattle.vr_space.specs.Room.have_room part.size
+      (Rattle.vr_space.specs.Room.with_length
+      (Rattle.vr_space.specs.Keyed.lengths_of part kept at.0 block) place n))
+      (stays.same (entry_block part at.1) (inside at refl))
+
+  fits-same : (part : Keyed) (kept : Lengths) (place : List ℕ) (n : ℕ)
+      → StaysPart (KeyedShape part) a b → IsHead part (block_at a.cur part.head)
+      → keyed_fits part b.cur kept place n ≡ keyed_fits part a.cur kept place n
+  fits-same part kept place n stays head =
+      ap (λ (top : Block). fits_in part b.cur kept place n (entry_for None (entries_of top) place))
+      (stays.same part.head (omega arith, omega arith))
+      ∙ fits-stays part kept place n stays
+      (entry_for None (entries_of (block_at a.cur part.head)) place)
+      (λ at is. let below = found-in part (block_at a.cur part.head) place at head is in
+      (omega arith, omega (arith, below)))
+
+  room-for : (part : Keyed) (kept : Lengths) (place : List ℕ) (item : Option (List ℕ))
+      → StaysPart (KeyedShape part) a b → IsHead part (block_at a.cur part.head)
+      → HasRoomFor (KeyedShape part) a.cur kept place item
+      → HasRoomFor (KeyedShape part) b.cur kept place item
+  room-for part kept place None stays head has = tt
+  room-for part kept place (Some bytes) stays head has = ⊎_elim
+      (λ fits. inl (subst IsTrue (sym (fits-same part kept place (length bytes) stays head)) fits))
+      (λ kept-there. inr kept-there) has
+
+  pub can-stays : (shape : Shape) (split : Option SplitNow) (kept : Lengths) (place : List ℕ)
+      (item : Option (List ℕ)) → StaysPart shape a b → IsSound shape a → Left a a.cur
+      → CanSet shape split a.cur kept place item → CanSet shape split b.cur kept place item
+  can-stays (KeyedShape part) split kept place item stays sound left can = record {
+    no_stage = ap (λ (top : Block). stage_in split (entry_for None (entries_of top) place))
+        (stays.same part.head (omega arith, omega arith)) ∙ can.no_stage;
+    room = room-for part kept place item stays
+        (sound.heads _ (left.each part.head (omega (arith, sound.area)))) can.room;
+  }
+
+  -- each place has the record that it had
+  way-same : (part : Keyed) (place : List ℕ) → StaysPart (KeyedShape part) a b
+      → (found : Option (Range × Entry))
+      → ((at : Range × Entry) → found ≡ Some at → InPart (KeyedShape part) (entry_block part at.1))
+      → found_on b.cur (way_in part place found) ≡ found_on a.cur (way_in part place found)
+  way-same part place stays None inside = refl
+  way-same part place stays (Some at) inside =
+      ap (λ (block : Block). record_at (records_of part block) place)
+      (stays.same (entry_block part at.1) (inside at refl))
+
+  pub same-stays : (shape : Shape) → StaysPart shape a b → IsSound shape a → Left a a.cur
+      → SameRecords shape a.cur b.cur
+  same-stays (KeyedShape part) stays sound left place =
+      let head : IsHead part (block_at a.cur part.head) =
+      sound.heads _ (left.each part.head (omega (arith, sound.area))) in
+      ap (λ (top : Block). found_on b.cur (way_under part place top))
+      (stays.same part.head (omega arith, omega arith))
+      ∙ way-same part place stays (entry_for None (entries_of (block_at a.cur part.head)) place)
+      (λ at is. let below = found-in part (block_at a.cur part.head) place at head is in
+      (omega arith, omega (arith, below)))

@@ -1,0 +1,333 @@
+-- What calls leave of a safe volume: those that put nothing, and those of a part.
+use Rattle.std.proofs.Common.{◌≡◌, ◌≢◌, ◌⊎◌, inl, inr, ⊎_elim, ◌<◌, ℕ, Bool, IsTrue, List}
+use Rattle.std.proofs.Common.{Option, Some, None, sym, subst, ◌∙◌, arith}
+use Rattle.std.proofs.lemmas.Bool.{cases_lt}
+use Rattle.vr_types.specs.Blocks.{Keeps}
+use Rattle.vr_types.specs.Content.{Content}
+use Rattle.vr_types.specs.Image.{Block, Image, block_at}
+use Rattle.vr_types.specs.Moments.{Guards}
+use Rattle.vr_types.specs.Regions.{IsImageOn, Outside, Touches}
+use Rattle.vr_types.specs.Seen.{Left, Seen}
+use Rattle.vr_types.specs.declared.geometry.Geometry.{Geometry}
+use Rattle.vr_types.proofs.CallerLemmas.{during-weaken}
+use Rattle.vr_space.specs.Keyed.{entries_of, keyed_way}
+use Rattle.vr_space.specs.Part.{AddsTo, HasKeptRoom, HasOnly, HasRoom, InPart, IsSound, KeyedShape}
+use Rattle.vr_space.specs.Part.{Just, MayAlsoHold, Nothing, Shape}
+use Rattle.vr_space.specs.Room.{Lengths}
+use Rattle.vr_space.proofs.CallerLemmas.{each-less, find-more, head-in, IsBlock, keyed-less}
+use Rattle.vr_space.proofs.CallerLemmas.{StaysPart}
+use Rattle.vr_space.proofs.CallerLemmas.{keyed-within, only-weaken, within-less}
+use Rattle.vr_history.specs.State.{BeforeImage}
+use Rattle.vr_log.specs.Content.{Content as LogContent}
+use Rattle.vr_log.specs.LogNow.{HasLog, IsLogOf, LogNow}
+use Rattle.vr_log.specs.Spells.{Spells}
+use Rattle.vr_log.specs.Standing.{InLog}
+use Rattle.vr_log.specs.declared.record.LogRecord.{LogRecord}
+use Rattle.vr_volume.specs.Laid.{shape_by}
+use Rattle.vr_volume.specs.Laying.{IsFreeIn, IsLaidSo}
+use Rattle.vr_volume.specs.PutBack.{images_of, oldest}
+use Rattle.vr_volume.specs.Safe.{IsItemOf, IsPartIn, IsPartSafe, IsSafe}
+use Rattle.vr_volume.specs.Safe.{IsSafeImage}
+use Rattle.vr_volume.proofs.Apart.{part-past}
+use Rattle.vr_volume.proofs.Recovering.{each_image_is_safe, part-in}
+
+-- ---- where less may be left of a part
+
+module _ (a b : Seen) (count : b.count ≡ a.count) (size : b.size ≡ a.size) where
+  abbrev pub Fewer : Shape → Type 0
+  Fewer shape = (n : ℕ) (block : Block) → n < a.count → InPart shape n → b.may n block
+      → a.may n block
+
+  pub safe-less : (shape : Shape) (part : ℕ) (images : List BeforeImage) (content : Content)
+      → Fewer shape → IsPartSafe shape part images content a
+      → IsPartSafe shape part images content b
+  safe-less (KeyedShape keyed) part images content fewer safe =
+      let less : (n : ℕ) (block : Block) → IsBlock keyed a n → b.may n block → a.may n block =
+      λ n block is. fewer n block is.0 is.1 in
+      let sound : IsSound (KeyedShape keyed) b = keyed-less keyed a b count size less safe.sound in
+      record {
+        sound = sound;
+        items = λ place found held. safe.items place found
+            (find-more (IsBlock keyed a) b.may a.may found less (keyed_way keyed place)
+            (within-less (IsBlock keyed a) b.may a.may less (keyed_way keyed place)
+            (keyed-within keyed a safe.sound place)) held);
+        room = record {
+          places = safe.room.places;
+          each = λ top may.
+              let before : a.may keyed.head top =
+              less keyed.head top
+              (omega (arith, safe.sound.area), (omega arith, omega arith)) may in
+              each-less keyed a b _ None (entries_of top) less safe.sound.area
+              (head-in keyed top (safe.sound.heads top before)) (safe.room.each top before);
+        };
+      }
+
+-- ---- calls that put nothing
+
+module _ (tells : Bool) (told : IsTrue tells) (geometry : Geometry) (number : ℕ) (log : LogNow)
+    (committed : List LogRecord → ℕ → Content) where
+  pub safe-keeps : (a b : Seen) → Keeps tells a b → IsSafe geometry number log committed a
+      → IsSafe geometry number log committed b
+  safe-keeps a b call safe = record {
+    allowed = safe.allowed;
+    blocks = record {
+      count = call.count_same ∙ safe.blocks.count;
+      size = call.size_same ∙ safe.blocks.size;
+    };
+    shape = safe.shape;
+    header = λ block may. safe.header block
+        (call.adds_none told 0 block
+        (omega (arith, safe.blocks.count, safe.allowed.two_areas)) may);
+    logs = λ image left. safe.logs image (record {
+      each = λ n below inside. call.adds_none told n _ below
+          (left.each n (omega (arith, below, call.count_same)) inside);
+    });
+    by_log = λ content is. record {
+      committed = (safe.by_log content is).committed;
+      parts = λ part shape laid. safe-less a b call.count_same call.size_same shape part
+          (images_of content.records) (committed content.records part)
+          (λ n block below inside may. call.adds_none told n block below may)
+          ((safe.by_log content is).parts part shape laid);
+    };
+  }
+
+  -- and each image of each moment is a safe one
+  pub guards-keeps : (a b : Seen) → Keeps tells a b → IsSafe geometry number log committed a
+      → Guards a b (IsSafeImage geometry number log committed)
+  guards-keeps a b call safe = record {
+    during = during-weaken a b (Left a) _ (call.moments told)
+        (each_image_is_safe geometry number log committed a safe);
+    rest = each_image_is_safe geometry number log committed b (safe-keeps a b call safe);
+  }
+
+-- ---- calls of a part
+
+-- What a call adds to what places of the part may hold is the committed item, or at a place that
+-- each log has free.
+abbrev pub AddsSafe : Geometry → LogNow → (List LogRecord → ℕ → Content) → ℕ → Shape
+    → (List ℕ → Option (List ℕ) → Type 0) → Type 0
+AddsSafe geometry log committed part shape A = (content : LogContent) → IsLogOf log content
+    → (place : List ℕ) (found : Option (List ℕ)) → A place found
+    → IsItemOf shape part (images_of content.records) (committed content.records part) place found
+
+module _ (geometry : Geometry) (number : ℕ) (log : LogNow)
+    (committed : List LogRecord → ℕ → Content) (part : ℕ) (shape : Shape) (kept : Lengths)
+    (A : List ℕ → Option (List ℕ) → Type 0) (a b : Seen)
+    (safe : IsSafe geometry number log committed a)
+    (laid : IsLaidSo geometry log committed part shape kept)
+    (added : AddsSafe geometry log committed part shape A) (adds : AddsTo shape A a b)
+    (rooms : Touches (InPart shape) (HasRoom shape kept) a b) where
+  equal-or : (one other : ℕ) → (one ≡ other) ⊎ (one ≢ other)
+  equal-or one other = ⊎_elim
+      (λ less. inr (λ same. omega (arith, less, same)))
+      (λ most. ⊎_elim (λ less. inr (λ same. omega (arith, less, same)))
+      (λ least. inl (omega (arith, most, least))) (cases_lt other one))
+      (cases_lt one other)
+
+  some-same : (one other : Shape) → Some one ≡ Some other → one ≡ other
+  some-same one other same = cc
+
+  -- the header and the log are outside the part
+  out-header : (content : LogContent) → IsLogOf log content → Outside (InPart shape) 0
+  out-header content is inside =
+      omega (
+        arith,
+        part-past geometry (committed content.records 0) part shape
+            (laid content is).laid 0 inside,
+      )
+
+  out-log : (content : LogContent) → IsLogOf log content → (n : ℕ) → InLog geometry n
+      → Outside (InPart shape) n
+  out-log content is n inside there =
+      omega (
+        arith,
+        inside.1,
+        part-past geometry (committed content.records 0) part shape
+            (laid content is).laid n there,
+      )
+
+  -- what a call leaves of the part in an image
+  part-image : (content : LogContent) (is : IsLogOf log content) (image : Image)
+      → HasOnly shape (MayAlsoHold shape a.may A) image → HasRoom shape kept image
+      → IsPartIn shape part (images_of content.records) (committed content.records part) image
+  part-image content is image has room = record {
+    has = only-weaken shape (MayAlsoHold shape a.may A) _
+        (λ place found. ⊎_elim
+        (((safe.by_log content is).parts part shape (laid content is).laid).items place found)
+        (added content is place found))
+        image has;
+    room = subst (λ (lengths : Lengths). HasRoom shape lengths image) (laid content is).kept_is
+        room;
+  }
+
+  -- the other parts are as they were
+  other-image : (content : LogContent) (is : IsLogOf log content) (image : Image)
+      → IsImageOn (Outside (InPart shape)) a.count a.may image → (other : ℕ) (there : Shape)
+      → shape_by geometry (committed content.records 0) other ≡ Some there → other ≢ part
+      → IsPartIn there other (images_of content.records) (committed content.records other) image
+  other-image content is image left other there at apart =
+      part-in there other (images_of content.records) (committed content.records other) a
+      ((safe.by_log content is).parts other there at) image
+      (record {
+        each = λ n below inside. left.each n below
+            ((safe.by_log content is).committed.apart other part there shape at
+            (laid content is).laid apart n inside);
+      })
+
+  each-image : (content : LogContent) (is : IsLogOf log content) (image : Image)
+      → IsImageOn (Outside (InPart shape)) a.count a.may image
+      → HasOnly shape (MayAlsoHold shape a.may A) image → HasRoom shape kept image
+      → (other : ℕ) (there : Shape)
+      → shape_by geometry (committed content.records 0) other ≡ Some there
+      → IsPartIn there other (images_of content.records) (committed content.records other) image
+  each-image content is image left has room other there at = ⊎_elim
+      (λ same.
+      let here : shape_by geometry (committed content.records 0) part ≡ Some there =
+      subst (λ (p : ℕ). shape_by geometry (committed content.records 0) p ≡ Some there) same at in
+      subst (λ (p : ℕ). IsPartIn there p (images_of content.records)
+      (committed content.records p) image) (sym same)
+      (subst (λ (s : Shape). IsPartIn s part (images_of content.records)
+      (committed content.records part) image)
+      (some-same shape there (sym (laid content is).laid ∙ here))
+      (part-image content is image has room)))
+      (λ apart. other-image content is image left other there at apart)
+      (equal-or other part)
+
+  -- an image whose other blocks are as they were is a safe one
+  image-safe : (image : Image) → IsImageOn (Outside (InPart shape)) a.count a.may image
+      → HasOnly shape (MayAlsoHold shape a.may A) image → HasRoom shape kept image
+      → (content : LogContent) → Spells log.geometry image content → IsLogOf log content
+      → IsSafeImage geometry number log committed image
+  image-safe image left has room content spells is = (
+    content,
+    is,
+    record {
+      header = safe.header (block_at image 0)
+          (left.each 0 (omega (arith, safe.blocks.count, safe.allowed.two_areas))
+          (out-header content is));
+      log_is = subst (λ (g : Geometry). Spells g image content) safe.shape spells;
+      committed = (safe.by_log content is).committed;
+      parts = each-image content is image left has room;
+    },
+  )
+
+  -- ---- what the call leaves
+
+  module _ (left : Left a a.cur) (room : HasKeptRoom shape kept b) where
+    -- a log that there may be
+    some-log : HasLog log a.cur
+    some-log = safe.logs a.cur (record { each = λ n below inside. left.each n below })
+
+    log-outside : (n : ℕ) → InLog geometry n → Outside (InPart shape) n
+    log-outside n inside = out-log some-log.0 some-log.2 n inside
+
+    moment-safe : (image : Image)
+        → IsImageOn (Outside (InPart shape)) a.count a.may image
+        × HasOnly shape (MayAlsoHold shape a.may A) image
+        → HasRoom shape kept image → IsSafeImage geometry number log committed image
+    moment-safe image has rooms-has =
+        let log-has : HasLog log image = safe.logs image (record {
+          each = λ n below inside. has.0.each n below (log-outside n inside);
+        }) in
+        image-safe image has.0 has.1 rooms-has log-has.0 log-has.1 log-has.2
+
+    -- Once it has ended the volume is safe.
+    pub part-after : IsSafe geometry number log committed b
+    part-after = record {
+      allowed = safe.allowed;
+      blocks = record {
+        count = adds.touches.count_same ∙ safe.blocks.count;
+        size = adds.touches.size_same ∙ safe.blocks.size;
+      };
+      shape = safe.shape;
+      header = λ block may. safe.header block (adds.touches.adds_none 0 block
+          (omega (arith, safe.blocks.count, safe.allowed.two_areas))
+          (out-header some-log.0 some-log.2) may);
+      logs = λ image image-left. safe.logs image (record {
+        each = λ n below inside. adds.touches.adds_none n _ below (log-outside n inside)
+            (image-left.each n (omega (arith, below, adds.touches.count_same)) inside);
+      });
+      by_log = λ content is. record {
+        committed = (safe.by_log content is).committed;
+        parts = λ other there at. ⊎_elim
+            (λ same. here-after content is other there at same)
+            (λ apart. safe-less a b adds.touches.count_same adds.touches.size_same there other
+            (images_of content.records) (committed content.records other)
+            (λ n block below inside may. adds.touches.adds_none n block below
+            ((safe.by_log content is).committed.apart other part there shape at
+            (laid content is).laid apart n inside) may)
+            ((safe.by_log content is).parts other there at))
+            (equal-or other part);
+      };
+    }
+      where
+        mine-after : (content : LogContent) → IsLogOf log content
+            → IsPartSafe shape part (images_of content.records) (committed content.records part) b
+        mine-after content is = record {
+          sound = adds.sound;
+          items = λ place found held. ⊎_elim
+              (((safe.by_log content is).parts part shape (laid content is).laid).items place found)
+              (added content is place found) (adds.rest place found held);
+          room = subst (λ (lengths : Lengths). HasKeptRoom shape lengths b)
+              (laid content is).kept_is room;
+        }
+
+        here-after : (content : LogContent) → IsLogOf log content → (other : ℕ) (there : Shape)
+            → shape_by geometry (committed content.records 0) other ≡ Some there → other ≡ part
+            → IsPartSafe there other (images_of content.records)
+            (committed content.records other) b
+        here-after content is other there at same =
+            let here : shape_by geometry (committed content.records 0) part ≡ Some there =
+            subst (λ (p : ℕ). shape_by geometry (committed content.records 0) p ≡ Some there)
+            same at in
+            subst (λ (p : ℕ). IsPartSafe there p (images_of content.records)
+            (committed content.records p) b) (sym same)
+            (subst (λ (s : Shape). IsPartSafe s part (images_of content.records)
+            (committed content.records part) b)
+            (some-same shape there (sym (laid content is).laid ∙ here)) (mine-after content is))
+
+    -- At each moment of it each image is a safe one, and so is each that is left.
+    pub part-guards : Guards a b (IsSafeImage geometry number log committed)
+    part-guards = record {
+      during = record {
+        forward = adds.touches.moments.forward;
+        passed = adds.touches.moments.passed;
+        kept = adds.touches.moments.kept;
+        each = λ t image from to there. moment-safe image
+            (adds.touches.moments.each t image from to there)
+            (rooms.moments.each t image from to there).1;
+      };
+      rest = each_image_is_safe geometry number log committed b part-after;
+    }
+
+-- ---- what may be added
+
+-- a call that adds nothing
+pub nothing-safe : (geometry : Geometry) (log : LogNow)
+    (committed : List LogRecord → ℕ → Content) (part : ℕ) (shape : Shape)
+    → AddsSafe geometry log committed part shape Nothing
+nothing-safe geometry log committed part shape content is place found none = absurd none
+
+-- one that adds an item at a free place
+pub free-safe : (geometry : Geometry) (log : LogNow)
+    (committed : List LogRecord → ℕ → Content) (part : ℕ) (shape : Shape) (at : List ℕ)
+    (new : Option (List ℕ)) → IsFreeIn log part at
+    → AddsSafe geometry log committed part shape (Just at new)
+free-safe geometry log committed part shape at new free content is place found here none =
+    absurd (free content is (subst (λ (p : List ℕ). oldest (images_of content.records) part p
+        ≡ None)
+    here.0 none))
+
+-- ---- a part while the log is put
+
+-- a part past the log stays as it is
+pub stays-part : (geometry : Geometry) (shape : Shape) (Q : Image → Type 0) (a b : Seen)
+    → ((n : ℕ) → InPart shape n → geometry.log < n) → Touches (InLog geometry) Q a b
+    → StaysPart shape a b
+stays-part geometry shape Q a b past call = record {
+  count = call.count_same;
+  size = call.size_same;
+  same = λ n inside. call.content n (λ there. omega (arith, there.1, past n inside));
+  fewer = λ n block below inside may. call.adds_none n block below
+      (λ there. omega (arith, there.1, past n inside)) may;
+}

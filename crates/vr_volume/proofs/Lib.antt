@@ -1,0 +1,11 @@
+pub mod PuttingBack
+pub mod Standings
+pub mod Recovering
+pub mod Apart
+pub mod Calls
+pub mod Images
+pub mod Befores
+pub mod LogCalls
+pub mod Endings
+pub mod Restarting
+pub mod Unique

@@ -1,0 +1,56 @@
+-- What stands in a content once before-images were put back into it.
+use Rattle.std.proofs.Common.{◌≡◌, ℕ, Bool, true, false, cond, List, [], ◌∷◌, Option, Some}
+use Rattle.std.proofs.Common.{refl, sym, ap, ◌∙◌, bytes_eq, ◌==◌, ◌&&◌}
+use Rattle.std.proofs.lemmas.Bool.{true≢false}
+use Rattle.std.proofs.lemmas.Slice.Eq.{bytes_eq-Decides}
+use Rattle.vr_types.specs.Content.{Content, Item, Ascends, item_at}
+use Rattle.vr_history.specs.Committed.{kept_or}
+use Rattle.vr_history.specs.State.{BeforeImage}
+use Rattle.vr_altkey.specs.Placing.{placed_in}
+use Rattle.vr_altkey.proofs.CallerLemmas.{placed_here, placed_elsewhere, placed_ascends}
+use Rattle.vr_volume.specs.PutBack.{oldest, put_back}
+
+pub back-ascends : (part : ℕ) (images : List BeforeImage) (content : Content) → Ascends content
+    → Ascends (put_back part images content)
+back-ascends part [] content ascends = ascends
+back-ascends part (image ∷ images) content ascends =
+    by_part (image.part == part) (back-ascends part images content ascends)
+  where
+    by_part : (mine : Bool) → Ascends (put_back part images content)
+        → Ascends (cond mine (placed_in image.place image.old (put_back part images content))
+        (put_back part images content))
+    by_part true further = placed_ascends image.place image.old (put_back part images content)
+        further
+    by_part false further = further
+
+-- at each place the oldest image of it stands, and else what stood there
+pub back-item : (part : ℕ) (images : List BeforeImage) (content : Content) (place : List ℕ)
+    → item_at (put_back part images content) place ≡ kept_or (oldest images part place)
+    (item_at content place)
+back-item part [] content place = refl
+back-item part (image ∷ images) content place =
+    by_part (image.part == part) (back-item part images content place)
+  where
+    further : Option Item
+    further = kept_or (oldest images part place) (item_at content place)
+
+    by_place : (here : Bool) → bytes_eq place image.place ≡ here
+        → item_at (put_back part images content) place ≡ further
+        → item_at (placed_in image.place image.old (put_back part images content)) place ≡ kept_or
+        (cond here (Some image) (oldest images part place)) (item_at content place)
+    by_place true is rest =
+        let at : place ≡ image.place = (bytes_eq-Decides place image.place).0 is in
+        ap (item_at (placed_in image.place image.old (put_back part images content))) at
+        ∙ placed_here image.place image.old (put_back part images content)
+    by_place false is rest =
+        placed_elsewhere image.place image.old (put_back part images content) place
+        (λ at. true≢false (sym ((bytes_eq-Decides place image.place).1 at) ∙ is))
+        ∙ rest
+
+    by_part : (mine : Bool) → item_at (put_back part images content) place ≡ further
+        → item_at (cond mine (placed_in image.place image.old (put_back part images content))
+        (put_back part images content)) place ≡ kept_or
+        (cond (mine && bytes_eq place image.place) (Some image)
+        (oldest images part place)) (item_at content place)
+    by_part true rest = by_place (bytes_eq place image.place) refl rest
+    by_part false rest = rest

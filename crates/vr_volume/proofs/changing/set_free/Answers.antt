@@ -1,0 +1,21 @@
+use Rattle.vr_volume.proofs.Calls.{free-safe, part-after, part-guards}
+use Rattle.vr_volume.proofs.changing.set_free.Goals as goal
+use Rattle.vr_space.specs.Part.{given, part_no, Just}
+
+pub returns-clause-safe : goal.returns-clause-safe
+returns-clause-safe g c told geometry number log committed safe laid free =
+    let B = g.B.Blocks in
+    let shape = g.P.Part.shape c.args.part.now in
+    let part = (part_no shape).0 in
+    let kept = g.K.Kept.kept c.args.kept.now (part_no shape) in
+    let a = B.seen c.args.blocks.now in
+    let b = B.seen c.set.new.blocks in
+    let new = given c.args.bytes in
+    let A = Just c.args.place.now new in
+    let added = free-safe geometry log committed part shape c.args.place.now new free in
+    let left = g.met.B.Blocks.cur_may c.args.blocks.now told in (
+      part-guards geometry number log committed part shape kept A a b safe laid added
+          (c.set.ensures.adds told) (c.set.ensures.rooms told) left (c.set.ensures.room told),
+      part-after geometry number log committed part shape kept A a b safe laid added
+          (c.set.ensures.adds told) (c.set.ensures.rooms told) left (c.set.ensures.room told),
+    )

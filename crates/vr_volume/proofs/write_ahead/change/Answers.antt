@@ -1,0 +1,174 @@
+use Rattle.std.proofs.Common.{◌≢◌, ◌∷◌, ◌++◌, [], None, subst, sym}
+use Rattle.vr_types.proofs.CallerLemmas.{guards-then, guards-weaken}
+use Rattle.vr_space.specs.Part.{given, part_no}
+use Rattle.vr_space.proofs.CallerLemmas.{can-stays, knows-stays, rest-sound, rest-stays, room-stays}
+use Rattle.vr_space.proofs.CallerLemmas.{same-stays, sets-after}
+use Rattle.vr_log.specs.LogNow.{HasLog, with_record}
+use Rattle.vr_log.specs.declared.record.LogRecord.{LogRecord}
+use Rattle.vr_volume.specs.PutBack.{images_of, oldest}
+use Rattle.vr_volume.specs.Safe.{IsSafe, IsSafeImage}
+use Rattle.vr_volume.proofs.Befores.{safe-more}
+use Rattle.vr_volume.proofs.Calls.{stays-part}
+use Rattle.vr_volume.proofs.LogCalls.{change-then, first-there, image-less, log-guards}
+use Rattle.vr_volume.proofs.write_ahead.change.Goals as goal
+
+pub set_free-requires-clause-rests : goal.set_free-requires-clause-rests
+set_free-requires-clause-rests g c told =
+    let B = g.B.Blocks in
+    let log = c.args.log.now in
+    let shape = g.P.Part.shape c.args.part.now in
+    let a = B.seen c.args.blocks.now in
+    let b = B.seen c.log_forced.new.blocks in
+    rest-stays a b shape
+    (stays-part log.geometry shape (HasLog (with_record log c.args.rec.now)) a b c.requires.apart
+    (c.log_forced.ensures.touches told))
+    (c.requires.rests told)
+
+pub set_free-requires-clause-room : goal.set_free-requires-clause-room
+set_free-requires-clause-room g c told =
+    let B = g.B.Blocks in
+    let log = c.args.log.now in
+    let shape = g.P.Part.shape c.args.part.now in
+    let a = B.seen c.args.blocks.now in
+    let b = B.seen c.log_forced.new.blocks in
+    room-stays a b shape (g.K.Kept.kept c.args.kept.now (part_no shape))
+    (stays-part log.geometry shape (HasLog (with_record log c.args.rec.now)) a b c.requires.apart
+    (c.log_forced.ensures.touches told))
+    (rest-sound shape a (c.requires.rests told)) (c.requires.room told)
+
+pub set_free-requires-clause-knows : goal.set_free-requires-clause-knows
+set_free-requires-clause-knows g c told =
+    let B = g.B.Blocks in
+    let log = c.args.log.now in
+    let part = c.args.part.now in
+    let shape = g.P.Part.shape part in
+    let a = B.seen c.args.blocks.now in
+    let b = B.seen c.log_forced.new.blocks in
+    knows-stays a b shape (g.P.Part.split part) (g.P.Part.met part)
+    (stays-part log.geometry shape (HasLog (with_record log c.args.rec.now)) a b c.requires.apart
+    (c.log_forced.ensures.touches told))
+    (rest-sound shape a (c.requires.rests told)) (g.met.B.Blocks.cur_may c.args.blocks.now told)
+    (c.requires.knows told)
+
+pub set_free-requires-clause-can : goal.set_free-requires-clause-can
+set_free-requires-clause-can g c told =
+    let B = g.B.Blocks in
+    let log = c.args.log.now in
+    let part = c.args.part.now in
+    let shape = g.P.Part.shape part in
+    let a = B.seen c.args.blocks.now in
+    let b = B.seen c.log_forced.new.blocks in
+    can-stays a b shape (g.P.Part.split part) (g.K.Kept.kept c.args.kept.now (part_no shape))
+    c.args.place.now (given c.args.bytes)
+    (stays-part log.geometry shape (HasLog (with_record log c.args.rec.now)) a b c.requires.apart
+    (c.log_forced.ensures.touches told))
+    (rest-sound shape a (c.requires.rests told)) (g.met.B.Blocks.cur_may c.args.blocks.now told)
+    (c.requires.can told)
+
+pub returns-in_err-log_forced-clause-any_moment : goal.returns-in_err-log_forced-clause-any_moment
+returns-in_err-log_forced-clause-any_moment g c told number committed unit old is safe next laid =
+    let B = g.B.Blocks in
+    let log = c.args.log.now in
+    let a = B.seen c.args.blocks.now in
+    let more = subst
+    (λ (r : LogRecord). IsSafe log.geometry number (with_record log r) committed a) (sym is)
+    (safe-more log.geometry number log committed a unit _ _ old safe next) in
+    log-guards log.geometry number committed (with_record log c.args.rec.now) a
+    (B.seen c.log_forced.new.blocks) more (c.log_forced.ensures.touches told)
+
+-- what the part is set in
+pub returns-clause-set : goal.returns-clause-set
+returns-clause-set g c told =
+    let B = g.B.Blocks in
+    let log = c.args.log.now in
+    let shape = g.P.Part.shape c.args.part.now in
+    let a = B.seen c.args.blocks.now in
+    let b = B.seen c.log_forced.new.blocks in
+    sets-after shape c.args.place.now (given c.args.bytes) a.cur b.cur
+    (B.seen c.set_free.new.blocks).cur
+    (same-stays a b shape
+    (stays-part log.geometry shape (HasLog (with_record log c.args.rec.now)) a b c.requires.apart
+    (c.log_forced.ensures.touches told))
+    (rest-sound shape a (c.requires.rests told)) (g.met.B.Blocks.cur_may c.args.blocks.now told))
+    (c.in_ok-set_free.ensures.set told)
+
+pub returns-in_err-set_free-clause-any_moment : goal.returns-in_err-set_free-clause-any_moment
+returns-in_err-set_free-clause-any_moment g c told number committed unit old is safe next laid =
+    let B = g.B.Blocks in
+    let log = c.args.log.now in
+    let new = c.log_forced.new.log in
+    let rec = c.args.rec.now in
+    let shape = g.P.Part.shape c.args.part.now in
+    let part = part_no shape in
+    let a = B.seen c.args.blocks.now in
+    let b = B.seen c.log_forced.new.blocks in
+    let d = B.seen c.set_free.new.blocks in
+    let more = subst
+    (λ (r : LogRecord). IsSafe log.geometry number (with_record log r) committed a) (sym is)
+    (safe-more log.geometry number log committed a unit _ _ old safe next) in
+    let touches = c.log_forced.ensures.touches told in
+    let logged = c.in_ok-log_forced.ensures.logged told in
+    let then = change-then log.geometry number log new rec committed part.0 shape
+    (g.K.Kept.kept c.args.kept.now part) a b more touches logged
+    (c.in_ok-log_forced.ensures.stands told) laid c.args.place.now
+    (subst (λ (r : LogRecord). oldest (images_of (log.records ++ r ∷ [])) part.0 c.args.place.now
+    ≢ None) (sym is)
+    (first-there log.geometry log committed unit part c.args.place.now old next)) in
+    guards-then a b d (IsSafeImage log.geometry number (with_record log rec) committed)
+    (log-guards log.geometry number committed (with_record log rec) a b more touches)
+    (guards-weaken b d (IsSafeImage log.geometry number new committed)
+    (IsSafeImage log.geometry number (with_record log rec) committed)
+    (c.set_free.ensures.safe told log.geometry number new committed then.0 then.1 then.2).0
+    (image-less log.geometry number new (with_record log rec) committed logged.less))
+
+pub returns-clause-any_moment : goal.returns-clause-any_moment
+returns-clause-any_moment g c told number committed unit old is safe next laid =
+    let B = g.B.Blocks in
+    let log = c.args.log.now in
+    let new = c.log_forced.new.log in
+    let rec = c.args.rec.now in
+    let shape = g.P.Part.shape c.args.part.now in
+    let part = part_no shape in
+    let a = B.seen c.args.blocks.now in
+    let b = B.seen c.log_forced.new.blocks in
+    let d = B.seen c.set_free.new.blocks in
+    let more = subst
+    (λ (r : LogRecord). IsSafe log.geometry number (with_record log r) committed a) (sym is)
+    (safe-more log.geometry number log committed a unit _ _ old safe next) in
+    let touches = c.log_forced.ensures.touches told in
+    let logged = c.in_ok-log_forced.ensures.logged told in
+    let then = change-then log.geometry number log new rec committed part.0 shape
+    (g.K.Kept.kept c.args.kept.now part) a b more touches logged
+    (c.in_ok-log_forced.ensures.stands told) laid c.args.place.now
+    (subst (λ (r : LogRecord). oldest (images_of (log.records ++ r ∷ [])) part.0 c.args.place.now
+    ≢ None) (sym is)
+    (first-there log.geometry log committed unit part c.args.place.now old next)) in
+    guards-then a b d (IsSafeImage log.geometry number (with_record log rec) committed)
+    (log-guards log.geometry number committed (with_record log rec) a b more touches)
+    (guards-weaken b d (IsSafeImage log.geometry number new committed)
+    (IsSafeImage log.geometry number (with_record log rec) committed)
+    (c.set_free.ensures.safe told log.geometry number new committed then.0 then.1 then.2).0
+    (image-less log.geometry number new (with_record log rec) committed logged.less))
+
+pub returns-clause-after : goal.returns-clause-after
+returns-clause-after g c told number committed unit old is safe next laid =
+    let B = g.B.Blocks in
+    let log = c.args.log.now in
+    let new = c.log_forced.new.log in
+    let rec = c.args.rec.now in
+    let shape = g.P.Part.shape c.args.part.now in
+    let part = part_no shape in
+    let a = B.seen c.args.blocks.now in
+    let b = B.seen c.log_forced.new.blocks in
+    let more = subst
+    (λ (r : LogRecord). IsSafe log.geometry number (with_record log r) committed a) (sym is)
+    (safe-more log.geometry number log committed a unit _ _ old safe next) in
+    let touches = c.log_forced.ensures.touches told in
+    let logged = c.in_ok-log_forced.ensures.logged told in
+    let then = change-then log.geometry number log new rec committed part.0 shape
+    (g.K.Kept.kept c.args.kept.now part) a b more touches logged
+    (c.in_ok-log_forced.ensures.stands told) laid c.args.place.now
+    (subst (λ (r : LogRecord). oldest (images_of (log.records ++ r ∷ [])) part.0 c.args.place.now
+    ≢ None) (sym is)
+    (first-there log.geometry log committed unit part c.args.place.now old next)) in
+    (c.set_free.ensures.safe told log.geometry number new committed then.0 then.1 then.2).1

@@ -1,0 +1,99 @@
+-- What makes the blocks of a volume recover to the committed contents: off the places that the log
+-- has free, each block that a crash may leave has the committed item, and each before-image of a
+-- unit without an end is the committed item of its place. The rules are this project's own.
+use Rattle.std.specs.Prelude.{◌≡◌, ℕ, List, [], Option, Some, None}
+use Rattle.std.specs.Option.{option_map}
+use Rattle.vr_types.specs.Content.{Content as ContentOf, Item, Standing, Ascends, item_at}
+use Rattle.vr_types.specs.Geometry.{IsAllowed}
+use Rattle.vr_types.specs.Image.{Image, block_at}
+use Rattle.vr_types.specs.Regions.{IsImageOn}
+use Rattle.vr_types.specs.Seen.{Seen, Only}
+use Rattle.vr_types.specs.declared.geometry.Geometry.{Geometry}
+use Rattle.vr_space.specs.Part.{Shape, KeyedShape, IsSound, HasKeptRoom, HasOnly, HasRoom, MayHold}
+use Rattle.vr_log.specs.Content.{Content as LogContent}
+use Rattle.vr_log.specs.LogNow.{LogNow, HasLog, IsLogOf, IsOf}
+use Rattle.vr_log.specs.Spells.{Spells}
+use Rattle.vr_log.specs.Standing.{InLog}
+use Rattle.vr_log.specs.declared.record.LogRecord.{LogRecord}
+use Rattle.vr_history.specs.State.{BeforeImage}
+use Rattle.vr_volume.specs.CatalogRules.{IsCatalog}
+use Rattle.vr_volume.specs.Header.{header_block}
+use Rattle.vr_volume.specs.Laid.{shape_by}
+use Rattle.vr_volume.specs.PutBack.{images_of, oldest, lengths_kept}
+use Rattle.vr_volume.specs.Volume.{AreApart}
+
+-- what is read in a keyed part is a record, or nothing
+abbrev pub item_held : Shape → Option (List ℕ) → Option Item
+item_held (KeyedShape part) found = option_map Standing found
+
+-- off the places of before-images, what is found is the item of the content
+abbrev pub IsItemOf : Shape → ℕ → List BeforeImage → ContentOf → List ℕ → Option (List ℕ) → Type 0
+IsItemOf shape part images content place found = oldest images part place ≡ None
+    → item_held shape found ≡ item_at content place
+
+-- ---- the contents
+
+-- These contents are committed, by a log of these records: part 0 is a catalog by which each other
+-- part has blocks of its own, a part that isn't laid has no record, and each before-image is the
+-- item of its place.
+pub record AreCommitted (geometry : Geometry) (records : List LogRecord)
+    (contents : ℕ → ContentOf) : Type 0 where
+  pub each : (part : ℕ) → Ascends (contents part)
+  pub catalog : IsCatalog geometry (contents 0)
+  pub apart : AreApart (shape_by geometry (contents 0))
+  pub others : (part : ℕ) → shape_by geometry (contents 0) part ≡ None → contents part ≡ []
+  pub olds : (part : ℕ) (place : List ℕ) (image : BeforeImage)
+      → oldest (images_of records) part place ≡ Some image
+      → image.old ≡ item_at (contents part) place
+
+-- ---- one image
+
+-- What an image has of a part: off the places of before-images the items of the content alone, and
+-- room for what is put back.
+pub record IsPartIn (shape : Shape) (part : ℕ) (images : List BeforeImage) (content : ContentOf)
+    (image : Image) : Type 0 where
+  pub has : HasOnly shape (IsItemOf shape part images content) image
+  pub room : HasRoom shape (lengths_kept images part) image
+
+-- The image has this log, and each part.
+pub record IsImageSafe (geometry : Geometry) (number : ℕ) (log : LogContent)
+    (contents : ℕ → ContentOf) (image : Image) : Type 0 where
+  pub header : block_at image 0 ≡ header_block geometry number
+  pub log_is : Spells geometry image log
+  pub committed : AreCommitted geometry log.records contents
+  pub parts : (part : ℕ) (shape : Shape) → shape_by geometry (contents 0) part ≡ Some shape
+      → IsPartIn shape part (images_of log.records) (contents part) image
+
+-- The image has one of the logs that there may be, and recovers to what is committed by it.
+abbrev pub IsSafeImage : Geometry → ℕ → LogNow → (List LogRecord → ℕ → ContentOf) → Image → Type 0
+IsSafeImage geometry number log committed image = (content : LogContent) × IsLogOf log content
+    × IsImageSafe geometry number content (committed content.records) image
+
+-- ---- what a crash may leave
+
+-- What a crash may leave of a part: the same of each block.
+pub record IsPartSafe (shape : Shape) (part : ℕ) (images : List BeforeImage) (content : ContentOf)
+    (now : Seen) : Type 0 where
+  pub sound : IsSound shape now
+  pub items : (place : List ℕ) (found : Option (List ℕ)) → MayHold shape now.may place found
+      → IsItemOf shape part images content place found
+  pub room : HasKeptRoom shape (lengths_kept images part) now
+
+-- Whichever log an image has: the contents that are committed by it, and each part.
+pub record IsSafeBy (geometry : Geometry) (records : List LogRecord) (contents : ℕ → ContentOf)
+    (now : Seen) : Type 0 where
+  pub committed : AreCommitted geometry records contents
+  pub parts : (part : ℕ) (shape : Shape) → shape_by geometry (contents 0) part ≡ Some shape
+      → IsPartSafe shape part (images_of records) (contents part) now
+
+-- The volume is safe: each image that a crash may leave recovers to what is committed by its log.
+pub record IsSafe (geometry : Geometry) (number : ℕ) (log : LogNow)
+    (committed : List LogRecord → ℕ → ContentOf) (now : Seen) : Type 0 where
+  pub allowed : IsAllowed geometry
+  pub blocks : IsOf geometry now
+  pub shape : log.geometry ≡ geometry
+  pub header : Only now 0 (λ block. block ≡ header_block geometry number)
+  pub logs : (image : Image) → IsImageOn (InLog geometry) now.count now.may image
+      → HasLog log image
+  pub by_log : (content : LogContent) → IsLogOf log content
+      → IsSafeBy geometry content.records (committed content.records) now

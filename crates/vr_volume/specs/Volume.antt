@@ -1,0 +1,49 @@
+-- What the blocks of a whole volume stand for: its log, and a content of each part. And what they
+-- recover to: the contents with the before-images of units that haven't ended put back. The rules
+-- are this project's own.
+use Rattle.std.specs.Prelude.{◌≡◌, ◌≢◌, ℕ, [], Option, Some, None}
+use Rattle.vr_types.specs.Content.{Content as ContentOf}
+use Rattle.vr_types.specs.Image.{Image, block_at}
+use Rattle.vr_types.specs.declared.geometry.Geometry.{Geometry}
+use Rattle.vr_space.specs.Part.{Shape, StandsFor, InPart, HasRoom}
+use Rattle.vr_log.specs.Content.{Content as LogContent}
+use Rattle.vr_log.specs.Spells.{Spells}
+use Rattle.vr_volume.specs.CatalogRules.{IsCatalog}
+use Rattle.vr_volume.specs.Header.{header_block}
+use Rattle.vr_volume.specs.Laid.{shape_by}
+use Rattle.vr_volume.specs.PutBack.{images_of, put_back, lengths_kept}
+
+-- no block is in two parts
+abbrev pub AreApart : (ℕ → Option Shape) → Type 0
+AreApart shapes = (one other : ℕ) (here there : Shape) → shapes one ≡ Some here
+    → shapes other ≡ Some there → one ≢ other → (n : ℕ) → InPart here n → InPart there n → ⊥
+
+-- the content of part 0 once the before-images are put back: it says which parts there are
+abbrev pub catalog_back : LogContent → (ℕ → ContentOf) → ContentOf
+catalog_back log contents = put_back 0 (images_of log.records) (contents 0)
+
+-- the shapes of the parts by it
+abbrev pub shapes_by : Geometry → LogContent → (ℕ → ContentOf) → ℕ → Option Shape
+shapes_by geometry log contents = shape_by geometry (catalog_back log contents)
+
+-- The blocks of the image stand for this log and these contents: a part that isn't laid has none.
+pub record VolumeStandsFor (geometry : Geometry) (number : ℕ) (image : Image) (log : LogContent)
+    (contents : ℕ → ContentOf) : Type 0 where
+  pub header : block_at image 0 ≡ header_block geometry number
+  pub log_is : Spells geometry image log
+  pub catalog : IsCatalog geometry (catalog_back log contents)
+  pub apart : AreApart (shapes_by geometry log contents)
+  pub laid : (part : ℕ) (shape : Shape) → shapes_by geometry log contents part ≡ Some shape
+      → StandsFor shape image (contents part)
+  pub others : (part : ℕ) → shapes_by geometry log contents part ≡ None → contents part ≡ []
+
+-- They recover to these contents.
+pub record Recovers (geometry : Geometry) (number : ℕ) (image : Image)
+    (recovered : ℕ → ContentOf) : Type 0 where
+  pub log : LogContent
+  pub contents : ℕ → ContentOf
+  pub stands : VolumeStandsFor geometry number image log contents
+  -- each interval has room for the before-images of its range beside its records
+  pub room : (part : ℕ) (shape : Shape) → shapes_by geometry log contents part ≡ Some shape
+      → HasRoom shape (lengths_kept (images_of log.records) part) image
+  pub back : (part : ℕ) → recovered part ≡ put_back part (images_of log.records) (contents part)

@@ -1,0 +1,166 @@
+//! Calls of a part on a volume: what each leaves of it in the image of each moment.
+ghost use Rattle.std.specs.Prelude.{◌≡◌, ◌<◌, [], ℕ, List, IsTrue, IfOk, OnOk, IfErr};
+ghost use Rattle.std.specs.Prelude.{OnErr, All};
+ghost use Rattle.vr_types.specs.Blocks.{Forced, Keeps};
+ghost use Rattle.vr_types.specs.Content.{Content};
+ghost use Rattle.vr_types.specs.Faults.{HasCause, HasWriteCause};
+ghost use Rattle.vr_types.specs.Moments.{Guards};
+ghost use Rattle.vr_types.specs.Space.{free_count};
+ghost use Rattle.vr_types.specs.declared.fault.DeviceFault.TheVariants.{Read, Write};
+ghost use Rattle.vr_types.specs.declared.geometry.Geometry.{Geometry};
+ghost use Rattle.vr_space.specs.declared.room.Room.TheVariants as answers;
+ghost use Rattle.vr_space.specs.Met.{HasMet, places_met};
+ghost use Rattle.vr_space.specs.Part.{
+  CanSet,
+  DueMore,
+  HasKeptRoom,
+  InPart,
+  IsAtRest,
+  IsGiven,
+  IsLengthOf,
+  IsOn,
+  IsPlaceOf,
+  IsStageDue,
+  Knows,
+  OwnersAfter,
+  SameRecords,
+  SetsOne,
+  given,
+  part_no,
+  room_of,
+};
+ghost use Rattle.vr_log.specs.LogNow.{LogNow};
+ghost use Rattle.vr_log.specs.declared.record.LogRecord.{LogRecord};
+ghost use Rattle.vr_volume.specs.Laying.{IsFreeIn, IsLaidSo};
+ghost use Rattle.vr_volume.specs.Safe.{IsSafe, IsSafeImage};
+
+use vr_space::{Kept, Part};
+use vr_types::{Blocks, DeviceFault, Place, Space, StageKind};
+
+/// Makes these bytes the record at a place of a part, or takes the record there away, where each
+/// log that an image may have has a before-image of the place. At each moment of it, whether it
+/// fails or not, each image is a safe one, and the volume is safe from then on.
+pub fn set_free<B: Blocks, P: Part, K: Kept>(
+    blocks: &mut B,
+    part: &mut P,
+    kept: &K,
+    place: &Place,
+    bytes: Option<&[u8]>,
+) -> Result<(), DeviceFault>
+    requires on { IsOn (P.shape part.old) (B.seen blocks.old) }
+    requires place { IsPlaceOf (P.shape part.old) place.now }
+    requires record { IsGiven (P.shape part.old) place.now bytes }
+    requires rests { IsTrue B.tells → IsAtRest (P.shape part.old) (B.seen blocks.old) }
+    requires room { IsTrue B.tells → HasKeptRoom (P.shape part.old)
+        (K.kept kept.now (part_no (P.shape part.old))) (B.seen blocks.old) }
+    requires knows { IsTrue B.tells → Knows (P.shape part.old) (P.split part.old)
+        (P.met part.old) (B.seen blocks.old) }
+    requires can { IsTrue B.tells → CanSet (P.shape part.old) (P.split part.old)
+        (B.seen blocks.old).cur (K.kept kept.now (part_no (P.shape part.old))) place.now
+        (given bytes) }
+    ensures safe { IsTrue B.tells → (geometry : Geometry) (number : ℕ) (log : LogNow)
+        (committed : List LogRecord → ℕ → Content)
+        → IsSafe geometry number log committed (B.seen blocks.old)
+        → IsLaidSo geometry log committed (part_no (P.shape part.old)).0 (P.shape part.old)
+        (K.kept kept.now (part_no (P.shape part.old)))
+        → IsFreeIn log (part_no (P.shape part.old)).0 place.now
+        → Guards (B.seen blocks.old) (B.seen blocks.new)
+        (IsSafeImage geometry number log committed)
+        × IsSafe geometry number log committed (B.seen blocks.new) }
+    ensures set { IsTrue B.tells → OnOk result (SetsOne (P.shape part.old) place.now
+        (given bytes.entry) (B.seen blocks.old).cur (B.seen blocks.new).cur) }
+    ensures due { IsTrue B.tells → OnOk result
+        (DueMore (P.shape part.old) (P.put part.new) (B.seen blocks.old) (B.seen blocks.new)) }
+    ensures put { OnOk result (All (InPart (P.shape part.old)) (P.put part.new)) }
+    ensures rests { IsTrue B.tells → OnOk result
+        (IsAtRest (P.shape part.old) (B.seen blocks.new)) }
+    ensures room { IsTrue B.tells → HasKeptRoom (P.shape part.old)
+        (K.kept kept.now (part_no (P.shape part.old))) (B.seen blocks.new) }
+    ensures knows { IsTrue B.tells → OnOk result (Knows (P.shape part.old) (P.split part.old)
+        (P.met part.new) (B.seen blocks.new)) }
+    ensures met { HasMet (P.met part.old) place.now → OnOk result
+        (places_met (P.met part.new) ≡ places_met (P.met part.old)) }
+    ensures unread { IfErr result (λ fault. fault ≡ Read
+        → Keeps B.tells (B.seen blocks.old) (B.seen blocks.new)
+        × (IsTrue B.tells → Knows (P.shape part.old) (P.split part.old) (P.met part.new)
+        (B.seen blocks.new))) }
+    ensures reads { HasMet (P.met part.old) place.now → IfErr result (λ fault. fault ≡ Write) }
+    ensures cause { HasCause (B.faults blocks.old) (B.faults blocks.new) result }
+    ensures shape { P.shape part.new ≡ P.shape part.old }
+    ensures split { P.split part.new ≡ P.split part.old }
+{
+    part.set(blocks, kept, place, bytes)
+}
+
+/// Does the stage that comes before a record of a part. At each moment of it, whether it fails or
+/// not, each image is a safe one, and the volume is safe from then on.
+pub fn do_stage<B: Blocks, P: Part, K: Kept>(
+    blocks: &mut B,
+    part: &mut P,
+    space: &mut Space,
+    kept: &K,
+    place: &Place,
+    length: u32,
+) -> Result<StageKind, DeviceFault>
+    requires on { IsOn (P.shape part.old) (B.seen blocks.old) }
+    requires place { IsPlaceOf (P.shape part.old) place.now }
+    requires length { IsLengthOf (P.shape part.old) length }
+    requires rests { IsTrue B.tells → IsAtRest (P.shape part.old) (B.seen blocks.old) }
+    requires room { IsTrue B.tells → HasKeptRoom (P.shape part.old)
+        (K.kept kept.now (part_no (P.shape part.old))) (B.seen blocks.old) }
+    requires knows { IsTrue B.tells → Knows (P.shape part.old) (P.split part.old)
+        (P.met part.old) (B.seen blocks.old) }
+    requires due { IsTrue B.tells → IsStageDue (P.shape part.old) (P.split part.old)
+        (B.seen blocks.old).cur (free_count space.old)
+        (K.kept kept.now (part_no (P.shape part.old))) place.now length }
+    ensures safe { IsTrue B.tells → (geometry : Geometry) (number : ℕ) (log : LogNow)
+        (committed : List LogRecord → ℕ → Content)
+        → IsSafe geometry number log committed (B.seen blocks.old)
+        → IsLaidSo geometry log committed (part_no (P.shape part.old)).0 (P.shape part.old)
+        (K.kept kept.now (part_no (P.shape part.old)))
+        → Guards (B.seen blocks.old) (B.seen blocks.new)
+        (IsSafeImage geometry number log committed)
+        × IsSafe geometry number log committed (B.seen blocks.new) }
+    ensures stage { IsTrue B.tells → IfOk result (λ kind. answers.Stage kind
+        ≡ room_of (P.shape part.old) (P.split part.old) (B.seen blocks.old).cur
+        (free_count space.old) (K.kept kept.now (part_no (P.shape part.old))) place.now length) }
+    ensures owners { IfOk result (λ kind.
+        OwnersAfter (part_no (P.shape part.old)) kind space.old space.new) }
+    ensures same { IsTrue B.tells → SameRecords (P.shape part.old)
+        (B.seen blocks.old).cur (B.seen blocks.new).cur }
+    ensures due { IsTrue B.tells → OnOk result
+        (DueMore (P.shape part.old) [] (B.seen blocks.old) (B.seen blocks.new)) }
+    ensures rests { IsTrue B.tells → OnOk result
+        (IsAtRest (P.shape part.old) (B.seen blocks.new)) }
+    ensures room { IsTrue B.tells → HasKeptRoom (P.shape part.old)
+        (K.kept kept.now (part_no (P.shape part.old))) (B.seen blocks.new) }
+    ensures knows { IsTrue B.tells → OnOk result (Knows (P.shape part.old) (P.split part.new)
+        (P.met part.new) (B.seen blocks.new)) }
+    ensures split { OnErr result (P.split part.new ≡ P.split part.old) }
+    ensures unread { IfErr result (λ fault. fault ≡ Read
+        → Keeps B.tells (B.seen blocks.old) (B.seen blocks.new)
+        × (IsTrue B.tells → Knows (P.shape part.old) (P.split part.old) (P.met part.new)
+        (B.seen blocks.new))) }
+    ensures cause { HasCause (B.faults blocks.old) (B.faults blocks.new) result }
+    ensures shape { P.shape part.new ≡ P.shape part.old }
+{
+    part.advance(blocks, space, kept, place, length)
+}
+
+/// Forces blocks. At each moment of it, whether it fails or not, each image is a safe one, and the
+/// volume is safe from then on.
+pub fn force_blocks<B: Blocks>(blocks: &mut B, list: &[u32]) -> Result<(), DeviceFault>
+    requires { All (λ n. n < (B.seen blocks.old).count) list.now }
+    ensures safe { IsTrue B.tells → (geometry : Geometry) (number : ℕ) (log : LogNow)
+        (committed : List LogRecord → ℕ → Content)
+        → IsSafe geometry number log committed (B.seen blocks.old)
+        → Guards (B.seen blocks.old) (B.seen blocks.new)
+        (IsSafeImage geometry number log committed)
+        × IsSafe geometry number log committed (B.seen blocks.new) }
+    ensures forced { IsTrue B.tells → OnOk result
+        (Forced list.now (B.seen blocks.old).cur (B.seen blocks.new).may) }
+    ensures after { Keeps B.tells (B.seen blocks.old) (B.seen blocks.new) }
+    ensures cause { HasWriteCause (B.faults blocks.old) (B.faults blocks.new) result }
+{
+    blocks.force(list)
+}

@@ -1,0 +1,16 @@
+//! A volume, whole: what its blocks stand for, what they recover to after a crash, and what makes
+//! that the committed contents. It stands on the parts (vr_space), the log (vr_log), the catalog
+//! (vr_catalog) and the record file (vr_history).
+//!
+//! There are definitions and laws alone yet: the value that one event changes will stand on them.
+#![tactic(auto)]
+
+mod changing;
+mod laws;
+mod logging;
+mod write_ahead;
+
+pub use changing::{do_stage, force_blocks, set_free};
+pub use laws::{each_image_is_safe, image_recovers, one_recovery, one_volume};
+pub use logging::{append_before, append_end, force_log, restart_log};
+pub use write_ahead::change;

@@ -1,0 +1,122 @@
+//! A change of a record under a unit of recovery: its before-image is logged and forced before the
+//! first block of the part is put.
+ghost use Rattle.std.specs.Prelude.{◌≡◌, ◌<◌, ◌∷◌, ◌++◌, [], ℕ, List, Option, IsTrue, OnOk, false};
+ghost use Rattle.std.specs.Prelude.{All};
+ghost use Rattle.vr_types.specs.Content.{Content};
+ghost use Rattle.vr_types.specs.Moments.{Guards};
+ghost use Rattle.vr_types.specs.Regions.{Touches};
+ghost use Rattle.vr_types.specs.declared.unit.Unit.{Unit as UnitOfRecovery};
+ghost use Rattle.vr_space.specs.Part.{
+  CanSet,
+  HasKeptRoom,
+  InPart,
+  IsAtRest,
+  IsGiven,
+  IsOn,
+  IsPlaceOf,
+  Knows,
+  SetsOne,
+  given,
+  part_no,
+};
+ghost use Rattle.vr_log.specs.Live.{EndsLive, live_in};
+ghost use Rattle.vr_log.specs.LogNow.{HasLog, IsOf, with_record};
+ghost use Rattle.vr_log.specs.Records.{HasLengths};
+ghost use Rattle.vr_log.specs.Standing.{InLog, LogStands};
+ghost use Rattle.vr_log.specs.declared.record.LogRecord.{LogRecord as Rec};
+ghost use Rattle.vr_log.specs.declared.record.LogRecord.TheVariants.{Before};
+ghost use Rattle.vr_volume.specs.Laying.{IsLaidBy, IsLogged};
+ghost use Rattle.vr_volume.specs.Logged.{IsFirstBefore};
+ghost use Rattle.vr_volume.specs.Safe.{IsSafe, IsSafeImage};
+
+use crate::changing::set_free;
+use vr_log::{LogNo, LogRecord, UndoLog};
+use vr_space::{Kept, Part};
+use vr_types::{Blocks, Place};
+
+/// Logs a record and forces it. Nothing outside the log is touched.
+fn log_forced<B: Blocks>(blocks: &mut B, log: &mut UndoLog, rec: &LogRecord) -> Result<(), LogNo>
+    requires sound { log.old.broken ≡ false }
+    requires shape { IsOf log.old.geometry (B.seen blocks.old) }
+    requires lengths { HasLengths rec.now }
+    requires live { EndsLive (live_in log.old.records) rec.now }
+    requires stands { IsTrue B.tells → LogStands log.old (B.seen blocks.old) }
+    ensures touches { IsTrue B.tells → Touches (InLog log.old.geometry)
+        (HasLog (with_record log.old rec.now)) (B.seen blocks.old) (B.seen blocks.new) }
+    ensures logged { IsTrue B.tells → OnOk result (IsLogged log.old rec.now log.new) }
+    ensures stands { IsTrue B.tells → OnOk result (LogStands log.new (B.seen blocks.new)) }
+    ensures count { OnOk result ((B.seen blocks.new).count ≡ (B.seen blocks.old).count) }
+    ensures size { OnOk result ((B.seen blocks.new).size ≡ (B.seen blocks.old).size) }
+{
+    log.append(blocks, rec)?;
+    log.force(blocks)?;
+    Ok(())
+}
+
+/// Makes these bytes the record at a place, or takes the record there away, for a unit of recovery
+/// that didn't change the place before: it logs the before-image of the place, forces it, and then
+/// sets the record. In every image of every moment, whether it fails or not, what the blocks
+/// recover to is what is committed by the image's log, and so it is from then on.
+pub fn change<B: Blocks, P: Part, K: Kept>(
+    blocks: &mut B,
+    log: &mut UndoLog,
+    part: &mut P,
+    kept: &K,
+    rec: &LogRecord,
+    place: &Place,
+    bytes: Option<&[u8]>,
+) -> Result<(), LogNo>
+    requires sound { log.old.broken ≡ false }
+    requires shape { IsOf log.old.geometry (B.seen blocks.old) }
+    requires lengths { HasLengths rec.now }
+    requires live { EndsLive (live_in log.old.records) rec.now }
+    requires stands { IsTrue B.tells → LogStands log.old (B.seen blocks.old) }
+    requires on { IsOn (P.shape part.old) (B.seen blocks.old) }
+    requires apart { (n : ℕ) → InPart (P.shape part.old) n → log.old.geometry.log < n }
+    requires place { IsPlaceOf (P.shape part.old) place.now }
+    requires record { IsGiven (P.shape part.old) place.now bytes }
+    requires rests { IsTrue B.tells → IsAtRest (P.shape part.old) (B.seen blocks.old) }
+    requires room { IsTrue B.tells → HasKeptRoom (P.shape part.old)
+        (K.kept kept.now (part_no (P.shape part.old))) (B.seen blocks.old) }
+    requires knows { IsTrue B.tells → Knows (P.shape part.old) (P.split part.old)
+        (P.met part.old) (B.seen blocks.old) }
+    requires can { IsTrue B.tells → CanSet (P.shape part.old) (P.split part.old)
+        (B.seen blocks.old).cur (K.kept kept.now (part_no (P.shape part.old))) place.now
+        (given bytes) }
+    ensures any_moment { IsTrue B.tells → (number : ℕ) (committed : List Rec → ℕ → Content)
+        (unit : UnitOfRecovery) (old : Option (List ℕ))
+        → rec.now ≡ Before unit (part_no (P.shape part.old)) place.now old
+        → IsSafe log.old.geometry number log.old committed (B.seen blocks.old)
+        → IsFirstBefore log.old.geometry log.old committed unit (part_no (P.shape part.old))
+        place.now old
+        → IsLaidBy log.old.geometry (log.old.records ++ rec.now ∷ []) committed
+        (part_no (P.shape part.old)).0 (P.shape part.old)
+        (K.kept kept.now (part_no (P.shape part.old)))
+        → Guards (B.seen blocks.old) (B.seen blocks.new)
+        (IsSafeImage log.old.geometry number (with_record log.old rec.now) committed) }
+    ensures after { IsTrue B.tells → OnOk result ((number : ℕ) (committed : List Rec → ℕ → Content)
+        (unit : UnitOfRecovery) (old : Option (List ℕ))
+        → rec.now ≡ Before unit (part_no (P.shape part.old)) place.now old
+        → IsSafe log.old.geometry number log.old committed (B.seen blocks.old)
+        → IsFirstBefore log.old.geometry log.old committed unit (part_no (P.shape part.old))
+        place.now old
+        → IsLaidBy log.old.geometry (log.old.records ++ rec.now ∷ []) committed
+        (part_no (P.shape part.old)).0 (P.shape part.old)
+        (K.kept kept.now (part_no (P.shape part.old)))
+        → IsSafe log.old.geometry number log.new committed (B.seen blocks.new)) }
+    ensures log { IsTrue B.tells → OnOk result (IsLogged log.old rec.now log.new) }
+    ensures rests { IsTrue B.tells → OnOk result
+        (IsAtRest (P.shape part.old) (B.seen blocks.new)) }
+    ensures room { IsTrue B.tells → OnOk result (HasKeptRoom (P.shape part.old)
+        (K.kept kept.now (part_no (P.shape part.old))) (B.seen blocks.new)) }
+    ensures knows { IsTrue B.tells → OnOk result (Knows (P.shape part.old) (P.split part.old)
+        (P.met part.new) (B.seen blocks.new)) }
+    ensures put { OnOk result (All (InPart (P.shape part.old)) (P.put part.new)) }
+    ensures part { OnOk result (P.shape part.new ≡ P.shape part.old) }
+    ensures set { IsTrue B.tells → OnOk result (SetsOne (P.shape part.old) place.now
+        (given bytes.entry) (B.seen blocks.old).cur (B.seen blocks.new).cur) }
+{
+    log_forced(blocks, log, rec)?;
+    set_free(blocks, part, kept, place, bytes)?;
+    Ok(())
+}
