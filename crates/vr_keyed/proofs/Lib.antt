@@ -1,1 +1,3 @@
 pub mod Meeting
+pub mod Lengths
+pub mod Adding

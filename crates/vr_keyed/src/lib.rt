@@ -5,3 +5,4 @@
 mod meet;
 mod slot;
 mod slots;
+mod stretch;
