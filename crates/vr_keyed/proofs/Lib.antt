@@ -1,3 +1,5 @@
 pub mod Meeting
 pub mod Lengths
 pub mod Adding
+pub mod Parts
+pub mod Contents

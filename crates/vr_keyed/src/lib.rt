@@ -6,3 +6,4 @@ mod meet;
 mod slot;
 mod slots;
 mod stretch;
+mod writing;

@@ -5,6 +5,7 @@ pub use Rattle.vr_space.proofs.Places.{NoneAt, AllAbove, none-record, record-lef
 pub use Rattle.vr_space.proofs.Places.{record-filter, none-filter, above-filter, none-above}
 pub use Rattle.vr_space.proofs.Places.{in-above, in-most, in-both, in-past, is_past, not_past}
 pub use Rattle.vr_space.proofs.Places.{same_is_equal, lt_from_test, above-more, by_other}
+pub use Rattle.vr_space.proofs.Places.{above-append, above-weaken}
 pub use Rattle.vr_space.proofs.KeyedContent.{AscendFrom, content-above, way-content}
 pub use Rattle.vr_space.proofs.KeyedSound.{head-ascends, AreIn, head-in, entry-in, IsBlock}
 pub use Rattle.vr_space.proofs.KeyedSound.{keyed-within, keyed-image, each-less, keyed-less}
