@@ -213,7 +213,7 @@ under-withs one other (entry ∷ more) rise rises under =
     (under-with one other entry.0 entry.1 rise rises under)
 
 -- what is looked up after a length more
-at-by : (lengths : Lengths) (place : List ℕ) (n : ℕ) (q : List ℕ) → Rise lengths
+pub at-by : (lengths : Lengths) (place : List ℕ) (n : ℕ) (q : List ℕ) → Rise lengths
     → (Q : Option ℕ → Type 0)
     → (place_cmp q place ≡ Equal → Q (Some (most_of n (length_at lengths place))))
     → ((place_cmp q place ≡ Equal → ⊥) → Q (length_at lengths q))

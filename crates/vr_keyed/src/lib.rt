@@ -3,6 +3,7 @@
 #![tactic(auto)]
 
 mod meet;
+mod set;
 mod slot;
 mod slots;
 mod stretch;
