@@ -4,7 +4,7 @@ use Rattle.std.proofs.Common.{◌++◌, length, All, refl, sym, ap, subst, ◌�
 use Rattle.std.proofs.Common.{append_assoc, ◌↔◌}
 use Rattle.std.proofs.lemmas.List.{append-nil}
 use Rattle.std.proofs.lemmas.List.Elements.{All-head, All-tail}
-use Rattle.std.specs.Prelude.{cond, OnOk}
+use Rattle.std.specs.Prelude.{cond, OnOk, IfOk}
 use Rattle.std.specs.Result.{is_ok, is_err}
 use Rattle.std.specs.declared.result.Result.{Result}
 use Rattle.std.specs.declared.result.Result.TheVariants.{Ok, Err}
@@ -148,3 +148,16 @@ not-err (Err e) none = absurd (none refl)
 pub on-ok : {X E : Type 0} (r : Result X E) (P : Type 0) → is_ok r ≡ true → OnOk r P → P
 on-ok (Ok x) P ok is = is
 on-ok (Err e) P ok is = absurd (true≢false (sym ok))
+
+pub on-ok-map : {X E : Type 0} (r : Result X E) (P Q : Type 0) → (P → Q) → OnOk r P → OnOk r Q
+on-ok-map (Ok x) P Q more is = more is
+on-ok-map (Err e) P Q more is = is
+
+pub on-ok-from : {X E : Type 0} (r : Result X E) (P : Type 0) → P → OnOk r P
+on-ok-from (Ok x) P is = is
+on-ok-from (Err e) P is = tt
+
+pub if-ok-map : {X E : Type 0} (r : Result X E) (P Q : X → Type 0) → ((x : X) → P x → Q x)
+    → IfOk r P → IfOk r Q
+if-ok-map (Ok x) P Q more is = more x is
+if-ok-map (Err e) P Q more is = is

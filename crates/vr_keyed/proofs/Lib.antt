@@ -6,3 +6,4 @@ pub mod Contents
 pub mod Roomy
 pub mod Setting
 pub mod Refreshing
+pub mod SetThen
