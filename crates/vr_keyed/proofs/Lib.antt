@@ -7,3 +7,4 @@ pub mod Roomy
 pub mod Setting
 pub mod Refreshing
 pub mod SetThen
+pub mod Looking

@@ -1,3 +1,4 @@
 pub mod Slots
 pub mod Setting
 pub mod Ready
+pub mod Look
