@@ -8,3 +8,4 @@ pub mod Setting
 pub mod Refreshing
 pub mod SetThen
 pub mod Looking
+pub mod Nexting

@@ -2,3 +2,4 @@ pub mod Slots
 pub mod Setting
 pub mod Ready
 pub mod Look
+pub mod Next

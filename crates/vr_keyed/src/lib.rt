@@ -4,6 +4,7 @@
 
 mod look;
 mod meet;
+mod next;
 mod set;
 mod slot;
 mod slots;

@@ -34,7 +34,7 @@ fn is_past(low: Option<&[u8]>, place: &[u8]) -> bool
 
 impl Stretch<'_> {
     /// Whether a place is in it.
-    fn has(&self, place: &[u8]) -> bool
+    pub(crate) fn has(&self, place: &[u8]) -> bool
         ensures { result ≡ is_between (option_map (λ (low : Bor (List ℕ)). low.now) self.now.low)
             self.now.high.now self.now.most place.now }
     {

@@ -18,14 +18,6 @@ use crate::stretch::{Stretch, add_stretch};
 use vr_ci::{CiView, CiWriter, Form};
 use vr_space::Layout;
 
-/// Where the range of a slot begins, if it has a low place.
-fn low_in(slot: &Slot) -> Option<&[u8]>
-    ensures { option_map (λ (low : Bor (List ℕ)). low.now) result
-        ≡ low_of slot.now.from_start slot.now.low.place }
-{
-    if slot.from_start { None } else { Some(slot.low.as_slice()) }
-}
-
 /// Adds the record that is given, if one is. It answers false where it has no room.
 fn add_given(bytes: Option<&[u8]>, writer: &mut CiWriter<'_>) -> bool
     requires plain { form_of writer.old ≡ Plain }
@@ -69,7 +61,7 @@ fn add_set(
     ensures buffer { buffer_of writer.new ≡ buffer_of writer.old }
 {
     let below = Stretch {
-        low: low_in(slot),
+        low: slot.low_place(),
         high: place,
         most: false,
     };

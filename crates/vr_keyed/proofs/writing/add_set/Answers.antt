@@ -21,7 +21,7 @@ returns-then-not-add_stretch-clause-added c holds kept some fits =
     let new = given c.args.bytes in
     let size = size_of c.args.writer.now - 4 in
     let below = ap (λ (low : Option (List ℕ)). ci.room (items_between part low place false items))
-    c.low_in.ensures in
+    c.low_place.ensures in
     absurd (true≢false (sym (c.add_stretch.ensures.added [] holds kept
     (omega (arith, below, set-room part range place new items size fits))).0
     ∙ c.if-not-add_stretch.true))
@@ -35,7 +35,7 @@ returns-then-not-add_given-clause-added c holds kept some fits =
     let new = given c.args.bytes in
     let size = size_of c.args.writer.now - 4 in
     let below = ap (λ (low : Option (List ℕ)). ci.room (items_between part low place false items))
-    c.low_in.ensures in
+    c.low_place.ensures in
     let rooms = set-room part range place new items size fits in
     let first = c.add_stretch.ensures.added [] holds kept (omega (arith, below, rooms)) in
     absurd (true≢false (sym (c.add_given.ensures.added _ first.1 some
@@ -51,10 +51,10 @@ returns-clause-added c holds kept some fits =
     let new = given c.args.bytes in
     let size = size_of c.args.writer.now - 4 in
     let low : List ci.Item = items_between part
-    (option_map (λ (low : Bor (List ℕ)). low.now) c.low_in.result) place false items in
+    (option_map (λ (low : Bor (List ℕ)). low.now) c.low_place.result) place false items in
     let high : List ci.Item = items_between part (Some place) c.as_slice.result.now true items in
     let below : low ≡ items_between part range.low place false items =
-    ap (λ (l : Option (List ℕ)). items_between part l place false items) c.low_in.ensures in
+    ap (λ (l : Option (List ℕ)). items_between part l place false items) c.low_place.ensures in
     let above : high ≡ items_between part (Some place) range.high true items =
     ap (λ (h : List ℕ). items_between part (Some place) h true items) c.as_slice.ensures in
     let less = ap ci.room below in
