@@ -39,11 +39,6 @@ use Rattle.vr_split.proofs.Ready.{item-found, is-old, old-holds, old-in, into-in
 
 -- ---- ranges
 
-is-less : (o : Ordering) → is_lt o ≡ true → o ≡ Less
-is-less Less is = refl
-is-less Equal is = absurd (true≢false (sym is))
-is-less Greater is = absurd (true≢false (sym is))
-
 above-both : (low : Option (List ℕ)) (cut place : List ℕ) → is_above low cut ≡ true
     → is_above (Some cut) place ≡ true → is_above low place ≡ true
 above-both None cut place above more = refl

@@ -24,7 +24,7 @@ use Rattle.vr_seqset.proofs.CallerLemmas.{length-spelling, length-entry_bytes}
 use Rattle.vr_space.specs.Room.{Range}
 use Rattle.vr_space.specs.Keyed.{entry_for}
 use Rattle.vr_space.proofs.CallerLemmas.{is_past}
-use Rattle.vr_split.specs.Halves.{one_entry, halves, halved_record}
+use Rattle.vr_split.specs.Halves.{one_entry, halves, halved_record, CanHalve}
 use Rattle.vr_split.proofs.Leading.{slot, Without, EachOnce, AreSingle, used, led}
 use Rattle.vr_split.proofs.Leading.{without-found, once-of, used-more, without-unused}
 use Rattle.vr_split.proofs.Leading.{single-numbers, none-some}
@@ -280,18 +280,6 @@ first-highs s first =
 
 -- ---- all rules
 
--- What is known of the entry whose interval is split, and of the cut and the other interval.
-pub record CanHalve (cis size old into : ℕ) (cut : List ℕ) (s : SequenceSet) : Type 0 where
-  pub first : s.first ≡ true
-  pub single : AreSingle s.entries
-  pub at : Range × Entry
-  pub leads : entry_for None s.entries cut ≡ Some at
-  pub is_old : slot at.1 ≡ old
-  pub key : length cut ≡ length s.low
-  pub less : place_cmp cut at.1.high ≡ Less
-  pub below : into < intervals_used cis size (length s.low)
-  pub unused : list_any (eqb into) (used s.entries) ≡ false
-
 numbers-fit : (cis size place count : ℕ) → 0 < count → count ≤ intervals_used cis size place
     → 32 + place + (4 + place) * count ≤ size
 numbers-fit cis size place count some most =
@@ -339,18 +327,18 @@ pub halved-rules : (cis size old into : ℕ) (cut : List ℕ) (s : SequenceSet)
 halved-rules cis size old into cut s rules can =
     let both : List Entry = halves old into cut s.entries in
     let limit : ℕ = intervals_used cis size (length s.low) in
-    let single : AreSingle both = single-halves old into cut s.entries can.single in
-    let once : EachOnce s.entries = once-of s.entries can.single rules.numbers.once in
+    let single : AreSingle both = single-halves old into cut s.entries can.others.single in
+    let once : EachOnce s.entries = once-of s.entries can.others.single rules.numbers.once in
     let distinct : IsDistinct eqb (used both) =
     distinct-of both single (once-halves old into cut s.entries once
-    (without-unused into s.entries can.single can.unused)) in
-    let is_below : old < limit = subst (λ (n : ℕ). n < limit) can.is_old
-    (slot-below limit None s.entries can.at
-    (below-of limit s.entries can.single rules.numbers.below) can.leads) in
+    (without-unused into s.entries can.others.single can.others.unused)) in
+    let is_below : old < limit = subst (λ (n : ℕ). n < limit) can.place.is_old
+    (slot-below limit None s.entries can.place.at
+    (below-of limit s.entries can.others.single rules.numbers.below) can.place.leads) in
     let below : All (λ n. n < limit) (used both) =
     below-all limit both single (all-halves old into cut (λ entry. slot entry < limit)
     (λ entry within. is_below) (λ entry within. can.below) s.entries
-    (below-of limit s.entries can.single rules.numbers.below)) in
+    (below-of limit s.entries can.others.single rules.numbers.below)) in
     let whole : All (IsWhole (length s.low)) both =
     all-halves old into cut (IsWhole (length s.low))
     (λ entry fits. record { some = omega arith; high = can.key })
@@ -360,7 +348,8 @@ halved-rules cis size old into cut s rules can =
     omega (
       arith,
       length-used both single,
-      length-le_from_distinct_below (used both) limit distinct (λ q there. below-any limit (used both) q below there),
+      length-le_from_distinct_below (used both) limit distinct
+          (λ q there. below-any limit (used both) q below there),
     ) in
     record {
       lengths = record {
@@ -372,7 +361,7 @@ halved-rules cis size old into cut s rules can =
           length-spelling (halved_record old into cut s),
           length-entries (length s.low) both single whole,
           numbers-fit cis size (length s.low) (length both)
-              (halves-some old into cut None s.entries can.at can.leads) count,
+              (halves-some old into cut None s.entries can.place.at can.place.leads) count,
         );
       };
       fields = record {
@@ -384,7 +373,7 @@ halved-rules cis size old into cut s rules can =
       numbers = record { below = below; once = distinct };
       ascends = subst (IsStrictlySortedBy place_cmp)
           (sym (first-highs (halved_record old into cut s) can.first))
-          (sorted-halves old into cut None s.entries can.at once can.leads can.is_old can.less
+          (sorted-halves old into cut None s.entries can.place.at once can.place.leads can.place.is_old can.place.less
           (subst (IsStrictlySortedBy place_cmp) (first-highs s can.first) rules.ascends));
       chain = rules.chain;
     }

@@ -22,7 +22,7 @@ use Rattle.vr_space.proofs.CallerLemmas.{found-in}
 use Rattle.vr_split.specs.Switching.{IsIntervalBlock, IsFree}
 use Rattle.vr_split.proofs.Leading.{led, slot, Without, EachOnce, used, each-found}
 use Rattle.vr_split.proofs.Leading.{of-without, once-of, without-found, without-unused}
-use Rattle.vr_split.proofs.HalvedRules.{CanHalve}
+use Rattle.vr_split.specs.Halves.{CanHalve}
 
 -- ---- the free interval
 
@@ -152,16 +152,17 @@ module _ (part : Keyed) (split : SplitNow) (a : Seen) (rests : IsKeyedAtRest par
         (record_in top_now)
     can-halve = record {
       first = head-now.first;
-      single = head-now.single;
-      at = begun.at;
-      leads = begun.found;
-      is_old = begun.old;
       key = begun.length ∙ sym head-now.key;
-      less = subst (λ (high : List ℕ). place_cmp split.cut high ≡ Less)
-          (high-is None (entries_of top_now) split.cut begun.at begun.found) begun.below;
       below = subst (λ (size : ℕ). split.into < intervals_used part.area size
           (length (record_in top_now).low)) (sym head-now.size)
           (subst (λ (key : ℕ). split.into < intervals_used part.area part.size key)
           (sym head-now.key) (omega (arith, free-is.0)));
-      unused = free-is.1;
+      others = record { single = head-now.single; unused = free-is.1 };
+      place = record {
+        at = begun.at;
+        leads = begun.found;
+        is_old = begun.old;
+        less = subst (λ (high : List ℕ). place_cmp split.cut high ≡ Less)
+            (high-is None (entries_of top_now) split.cut begun.at begun.found) begun.below;
+      };
     }

@@ -26,7 +26,8 @@ use Rattle.vr_space.specs.Room.{Range, is_in, is_above}
 use Rattle.vr_space.specs.Keyed.{Keyed, HoldsRange, IsKept, items_of, key_of, placed}
 use Rattle.vr_space.specs.Search.{AreUpTo, keys_of}
 use Rattle.vr_space.proofs.CallerLemmas.{not_past, in-most, in-above, in-both}
-use Rattle.vr_split.specs.Halves.{HasRange, IsBusyCopy}
+use Rattle.vr_split.proofs.Leading.{is-less}
+use Rattle.vr_split.specs.Halves.{HasRange, IsBusyCopy, AreBefore}
 
 -- ---- a filter that keeps what stands between two numbers
 
@@ -65,22 +66,12 @@ passes-between {X} test xs from to order before past between =
 
 -- ---- keys in a range
 
--- so many first keys are not above the low place
-abbrev pub IsFrom : List (List ℕ) → Option (List ℕ) → ℕ → Type 0
-IsFrom keys None n = n ≡ 0
-IsFrom keys (Some low) n = AreUpTo keys low n
-
-is-less : (o : Ordering) → is_lt o ≡ true → o ≡ Less
-is-less Less is = refl
-is-less Equal is = absurd (true≢false (sym is))
-is-less Greater is = absurd (true≢false (sym is))
-
 not-true : (b : Bool) → (b ≡ true → ⊥) → b ≡ false
 not-true true is = absurd (is refl)
 not-true false is = refl
 
 low-out : (keys : List (List ℕ)) (low : Option (List ℕ)) (high : List ℕ) (n : ℕ)
-    → IsFrom keys low n
+    → AreBefore keys low n
     → All (λ key. is_in (record { low = low; high = high }) key ≡ false) (take n keys)
 low-out keys None high n none =
     let empty : take n keys ≡ [] = ap (λ (k : ℕ). take k keys) none in
@@ -99,13 +90,13 @@ high-out keys low high n upto = λ k d lt. not-true _
     (in-most (record { low = low; high = high }) (get_or (drop n keys) k d) it)
     (upto.past k d lt))
 
-above-from : (keys : List (List ℕ)) (low : Option (List ℕ)) (n : ℕ) → IsFrom keys low n
+above-from : (keys : List (List ℕ)) (low : Option (List ℕ)) (n : ℕ) → AreBefore keys low n
     → All (λ key. is_above low key ≡ true) (drop n keys)
 above-from keys None n none = λ k d lt. refl
 above-from keys (Some low) n upto = λ k d lt. ap is_lt (upto.past k d lt)
 
 all-in : (keys : List (List ℕ)) (low : Option (List ℕ)) (high : List ℕ) (from to : ℕ)
-    → from ≤ to → IsFrom keys low from → AreUpTo keys high to
+    → from ≤ to → AreBefore keys low from → AreUpTo keys high to
     → All (λ key. is_in (record { low = low; high = high }) key ≡ true) (drop from (take to keys))
 all-in keys low high from to order first last =
     let cut : drop from (take to keys) ≡ take (to - from) (drop from keys) =
@@ -122,7 +113,7 @@ all-in keys low high from to order first last =
 
 -- the low place is before the high one, so no key is up to the low one and past the high one
 pub in-order : (keys : List (List ℕ)) (low : Option (List ℕ)) (high : List ℕ) (from to : ℕ)
-    → is_above low high ≡ true → IsFrom keys low from → AreUpTo keys high to → from ≤ to
+    → is_above low high ≡ true → AreBefore keys low from → AreUpTo keys high to → from ≤ to
 in-order keys None high from to above first last = omega (arith, first)
 in-order keys (Some low) high from to above first last =
     elim (cases_lt to from) [
@@ -168,7 +159,7 @@ filter-made {X} {Y} f test (x ∷ xs) = by (test (f x)) (filter-made f test xs)
 
 -- the records of a range are those from one number up to another
 module _ (part : Keyed) (block : Block) (low : Option (List ℕ)) (high : List ℕ) (from to : ℕ)
-    (first : IsFrom (keys_of part block) low from) (last : AreUpTo (keys_of part block) high to)
+    (first : AreBefore (keys_of part block) low from) (last : AreUpTo (keys_of part block) high to)
     (above : is_above low high ≡ true) where
   abbrev taken : Range
   taken = record { low = low; high = high }

@@ -1,14 +1,19 @@
 -- The blocks that the stages of a split write, of those that are there. That a split moves the
 -- upper records of an interval to a free one, and that the entry becomes two, is DFSMS Using Data
 -- Sets, control interval splits; that an interval is busy meanwhile is this project's own rule.
-use Rattle.std.specs.Prelude.{◌≡◌, ℕ, true, List, [], ◌∷◌, if◌then◌else◌, nat_eq, slice_index}
-use Rattle.std.specs.List.{flat_map}
+use Rattle.std.specs.Prelude.{◌≡◌, ℕ, ◌<◌, true, false, List, [], ◌∷◌, if◌then◌else◌, nat_eq, length}
+use Rattle.std.specs.Prelude.{slice_index, All, Option, Some, None}
+use Rattle.std.specs.List.{flat_map, list_any}
+use Rattle.std.specs.declared.cmp.Ordering.TheVariants.{Less}
+use Rattle.vr_types.specs.Content.{place_cmp}
 use Rattle.vr_types.specs.Image.{Block}
 use Rattle.vr_ci_match.specs.Fault.{is_busy}
 use Rattle.vr_seqset.specs.Entry.{Entry}
+use Rattle.vr_seqset.specs.Numbers.{intervals_used}
 use Rattle.vr_seqset.specs.SequenceSet.{SequenceSet}
 use Rattle.vr_space.specs.Room.{Range}
-use Rattle.vr_space.specs.Keyed.{Keyed, HoldsRange, records_of, records_in}
+use Rattle.vr_space.specs.Keyed.{Keyed, HoldsRange, records_of, records_in, entry_for}
+use Rattle.vr_space.specs.Search.{AreUpTo}
 
 -- The bytes are an interval of the range, with the records that the block has there.
 pub record HasRange (part : Keyed) (range : Range) (block bytes : Block) : Type 0 where
@@ -21,6 +26,11 @@ pub record IsBusyCopy (part : Keyed) (block bytes : Block) : Type 0 where
   pub holds : (range : Range) → HoldsRange part range bytes
   pub records : records_of part bytes ≡ records_of part block
   pub busy : is_busy bytes ≡ true
+
+-- so many first keys come before a range that begins at the low place
+abbrev pub AreBefore : List (List ℕ) → Option (List ℕ) → ℕ → Type 0
+AreBefore keys None n = n ≡ 0
+AreBefore keys (Some low) n = AreUpTo keys low n
 
 -- an entry of one interval
 abbrev pub one_entry : ℕ → List ℕ → Entry
@@ -40,3 +50,24 @@ halves old into cut entries = flat_map (halved old into cut) entries
 -- the record of a head with both entries
 abbrev pub halved_record : ℕ → ℕ → List ℕ → SequenceSet → SequenceSet
 halved_record old into cut s = record s { entries = halves old into cut s.entries }
+
+-- The cut is in the range of the old interval's entry, below its end.
+pub record IsCutOf (old : ℕ) (cut : List ℕ) (entries : List Entry) : Type 0 where
+  pub at : Range × Entry
+  pub leads : entry_for None entries cut ≡ Some at
+  pub is_old : slice_index at.1.intervals 0 ≡ old
+  pub less : place_cmp cut at.1.high ≡ Less
+
+-- Each entry has one interval, and none has this one.
+pub record AreSingleWithout (into : ℕ) (entries : List Entry) : Type 0 where
+  pub single : All (λ (entry : Entry). length entry.intervals ≡ 1) entries
+  pub unused : list_any (nat_eq into) (flat_map (λ (entry : Entry). entry.intervals) entries)
+      ≡ false
+
+-- The record, in a block of the size, may have both entries.
+pub record CanHalve (intervals size old into : ℕ) (cut : List ℕ) (s : SequenceSet) : Type 0 where
+  pub first : s.first ≡ true
+  pub key : length cut ≡ length s.low
+  pub below : into < intervals_used intervals size (length s.low)
+  pub others : AreSingleWithout into s.entries
+  pub place : IsCutOf old cut s.entries

@@ -6,6 +6,8 @@
 #![tactic(auto)]
 
 mod cut;
+mod halves;
+mod head;
 mod records;
 mod stages;
 mod weights;
