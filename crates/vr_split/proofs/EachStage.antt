@@ -30,7 +30,7 @@ use Rattle.vr_space.proofs.CallerLemmas.{record-filter, in-above, in-most, in-bo
 use Rattle.vr_split.specs.Switching.{OfBlock, CanReplace, CanSwitch, IsSettledAt}
 use Rattle.vr_split.specs.Switching.{IsResting}
 use Rattle.vr_split.specs.Halves.{HasRange, IsBusyCopy, halves, halved_record}
-use Rattle.vr_split.proofs.Leading.{in-range, of-each, of-more, of-one, one-range}
+use Rattle.vr_split.proofs.Leading.{is-less, in-range, of-each, of-more, of-one, one-range}
 use Rattle.vr_split.proofs.Lighter.{IsInside, twice, room-inside}
 use Rattle.vr_split.proofs.HalvedHead.{found-halves, cut-halves, each-halves, halved-head}
 use Rattle.vr_split.proofs.HalvedHead.{le-trans}

@@ -12,13 +12,15 @@ use Rattle.vr_seqset.specs.Entry.{Entry}
 use Rattle.vr_seqset.specs.Numbers.{intervals_used}
 use Rattle.vr_seqset.specs.Reading.{record_in}
 use Rattle.vr_space.specs.Way.{found_on}
-use Rattle.vr_space.specs.Room.{Lengths, Range, HaveRoom}
+use Rattle.vr_space.specs.Room.{Lengths, Range, HaveRoom, is_above}
 use Rattle.vr_space.specs.Keyed.{Keyed, IsHead, HoldsRange, IsKeyedAtRest, KeepsRoom, entries_of}
 use Rattle.vr_space.specs.Keyed.{entry_block, entry_for, lengths_of, records_of, way_in}
 use Rattle.vr_space.specs.Part.{KeyedShape, item_of}
+use Rattle.vr_space.specs.Search.{IsEntryFor, range_found}
+use Rattle.vr_space.specs.declared.search.FoundEntry.{FoundEntry}
 use Rattle.vr_space.specs.Split.{SplitNow, free_from}
 use Rattle.vr_space.specs.UnderWay.{IsBegun, interval_block}
-use Rattle.vr_space.proofs.CallerLemmas.{found-in}
+use Rattle.vr_space.proofs.CallerLemmas.{found-in, AscendFrom}
 use Rattle.vr_split.specs.Switching.{IsIntervalBlock, IsFree}
 use Rattle.vr_split.proofs.Leading.{led, slot, Without, EachOnce, used, each-found}
 use Rattle.vr_split.proofs.Leading.{of-without, once-of, without-found, without-unused}
@@ -166,3 +168,22 @@ module _ (part : Keyed) (split : SplitNow) (a : Seen) (rests : IsKeyedAtRest par
             (high-is None (entries_of top_now) split.cut begun.at begun.found) begun.below;
       };
     }
+
+-- ---- the range that is found
+
+-- a range begins before it ends
+pub range-rises : (low : Option (List ℕ)) (entries : List Entry) (place : List ℕ)
+    (at : Range × Entry) → AscendFrom low entries → entry_for low entries place ≡ Some at
+    → is_above at.0.low at.0.high ≡ true
+range-rises low [] place at ascend is = absurd (true≢false (ap is_some (sym is)))
+range-rises low (entry ∷ entries) place at ascend is = ⊎_elim
+    (λ here. subst (λ (r : Range). is_above r.low r.high ≡ true) (sym here.its_range) ascend.0)
+    (λ on. range-rises (Some entry.high) entries place at ascend.1 on.further)
+    (led low entry entries place at is)
+
+-- the range that a search answers is the one that is found
+pub found-is : (top : Block) (place : List ℕ) (at : Range × Entry) (found : FoundEntry)
+    → entry_for None (entries_of top) place ≡ Some at → IsEntryFor top place found
+    → range_found found ≡ at.0
+found-is top place at found leads is =
+    ap (λ (o : Option (Range × Entry)). (unwrap_or o at).0) (sym is.reaches ∙ leads)

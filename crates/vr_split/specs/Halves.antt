@@ -10,9 +10,12 @@ use Rattle.vr_types.specs.Image.{Block}
 use Rattle.vr_ci_match.specs.Fault.{is_busy}
 use Rattle.vr_seqset.specs.Entry.{Entry}
 use Rattle.vr_seqset.specs.Numbers.{intervals_used}
-use Rattle.vr_seqset.specs.SequenceSet.{SequenceSet}
+use Rattle.vr_seqset.specs.SequenceSet.{SequenceSet, IsSequenceSet}
+use Rattle.vr_seqset.specs.Reading.{record_in}
 use Rattle.vr_space.specs.Room.{Range}
-use Rattle.vr_space.specs.Keyed.{Keyed, HoldsRange, records_of, records_in, entry_for}
+use Rattle.vr_space.specs.Keyed.{Keyed, IsHead, HoldsRange, entries_of, records_of, records_in}
+use Rattle.vr_space.specs.Keyed.{entry_for}
+use Rattle.vr_space.specs.UnderWay.{above_cut}
 use Rattle.vr_space.specs.Search.{AreUpTo}
 
 -- The bytes are an interval of the range, with the records that the block has there.
@@ -71,3 +74,23 @@ pub record CanHalve (intervals size old into : ℕ) (cut : List ℕ) (s : Sequen
   pub below : into < intervals_used intervals size (length s.low)
   pub others : AreSingleWithout into s.entries
   pub place : IsCutOf old cut s.entries
+
+-- ---- what a stage makes of the head that is there and of the block of the old interval
+
+-- where the old interval holds the range of the cut, the records of it above the cut
+abbrev pub MakesUpper : Keyed → Block → List ℕ → Block → Block → Type 0
+MakesUpper part top cut block bytes = (at : Range × Entry) → IsHead part top
+    → entry_for None (entries_of top) cut ≡ Some at → place_cmp cut at.0.high ≡ Less
+    → HoldsRange part at.0 block → HasRange part (above_cut at.0 cut) block bytes
+
+-- the records of the range
+abbrev pub MakesLower : Keyed → Block → List ℕ → Block → Block → Type 0
+MakesLower part top cut block bytes = (at : Range × Entry) → IsHead part top
+    → entry_for None (entries_of top) cut ≡ Some at
+    → HoldsRange part at.0 block → HasRange part at.0 block bytes
+
+-- the head with both entries
+abbrev pub MakesHead : ℕ → Block → ℕ → ℕ → List ℕ → Block → Type 0
+MakesHead area top old into cut bytes = IsSequenceSet area top (record_in top)
+    → CanHalve area (length top) old into cut (record_in top)
+    → IsSequenceSet area bytes (halved_record old into cut (record_in top))

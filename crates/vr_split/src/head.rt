@@ -11,6 +11,7 @@ ghost use Rattle.vr_split.specs.Halves.{
   IsCutOf,
   AreSingleWithout,
   CanHalve,
+  MakesHead,
 };
 
 use vr_seqset::{SeqEntries, SeqEntry, SeqHead, SeqView, SeqWriter, interval_limit};
@@ -141,9 +142,7 @@ fn write_halved(
 /// an interval that is split: up to the cut the old one, and from there the other.
 pub(crate) fn write_head(top: &[u8], cis: u16, old: u16, into: u16, cut: &[u8], out: &mut [u8])
     requires { length out.old ≡ length top.now }
-    ensures { IsSequenceSet cis top.now (record_in top.now)
-        → CanHalve cis (length top.now) old into cut.now (record_in top.now)
-        → IsSequenceSet cis out.new (halved_record old into cut.now (record_in top.now)) }
+    ensures { MakesHead cis top.now old into cut.now out.new }
 {
     let Ok(view) = SeqView::read(top, cis) else {
         return;

@@ -8,6 +8,7 @@
 mod cut;
 mod halves;
 mod head;
+mod making;
 mod records;
 mod stages;
 mod weights;
