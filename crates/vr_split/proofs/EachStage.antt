@@ -258,7 +258,7 @@ module _ (part : Keyed) (kept : Lengths) (split : SplitNow) (a : Seen)
     clean-block : entry_block part switched.at.1 ≡ interval_block part split.old
     clean-block = ap (interval_block part) switched.interval
 
-    clean-holds : HoldsRange part switched.at.0 old_now
+    pub clean-holds : HoldsRange part switched.at.0 old_now
     clean-holds = subst (λ (n : ℕ). HoldsRange part switched.at.0 (block_at a.cur n)) clean-block
         (holds-found part split a resting.rests left switched.at switched.found)
 

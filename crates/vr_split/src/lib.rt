@@ -10,6 +10,7 @@ mod halves;
 mod head;
 mod making;
 mod records;
+mod steps;
 mod stages;
 mod weights;
 

@@ -1,0 +1,47 @@
+-- A split of a control interval as it goes on, stage by stage. The stages are this project's own.
+use Rattle.std.specs.Prelude.{◌≡◌, ℕ, ◌<◌, List, length, Option, Some, None, IfSome}
+use Rattle.vr_types.specs.declared.unit.StageKind.{StageKind}
+use Rattle.vr_types.specs.declared.unit.StageKind.TheVariants.{CiCopy, CiSwitch, CiClean}
+use Rattle.vr_space.specs.Keyed.{Keyed}
+use Rattle.vr_space.specs.Split.{SplitNow}
+use Rattle.vr_split.specs.declared.steps.Halving.{Halving}
+
+-- the part whose intervals are split, and the split that is under way
+pub record Splits : Type 0 where
+  pub part : Keyed
+  pub split : Option SplitNow
+
+-- of these intervals, at this stage
+abbrev pub split_at : ℕ → ℕ → List ℕ → StageKind → SplitNow
+split_at old into cut stage = record { old = old; into = into; cut = cut; stage = stage }
+
+abbrev pub split_of : Halving → StageKind → SplitNow
+split_of split stage = split_at split.old split.into split.cut.now stage
+
+abbrev pub split_by : Option StageKind → ℕ → ℕ → List ℕ → Option SplitNow
+split_by None old into cut = None
+split_by (Some stage) old into cut = Some (split_at old into cut stage)
+
+-- the stage that comes after one that is done
+abbrev pub stage_after : StageKind → Option StageKind
+stage_after CiCopy = Some CiSwitch
+stage_after CiSwitch = Some CiClean
+stage_after stage = None
+
+-- the stage that is next where one failed: a copy is begun anew, with an interval and a cut of its
+-- own
+abbrev pub stage_again : StageKind → Option StageKind
+stage_again CiCopy = None
+stage_again stage = Some stage
+
+-- the split once its next stage is done, and where that failed
+abbrev pub after_stage : SplitNow → Option SplitNow
+after_stage split = split_by (stage_after split.stage) split.old split.into split.cut
+
+abbrev pub after_fault : SplitNow → Option SplitNow
+after_fault split = split_by (stage_again split.stage) split.old split.into split.cut
+
+-- both intervals are in the area
+pub record AreInArea (part : Keyed) (old into : ℕ) : Type 0 where
+  pub old_in : old < part.area
+  pub into_in : into < part.area
