@@ -5,8 +5,6 @@ use Rattle.std.proofs.Common.{List, Option, Some, None, refl, sym, ap, subst, â—
 use Rattle.std.proofs.Common.{trueâ‰¢false, length}
 use Rattle.std.specs.Prelude.{filter, map}
 use Rattle.std.specs.Ordering.{is_lt}
-use Rattle.std.specs.declared.cmp.Ordering.{Ordering}
-use Rattle.std.specs.declared.cmp.Ordering.TheVariants.{Less, Equal, Greater}
 use Rattle.std.proofs.lemmas.Cmp.{nat_list_cmp_total}
 use Rattle.vr_types.specs.Content.{Content, Placed, place_cmp, record_at}
 use Rattle.vr_types.specs.Image.{Block, block_at}

@@ -1,6 +1,7 @@
 -- A stage whole: first it reads, which keeps all, and then it puts.
-use Rattle.std.proofs.Common.{◌≡◌, ◌≢◌, ◌<◌, ℕ, ◌+◌, ◌-◌, ◌≤◌, Bool, IsTrue, true, false, List, [], ◌∷◌, refl, sym, ap}
-use Rattle.std.proofs.Common.{subst, ◌∙◌, arith, length, All, Option, Some, None}
+use Rattle.std.proofs.Common.{◌≡◌, ◌≢◌, ◌<◌, ℕ, ◌+◌, ◌≤◌, Bool, IsTrue, true, false, List, [], ◌∷◌}
+use Rattle.std.proofs.Common.{refl, sym}
+use Rattle.std.proofs.Common.{subst, ◌∙◌, arith, length, Option, Some, None}
 use Rattle.std.specs.Prelude.{cond, filter, map}
 use Rattle.std.proofs.lemmas.List.Elements.{All-nil}
 use Rattle.vr_types.specs.Content.{Content, Placed}
@@ -8,7 +9,7 @@ use Rattle.vr_types.specs.Image.{Block, Image, block_at}
 use Rattle.vr_types.specs.Seen.{Seen, Left, Only}
 use Rattle.vr_types.specs.Blocks.{Keeps, Puts}
 use Rattle.vr_types.specs.declared.unit.StageKind.{StageKind}
-use Rattle.vr_types.specs.declared.unit.StageKind.TheVariants.{CiCopy, CiSwitch, CiClean}
+use Rattle.vr_types.specs.declared.unit.StageKind.TheVariants.{CiSwitch, CiClean}
 use Rattle.vr_ci_match.specs.declared.form.Form.TheVariants.{Plain}
 use Rattle.vr_ci.specs.Interval as ci
 use Rattle.vr_ci.proofs.CallerLemmas.{interval_room}
@@ -17,8 +18,8 @@ use Rattle.vr_seqset.specs.SequenceSet.{IsSequenceSet}
 use Rattle.vr_seqset.specs.Reading.{record_in}
 use Rattle.vr_space.specs.Room.{Lengths, Range, HaveRoom, is_in, weight}
 use Rattle.vr_space.specs.Keyed.{Keyed, HoldsRange, EachMayLeave, IsKeyedSound, IsKeyedAtRest}
-use Rattle.vr_space.specs.Keyed.{KeepsRoom, entries_of, entry_block, items_of, length_of}
-use Rattle.vr_space.specs.Keyed.{lengths_of, placed, records_in, records_of, range_of, key_of}
+use Rattle.vr_space.specs.Keyed.{KeepsRoom, entries_of, items_of, length_of}
+use Rattle.vr_space.specs.Keyed.{lengths_of, placed, range_of, key_of}
 use Rattle.vr_space.specs.Part.{KeyedShape}
 use Rattle.vr_space.specs.Split.{SplitNow}
 use Rattle.vr_space.specs.UnderWay.{KeyedUnderWay, IsBegun, IsCopied, IsSwitched, interval_block}

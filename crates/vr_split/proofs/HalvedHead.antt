@@ -36,7 +36,8 @@ le-by Less place cut high is le more = by (place_cmp cut high) refl more
     by : (p : Ordering) → place_cmp cut high ≡ p → is_le p ≡ true
         → is_le (place_cmp place high) ≡ true
     by Less less le = ap is_le (nat_list_cmp_total.trans place cut high is less)
-    by Equal same le = ap (λ (q : List ℕ). is_le (place_cmp place q)) (sym (same_place cut high same))
+    by Equal same le =
+        ap (λ (q : List ℕ). is_le (place_cmp place q)) (sym (same_place cut high same))
         ∙ ap is_le is
     by Greater over le = absurd (true≢false (sym le))
 le-by Equal place cut high is le more =
@@ -108,7 +109,8 @@ module _ (part : Keyed) (old into : ℕ) (cut : List ℕ) where
           (entry_for low (two_entries old into cut entry ++ entries) place)
       by-cut true within = inl (ap (way_in part place)
           (leads-here low (one_entry old cut) (one_entry into entry.high ∷ entries) place within)
-          ∙ ap (λ (n : ℕ). way_in part place (Some (range_of low (one_entry n cut), one_entry n cut)))
+          ∙ ap (λ (n : ℕ).
+          way_in part place (Some (range_of low (one_entry n cut), one_entry n cut)))
           (sym same)
           ∙ sym (ap (way_in part place)
           (leads-here low entry entries place (le-trans place cut entry.high within reach))))

@@ -1,6 +1,7 @@
 -- A sequence-set record keeps the rules as the entry of one interval becomes two.
 use Rattle.std.proofs.Common.{◌≡◌, ◌≢◌, inl, inr, ⊎_elim, ◌<◌, ◌≤◌, ◌+◌, ◌-◌, ◌*◌, ◌/◌, ℕ, Bool}
-use Rattle.std.proofs.Common.{true, false, List, [], ◌∷◌, ◌++◌, length, Option, Some, None, refl, sym}
+use Rattle.std.proofs.Common.{true, false, List, [], ◌∷◌, ◌++◌, length, Option, Some, None, refl}
+use Rattle.std.proofs.Common.{sym}
 use Rattle.std.proofs.Common.{ap, subst, ◌∙◌, arith, All, eqb, true≢false, cond}
 use Rattle.std.specs.Prelude.{map}
 use Rattle.std.specs.List.{flat_map, list_any, IsDistinct, AllByRecursion}
@@ -373,7 +374,8 @@ halved-rules cis size old into cut s rules can =
       numbers = record { below = below; once = distinct };
       ascends = subst (IsStrictlySortedBy place_cmp)
           (sym (first-highs (halved_record old into cut s) can.first))
-          (sorted-halves old into cut None s.entries can.place.at once can.place.leads can.place.is_old can.place.less
+          (sorted-halves old into cut None s.entries can.place.at once can.place.leads
+          can.place.is_old can.place.less
           (subst (IsStrictlySortedBy place_cmp) (first-highs s can.first) rules.ascends));
       chain = rules.chain;
     }

@@ -5,8 +5,7 @@ use Rattle.std.proofs.Common.{◌∙◌, arith, true≢false, All, inl, inr, get
 use Rattle.std.specs.Prelude.{cond, filter, map, IsTrue}
 use Rattle.std.specs.List.Sorted.{IsStrictlySortedBy}
 use Rattle.std.specs.Ordering.{is_le, is_lt}
-use Rattle.std.specs.declared.cmp.Ordering.{Ordering}
-use Rattle.std.specs.declared.cmp.Ordering.TheVariants.{Less, Equal, Greater}
+use Rattle.std.specs.declared.cmp.Ordering.TheVariants.{Less}
 use Rattle.std.proofs.lemmas.Bool.{cases_lt}
 use Rattle.std.proofs.lemmas.Cmp.{nat_list_cmp_total}
 use Rattle.std.proofs.lemmas.List.{take-append-drop, take-take, drop-take, take-map, drop-map}
@@ -239,8 +238,8 @@ module _ (part : Keyed) (block : Block) (low : Option (List ℕ)) (high : List �
           size = long ∙ holds.size;
           kept = kept;
           ascends = sorted;
-          within = λ idle. subst (λ (xs : List ci.Item). All (λ item. IsTrue (is_in taken (key item))) xs)
-              items segment-in;
+          within = λ idle. subst (λ (xs : List ci.Item).
+              All (λ item. IsTrue (is_in taken (key item))) xs) items segment-in;
         };
         records = ap (map (placed part)) (sym items) ∙ ap (map (placed part)) (sym is-segment)
             ∙ sym (filter-made (placed part) (λ entry. is_in taken entry.0) (items_of block));

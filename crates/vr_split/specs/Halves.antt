@@ -1,7 +1,8 @@
 -- The blocks that the stages of a split write, of those that are there. That a split moves the
 -- upper records of an interval to a free one, and that the entry becomes two, is DFSMS Using Data
 -- Sets, control interval splits; that an interval is busy meanwhile is this project's own rule.
-use Rattle.std.specs.Prelude.{◌≡◌, ℕ, ◌<◌, true, false, List, [], ◌∷◌, if◌then◌else◌, nat_eq, length}
+use Rattle.std.specs.Prelude.{◌≡◌, ℕ, ◌<◌, true, false, List, [], ◌∷◌, if◌then◌else◌, nat_eq}
+use Rattle.std.specs.Prelude.{length}
 use Rattle.std.specs.Prelude.{slice_index, All, Option, Some, None}
 use Rattle.std.specs.List.{flat_map, list_any}
 use Rattle.std.specs.declared.cmp.Ordering.TheVariants.{Less}

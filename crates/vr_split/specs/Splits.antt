@@ -1,5 +1,5 @@
 -- A split of a control interval as it goes on, stage by stage. The stages are this project's own.
-use Rattle.std.specs.Prelude.{◌≡◌, ℕ, ◌<◌, List, length, Option, Some, None, IfSome}
+use Rattle.std.specs.Prelude.{ℕ, ◌<◌, List, Option, Some, None}
 use Rattle.vr_types.specs.declared.unit.StageKind.{StageKind}
 use Rattle.vr_types.specs.declared.unit.StageKind.TheVariants.{CiCopy, CiSwitch, CiClean}
 use Rattle.vr_space.specs.Keyed.{Keyed}
@@ -34,14 +34,26 @@ abbrev pub stage_again : StageKind → Option StageKind
 stage_again CiCopy = None
 stage_again stage = Some stage
 
--- the split once its next stage is done, and where that failed
-abbrev pub after_stage : SplitNow → Option SplitNow
-after_stage split = split_by (stage_after split.stage) split.old split.into split.cut
+-- the stage that is next
+abbrev pub stage_now : Option SplitNow → Option StageKind
+stage_now None = None
+stage_now (Some split) = Some split.stage
 
-abbrev pub after_fault : SplitNow → Option SplitNow
-after_fault split = split_by (stage_again split.stage) split.old split.into split.cut
+-- the split once its next stage is done, and where that failed
+abbrev pub after_stage : Option SplitNow → Option SplitNow
+after_stage None = None
+after_stage (Some split) = split_by (stage_after split.stage) split.old split.into split.cut
+
+abbrev pub after_fault : Option SplitNow → Option SplitNow
+after_fault None = None
+after_fault (Some split) = split_by (stage_again split.stage) split.old split.into split.cut
 
 -- both intervals are in the area
 pub record AreInArea (part : Keyed) (old into : ℕ) : Type 0 where
   pub old_in : old < part.area
   pub into_in : into < part.area
+
+-- while a split is under way
+abbrev pub AreUnderWay : Option StageKind → Keyed → ℕ → ℕ → Type 0
+AreUnderWay None part old into = Unit {0}
+AreUnderWay (Some stage) part old into = AreInArea part old into

@@ -21,7 +21,10 @@ fn are_single_without(entries: SeqEntries<'_>, into: u16) -> bool
     ensures { IsTrue result ↔ AreSingleWithout into entries.entry }
 {
     for entry in entries {
-        if entry.intervals() != 1 || entry.interval(0) == into {
+        if entry.intervals() != 1 {
+            return false;
+        }
+        if entry.interval(0) == into {
             return false;
         }
     }
@@ -40,14 +43,7 @@ fn is_cut_of(view: &SeqView<'_>, old: u16, cut: &[u8]) -> bool
 }
 
 /// Whether a record, in a block of the size, may have both entries.
-fn can_halve(
-    cis: u16,
-    size: usize,
-    view: &SeqView<'_>,
-    old: u16,
-    into: u16,
-    cut: &[u8],
-) -> bool
+fn can_halve(cis: u16, size: usize, view: &SeqView<'_>, old: u16, into: u16, cut: &[u8]) -> bool
     requires { KeepsRules cis size view.now }
     ensures { IsTrue result ↔ CanHalve cis size old into cut.now view.now }
 {
@@ -59,13 +55,7 @@ fn can_halve(
 }
 
 /// Adds an entry, or both of the interval that is split.
-fn add_halved(
-    writer: &mut SeqWriter<'_>,
-    entry: &SeqEntry<'_>,
-    old: u16,
-    into: u16,
-    cut: &[u8],
-)
+fn add_halved(writer: &mut SeqWriter<'_>, entry: &SeqEntry<'_>, old: u16, into: u16, cut: &[u8])
     requires one { length entry.now.intervals ≡ 1 }
     requires rules { KeepsRules (intervals_of writer.old) (length (block_of writer.old).now)
         (record (written writer.old) {
@@ -88,13 +78,7 @@ fn add_halved(
 }
 
 /// Adds the entries, with both of the interval that is split.
-fn add_all(
-    writer: &mut SeqWriter<'_>,
-    entries: SeqEntries<'_>,
-    old: u16,
-    into: u16,
-    cut: &[u8],
-)
+fn add_all(writer: &mut SeqWriter<'_>, entries: SeqEntries<'_>, old: u16, into: u16, cut: &[u8])
     requires single { All (λ (entry : Entry). length entry.intervals ≡ 1) entries }
     requires none { (written writer.old).entries ≡ [] }
     requires rules { KeepsRules (intervals_of writer.old) (length (block_of writer.old).now)
@@ -112,14 +96,7 @@ fn add_all(
 }
 
 /// Writes the record with both entries.
-fn write_halved(
-    view: &SeqView<'_>,
-    cis: u16,
-    old: u16,
-    into: u16,
-    cut: &[u8],
-    out: &mut [u8],
-)
+fn write_halved(view: &SeqView<'_>, cis: u16, old: u16, into: u16, cut: &[u8], out: &mut [u8])
     requires single { All (λ (entry : Entry). length entry.intervals ≡ 1) view.now.entries }
     requires some { 0 < length view.now.entries }
     requires rules { KeepsRules cis (length out.old) (halved_record old into cut.now view.now) }

@@ -10,11 +10,13 @@ mod halves;
 mod head;
 mod making;
 mod records;
-mod steps;
+mod split;
 mod stages;
+mod steps;
 mod weights;
 
 pub use cut::plan_cut;
 pub use records::write_records;
+pub use split::{CiSplit, ci_split};
 pub use stages::{clean_interval, copy_interval, switch_head};
 pub use weights::Weights;

@@ -1,5 +1,5 @@
 //! The stages of a split whole: what each reads, what it makes of that, and its puts.
-ghost use Rattle.std.specs.Prelude.{◌≡◌, ◌<◌, IsTrue, IfErr, OnOk, length};
+ghost use Rattle.std.specs.Prelude.{◌≡◌, ◌<◌, Some, IsTrue, IfErr, OnOk, length};
 ghost use Rattle.vr_types.specs.Image.{block_at};
 ghost use Rattle.vr_types.specs.Blocks.{Keeps};
 ghost use Rattle.vr_types.specs.Faults.{HasCause};
@@ -8,16 +8,17 @@ ghost use Rattle.vr_types.specs.declared.unit.StageKind.TheVariants as stages;
 ghost use Rattle.vr_space.specs.Room.{Lengths, Range};
 ghost use Rattle.vr_space.specs.Keyed.{IsKeyedAtRest, KeepsRoom, HoldsRange};
 ghost use Rattle.vr_space.specs.Part.{KeyedShape, IsOn};
-ghost use Rattle.vr_space.specs.UnderWay.{IsBegun, IsCopied, IsSwitched, interval_block};
+ghost use Rattle.vr_space.specs.UnderWay.{IsBegun, IsCopied, IsSwitched, KeyedUnderWay};
+ghost use Rattle.vr_space.specs.UnderWay.{interval_block};
 ghost use Rattle.vr_split.specs.Switching.{KeepsPart, IsStageDone};
 ghost use Rattle.vr_split.specs.Halves.{MakesUpper, MakesLower, IsBusyCopy};
-ghost use Rattle.vr_split.specs.Splits.{split_of, AreInArea};
+ghost use Rattle.vr_split.specs.Splits.{split_of, after_stage, AreInArea};
 
 use crate::halves::write_busy;
 use crate::making::{make_head, make_lower, make_upper, read_block};
 use crate::stages::{clean_interval, copy_interval, switch_head};
 use vr_space::Layout;
-use vr_types::{Blocks, DeviceFault};
+use vr_types::{Blocks, DeviceFault, StageKind};
 
 /// The interval that is split, the free one that gets the upper records, and the greatest place
 /// that stays below the cut.
@@ -77,7 +78,8 @@ pub(crate) fn copy<B: Blocks>(
     requires rests { IsTrue B.tells → IsKeyedAtRest layout.now (B.seen blocks.old) }
     requires begun { IsTrue B.tells
         → IsBegun layout.now (split_of split.now stages.CiCopy) (B.seen blocks.old).cur }
-    ensures keeps { IsTrue B.tells → (kept : Lengths) → KeepsRoom layout.now kept (B.seen blocks.old)
+    ensures keeps { IsTrue B.tells → (kept : Lengths)
+        → KeepsRoom layout.now kept (B.seen blocks.old)
         → KeepsPart layout.now kept (B.seen blocks.old) (B.seen blocks.new) }
     ensures done { IsTrue B.tells → OnOk result
         (IsStageDone layout.now (B.seen blocks.old) (B.seen blocks.new)) }
@@ -90,7 +92,13 @@ pub(crate) fn copy<B: Blocks>(
     ensures cause { HasCause (B.faults blocks.old) (B.faults blocks.new) result }
 {
     make_copies(layout, blocks, split, block, upper, whole)?;
-    copy_interval(blocks, layout.block_of(split.into), upper, layout.block_of(split.old), whole)?;
+    copy_interval(
+        blocks,
+        layout.block_of(split.into),
+        upper,
+        layout.block_of(split.old),
+        whole,
+    )?;
     Ok(())
 }
 
@@ -106,7 +114,8 @@ pub(crate) fn switch<B: Blocks>(
     requires rests { IsTrue B.tells → IsKeyedAtRest layout.now (B.seen blocks.old) }
     requires copied { IsTrue B.tells
         → IsCopied layout.now (split_of split.now stages.CiSwitch) (B.seen blocks.old) }
-    ensures keeps { IsTrue B.tells → (kept : Lengths) → KeepsRoom layout.now kept (B.seen blocks.old)
+    ensures keeps { IsTrue B.tells → (kept : Lengths)
+        → KeepsRoom layout.now kept (B.seen blocks.old)
         → KeepsPart layout.now kept (B.seen blocks.old) (B.seen blocks.new) }
     ensures done { IsTrue B.tells → OnOk result
         (IsStageDone layout.now (B.seen blocks.old) (B.seen blocks.new)) }
@@ -162,7 +171,8 @@ pub(crate) fn clean<B: Blocks>(
     requires rests { IsTrue B.tells → IsKeyedAtRest layout.now (B.seen blocks.old) }
     requires switched { IsTrue B.tells
         → IsSwitched layout.now (split_of split.now stages.CiClean) (B.seen blocks.old) }
-    ensures keeps { IsTrue B.tells → (kept : Lengths) → KeepsRoom layout.now kept (B.seen blocks.old)
+    ensures keeps { IsTrue B.tells → (kept : Lengths)
+        → KeepsRoom layout.now kept (B.seen blocks.old)
         → KeepsPart layout.now kept (B.seen blocks.old) (B.seen blocks.new) }
     ensures done { IsTrue B.tells → OnOk result
         (IsStageDone layout.now (B.seen blocks.old) (B.seen blocks.new)) }
@@ -176,4 +186,42 @@ pub(crate) fn clean<B: Blocks>(
     make_clean(layout, blocks, split, block, lower)?;
     clean_interval(blocks, number, lower)?;
     Ok(())
+}
+
+/// The stage that is next.
+pub(crate) fn do_stage<B: Blocks>(
+    layout: &Layout,
+    blocks: &mut B,
+    split: &Halving<'_>,
+    stage: StageKind,
+    block: &mut [u8],
+    first: &mut [u8],
+    second: &mut [u8],
+) -> Result<(), DeviceFault>
+    requires on { IsOn (KeyedShape layout.now) (B.seen blocks.old) }
+    requires inside { AreInArea layout.now split.now.old split.now.into }
+    requires block { length block.old ≡ layout.now.size }
+    requires first { length first.old ≡ layout.now.size }
+    requires second { length second.old ≡ layout.now.size }
+    requires rests { IsTrue B.tells → IsKeyedAtRest layout.now (B.seen blocks.old) }
+    requires way { IsTrue B.tells → KeyedUnderWay layout.now (Some (split_of split.now stage))
+        (B.seen blocks.old) }
+    ensures keeps { IsTrue B.tells → (kept : Lengths)
+        → KeepsRoom layout.now kept (B.seen blocks.old)
+        → KeepsPart layout.now kept (B.seen blocks.old) (B.seen blocks.new) }
+    ensures done { IsTrue B.tells → OnOk result
+        (IsStageDone layout.now (B.seen blocks.old) (B.seen blocks.new)) }
+    ensures way { IsTrue B.tells → OnOk result (KeyedUnderWay layout.now
+        (after_stage (Some (split_of split.now stage))) (B.seen blocks.new)) }
+    ensures unread { IfErr result (λ fault. fault ≡ Read
+        → Keeps B.tells (B.seen blocks.old) (B.seen blocks.new)) }
+    ensures count { (B.seen blocks.new).count ≡ (B.seen blocks.old).count }
+    ensures size { (B.seen blocks.new).size ≡ (B.seen blocks.old).size }
+    ensures cause { HasCause (B.faults blocks.old) (B.faults blocks.new) result }
+{
+    match stage {
+        StageKind::CiCopy => copy(layout, blocks, split, block, first, second),
+        StageKind::CiSwitch => switch(layout, blocks, split, first),
+        _ => clean(layout, blocks, split, block, first),
+    }
 }

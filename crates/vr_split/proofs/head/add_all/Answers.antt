@@ -1,10 +1,9 @@
-use Rattle.std.proofs.Common.{◌≡◌, ◌++◌, ◌∷◌, [], ℕ, List, length, sym, ap, ◌∙◌, subst}
-use Rattle.std.proofs.Common.{append_assoc}
+use Rattle.std.proofs.Common.{◌≡◌, ◌++◌, ◌∷◌, ℕ, List, length, sym, ap, ◌∙◌, subst}
 use Rattle.vr_seqset.specs.Entry.{Entry}
 use Rattle.vr_seqset.specs.SequenceSet.{SequenceSet, KeepsRules}
 use Rattle.vr_seqset.specs.Writer.{block_of, intervals_of, written}
 use Rattle.vr_split.specs.Halves.{halved}
-use Rattle.vr_split.proofs.HeadTests.{rules-upto, halves-push}
+use Rattle.vr_split.proofs.HeadTests.{rules-upto}
 use Rattle.vr_split.proofs.head.add_all.Goals as goal
 
 pub add_halved-requires-clause-rules : goal.add_halved-requires-clause-rules

@@ -1,5 +1,4 @@
 use Rattle.std.proofs.Common.{length, sym, ◌∙◌}
-use Rattle.vr_seqset.specs.SequenceSet.{SequenceSet}
 use Rattle.vr_seqset.specs.Writer.{block_of, intervals_of, written}
 use Rattle.vr_split.proofs.HeadTests.{rules-lower}
 use Rattle.vr_split.proofs.head.add_halved.Goals as goal

@@ -1,11 +1,9 @@
-use Rattle.std.proofs.Common.{◌≡◌, ◌++◌, ◌∷◌, [], List, sym, ap, ◌∙◌, true≢false, append_assoc}
+use Rattle.std.proofs.Common.{◌≡◌, ◌++◌, ◌∷◌, [], List, sym, ap, subst, ◌∙◌, true≢false}
+use Rattle.std.proofs.Common.{append_assoc}
 use Rattle.vr_seqset.specs.Entry.{Entry}
 use Rattle.vr_split.specs.Halves.{AreSingleWithout}
 use Rattle.vr_split.proofs.HeadTests.{single-none, single-push, single-one, single-other}
-use Rattle.std.proofs.Common.{subst}
 use Rattle.vr_split.proofs.head.are_single_without.Goals as goal
-use Rattle.vr_split.proofs.head.are_single_without.Goals.{then-intervals-ne1-via-then-intervals-ne1}
-use Rattle.vr_split.proofs.head.are_single_without.Goals.{then-intervals-ne1-via-else-intervals-ne1+then-interval-into}
 
 pub loop-entry-init : goal.loop-entry-init
 loop-entry-init c = record {
@@ -15,23 +13,23 @@ loop-entry-init c = record {
 
 pub returns-then-intervals-ne1 : goal.returns-then-intervals-ne1
 returns-then-intervals-ne1 c =
-    let entry : Entry = c.in-Some.entry in
     let before : List Entry = c.loop-entry.yielded in
-    let others : List Entry = c.next.new.self in
-    let whole : c.args.entries ≡ before ++ entry ∷ others =
-    c.loop-entry.invariant.all ∙ ap (λ (es : List Entry). before ++ es) c.in-Some.ensures.steps in
-    (
+    let whole : c.args.entries ≡ before ++ c.in-Some.entry ∷ c.next.new.self =
+    c.loop-entry.invariant.all ∙ ap (λ (es : List Entry). before ++ es) c.in-Some.ensures.steps in (
       λ is. absurd (true≢false (sym is)),
-      λ are.
-          let those : AreSingleWithout c.args.into (before ++ entry ∷ others) =
-          subst (AreSingleWithout c.args.into) whole are in
-          absurd (elim c.then-intervals-ne1.branch [
-            | then-intervals-ne1-via-then-intervals-ne1 w ↦ w.if-intervals-ne1.true
-                (c.intervals.ensures ∙ single-one c.args.into before others entry those)
-            | then-intervals-ne1-via-else-intervals-ne1+then-interval-into w ↦
-                single-other c.args.into before others entry those
-                (sym w.interval.ensures ∙ w.if-interval-into.true)
-          ]),
+      λ are. absurd (c.if-intervals-ne1.true (c.intervals.ensures ∙ single-one c.args.into before
+          c.next.new.self c.in-Some.entry (subst (AreSingleWithout c.args.into) whole are))),
+    )
+
+pub returns-then-interval-into : goal.returns-then-interval-into
+returns-then-interval-into c =
+    let before : List Entry = c.loop-entry.yielded in
+    let whole : c.args.entries ≡ before ++ c.in-Some.entry ∷ c.next.new.self =
+    c.loop-entry.invariant.all ∙ ap (λ (es : List Entry). before ++ es) c.in-Some.ensures.steps in (
+      λ is. absurd (true≢false (sym is)),
+      λ are. absurd (single-other c.args.into before c.next.new.self c.in-Some.entry
+          (subst (AreSingleWithout c.args.into) whole are)
+          (sym c.interval.ensures ∙ c.if-interval-into.true)),
     )
 
 pub loop-entry-preserved : goal.loop-entry-preserved

@@ -1,4 +1,4 @@
-use Rattle.std.proofs.Common.{◌≡◌, [], List, length, ap, arith, subst, sym}
+use Rattle.std.proofs.Common.{[], List, length, ap, arith, subst, sym}
 use Rattle.vr_seqset.specs.Entry.{Entry}
 use Rattle.vr_seqset.specs.SequenceSet.{SequenceSet, KeepsRules}
 use Rattle.vr_seqset.proofs.CallerLemmas.{earlier_keep}

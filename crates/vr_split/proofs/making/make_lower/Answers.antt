@@ -1,4 +1,4 @@
-use Rattle.std.proofs.Common.{◌≡◌, ℕ, ap, ◌∙◌, subst}
+use Rattle.std.proofs.Common.{◌≡◌, ap, ◌∙◌, subst}
 use Rattle.vr_types.specs.Image.{Block, block_at}
 use Rattle.vr_space.specs.Keyed.{Keyed}
 use Rattle.vr_split.specs.Halves.{MakesLower}

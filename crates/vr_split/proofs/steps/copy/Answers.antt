@@ -27,7 +27,8 @@ returns-in_err-copy_interval-clause-keeps g c told kept room =
     (g.met.B.Blocks.cur_may c.make_copies.new.blocks told) (c.requires.begun told)
     c.block_of.result c.block_of-2.result c.block_of.ensures c.block_of-2.ensures
     c.make_copies.new.whole (c.in_ok-make_copies.ensures.whole told)
-    (λ (others : Lengths). KeepsPart part others m b) (c.copy_interval.ensures.keeps told part) kept room)
+    (λ (others : Lengths). KeepsPart part others m b) (c.copy_interval.ensures.keeps told part)
+    kept room)
 
 pub returns-clause-keeps : goal.returns-clause-keeps
 returns-clause-keeps g c told kept room =
@@ -43,7 +44,8 @@ returns-clause-keeps g c told kept room =
     (g.met.B.Blocks.cur_may c.make_copies.new.blocks told) (c.requires.begun told)
     c.block_of.result c.block_of-2.result c.block_of.ensures c.block_of-2.ensures
     c.make_copies.new.whole (c.in_ok-make_copies.ensures.whole told)
-    (λ (others : Lengths). KeepsPart part others m b) (c.copy_interval.ensures.keeps told part) kept room)
+    (λ (others : Lengths). KeepsPart part others m b) (c.copy_interval.ensures.keeps told part)
+    kept room)
 
 pub returns-clause-done : goal.returns-clause-done
 returns-clause-done g c told =
