@@ -1,5 +1,6 @@
 -- A stage whole: first it reads, which keeps all, and then it puts.
-use Rattle.std.proofs.Common.{◌≡◌, ◌≢◌, ◌<◌, ℕ, ◌+◌, ◌≤◌, Bool, IsTrue, true, false, List, [], ◌∷◌}
+use Rattle.std.proofs.Common.{ap, ◌≡◌, ◌≢◌, ◌<◌, ℕ, ◌+◌, ◌≤◌, Bool, IsTrue, true, false, List, []}
+use Rattle.std.proofs.Common.{◌∷◌}
 use Rattle.std.proofs.Common.{refl, sym}
 use Rattle.std.proofs.Common.{subst, ◌∙◌, arith, length, Option, Some, None}
 use Rattle.std.specs.Prelude.{cond, filter, map}
@@ -14,8 +15,10 @@ use Rattle.vr_ci_match.specs.declared.form.Form.TheVariants.{Plain}
 use Rattle.vr_ci.specs.Interval as ci
 use Rattle.vr_ci.proofs.CallerLemmas.{interval_room}
 use Rattle.vr_seqset.specs.Entry.{Entry}
-use Rattle.vr_seqset.specs.SequenceSet.{IsSequenceSet}
+use Rattle.vr_seqset.specs.SequenceSet.{SequenceSet, IsSequenceSet}
 use Rattle.vr_seqset.specs.Reading.{record_in}
+use Rattle.vr_seqset.proofs.CallerLemmas.{record_is}
+use Rattle.vr_ci_match.specs.Fault.{is_busy}
 use Rattle.vr_space.specs.Room.{Lengths, Range, HaveRoom, is_in, weight}
 use Rattle.vr_space.specs.Keyed.{Keyed, HoldsRange, EachMayLeave, IsKeyedSound, IsKeyedAtRest}
 use Rattle.vr_space.specs.Keyed.{KeepsRoom, entries_of, items_of, length_of}
@@ -27,9 +30,10 @@ use Rattle.vr_space.proofs.CallerLemmas.{keeps-adds, same-keeps, room-keeps, res
 use Rattle.vr_space.proofs.CallerLemmas.{keeps-rooms, way-keeps}
 use Rattle.vr_split.specs.Switching.{IsResting, KeepsPart, IsStageDone, IsIntervalBlock, IsFree}
 use Rattle.vr_split.specs.Switching.{CanReplace, CanSwitch, IsSettledAt}
-use Rattle.vr_split.specs.Halves.{MakesUpper, MakesLower, MakesHead, IsBusyCopy, halved_record}
+use Rattle.vr_split.specs.Halves.{halves, MakesUpper, MakesLower, MakesHead, IsBusyCopy}
+use Rattle.vr_split.specs.Halves.{halved_record}
 use Rattle.vr_split.proofs.Ready.{head-now, old-holds, old-block, into-block, into-free, two-blocks}
-use Rattle.vr_split.proofs.Ready.{can-halve}
+use Rattle.vr_split.proofs.Ready.{can-halve, into-in}
 use Rattle.vr_split.proofs.EachStage.{can-copy, can-switch, can-clean, clean-holds, settled-old}
 use Rattle.vr_split.proofs.EachStage.{copied-after, switched-after}
 use Rattle.vr_split.proofs.StageLemmas.{keeps-then, done-then}
@@ -209,6 +213,22 @@ module _ (part : Keyed) (tells : Bool) (told : IsTrue tells) (split : SplitNow) 
         (subst (λ (n : ℕ). Only b n (λ block. block ≡ upper)) into_is (only_into apart))
         (subst (λ (n : ℕ). Only b n (λ block. block ≡ whole)) old_is only_old)
 
+    -- the interval with the upper records is not busy
+    pub copy-idle : (b : Seen) (upper : Block) → Left b b.cur → b.count ≡ m.count
+        → MakesUpper part (block_at a.cur part.head) split.cut
+        (block_at a.cur (interval_block part split.old)) upper
+        → (into ≢ old → Only b into (λ block. block ≡ upper))
+        → is_busy (block_at b.cur (interval_block part split.into)) ≡ false
+    copy-idle b upper after count makes only_into =
+        let apart : into ≢ old = λ same. two-blocks part split m rest-m still begun-m
+        (sym into_is ∙ same ∙ old_is) in
+        let within : split.into < part.area = into-in part split m rest-m still begun-m in
+        let now : block_at b.cur into ≡ upper = only_into apart (block_at b.cur into)
+        (after.each into (omega (arith, rest-m.sound.area, into_is, within, count))) in
+        ap (λ (n : ℕ). is_busy (block_at b.cur n)) (sym into_is) ∙ ap is_busy now
+        ∙ (makes begun.at (head-now part split a rests left) begun.found begun.below
+        (old-holds part split a rests left begun)).idle
+
   module _ (copied : IsCopied part split m) (top : Block) (long : length top ≡ part.size)
       (makes : MakesHead part.area (block_at a.cur part.head) split.old split.into split.cut top)
     where
@@ -236,6 +256,18 @@ module _ (part : Keyed) (tells : Bool) (told : IsTrue tells) (split : SplitNow) 
       switch-leaves b puts now =
           switched-at part split b CiClean
           (switched-after part split m b tells told rest-m still copied top puts now spelled-m)
+
+      -- it has both entries
+      pub switch-entries : (b : Seen) → block_at b.cur part.head ≡ top
+          → entries_of (block_at b.cur part.head)
+          ≡ halves split.old split.into split.cut (entries_of (block_at a.cur part.head))
+      switch-entries b now =
+          ap entries_of now
+          ∙ ap (λ (s : SequenceSet). s.entries) (record_is part.area top
+          (halved_record split.old split.into split.cut (record_in (block_at m.cur part.head)))
+          spelled-m)
+          ∙ ap (λ (image : Image). halves split.old split.into split.cut
+          (entries_of (block_at image part.head))) (call.content told)
 
   module _ (switched : IsSwitched part split m) (old : ℕ)
       (old_is : old ≡ interval_block part split.old) (lower : Block)
@@ -269,3 +301,16 @@ module _ (part : Keyed) (tells : Bool) (told : IsTrue tells) (split : SplitNow) 
         (can-clean part kept split m resting still switched lower
         (made switched.at (head-now part split m rest-m still) switched.found
         (clean-holds part kept split m resting still switched))))
+
+    -- which are not busy
+    pub clean-idle : (b : Seen) → block_at b.cur old ≡ lower
+        → is_busy (block_at b.cur (interval_block part split.old)) ≡ false
+    clean-idle b now =
+        let made : MakesLower part (block_at m.cur part.head) split.cut
+        (block_at m.cur (interval_block part split.old)) lower =
+        at-m (λ image. MakesLower part (block_at image part.head) split.cut
+        (block_at image (interval_block part split.old)) lower) makes in
+        let kept : KeepsRoom part [] m = none-kept part m rest-m.sound in
+        ap (λ (n : ℕ). is_busy (block_at b.cur n)) (sym old_is) ∙ ap is_busy now
+        ∙ (made switched.at (head-now part split m rest-m still) switched.found
+        (clean-holds part [] split m (record { rests = rest-m; room = kept }) still switched)).idle

@@ -241,6 +241,7 @@ module _ (part : Keyed) (block : Block) (low : Option (List ℕ)) (high : List �
           within = λ idle. subst (λ (xs : List ci.Item).
               All (λ item. IsTrue (is_in taken (key item))) xs) items segment-in;
         };
+        idle = sym busy;
         records = ap (map (placed part)) (sym items) ∙ ap (map (placed part)) (sym is-segment)
             ∙ sym (filter-made (placed part) (λ entry. is_in taken entry.0) (items_of block));
       }

@@ -19,9 +19,10 @@ use Rattle.vr_space.specs.Keyed.{entry_for}
 use Rattle.vr_space.specs.UnderWay.{above_cut}
 use Rattle.vr_space.specs.Search.{AreUpTo}
 
--- The bytes are an interval of the range, with the records that the block has there.
+-- The bytes are an interval of the range, with the records that the block has there, and not busy.
 pub record HasRange (part : Keyed) (range : Range) (block bytes : Block) : Type 0 where
   pub holds : HoldsRange part range bytes
+  pub idle : is_busy bytes ≡ false
   pub records : records_of part bytes ≡ records_in part range block
 
 -- The bytes are a busy interval with all the records of the block. A busy one may have records

@@ -1,9 +1,13 @@
 -- A split of a control interval as it goes on, stage by stage. The stages are this project's own.
-use Rattle.std.specs.Prelude.{ℕ, ◌<◌, List, Option, Some, None}
+use Rattle.std.specs.Prelude.{◌≡◌, false, ℕ, ◌<◌, List, Option, Some, None}
+use Rattle.vr_types.specs.Image.{Image, block_at}
 use Rattle.vr_types.specs.declared.unit.StageKind.{StageKind}
 use Rattle.vr_types.specs.declared.unit.StageKind.TheVariants.{CiCopy, CiSwitch, CiClean}
-use Rattle.vr_space.specs.Keyed.{Keyed}
+use Rattle.vr_ci_match.specs.Fault.{is_busy}
+use Rattle.vr_space.specs.Keyed.{Keyed, entries_of}
 use Rattle.vr_space.specs.Split.{SplitNow}
+use Rattle.vr_space.specs.UnderWay.{interval_block}
+use Rattle.vr_split.specs.Halves.{halves}
 use Rattle.vr_split.specs.declared.steps.Halving.{Halving}
 
 -- the part whose intervals are split, and the split that is under way
@@ -47,6 +51,21 @@ after_stage (Some split) = split_by (stage_after split.stage) split.old split.in
 abbrev pub after_fault : Option SplitNow → Option SplitNow
 after_fault None = None
 after_fault (Some split) = split_by (stage_again split.stage) split.old split.into split.cut
+
+-- What a stage that was done made of the blocks, beside what the next one wants: the interval that
+-- it wrote is not busy, or the head has both entries.
+abbrev pub HasDone : StageKind → Keyed → SplitNow → Image → Image → Type 0
+HasDone CiCopy part split old new =
+    is_busy (block_at new (interval_block part split.into)) ≡ false
+HasDone CiSwitch part split old new = entries_of (block_at new part.head)
+    ≡ halves split.old split.into split.cut (entries_of (block_at old part.head))
+HasDone CiClean part split old new =
+    is_busy (block_at new (interval_block part split.old)) ≡ false
+HasDone stage part split old new = Unit {0}
+
+abbrev pub HasDoneStage : Keyed → Option SplitNow → Image → Image → Type 0
+HasDoneStage part None old new = Unit {0}
+HasDoneStage part (Some split) old new = HasDone split.stage part split old new
 
 -- both intervals are in the area
 pub record AreInArea (part : Keyed) (old into : ℕ) : Type 0 where

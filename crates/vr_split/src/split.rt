@@ -17,6 +17,7 @@ ghost use Rattle.vr_split.specs.Splits.{
   stage_again as same_stage_of,
   after_stage,
   after_fault,
+  HasDoneStage,
 };
 
 use crate::steps::{Halving, do_stage};
@@ -148,6 +149,8 @@ impl CiSplit {
             (IsStageDone self.old.part (B.seen blocks.old) (B.seen blocks.new)) }
         ensures way { IsTrue B.tells → OnOk result
             (KeyedUnderWay self.old.part (after_stage self.old.split) (B.seen blocks.new)) }
+        ensures made { IsTrue B.tells → OnOk result (HasDoneStage self.old.part self.old.split
+            (B.seen blocks.old).cur (B.seen blocks.new).cur) }
         ensures unread { IfErr result (λ fault. fault ≡ Read
             → Keeps B.tells (B.seen blocks.old) (B.seen blocks.new)) }
         ensures count { (B.seen blocks.new).count ≡ (B.seen blocks.old).count }
@@ -194,6 +197,8 @@ impl CiSplit {
             (IsStageDone self.old.part (B.seen blocks.old) (B.seen blocks.new)) }
         ensures way { IsTrue B.tells → OnOk result
             (KeyedUnderWay self.old.part self.new.split (B.seen blocks.new)) }
+        ensures made { IsTrue B.tells → OnOk result (HasDoneStage self.old.part self.old.split
+            (B.seen blocks.old).cur (B.seen blocks.new).cur) }
         // It reads before it puts.
         ensures unread { IfErr result (λ fault. fault ≡ Read
             → Keeps B.tells (B.seen blocks.old) (B.seen blocks.new)) }

@@ -12,7 +12,7 @@ ghost use Rattle.vr_space.specs.UnderWay.{IsBegun, IsCopied, IsSwitched, KeyedUn
 ghost use Rattle.vr_space.specs.UnderWay.{interval_block};
 ghost use Rattle.vr_split.specs.Switching.{KeepsPart, IsStageDone};
 ghost use Rattle.vr_split.specs.Halves.{MakesUpper, MakesLower, IsBusyCopy};
-ghost use Rattle.vr_split.specs.Splits.{split_of, after_stage, AreInArea};
+ghost use Rattle.vr_split.specs.Splits.{split_of, after_stage, AreInArea, HasDoneStage};
 
 use crate::halves::write_busy;
 use crate::making::{make_head, make_lower, make_upper, read_block};
@@ -85,6 +85,8 @@ pub(crate) fn copy<B: Blocks>(
         (IsStageDone layout.now (B.seen blocks.old) (B.seen blocks.new)) }
     ensures copied { IsTrue B.tells → OnOk result
         (IsCopied layout.now (split_of split.now stages.CiSwitch) (B.seen blocks.new)) }
+    ensures made { IsTrue B.tells → OnOk result (HasDoneStage layout.now
+        (Some (split_of split.now stages.CiCopy)) (B.seen blocks.old).cur (B.seen blocks.new).cur) }
     ensures unread { IfErr result (λ fault. fault ≡ Read
         → Keeps B.tells (B.seen blocks.old) (B.seen blocks.new)) }
     ensures count { (B.seen blocks.new).count ≡ (B.seen blocks.old).count }
@@ -121,6 +123,8 @@ pub(crate) fn switch<B: Blocks>(
         (IsStageDone layout.now (B.seen blocks.old) (B.seen blocks.new)) }
     ensures switched { IsTrue B.tells → OnOk result
         (IsSwitched layout.now (split_of split.now stages.CiClean) (B.seen blocks.new)) }
+    ensures made { IsTrue B.tells → OnOk result (HasDoneStage layout.now
+        (Some (split_of split.now stages.CiSwitch)) (B.seen blocks.old).cur (B.seen blocks.new).cur) }
     ensures unread { IfErr result (λ fault. fault ≡ Read
         → Keeps B.tells (B.seen blocks.old) (B.seen blocks.new)) }
     ensures count { (B.seen blocks.new).count ≡ (B.seen blocks.old).count }
@@ -176,6 +180,8 @@ pub(crate) fn clean<B: Blocks>(
         → KeepsPart layout.now kept (B.seen blocks.old) (B.seen blocks.new) }
     ensures done { IsTrue B.tells → OnOk result
         (IsStageDone layout.now (B.seen blocks.old) (B.seen blocks.new)) }
+    ensures made { IsTrue B.tells → OnOk result (HasDoneStage layout.now
+        (Some (split_of split.now stages.CiClean)) (B.seen blocks.old).cur (B.seen blocks.new).cur) }
     ensures unread { IfErr result (λ fault. fault ≡ Read
         → Keeps B.tells (B.seen blocks.old) (B.seen blocks.new)) }
     ensures count { (B.seen blocks.new).count ≡ (B.seen blocks.old).count }
@@ -213,6 +219,8 @@ pub(crate) fn do_stage<B: Blocks>(
         (IsStageDone layout.now (B.seen blocks.old) (B.seen blocks.new)) }
     ensures way { IsTrue B.tells → OnOk result (KeyedUnderWay layout.now
         (after_stage (Some (split_of split.now stage))) (B.seen blocks.new)) }
+    ensures made { IsTrue B.tells → OnOk result (HasDoneStage layout.now
+        (Some (split_of split.now stage)) (B.seen blocks.old).cur (B.seen blocks.new).cur) }
     ensures unread { IfErr result (λ fault. fault ≡ Read
         → Keeps B.tells (B.seen blocks.old) (B.seen blocks.new)) }
     ensures count { (B.seen blocks.new).count ≡ (B.seen blocks.old).count }
