@@ -12,10 +12,10 @@ pub use Rattle.vr_space.proofs.KeyedSound.{keyed-within, keyed-image, each-less,
 pub use Rattle.vr_space.proofs.UnderWay.{IsSplitBlock, StaysAt, AllStay, found-in, free-in}
 pub use Rattle.vr_space.proofs.UnderWay.{begun-stays, way-stays, way-keeps, way-puts, met-stays}
 pub use Rattle.vr_space.proofs.UnderWay.{knows-keeps, knows-puts}
-pub use Rattle.vr_space.proofs.Searching.{low_at, found-entry, found-none, items-read}
 pub use Rattle.vr_space.proofs.Rising.{stands_content, one_content, Rising, rising-sorted}
 pub use Rattle.vr_space.proofs.Rising.{rising-filtered, places-placed, sorted-rising}
 pub use Rattle.vr_space.proofs.Rising.{rising-append}
+pub use Rattle.vr_space.proofs.Searching.{low_at, found-entry, found-none, got-whole, items-read}
 pub use Rattle.vr_space.proofs.Adding.{only-weaken, adds-weaken, adds-then, nothing-then}
 pub use Rattle.vr_space.proofs.Adding.{then-nothing, rest-sound, sound-image, rest-stands}
 pub use Rattle.vr_space.proofs.Adding.{content_item, sound-keeps, rest-keeps, room-keeps}
