@@ -13,4 +13,4 @@ mod weights;
 pub use cut::plan_cut;
 pub use records::write_records;
 pub use stages::{clean_interval, copy_interval, switch_head};
-pub use weights::Weights;
+pub use weights::{Weights, empty_weights};
