@@ -2,14 +2,20 @@
 -- `CiWriter::add` keeps is `IsWriting` of specs/Writer.antt: with it as the loop's invariant the
 -- clauses of `begin`, `add` and `end` give the interval.
 use Rattle.std.proofs.Common.{◌≡◌, ℕ, ◌+◌, ◌-◌, ◌≤◌, Bool, true, false, List, [], ◌∷◌, ◌++◌}
-use Rattle.std.proofs.Common.{length, refl, sym, ap, subst, arith}
+use Rattle.std.proofs.Common.{length, take, drop, inl, inr, refl, sym, ap, subst, ◌∙◌, arith}
 use Rattle.std.specs.Prelude.{map}
-use Rattle.std.specs.List.{AllByRecursion}
+use Rattle.std.specs.List.{flat_map, AllByRecursion}
 use Rattle.vr_ci_match.specs.declared.form.Form.{Form}
+use Rattle.vr_ci_match.specs.declared.rdf.Rdf.{Rdf}
+use Rattle.vr_ci_match.specs.Rdf.{marks}
+use Rattle.vr_ci_match.specs.Fault.{free_end, is_busy}
 use Rattle.vr_ci_match.specs.declared.form.Shape.{Shape}
 use Rattle.vr_ci_match.specs.declared.form.Shape.TheVariants as shapes
 use Rattle.vr_ci.specs.Interval.{Item, Interval, IsItem, room, FitsBlock, IsInterval}
+use Rattle.vr_ci.specs.Reading.{items_at, rdfs_in}
 use Rattle.vr_ci.specs.Writer.{written}
+use Rattle.vr_ci.proofs.IntervalLemmas.{laid_says, free_end_is, items_are}
+use Rattle.vr_ci.proofs.ReadLemmas.{rdfs_between-is}
 use Rattle.vr_ci.proofs.ItemLemmas.{records_room as records_room_of}
 pub use Rattle.vr_ci.proofs.IntervalLemmas.{one_value}
 pub use Rattle.vr_ci.proofs.LawLemmas.{one_block, some_block}
@@ -46,3 +52,24 @@ pub interval_room : (form : Form) (block : List ℕ) (value : Interval) → IsIn
 interval_room form block value interval shape =
     records_room_of form (length block) value.items
     (subst (λ (s : Shape). FitsBlock form (length block) s value.items) shape interval.fits.block)
+
+-- the items and the busy flag of an interval of records are those that its block has
+pub interval_says : (form : Form) (block : List ℕ) (value : Interval) → IsInterval form block value
+    → value.shape ≡ shapes.Records
+    → (value.items ≡ items_at (flat_map marks (rdfs_in block (free_end block))) block)
+    × (value.busy ≡ is_busy block)
+interval_says form block value interval shape =
+    elim interval.laid [
+      | inl laid ↦
+          let l = laid_says form block value interval.size interval.fits laid in
+          let same : rdfs_in block (free_end block) ≡ l.rdfs =
+          rdfs_between-is (free_end block) (length block - 4) block l.rdfs
+          (ap (λ (n : ℕ). drop n (take (length block - 4) block)) (free_end_is l) ∙ l.control) in (
+            items_are l ∙ ap (λ (rs : List Rdf). items_at (flat_map marks rs) block) (sym same),
+            sym l.busy,
+          )
+      | inr end ↦ absurd (ended (sym shape ∙ end.0))
+    ]
+  where
+    ended : shapes.Records ≡ shapes.EndOfFile → ⊥
+    ended same = cc

@@ -9,3 +9,4 @@ pub mod RosterLemmas
 pub mod WritingLemmas
 pub mod PrefixLemmas
 pub mod CopyLemmas
+pub mod CallerLemmas

@@ -143,6 +143,7 @@ module _ (tells : Bool) (told : IsTrue tells) where
       → IsSound shape a → HasKeptRoom shape kept a → HasKeptRoom shape kept b
   room-keeps (KeyedShape part) kept a b call sound room =
       record {
+        places = room.places;
         each = λ top may.
             let before : a.may part.head top =
             call.adds_none told part.head top (omega (arith, sound.area)) may in

@@ -1,4 +1,5 @@
--- What the crates above cite: ways, what is sound and at rest, and what calls of a part add.
+-- What the crates above cite: ways, what is sound and at rest, what calls of a part add, and what
+-- leaves a split under way.
 pub use Rattle.vr_space.proofs.Ways.{found-may, find-more, within-less, found-same}
 pub use Rattle.vr_space.proofs.Places.{NoneAt, AllAbove, none-record, record-left, record-right}
 pub use Rattle.vr_space.proofs.Places.{record-filter, none-filter, above-filter, none-above}
@@ -6,6 +7,10 @@ pub use Rattle.vr_space.proofs.Places.{in-above, in-most, in-both, in-past, is_p
 pub use Rattle.vr_space.proofs.KeyedContent.{AscendFrom, content-above, way-content}
 pub use Rattle.vr_space.proofs.KeyedSound.{head-ascends, AreIn, head-in, entry-in, IsBlock}
 pub use Rattle.vr_space.proofs.KeyedSound.{keyed-within, keyed-image, each-less, keyed-less}
+pub use Rattle.vr_space.proofs.UnderWay.{IsSplitBlock, StaysAt, AllStay, found-in, free-in}
+pub use Rattle.vr_space.proofs.UnderWay.{begun-stays, way-stays, way-keeps, way-puts, met-stays}
+pub use Rattle.vr_space.proofs.UnderWay.{knows-keeps, knows-puts}
+pub use Rattle.vr_space.proofs.Searching.{low_at, found-entry, found-none, items-read}
 pub use Rattle.vr_space.proofs.Rising.{stands_content, one_content}
 pub use Rattle.vr_space.proofs.Adding.{only-weaken, adds-weaken, adds-then, nothing-then}
 pub use Rattle.vr_space.proofs.Adding.{then-nothing, rest-sound, sound-image, rest-stands}

@@ -2,6 +2,8 @@ pub mod Ways
 pub mod Places
 pub mod KeyedContent
 pub mod KeyedSound
+pub mod UnderWay
+pub mod Searching
 pub mod Adding
 pub mod Composing
 pub mod Rising

@@ -189,8 +189,10 @@ abbrev pub lengths_of : Keyed → Lengths → Range → Block → Lengths
 lengths_of part kept range block =
     with_lengths (map length_of (records_in part range block)) (lengths_in range kept)
 
--- Whatever a crash leaves of an interval, what is kept for its range has room beside it.
+-- What is kept is kept for places of the part, and whatever a crash leaves of an interval, what is
+-- kept for its range has room beside it.
 pub record KeepsRoom (part : Keyed) (kept : Lengths) (now : Seen) : Type 0 where
+  pub places : All (λ (entry : List ℕ × ℕ). length entry.0 ≡ part.key) kept
   pub each : (top : Block) → now.may part.head top
       → EachMayLeave part now None (entries_of top)
       (λ range block. HaveRoom part.size (lengths_of part kept range block))

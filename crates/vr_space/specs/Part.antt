@@ -174,7 +174,7 @@ AreMet (KeyedShape part) met image = All (IsMet part image) met
 pub record Knows (shape : Shape) (split : Option SplitNow) (met : List Met) (now : Seen) : Type 0
   where
     pub way : IsUnderWay shape split now
-    pub met : AreMet shape met now.cur
+    pub blocks : AreMet shape met now.cur
 
 -- a stage comes before such a record
 abbrev pub IsStageDue : Shape → Option SplitNow → Image → ℕ → Lengths → List ℕ → ℕ → Type 0

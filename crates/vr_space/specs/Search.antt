@@ -1,5 +1,6 @@
 -- Where a place is found in a head or among the records of an interval.
-use Rattle.std.specs.Prelude.{◌≡◌, ◌≢◌, ◌↔◌, ℕ, ◌+◌, ◌≤◌, IsTrue, List, All, map, take, drop, length}
+use Rattle.std.specs.Prelude.{◌≡◌, ◌↔◌, ℕ, zero, suc, ◌+◌, ◌≤◌, IsTrue, List, [], ◌∷◌, All}
+use Rattle.std.specs.Prelude.{map, take, drop, length}
 use Rattle.std.specs.Prelude.{Option, Some, None, slice_get, slice_index}
 use Rattle.std.specs.Borrow.{Bor}
 use Rattle.std.specs.Option.{option_map}
@@ -12,6 +13,12 @@ use Rattle.vr_seqset.specs.Entry.{Entry}
 use Rattle.vr_space.specs.Room.{Range}
 use Rattle.vr_space.specs.Keyed.{Keyed, key_of, entries_of, entry_for, items_of}
 use Rattle.vr_space.specs.declared.search.FoundEntry.{FoundEntry}
+
+-- where the range of an entry of this number begins: at the end of the one before
+abbrev pub low_before : Option (List ℕ) → List Entry → ℕ → Option (List ℕ)
+low_before low entries zero = low
+low_before low [] (suc i) = low
+low_before low (entry ∷ entries) (suc i) = low_before (Some entry.high) entries i
 
 -- the range of an entry that was found
 abbrev pub range_found : FoundEntry → Range

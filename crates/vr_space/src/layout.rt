@@ -1,5 +1,7 @@
 //! Where a keyed part of one area is on its blocks, and what its records are.
 ghost use Rattle.std.specs.Prelude.{◌≡◌, ◌≤◌, ◌+◌, ◌↔◌, IsTrue, length};
+ghost use Rattle.std.specs.Ordering.{is_le};
+ghost use Rattle.vr_types.specs.Content.{place_cmp};
 ghost use Rattle.vr_space.specs.Keyed.{key_of};
 
 use std::marker::Model;
@@ -7,7 +9,7 @@ use vr_types::PartNo;
 
 /// Where a keyed part of one area is, and what its records are: the number of the part, the block
 /// of its head, the intervals of an area, the bytes of a block, the length and offset of the key,
-/// and the longest record.
+/// and the longest record, which has room in an interval of its own.
 #[derive(Debug, Drop)]
 pub struct Layout {
     pub part: PartNo,
@@ -20,6 +22,7 @@ pub struct Layout {
 }
 
 impl Model for Layout {
+    ghost use Rattle.std.specs.Prelude.{◌+◌, ◌≤◌};
     ghost use Rattle.vr_space.specs.Keyed.{Keyed};
 
     ghost Value = { Keyed };
@@ -33,6 +36,8 @@ impl Model for Layout {
       offset = layout.offset;
       most = layout.most;
     } };
+
+    ghost invariant = { λ layout. layout.most + 7 ≤ layout.size };
 }
 
 impl Layout {
@@ -49,5 +54,20 @@ impl Layout {
         ensures { result.now ≡ key_of self.now bytes.now }
     {
         &bytes[self.offset as usize..self.offset as usize + self.key as usize]
+    }
+    /// Whether a record has its key whole, and stands at this place.
+    pub fn is_at(&self, bytes: &[u8], place: &[u8]) -> bool
+        ensures { IsTrue result ↔ ((self.now.offset + self.now.key ≤ length bytes.now)
+            × (key_of self.now bytes.now ≡ place.now)) }
+    {
+        self.has_key(bytes) && self.key_of(bytes) == place
+    }
+
+    /// Whether a record has its key whole, and stands at this place or before it.
+    pub fn is_up_to(&self, bytes: &[u8], place: &[u8]) -> bool
+        ensures { IsTrue result ↔ ((self.now.offset + self.now.key ≤ length bytes.now)
+            × IsTrue (is_le (place_cmp (key_of self.now bytes.now) place.now))) }
+    {
+        self.has_key(bytes) && self.key_of(bytes).cmp(place).is_le()
     }
 }

@@ -114,6 +114,8 @@ pub trait Part {
         requires place { IsPlaceOf (shape self.old) place.now }
         requires length { IsLengthOf (shape self.old) length }
         requires stands { IsTrue B.tells → Stands (shape self.old) (B.seen blocks.old).cur }
+        requires room { IsTrue B.tells → HasKeptRoom (shape self.old)
+            (K.kept kept.now (part_no (shape self.old))) (B.seen blocks.old) }
         requires knows { IsTrue B.tells → Knows (shape self.old) (split self.old) (met self.old)
             (B.seen blocks.old) }
         ensures answer { IsTrue B.tells → IfOk result (λ room. room

@@ -1,9 +1,16 @@
 //! Where a place is found in a head or among the records of an interval.
-ghost use Rattle.std.specs.Prelude.{◌≡◌, Some, None, MatchOption};
-ghost use Rattle.vr_types.specs.Content.{record_at};
+ghost use Rattle.std.specs.Prelude.{◌≡◌, ◌<◌, ℕ, List, Some, None, MatchOption, All, length, map};
+ghost use Rattle.std.specs.Borrow.{Bor};
+ghost use Rattle.std.specs.Option.{option_map};
+ghost use Rattle.std.specs.List.Sorted.{IsStrictlySortedBy};
+ghost use Rattle.vr_types.specs.Content.{place_cmp, record_at};
+ghost use Rattle.vr_types.specs.Image.{Block};
+ghost use Rattle.vr_ci.specs.Interval as ci;
+ghost use Rattle.vr_seqset.specs.Entry.{IsWhole};
 ghost use Rattle.vr_space.specs.Room.{Range};
-ghost use Rattle.vr_space.specs.Keyed.{IsHead, HoldsRange, entries_of, entry_for, records_of};
-ghost use Rattle.vr_space.specs.Search.{IsEntryFor, AreUpTo, keys_of};
+ghost use Rattle.vr_space.specs.Keyed.{IsHead, HoldsRange, IsKept, entries_of, entry_for, records_of};
+ghost use Rattle.vr_space.specs.Keyed.{placed, key_of};
+ghost use Rattle.vr_space.specs.Search.{IsEntryFor, AreUpTo, keys_of, low_before};
 
 use crate::layout::Layout;
 use vr_ci::{CiView, Form};
@@ -20,6 +27,36 @@ pub struct FoundEntry<'a> {
     pub last: bool,
 }
 
+/// Where the range of an entry begins: at the end of the one before.
+fn low_of<'a>(view: &SeqView<'a>, number: usize) -> Option<&'a [u8]>
+    requires { number < length view.now.entries }
+    ensures { option_map (λ (low : Bor (List ℕ)). low.now) result
+        ≡ low_before None view.now.entries number }
+{
+    if number == 0 {
+        return None;
+    }
+    Some(view.high(number - 1))
+}
+
+/// The same as `entry_for`, of a head that was read.
+fn found_in<'a>(view: &SeqView<'a>, place: &[u8]) -> Option<FoundEntry<'a>>
+    requires { All (IsWhole (length view.now.low)) view.now.entries }
+    ensures { (top : Block) → entries_of top ≡ view.now.entries → MatchOption result
+        (entry_for None (entries_of top) place.now ≡ None)
+        (IsEntryFor top place.now) }
+{
+    let count = view.count();
+    let (number, entry) = view.find(place)?;
+    Some(FoundEntry {
+        number,
+        interval: entry.interval(0),
+        low: low_of(view, number),
+        high: entry.high(),
+        last: number + 1 == count,
+    })
+}
+
 /// The entry of a head whose range holds the place: the first that reaches it. None where no entry
 /// does, or the block is no head.
 pub fn entry_for<'a>(layout: &Layout, top: &'a [u8], place: &[u8]) -> Option<FoundEntry<'a>>
@@ -30,15 +67,24 @@ pub fn entry_for<'a>(layout: &Layout, top: &'a [u8], place: &[u8]) -> Option<Fou
     let Ok(view) = SeqView::read(top, layout.area) else {
         return None;
     };
-    let (number, entry) = view.find(place)?;
-    let low = if number == 0 { None } else { Some(view.high(number - 1)) };
-    Some(FoundEntry {
-        number,
-        interval: entry.interval(0),
-        low,
-        high: entry.high(),
-        last: number + 1 == view.count(),
-    })
+    found_in(&view, place)
+}
+
+/// The same as `record_at`, of an interval that was read.
+fn record_among<'a>(layout: &Layout, view: &CiView<'a>, place: &[u8]) -> Option<&'a [u8]>
+    ensures { All (IsKept layout.now) view.now.items → MatchOption result
+        (record_at (map (placed layout.now) view.now.items) place.now ≡ None)
+        (λ found. record_at (map (placed layout.now) view.now.items) place.now
+        ≡ Some found.now) }
+{
+    let mut records = view.iter();
+    for i in 0..view.count() {
+        let (record, _) = records.next()?;
+        if layout.is_at(record, place) {
+            return Some(record);
+        }
+    }
+    None
 }
 
 /// The record of an interval at a place, lent from the block. None where there is none, or the
@@ -48,13 +94,30 @@ pub fn record_at<'a>(layout: &Layout, block: &'a [u8], place: &[u8]) -> Option<&
         (record_at (records_of layout.now block.now) place.now ≡ None)
         (λ found. record_at (records_of layout.now block.now) place.now ≡ Some found.now) }
 {
-    let view = CiView::read(Form::Plain, block).ok()?;
-    for (record, _) in view.iter() {
-        if layout.has_key(record) && layout.key_of(record) == place {
-            return Some(record);
+    let Ok(view) = CiView::read(Form::Plain, block) else {
+        return None;
+    };
+    record_among(layout, &view, place)
+}
+
+/// The same as `count_up_to`, of an interval that was read.
+fn count_among(layout: &Layout, view: &CiView<'_>, place: &[u8]) -> usize
+    ensures { All (IsKept layout.now) view.now.items
+        → IsStrictlySortedBy place_cmp
+        (map (λ (item : ci.Item). key_of layout.now item.bytes) view.now.items)
+        → AreUpTo (map (λ (item : ci.Item). key_of layout.now item.bytes) view.now.items)
+        place.now result }
+{
+    let mut records = view.iter();
+    for i in 0..view.count() {
+        let Some((record, _)) = records.next() else {
+            return i;
+        };
+        if !layout.is_up_to(record, place) {
+            return i;
         }
     }
-    None
+    view.count()
 }
 
 /// How many records of an interval are at the place or before it.
@@ -65,11 +128,5 @@ pub fn count_up_to(layout: &Layout, block: &[u8], place: &[u8]) -> usize
     let Ok(view) = CiView::read(Form::Plain, block) else {
         return 0;
     };
-    let mut count = 0;
-    for (record, _) in view.iter() {
-        if layout.has_key(record) && layout.key_of(record).cmp(place).is_le() {
-            count += 1;
-        }
-    }
-    count
+    count_among(layout, &view, place)
 }

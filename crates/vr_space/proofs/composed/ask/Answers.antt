@@ -1,3 +1,6 @@
+use Rattle.std.proofs.Common.{Option, sym, subst}
+use Rattle.vr_space.specs.Split.{SplitNow}
+use Rattle.vr_space.specs.Part.{Shape, Knows}
 use Rattle.vr_space.proofs.Adding.{rest-sound, rest-stands, keeps-adds, same-keeps, due-keeps}
 use Rattle.vr_space.proofs.Adding.{rest-keeps, room-keeps}
 use Rattle.vr_space.proofs.composed.ask.Goals as goal
@@ -41,3 +44,12 @@ returns-clause-room g c told =
     (g.B.Blocks.seen c.room.new.blocks) c.room.ensures.keeps
     (rest-sound shape (g.B.Blocks.seen c.args.blocks.now) (c.requires.rests told))
     (c.requires.room told)
+
+pub returns-clause-knows : goal.returns-clause-knows
+returns-clause-knows g c told =
+    let met = g.P.Part.met c.room.new.self in
+    let new = g.B.Blocks.seen c.room.new.blocks in
+    subst (λ (s : Shape). Knows s (g.P.Part.split c.room.new.self) met new)
+    (sym c.room.ensures.shape)
+    (subst (λ (now : Option SplitNow). Knows (g.P.Part.shape c.args.part.now) now met new)
+    (sym c.room.ensures.split) (c.room.ensures.knows told))

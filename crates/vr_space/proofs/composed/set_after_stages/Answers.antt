@@ -15,6 +15,7 @@ loop-turn-init g c =
       same = λ told place. refl;
       due = λ told listed place due within. due;
       rests = c.requires.rests;
+      knows = c.requires.knows;
       room = c.requires.room;
       count = refl;
       size = refl;
@@ -96,6 +97,7 @@ loop-turn-preserved g c =
           turns.Staged b d c.loop-turn.invariant.shape c.in-Staged.is
           (c.in_ok-take_turn.ensures.turn told))).1;
       rests = search rules;
+      knows = search rules;
       room = search rules;
       count = search rules;
       size = search rules;

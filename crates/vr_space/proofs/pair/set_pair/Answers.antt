@@ -1,6 +1,7 @@
 use Rattle.std.proofs.Common.{rules, take}
 use Rattle.vr_space.specs.Composed.{given_by}
 use Rattle.vr_space.proofs.Adding.{then-nothing, keeps-adds, rest-keeps, rest-sound}
+use Rattle.vr_space.proofs.UnderWay.{knows-keeps}
 use Rattle.vr_space.proofs.Composing.{had-or-given, all-firm, as-read}
 use Rattle.vr_space.proofs.pair.set_pair.Goals as goal
 
@@ -48,6 +49,18 @@ returns-in_ok-force_both-in-Some-clause-rests g c told =
     rest-keeps g.B.Blocks.tells told (g.P.Part.shape c.args.part.now)
     (g.B.Blocks.seen c.set_both.new.blocks) (g.B.Blocks.seen c.force_both.new.blocks)
     c.force_both.ensures.after (c.in_ok-set_both.ensures.rests told)
+
+pub returns-in_ok-force_both-in-Some-clause-knows :
+    goal.returns-in_ok-force_both-in-Some-clause-knows
+returns-in_ok-force_both-in-Some-clause-knows g c told =
+    let B = g.B.Blocks in
+    let shape = g.P.Part.shape c.args.part.now in
+    let b = B.seen c.set_both.new.blocks in
+    let d = B.seen c.force_both.new.blocks in
+    knows-keeps B.tells told shape (g.P.Part.split c.set_both.new.part)
+    (g.P.Part.met c.set_both.new.part) b d
+    c.force_both.ensures.after (c.set_both.ensures.adds told).sound
+    (g.met.B.Blocks.cur_may c.set_both.new.blocks told) (c.in_ok-set_both.ensures.knows told)
 
 pub returns-in_ok-force_both-in-Some-clause-firm : goal.returns-in_ok-force_both-in-Some-clause-firm
 returns-in_ok-force_both-in-Some-clause-firm g c told set =

@@ -1,0 +1,6 @@
+-- What the crates above cite: the record in a block is the one that it spells, and how long a
+-- record's spelling is.
+pub use Rattle.vr_seqset.proofs.ListLemmas.{All-left, All-right}
+pub use Rattle.vr_seqset.proofs.RecordLemmas.{record_is, length-block_of_record}
+pub use Rattle.vr_seqset.proofs.RecordLemmas.{length-head_bytes, length-spelling, count_within}
+pub use Rattle.vr_seqset.proofs.EntryLemmas.{length-entry_bytes}

@@ -1,0 +1,35 @@
+-- What a part keeps of the blocks that its last calls of `room` met, so that `set` at one of their
+-- places reads nothing. The rules are this project's own.
+use Rattle.std.specs.Prelude.{◌≡◌, ℕ, List, ◌∷◌, Contains, Some, None, map, take}
+use Rattle.std.specs.Prelude.{filter, not, bytes_eq}
+use Rattle.vr_types.specs.Image.{Block, Image, block_at}
+use Rattle.vr_seqset.specs.Entry.{Entry}
+use Rattle.vr_space.specs.Room.{Range}
+use Rattle.vr_space.specs.Keyed.{Keyed, entries_of, entry_block, entry_for}
+
+-- The interval of a place: the range of its entry, its block, and what the block has.
+pub record Met : Type 0 where
+  pub place : List ℕ
+  pub range : Range
+  pub number : ℕ
+  pub block : Block
+
+-- the head leads to it, and the block still has that
+pub record IsMet (part : Keyed) (image : Image) (met : Met) : Type 0 where
+  pub entry : Entry
+  pub leads : entry_for None (entries_of (block_at image part.head)) met.place
+      ≡ Some (met.range, entry)
+  pub number : entry_block part entry ≡ met.number
+  pub still : block_at image met.number ≡ met.block
+
+abbrev pub places_met : List Met → List (List ℕ)
+places_met met = map (λ (one : Met). one.place) met
+
+-- a place that was met
+abbrev pub HasMet : List Met → List ℕ → Type 0
+HasMet met place = Contains (places_met met) place
+
+-- the places after another was met: that one, and the last before it
+abbrev pub met_next : List (List ℕ) → List ℕ → List (List ℕ)
+met_next places place =
+    place ∷ take 1 (filter (λ (other : List ℕ). not (bytes_eq other place)) places)
