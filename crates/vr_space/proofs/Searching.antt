@@ -2,9 +2,9 @@
 use Rattle.std.proofs.Common.{◌≡◌, ◌≢◌, ◌<◌, ◌≤◌, ◌+◌, ℕ, zero, suc, Bool, IsTrue}
 use Rattle.std.proofs.Common.{true, false, List, [], ◌∷◌, ◌++◌, length, map, Option, Some}
 use Rattle.std.proofs.Common.{None, All, refl, sym, ap, subst, ◌∙◌, arith, unwrap_or, append_assoc}
-use Rattle.std.proofs.Common.{get_or, ◌-◌, ◌↔◌, true≢false}
-use Rattle.std.specs.Prelude.{cond}
-use Rattle.std.specs.List.{position, position_from, slice_get, AllByRecursion}
+use Rattle.std.proofs.Common.{◌/◌, get_or, ◌-◌, ◌↔◌, true≢false}
+use Rattle.std.specs.Prelude.{cond, min, slice_index}
+use Rattle.std.specs.List.{position, position_from, slice_get, flat_map, AllByRecursion}
 use Rattle.std.specs.List.Sorted.{IsStrictlySortedBy}
 use Rattle.std.specs.Ordering.{is_le}
 use Rattle.std.specs.declared.cmp.Ordering.TheVariants.{Less}
@@ -20,7 +20,11 @@ use Rattle.vr_ci_match.specs.declared.form.Form.TheVariants.{Plain}
 use Rattle.vr_types.specs.Image.{Block}
 use Rattle.vr_ci.specs.Interval as ci
 use Rattle.vr_ci.proofs.CallerLemmas.{one_value}
-use Rattle.vr_seqset.specs.Entry.{Entry}
+use Rattle.vr_seqset.specs.Entry.{Entry, IsWhole}
+use Rattle.vr_seqset.specs.Numbers.{intervals_used}
+use Rattle.vr_seqset.specs.SequenceSet.{SequenceSet, KeepsRules}
+use Rattle.vr_seqset.proofs.CallerLemmas.{All-left, All-right}
+use Rattle.std.proofs.lemmas.Option.{slice_get_within, get_or_from_slice_get}
 use Rattle.vr_seqset.specs.Search.{reaches}
 use Rattle.vr_space.specs.Room.{Range}
 use Rattle.vr_space.specs.Keyed.{Keyed, IsKept, HoldsRange, range_of, entry_for, key_of, placed}
@@ -124,6 +128,41 @@ pub found_range : (low wanted : Option (List ℕ)) (high : List ℕ) (entry : En
     → high ≡ entry.high
     → (let range : Range = record { low = wanted; high = high } in range) ≡ range_of low entry
 found_range low wanted high entry lows highs = λ i. record { low = lows i; high = highs i }
+
+-- an entry that is found is whole, and its intervals are in the area
+pub got-whole : (n : ℕ) (entries : List Entry) (i : ℕ) (found : Entry)
+    → All (IsWhole n) entries → slice_get entries i ≡ Some found → IsWhole n found
+got-whole n entries i found all is =
+    subst (IsWhole n) (get_or_from_slice_get entries i found found is)
+    (all i found (slice_get_within entries i found is))
+
+got-below : (limit : ℕ) (entries : List Entry) (i : ℕ) (found : Entry)
+    → All (λ (n : ℕ). n < limit) (flat_map (λ (e : Entry). e.intervals) entries)
+    → slice_get entries i ≡ Some found → All (λ (n : ℕ). n < limit) found.intervals
+got-below limit [] i found all is = absurd cc
+got-below limit (entry ∷ entries) zero found all is =
+    let here : entry ≡ found = ap (λ (o : Option Entry). unwrap_or o entry) is in
+    subst (λ (e : Entry). All (λ (n : ℕ). n < limit) e.intervals) here
+    (All-left (λ (n : ℕ). n < limit) entry.intervals
+    (flat_map (λ (e : Entry). e.intervals) entries) all)
+got-below limit (entry ∷ entries) (suc i) found all is =
+    got-below limit entries i found
+    (All-right (λ (n : ℕ). n < limit) entry.intervals
+    (flat_map (λ (e : Entry). e.intervals) entries) all) is
+
+min-left : (m n : ℕ) → min m n ≤ m
+min-left m n = omega arith
+
+pub got-in : (area size : ℕ) (s : SequenceSet) (i : ℕ) (found : Entry) → KeepsRules area size s
+    → slice_get s.entries i ≡ Some found → slice_index found.intervals 0 < area
+got-in area size s i found rules is =
+    let whole = got-whole (length s.low) s.entries i found rules.lengths.whole is in
+    let below : slice_index found.intervals 0 < intervals_used area size (length s.low) =
+    got-below (intervals_used area size (length s.low)) s.entries i found rules.numbers.below is
+    0 0 whole.some in
+    let most : intervals_used area size (length s.low) ≤ area =
+    min-left area ((size - 32 - length s.low) / (4 + length s.low)) in
+    omega (arith, below, most)
 
 -- ---- records
 

@@ -1,7 +1,7 @@
 -- Where a place is found in a head or among the records of an interval.
 use Rattle.std.specs.Prelude.{◌≡◌, ◌↔◌, ℕ, zero, suc, ◌+◌, ◌≤◌, IsTrue, List, [], ◌∷◌, All}
 use Rattle.std.specs.Prelude.{map, take, drop, length}
-use Rattle.std.specs.Prelude.{Option, Some, None, slice_get, slice_index}
+use Rattle.std.specs.Prelude.{Option, Some, None, IfSome, slice_get, slice_index}
 use Rattle.std.specs.Borrow.{Bor}
 use Rattle.std.specs.Option.{option_map}
 use Rattle.std.specs.Ordering.{is_le}
@@ -26,6 +26,11 @@ range_found found = record {
   low = option_map (λ (low : Bor (List ℕ)). low.now) found.low;
   high = found.high.now;
 }
+
+-- The places that bound its range have this length.
+pub record HasPlaces (key : ℕ) (found : FoundEntry) : Type 0 where
+  pub low : IfSome found.low (λ low. length low.now ≡ key)
+  pub high : length found.high.now ≡ key
 
 -- It is the entry whose range holds the place.
 pub record IsEntryFor (top : Block) (place : List ℕ) (found : FoundEntry) : Type 0 where

@@ -1,15 +1,17 @@
 //! Where a keyed part of one area is on its blocks, and what its records are.
-ghost use Rattle.std.specs.Prelude.{◌≡◌, ◌≤◌, ◌+◌, ◌↔◌, IsTrue, length};
+ghost use Rattle.std.specs.Prelude.{◌≡◌, ◌<◌, ◌≤◌, ◌+◌, ◌↔◌, IsTrue, length};
 ghost use Rattle.std.specs.Ordering.{is_le};
 ghost use Rattle.vr_types.specs.Content.{place_cmp};
 ghost use Rattle.vr_space.specs.Keyed.{key_of};
+ghost use Rattle.vr_space.specs.UnderWay.{interval_block};
 
 use std::marker::Model;
 use vr_types::PartNo;
 
 /// Where a keyed part of one area is, and what its records are: the number of the part, the block
 /// of its head, the intervals of an area, the bytes of a block, the length and offset of the key,
-/// and the longest record, which has room in an interval of its own.
+/// and the longest record, which has room in an interval of its own. Each of its blocks has a
+/// number of 32 bits.
 #[derive(Debug, Drop)]
 pub struct Layout {
     pub part: PartNo,
@@ -22,7 +24,7 @@ pub struct Layout {
 }
 
 impl Model for Layout {
-    ghost use Rattle.std.specs.Prelude.{◌+◌, ◌≤◌};
+    ghost use Rattle.std.specs.Prelude.{◌+◌, ◌^◌, ◌<◌, ◌≤◌};
     ghost use Rattle.vr_space.specs.Keyed.{Keyed};
 
     ghost Value = { Keyed };
@@ -37,10 +39,19 @@ impl Model for Layout {
       most = layout.most;
     } };
 
-    ghost invariant = { λ layout. layout.most + 7 ≤ layout.size };
+    ghost invariant = { λ layout. (layout.most + 7 ≤ layout.size)
+        × (layout.head + layout.area < 2 ^ 32) };
 }
 
 impl Layout {
+    /// The block of an interval.
+    pub fn block_of(&self, interval: u16) -> u32
+        requires { interval < self.now.area }
+        ensures { result ≡ interval_block self.now interval }
+    {
+        self.head + 1 + u32::from(interval)
+    }
+
     /// Whether a record is long enough to have its key whole.
     pub fn has_key(&self, bytes: &[u8]) -> bool
         ensures { IsTrue result ↔ (self.now.offset + self.now.key ≤ length bytes.now) }

@@ -1,5 +1,6 @@
 //! Where a place is found in a head or among the records of an interval.
-ghost use Rattle.std.specs.Prelude.{◌≡◌, ◌<◌, ℕ, List, Some, None, MatchOption, All, length, map};
+ghost use Rattle.std.specs.Prelude.{◌≡◌, ◌<◌, ℕ, List, Some, None, MatchOption, IfSome, All};
+ghost use Rattle.std.specs.Prelude.{length, map};
 ghost use Rattle.std.specs.Borrow.{Bor};
 ghost use Rattle.std.specs.Option.{option_map};
 ghost use Rattle.std.specs.List.Sorted.{IsStrictlySortedBy};
@@ -7,10 +8,11 @@ ghost use Rattle.vr_types.specs.Content.{place_cmp, record_at};
 ghost use Rattle.vr_types.specs.Image.{Block};
 ghost use Rattle.vr_ci.specs.Interval as ci;
 ghost use Rattle.vr_seqset.specs.Entry.{IsWhole};
+ghost use Rattle.vr_seqset.specs.SequenceSet.{KeepsRules};
 ghost use Rattle.vr_space.specs.Room.{Range};
 ghost use Rattle.vr_space.specs.Keyed.{IsHead, HoldsRange, IsKept, entries_of, entry_for, records_of};
 ghost use Rattle.vr_space.specs.Keyed.{placed, key_of};
-ghost use Rattle.vr_space.specs.Search.{IsEntryFor, AreUpTo, keys_of, low_before};
+ghost use Rattle.vr_space.specs.Search.{IsEntryFor, HasPlaces, AreUpTo, keys_of, low_before};
 
 use crate::layout::Layout;
 use vr_ci::{CiView, Form};
@@ -29,9 +31,11 @@ pub struct FoundEntry<'a> {
 
 /// Where the range of an entry begins: at the end of the one before.
 fn low_of<'a>(view: &SeqView<'a>, number: usize) -> Option<&'a [u8]>
-    requires { number < length view.now.entries }
-    ensures { option_map (λ (low : Bor (List ℕ)). low.now) result
+    requires number { number < length view.now.entries }
+    requires whole { All (IsWhole (length view.now.low)) view.now.entries }
+    ensures low { option_map (λ (low : Bor (List ℕ)). low.now) result
         ≡ low_before None view.now.entries number }
+    ensures length { IfSome result (λ low. length low.now ≡ length view.now.low) }
 {
     if number == 0 {
         return None;
@@ -40,11 +44,13 @@ fn low_of<'a>(view: &SeqView<'a>, number: usize) -> Option<&'a [u8]>
 }
 
 /// The same as `entry_for`, of a head that was read.
-fn found_in<'a>(view: &SeqView<'a>, place: &[u8]) -> Option<FoundEntry<'a>>
-    requires { All (IsWhole (length view.now.low)) view.now.entries }
-    ensures { (top : Block) → entries_of top ≡ view.now.entries → MatchOption result
+fn found_in<'a>(area: u16, view: &SeqView<'a>, place: &[u8]) -> Option<FoundEntry<'a>>
+    requires { (size : ℕ) × KeepsRules area size view.now }
+    ensures found { (top : Block) → entries_of top ≡ view.now.entries → MatchOption result
         (entry_for None (entries_of top) place.now ≡ None)
         (IsEntryFor top place.now) }
+    ensures interval { IfSome result (λ found. found.interval < area) }
+    ensures places { IfSome result (HasPlaces (length view.now.low)) }
 {
     let count = view.count();
     let (number, entry) = view.find(place)?;
@@ -60,14 +66,20 @@ fn found_in<'a>(view: &SeqView<'a>, place: &[u8]) -> Option<FoundEntry<'a>>
 /// The entry of a head whose range holds the place: the first that reaches it. None where no entry
 /// does, or the block is no head.
 pub fn entry_for<'a>(layout: &Layout, top: &'a [u8], place: &[u8]) -> Option<FoundEntry<'a>>
-    ensures { IsHead layout.now top.now → MatchOption result
+    ensures found { IsHead layout.now top.now → MatchOption result
         (entry_for None (entries_of top.now) place.now ≡ None)
         (IsEntryFor top.now place.now) }
+    // Whatever the block has.
+    ensures interval { IfSome result (λ found. found.interval < layout.now.area) }
+    ensures places { IfSome result (HasPlaces layout.now.key) }
 {
     let Ok(view) = SeqView::read(top, layout.area) else {
         return None;
     };
-    found_in(&view, place)
+    if view.low().len() != usize::from(layout.key) {
+        return None;
+    }
+    found_in(layout.area, &view, place)
 }
 
 /// The same as `record_at`, of an interval that was read.
