@@ -45,6 +45,7 @@ module _ (part : Keyed) (tells : Bool) (told : IsTrue tells) (a b : Seen) (n : �
         → OfBlock part n None (now-entries part a n bytes)
         (λ range. HaveRoom part.size (lengths_of part kept range bytes)) → KeepsRoom part kept b
     room-after kept rests call other room of = record {
+      places = room.places;
       each = λ top may.
           let before : a.may part.head top = head-before rests.sound call other top may in
           each-less part (also a n bytes) b

@@ -148,6 +148,7 @@ module _ (part : Keyed) (tells : Bool) (told : IsTrue tells) (a b : Seen) (top :
   pub switch-room : (kept : Lengths) → IsKeyedSound part a → Puts tells part.head top a b
       → CanSwitch part kept top a → KeepsRoom part kept a → KeepsRoom part kept b
   switch-room kept sound call can room = record {
+    places = room.places;
     each = λ head may.
         let Q : Range → Block → Type 0 =
         λ range block. HaveRoom part.size (lengths_of part kept range block) in
