@@ -104,7 +104,7 @@ past-with low (entry ∷ lengths) place n past less =
     by Equal more = past
     by Greater more = (past.0, more)
 
-past-trans : (low next : List ℕ) (lengths : Lengths) → place_cmp low next ≡ Less
+pub past-trans : (low next : List ℕ) (lengths : Lengths) → place_cmp low next ≡ Less
     → ArePast next lengths → ArePast low lengths
 past-trans low next [] less past = tt
 past-trans low next (entry ∷ lengths) less past = (

@@ -1,0 +1,9 @@
+//! A key-sequenced part of one area, on blocks: its head and its control intervals. It stands on
+//! `vr_types`, `vr_ci`, `vr_seqset`, `vr_space` and `vr_split`.
+#![tactic(auto)]
+
+mod gather;
+mod range;
+
+pub use gather::{fits, gather_lengths};
+pub use range::{LentRange, is_in};
