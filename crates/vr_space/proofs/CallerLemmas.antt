@@ -18,3 +18,4 @@ pub use Rattle.vr_space.proofs.Adding.{content_item, sound-keeps, rest-keeps, ro
 pub use Rattle.vr_space.proofs.Adding.{keeps-adds}
 pub use Rattle.vr_space.proofs.Adding.{same-keeps, due-keeps, forced-firm, firm-due, due-then}
 pub use Rattle.vr_space.proofs.Adding.{ready-can, records-then, sets-after, on-still, record-length}
+pub use Rattle.vr_space.proofs.Rooms.{room-image, keeps-rooms}

@@ -7,4 +7,5 @@ pub mod Searching
 pub mod Adding
 pub mod Composing
 pub mod Rising
+pub mod Rooms
 pub mod CallerLemmas

@@ -196,3 +196,11 @@ pub record KeepsRoom (part : Keyed) (kept : Lengths) (now : Seen) : Type 0 where
   pub each : (top : Block) → now.may part.head top
       → EachMayLeave part now None (entries_of top)
       (λ range block. HaveRoom part.size (lengths_of part kept range block))
+
+-- In an image: what is kept for the range of each interval has room beside what it has.
+abbrev pub HaveRooms : Keyed → Lengths → Image → Option (List ℕ) → List Entry → Type 0
+HaveRooms part kept image low [] = Unit {0}
+HaveRooms part kept image low (entry ∷ entries) =
+    HaveRoom part.size
+    (lengths_of part kept (range_of low entry) (block_at image (entry_block part entry)))
+    × HaveRooms part kept image (Some entry.high) entries

@@ -3,7 +3,7 @@
 use Rattle.std.specs.Prelude.{◌≡◌, ◌≢◌, ◌⊎◌, ◌<◌, ◌≤◌, ◌+◌, ℕ, Bool, List, Option, Some, None}
 use Rattle.std.specs.Prelude.{All, Contains, length}
 use Rattle.vr_types.specs.Content.{Content, record_at}
-use Rattle.vr_types.specs.Image.{Block, Image}
+use Rattle.vr_types.specs.Image.{Block, Image, block_at}
 use Rattle.vr_types.specs.Seen.{Seen}
 use Rattle.vr_types.specs.Regions.{Touches}
 use Rattle.vr_space.specs.Way.{Way, found_on, MayFind, MayOnceForced}
@@ -25,7 +25,7 @@ use Rattle.vr_space.specs.Split.{SplitNow, keyed_room, keyed_stage, keyed_fits}
 use Rattle.vr_space.specs.UnderWay.{KeyedUnderWay}
 use Rattle.vr_space.specs.Met.{Met, IsMet}
 use Rattle.vr_space.specs.Keyed.{Keyed, keyed_way, KeyedStandsFor, IsKeyedSound, IsKeyedAtRest}
-use Rattle.vr_space.specs.Keyed.{KeepsRoom, IsValid, key_of}
+use Rattle.vr_space.specs.Keyed.{KeepsRoom, HaveRooms, IsValid, entries_of, key_of}
 
 -- Where a part is on its blocks and how they are spelled, by its kind.
 pub data Shape : Type 0 where
@@ -82,6 +82,11 @@ IsAtRest (KeyedShape part) now = IsKeyedAtRest part now
 -- whatever a crash leaves of an interval, what is kept for its places has room beside it
 abbrev pub HasKeptRoom : Shape → Lengths → Seen → Type 0
 HasKeptRoom (KeyedShape part) kept now = KeepsRoom part kept now
+
+-- the same in one image
+abbrev pub HasRoom : Shape → Lengths → Image → Type 0
+HasRoom (KeyedShape part) kept image =
+    HaveRooms part kept image None (entries_of (block_at image part.head))
 
 -- the record that is read at a place
 abbrev pub item_of : Shape → Image → List ℕ → Option (List ℕ)

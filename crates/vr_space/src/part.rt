@@ -5,6 +5,7 @@ ghost use Rattle.std.specs.Borrow.{sem};
 ghost use Rattle.std.specs.Io.BufRead.{Rests};
 ghost use Rattle.vr_types.specs.Blocks.{Keeps};
 ghost use Rattle.vr_types.specs.Faults.{HasCause};
+ghost use Rattle.vr_types.specs.Regions.{Touches};
 ghost use Rattle.vr_types.specs.Space.{free_count};
 ghost use Rattle.vr_types.specs.declared.fault.DeviceFault.TheVariants.{Read, Write};
 ghost use Rattle.vr_types.specs.declared.unit.StageKind.{StageKind};
@@ -25,6 +26,7 @@ ghost use Rattle.vr_space.specs.Part.{
   Stands,
   IsAtRest,
   HasKeptRoom,
+  HasRoom,
   IsStageDue,
   Knows,
   OwnersAfter,
@@ -168,6 +170,9 @@ pub trait Part {
             (IsAtRest (shape self.old) (B.seen blocks.new)) }
         ensures room { IsTrue B.tells → HasKeptRoom (shape self.old)
             (K.kept kept.now (part_no (shape self.old))) (B.seen blocks.new) }
+        ensures rooms { IsTrue B.tells → Touches (InPart (shape self.old))
+            (HasRoom (shape self.old) (K.kept kept.now (part_no (shape self.old))))
+            (B.seen blocks.old) (B.seen blocks.new) }
         ensures knows { IsTrue B.tells → OnOk result
             (Knows (shape self.old) (split self.new) (met self.new) (B.seen blocks.new)) }
         ensures split { OnErr result (split self.new ≡ split self.old) }
@@ -212,6 +217,9 @@ pub trait Part {
             (IsAtRest (shape self.old) (B.seen blocks.new)) }
         ensures room { IsTrue B.tells → HasKeptRoom (shape self.old)
             (K.kept kept.now (part_no (shape self.old))) (B.seen blocks.new) }
+        ensures rooms { IsTrue B.tells → Touches (InPart (shape self.old))
+            (HasRoom (shape self.old) (K.kept kept.now (part_no (shape self.old))))
+            (B.seen blocks.old) (B.seen blocks.new) }
         ensures knows { IsTrue B.tells → OnOk result
             (Knows (shape self.old) (split self.old) (met self.new) (B.seen blocks.new)) }
         // Where `room` met the place it reads nothing, and what it met elsewhere stays.

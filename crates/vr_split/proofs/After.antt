@@ -8,17 +8,18 @@ use Rattle.vr_types.specs.Content.{record_at}
 use Rattle.vr_types.specs.Image.{Block, block_at}
 use Rattle.vr_types.specs.Seen.{Seen, Left}
 use Rattle.vr_types.specs.Blocks.{Puts}
-use Rattle.vr_types.proofs.CallerLemmas.{cur-elsewhere}
+use Rattle.vr_types.specs.Regions.{Touches}
+use Rattle.vr_types.proofs.CallerLemmas.{cur-elsewhere, puts-touches}
 use Rattle.vr_seqset.specs.Entry.{Entry}
 use Rattle.vr_space.specs.Way.{found_on, MayFind, MayOnceForced}
 use Rattle.vr_space.specs.Room.{Lengths, Range, HaveRoom}
-use Rattle.vr_space.specs.Keyed.{Keyed, IsKeyedSound, IsKeyedAtRest}
+use Rattle.vr_space.specs.Keyed.{Keyed, HoldsRange, IsKeyedSound, IsKeyedAtRest}
 use Rattle.vr_space.specs.Keyed.{KeepsRoom, lengths_of, entries_of, entry_block, records_of}
 use Rattle.vr_space.specs.Keyed.{entry_for, way_in, way_under}
-use Rattle.vr_space.specs.Part.{KeyedShape, SetsOne, IsDueTo, item_of}
-use Rattle.vr_space.proofs.CallerLemmas.{each-less, head-in, entry-in}
+use Rattle.vr_space.specs.Part.{KeyedShape, SetsOne, IsDueTo, HasRoom, InPart, item_of}
+use Rattle.vr_space.proofs.CallerLemmas.{each-less, head-in, entry-in, room-image}
 use Rattle.vr_split.proofs.Puts.{also, OfBlock, each-also, now-entries, KeepsOthers, equal_or}
-use Rattle.vr_split.proofs.Puts.{head-still, still-found, led-is}
+use Rattle.vr_split.proofs.Puts.{head-still, still-found, led-is, interval-sound}
 
 module _ (part : Keyed) (tells : Bool) (told : IsTrue tells) (a b : Seen) (n : ℕ) (bytes : Block)
   where
@@ -60,6 +61,37 @@ module _ (part : Keyed) (tells : Bool) (told : IsTrue tells) (a b : Seen) (n : �
           (λ range. HaveRoom part.size (lengths_of part kept range bytes)))
           (sym (rests.one_head top before)) of));
     }
+
+    -- with the bytes too, whichever head is left
+    room-also : (kept : Lengths) → IsKeyedAtRest part a → n ≢ part.head → KeepsRoom part kept a
+        → OfBlock part n None (now-entries part a n bytes)
+        (λ range. HaveRoom part.size (lengths_of part kept range bytes))
+        → KeepsRoom part kept (also a n bytes)
+    room-also kept rests other room of = record {
+      places = room.places;
+      each = λ top may.
+          let before : a.may part.head top =
+          ⊎_elim (λ old. old) (λ new. absurd (other (sym new.0))) may in
+          each-also part a n bytes
+          (λ range block. HaveRoom part.size (lengths_of part kept range block)) None
+          (entries_of top) (room.each top before)
+          (subst (λ (head : Block). OfBlock part n None (entries_of head)
+          (λ range. HaveRoom part.size (lengths_of part kept range bytes)))
+          (sym (rests.one_head top before)) of);
+    }
+
+    -- and so has the image of each moment
+    pub rooms-after : (kept : Lengths) → IsKeyedAtRest part a → Puts tells n bytes a b
+        → n ≢ part.head → InPart (KeyedShape part) n → KeepsRoom part kept a
+        → OfBlock part n None (now-entries part a n bytes) (λ range. HoldsRange part range bytes)
+        → OfBlock part n None (now-entries part a n bytes)
+        (λ range. HaveRoom part.size (lengths_of part kept range bytes))
+        → Touches (InPart (KeyedShape part)) (HasRoom (KeyedShape part) kept) a b
+    rooms-after kept rests call other inside room holds of =
+        puts-touches tells (InPart (KeyedShape part)) (HasRoom (KeyedShape part) kept) n bytes a b
+        told inside call
+        (room-image (KeyedShape part) kept (also a n bytes)
+        (interval-sound part a n bytes rests other holds) (room-also kept rests other room of))
 
     -- how a place is read by way of the same head
     read-after : Puts tells n bytes a b → n ≢ part.head → (place : List ℕ)

@@ -5,15 +5,16 @@ use Rattle.vr_types.specs.Content.{record_at}
 use Rattle.vr_types.specs.Image.{Block, Image, block_at}
 use Rattle.vr_types.specs.Seen.{Seen, Left, Only}
 use Rattle.vr_types.specs.Blocks.{Puts}
+use Rattle.vr_types.proofs.CallerLemmas.{touches-then}
 use Rattle.vr_space.specs.Room.{Lengths, HaveRoom}
 use Rattle.vr_space.specs.Keyed.{Keyed, HoldsRange, lengths_of, entries_of, records_of}
 use Rattle.vr_space.specs.Keyed.{entry_for}
-use Rattle.vr_space.specs.Part.{KeyedShape, Nothing, SameRecords}
+use Rattle.vr_space.specs.Part.{KeyedShape, Nothing, SameRecords, HasRoom, InPart}
 use Rattle.vr_space.proofs.CallerLemmas.{nothing-then, records-then, due-then}
 use Rattle.vr_split.specs.Switching.{OfBlock, IsIntervalBlock, IsResting, CanReplace, KeepsPart}
 use Rattle.vr_split.specs.Switching.{IsStageDone}
 use Rattle.vr_split.proofs.Puts.{rewrite-adds, rewrite-same}
-use Rattle.vr_split.proofs.After.{rest-after, room-after, due-put}
+use Rattle.vr_split.proofs.After.{rest-after, room-after, rooms-after, due-put}
 
 module _ (part : Keyed) (tells : Bool) (told : IsTrue tells) (a b : Seen) (n : ℕ) (bytes : Block)
     (kept : Lengths) where
@@ -30,6 +31,8 @@ module _ (part : Keyed) (tells : Bool) (told : IsTrue tells) (a b : Seen) (n : �
         can.records;
     room = room-after part tells told a b n bytes kept resting.rests call (other-than block)
         resting.room can.room;
+    rooms = rooms-after part tells told a b n bytes kept resting.rests call (other-than block)
+        (omega (arith, block.low), block.high) resting.room can.holds can.room;
   }
 
   -- and is stable with it
@@ -54,6 +57,8 @@ module _ (part : Keyed) (kept : Lengths) where
     adds = nothing-then (KeyedShape part) Nothing a b c first.adds second.adds;
     same = records-then (KeyedShape part) a.cur b.cur c.cur first.same second.same;
     room = second.room;
+    rooms = touches-then (InPart (KeyedShape part)) (HasRoom (KeyedShape part) kept) a b c
+        first.rooms second.rooms;
   }
 
   pub done-then : (a b c : Seen) → IsStageDone part a b → IsStageDone part b c

@@ -7,7 +7,8 @@ use Rattle.vr_types.specs.Content.{record_at}
 use Rattle.vr_types.specs.Image.{Block, Image, MayAlso, block_at}
 use Rattle.vr_types.specs.Seen.{Seen, Left, Only}
 use Rattle.vr_types.specs.Blocks.{Puts}
-use Rattle.vr_types.proofs.CallerLemmas.{cur-elsewhere, cur-put}
+use Rattle.vr_types.specs.Regions.{Touches}
+use Rattle.vr_types.proofs.CallerLemmas.{cur-elsewhere, cur-put, puts-touches}
 use Rattle.vr_seqset.specs.Entry.{Entry}
 use Rattle.vr_space.specs.Way.{found_on, MayFind, MayOnceForced}
 use Rattle.vr_space.specs.Room.{Lengths, Range, HaveRoom}
@@ -15,8 +16,8 @@ use Rattle.vr_space.specs.Keyed.{Keyed, IsHead, HoldsRange, EachMayLeave, IsKeye
 use Rattle.vr_space.specs.Keyed.{IsKeyedAtRest, KeepsRoom, lengths_of, entries_of, entry_block}
 use Rattle.vr_space.specs.Keyed.{records_of, entry_for, way_in, way_under}
 use Rattle.vr_space.specs.Part.{KeyedShape, AddsTo, Nothing, MayHold, SameRecords}
-use Rattle.vr_space.specs.Part.{DueMore, item_of}
-use Rattle.vr_space.proofs.CallerLemmas.{each-less, head-in, entry-in}
+use Rattle.vr_space.specs.Part.{DueMore, HasRoom, InPart, item_of}
+use Rattle.vr_space.proofs.CallerLemmas.{each-less, head-in, entry-in, room-image}
 use Rattle.vr_split.specs.Switching.{OfBlock, SwitchesAt, CanSwitch}
 use Rattle.vr_split.proofs.Puts.{also, each-also, puts-adds, current-held}
 
@@ -165,6 +166,30 @@ module _ (part : Keyed) (tells : Bool) (told : IsTrue tells) (a b : Seen) (top :
         (λ k block within now. call.adds told k block within.0 now) sound.area
         (head-in part head is) left;
   }
+
+  -- with the new head too, whichever is left
+  room-also : (kept : Lengths) → CanSwitch part kept top a → KeepsRoom part kept a
+      → KeepsRoom part kept (also a part.head top)
+  room-also kept can room = record {
+    places = room.places;
+    each = λ head may.
+        let Q : Range → Block → Type 0 =
+        λ range block. HaveRoom part.size (lengths_of part kept range block) in
+        ⊎_elim (λ old. still-in Q None (entries_of head) (room.each head old))
+        (λ new. subst
+        (λ (h : Block). EachMayLeave part (also a part.head top) None (entries_of h) Q)
+        (sym new.1) (still-in Q None (entries_of top) can.room)) may;
+  }
+
+  -- and so has the image of each moment
+  pub switch-rooms : (kept : Lengths) → IsKeyedSound part a → Puts tells part.head top a b
+      → CanSwitch part kept top a → KeepsRoom part kept a
+      → Touches (InPart (KeyedShape part)) (HasRoom (KeyedShape part) kept) a b
+  switch-rooms kept sound call can room =
+      puts-touches tells (InPart (KeyedShape part)) (HasRoom (KeyedShape part) kept) part.head top
+      a b told (omega arith, omega arith) call
+      (room-image (KeyedShape part) kept (also a part.head top) (switch-sound kept sound can)
+      (room-also kept can room))
 
   -- once the new head is stable the part is at rest
   pub switch-rest : IsKeyedSound part b → Only b part.head (λ head. head ≡ top)

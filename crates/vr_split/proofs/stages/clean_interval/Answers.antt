@@ -5,7 +5,7 @@ use Rattle.vr_types.specs.Seen.{Left}
 use Rattle.vr_space.specs.Keyed.{records_of}
 use Rattle.vr_space.specs.Part.{KeyedShape, AddsTo, Nothing, SameRecords}
 use Rattle.vr_split.proofs.Puts.{rewrite-adds, rewrite-same}
-use Rattle.vr_split.proofs.After.{rest-after, room-after, due-put}
+use Rattle.vr_split.proofs.After.{rest-after, room-after, rooms-after, due-put}
 use Rattle.vr_split.proofs.stages.clean_interval.Goals as goal
 
 pub returns-clause-keeps : goal.returns-clause-keeps
@@ -29,6 +29,8 @@ returns-clause-keeps g c told part kept block resting settled can =
         same = same;
         room = room-after part B.tells told a b n bytes kept resting.rests call other resting.room
             can.room;
+        rooms = rooms-after part B.tells told a b n bytes kept resting.rests call other
+            (omega (arith, block.low), block.high) resting.room can.holds can.room;
       },
       record {
         rests = rest-after part B.tells told a b n bytes resting.rests call other adds.sound;

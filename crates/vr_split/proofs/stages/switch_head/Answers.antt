@@ -2,7 +2,8 @@ use Rattle.std.proofs.Common.{◌≡◌, ℕ, sym, subst, arith}
 use Rattle.vr_types.specs.Image.{block_at}
 use Rattle.vr_types.specs.Seen.{Left, Only}
 use Rattle.vr_types.specs.Blocks.{Puts}
-use Rattle.vr_split.proofs.Switch.{switch-adds, switch-same, switch-room, switch-rest, switch-due}
+use Rattle.vr_split.proofs.Switch.{switch-adds, switch-same, switch-room, switch-rooms}
+use Rattle.vr_split.proofs.Switch.{switch-rest, switch-due}
 use Rattle.vr_split.proofs.stages.switch_head.Goals as goal
 
 pub returns-in_err-settle-clause-keeps : goal.returns-in_err-settle-clause-keeps
@@ -20,6 +21,8 @@ returns-in_err-settle-clause-keeps g c told part kept head resting can =
           can;
       room = switch-room part B.tells told a b c.args.top.now kept resting.rests.sound call can
           resting.room;
+      rooms = switch-rooms part B.tells told a b c.args.top.now kept resting.rests.sound call can
+          resting.room;
     }
 
 pub returns-clause-keeps : goal.returns-clause-keeps
@@ -36,6 +39,8 @@ returns-clause-keeps g c told part kept head resting can =
       same = switch-same part B.tells told a b c.args.top.now kept resting.rests.sound left call
           can;
       room = switch-room part B.tells told a b c.args.top.now kept resting.rests.sound call can
+          resting.room;
+      rooms = switch-rooms part B.tells told a b c.args.top.now kept resting.rests.sound call can
           resting.room;
     }
 

@@ -3,7 +3,7 @@ use Rattle.vr_types.specs.Seen.{Left}
 use Rattle.vr_types.proofs.CallerLemmas.{cur-elsewhere}
 use Rattle.vr_space.specs.Part.{KeyedShape, AddsTo, Nothing, SameRecords}
 use Rattle.vr_split.proofs.Puts.{free-adds, rewrite-same, of-found, now-entries}
-use Rattle.vr_split.proofs.After.{rest-after, room-after, due-put, of-nothing}
+use Rattle.vr_split.proofs.After.{rest-after, room-after, rooms-after, due-put, of-nothing}
 use Rattle.vr_split.proofs.stages.write_free.Goals as goal
 
 pub returns-clause-keeps : goal.returns-clause-keeps
@@ -27,6 +27,10 @@ returns-clause-keeps g c told part kept block resting free =
         adds = adds;
         same = same;
         room = room-after part B.tells told a b n bytes kept resting.rests call other resting.room
+            (of-nothing part n _ _ (now-entries part a n bytes) free);
+        rooms = rooms-after part B.tells told a b n bytes kept resting.rests call other
+            (omega (arith, block.low), block.high) resting.room
+            (of-nothing part n _ _ (now-entries part a n bytes) free)
             (of-nothing part n _ _ (now-entries part a n bytes) free);
       },
       record {

@@ -1,0 +1,6 @@
+-- What the crates above cite: how the entries of a head lead, and what a put into an interval
+-- leaves of a keyed part.
+pub use Rattle.vr_split.proofs.Puts.{also, now-entries, KeepsOthers, of-found, set-adds, head-still}
+pub use Rattle.vr_split.proofs.Puts.{current-held, led-is, after-put, equal_or}
+pub use Rattle.vr_split.proofs.After.{rest-after, room-after, sets-one, due-put}
+pub use Rattle.vr_split.proofs.Heads.{AreApart, head-apart, of-same, found-range, found-some}
