@@ -3,7 +3,10 @@
 #![tactic(auto)]
 
 mod gather;
+mod meet;
 mod range;
+mod slot;
+mod slots;
 
 pub use gather::{fits, gather_lengths};
 pub use range::{LentRange, is_in};
