@@ -2,7 +2,7 @@
 use Rattle.std.proofs.Common.{◌≡◌, ◌≢◌, ◌⊎◌, ⊎_elim, ℕ, ◌+◌, ◌-◌, ◌*◌, ◌/◌, ◌<◌, ◌≤◌, Bool, true}
 use Rattle.std.proofs.Common.{false, List, [], ◌∷◌, ◌++◌, Option, Some, None, length, map, take, drop}
 use Rattle.std.proofs.Common.{All, refl, sym, ap, subst, ◌∙◌, arith, true≢false, append_assoc, IsTrue}
-use Rattle.std.specs.Prelude.{cond, filter}
+use Rattle.std.specs.Prelude.{cond, filter, MatchBool}
 use Rattle.std.specs.List.Sorted.{IsStrictlySortedBy}
 use Rattle.std.specs.Ordering.{is_lt}
 use Rattle.std.specs.declared.cmp.Ordering.{Ordering}
@@ -467,3 +467,21 @@ not-fits part lengths place n none =
       leb-true (weight (with_length lengths place n)) (part.size - 4) is,
     )))
     by false is = refl
+
+-- the place itself, after all others
+pub add-last : (part : Keyed) (place : List ℕ) (n : ℕ) (before now new : LengthsRoom)
+    (all : Lengths) (added : Bool)
+    → MatchBool added (new ≡ record {
+      lengths = with_length now.lengths place n;
+      count = now.count;
+      bytes = now.bytes;
+    })
+    ((new ≡ now) × HasNoRoom now place)
+    → now.lengths ≡ all → HasRoomFor part before → now.count ≡ before.count
+    → now.bytes ≡ before.bytes → length place ≡ part.key
+    → MatchBool added (new.lengths ≡ with_length all place n) (HaveRoom part.size all → ⊥)
+add-last part place n before now new all true is same has count bytes key =
+    ap (λ (r : LengthsRoom). r.lengths) is ∙ ap (λ (l : Lengths). with_length l place n) same
+add-last part place n before now new all false is same has count bytes key =
+    λ fits. last-full part place before now key has count bytes is.1
+    (subst (HaveRoom part.size) (sym same) fits)
