@@ -1,2 +1,4 @@
 pub mod Gathering
 pub mod Meeting
+pub mod Freeing
+pub mod MetRoom

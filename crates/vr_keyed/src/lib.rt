@@ -5,8 +5,10 @@
 mod gather;
 mod meet;
 mod range;
+mod room;
 mod slot;
 mod slots;
 
 pub use gather::{fits, gather_lengths};
+pub use room::{UnderWay, least_free};
 pub use range::{LentRange, is_in};
