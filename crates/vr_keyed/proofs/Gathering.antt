@@ -234,7 +234,7 @@ all-after last place (entry ∷ kept) above past =
     (above entry.0 past.0)
     ∙ ap (λ (l : Lengths). entry ∷ l) (all-after last place kept above past.1)
 
-above_then : (last : Option (List ℕ)) (place : List ℕ) → is_above last place ≡ true
+pub above_then : (last : Option (List ℕ)) (place : List ℕ) → is_above last place ≡ true
     → (other : List ℕ) → place_cmp place other ≡ Less → is_above last other ≡ true
 above_then None place above other less = refl
 above_then (Some low) place above other less =

@@ -2,3 +2,4 @@ pub mod Gathering
 pub mod Meeting
 pub mod Freeing
 pub mod MetRoom
+pub mod Planning

@@ -1,3 +1,4 @@
 pub mod Lent
 pub mod Slots
 pub mod Splits
+pub mod Planned

@@ -4,11 +4,13 @@
 
 mod gather;
 mod meet;
+mod plan;
 mod range;
 mod room;
 mod slot;
 mod slots;
 
 pub use gather::{fits, gather_lengths};
+pub use plan::{Target, cut_at, target_in};
 pub use room::{UnderWay, least_free};
 pub use range::{LentRange, is_in};

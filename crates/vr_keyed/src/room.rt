@@ -1,6 +1,6 @@
 //! Whether a record has room at its place, and which stage comes first where it has none.
 ghost use Rattle.std.specs.Prelude.{◌≡◌, ◌<◌, ℕ, List, Option, IsTrue, All, length, MatchOption};
-ghost use Rattle.std.specs.Prelude.{Some, None, nat_eq, IfOk};
+ghost use Rattle.std.specs.Prelude.{Some, None, nat_eq, IfOk, IfSome};
 ghost use Rattle.std.specs.List.{list_any, flat_map};
 ghost use Rattle.vr_types.specs.Image.{block_at};
 ghost use Rattle.vr_types.specs.Blocks.{Keeps};
@@ -60,7 +60,8 @@ fn is_used(view: &SeqView<'_>, n: u16) -> bool
 
 /// The least interval below the limit that no entry of a head has.
 fn free_in(view: &SeqView<'_>, limit: u16) -> Option<u16>
-    ensures { let used = flat_map (λ (entry : Entry). entry.intervals) view.now.entries in
+    ensures below { IfSome result (λ n. n < limit) }
+    ensures free { let used = flat_map (λ (entry : Entry). entry.intervals) view.now.entries in
         All (λ (entry : Entry). length entry.intervals ≡ 1) view.now.entries
         → MatchOption result (free_from limit 0 used ≡ None)
         (λ n. free_from limit 0 used ≡ Some n) }
@@ -75,9 +76,11 @@ fn free_in(view: &SeqView<'_>, limit: u16) -> Option<u16>
 
 /// The least free interval under a head. None where there is none, or the block is no head.
 pub fn least_free(layout: &Layout, top: &[u8]) -> Option<u16>
-    ensures { IsHead layout.now top.now → MatchOption result
+    ensures free { IsHead layout.now top.now → MatchOption result
         (free_interval layout.now top.now ≡ None)
         (λ n. free_interval layout.now top.now ≡ Some n) }
+    // Whatever the block has.
+    ensures below { IfSome result (λ n. n < layout.now.area) }
 {
     let Ok(view) = SeqView::read(top, layout.area) else {
         return None;
