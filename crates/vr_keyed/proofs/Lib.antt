@@ -3,3 +3,4 @@ pub mod Meeting
 pub mod Freeing
 pub mod MetRoom
 pub mod Planning
+pub mod PlanLemmas

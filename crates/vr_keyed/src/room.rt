@@ -147,7 +147,7 @@ fn room_beyond<B: Blocks>(
 }
 
 /// The range of the interval that a slot keeps.
-fn range_of(slot: &Slot) -> LentRange<'_>
+pub(crate) fn range_of(slot: &Slot) -> LentRange<'_>
     ensures { range_lent result ≡ (met_in slot.now).range }
 {
     let low = if slot.from_start {
