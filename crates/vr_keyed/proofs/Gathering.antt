@@ -28,7 +28,7 @@ use Rattle.vr_space.specs.Room.{have_room}
 use Rattle.vr_space.proofs.CallerLemmas.{items-read}
 use Rattle.vr_split.specs.Weights.{LengthsRoom, HasNoRoom}
 use Rattle.vr_split.proofs.CallerLemmas.{with_length-after, weight-with, weight_places}
-use Rattle.vr_split.proofs.CallerLemmas.{past-trans, ArePast}
+use Rattle.vr_split.proofs.CallerLemmas.{ArePast}
 use Rattle.vr_keyed.specs.Lent.{lengths_among, ArePlaces, HasRoomFor}
 use Rattle.vr_keyed.specs.Lent.{with_record, with_kept}
 

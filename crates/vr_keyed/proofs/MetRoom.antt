@@ -1,6 +1,7 @@
 -- What is answered at a place whose interval was met.
 use Rattle.std.proofs.Common.{◌≡◌, ℕ, Bool, true, false, List, [], ◌∷◌, Option, Some, None, length}
-use Rattle.std.proofs.Common.{refl, sym, ap, subst, ◌∙◌, unwrap_or, IsTrue}
+use Rattle.std.proofs.Common.{sym, ap, subst, ◌∙◌, unwrap_or, All, take, zero, suc, ◌<◌, arith}
+use Rattle.std.proofs.lemmas.List.Elements.{All-head}
 use Rattle.std.specs.Prelude.{cond}
 use Rattle.std.specs.Ordering.{is_le}
 use Rattle.vr_types.specs.Content.{place_cmp}
@@ -104,3 +105,9 @@ fits-met part kept met n room range block place fits says ranges blocks holds pl
     (with_length (lengths_of part kept r block) place n)) ranges
     ∙ ap (λ (b : Block). have_room part.size
     (with_length (lengths_of part kept met.range b) place n)) blocks
+
+-- the interval that was met last is as it was
+pub first-met : (P : Met → Type 0) (first second : Met) (filled : ℕ) → 0 < filled
+    → All P (take filled (first ∷ second ∷ [])) → P first
+first-met P first second zero some all = absurd (omega (arith, some))
+first-met P first second (suc n) some all = All-head P first (take n (second ∷ [])) all

@@ -1,6 +1,6 @@
 -- Where a record lacks room, its interval can be cut.
-use Rattle.std.proofs.Common.{◌≡◌, ℕ, ◌+◌, ◌-◌, ◌<◌, ◌≤◌, Bool, true, false, List, length, refl, sym, ap}
-use Rattle.std.proofs.Common.{subst, ◌∙◌, arith, Option, Some, None, unwrap_or, true≢false}
+use Rattle.std.proofs.Common.{◌≡◌, ℕ, ◌+◌, ◌-◌, ◌<◌, true, List, length, refl, sym, ap}
+use Rattle.std.proofs.Common.{subst, ◌∙◌, Option, Some, None, unwrap_or, true≢false}
 use Rattle.std.specs.Prelude.{slice_get, slice_index}
 use Rattle.std.proofs.lemmas.Bool.{le-leb}
 use Rattle.vr_types.specs.Image.{Image, block_at}
@@ -13,10 +13,8 @@ use Rattle.vr_space.specs.Split.{SplitNow}
 use Rattle.vr_space.specs.UnderWay.{IsBegun}
 use Rattle.vr_space.specs.Met.{Met}
 use Rattle.vr_split.proofs.CallerLemmas.{found-range}
-use Rattle.vr_keyed.specs.declared.plan.Target.{Target}
 use Rattle.vr_keyed.specs.declared.plan.Plan.{Plan}
 use Rattle.vr_keyed.specs.Planned.{IsCutAt, HasNoCut, IsTargetAt, LacksRoom, IsPlan, HasKeyAt}
-use Rattle.vr_keyed.specs.Planned.{begun_with}
 use Rattle.vr_keyed.proofs.Planning.{AreWeighed, IsCutIn, are-weighed, begun-at, cut-in, is-there}
 use Rattle.vr_keyed.proofs.Planning.{two-places}
 

@@ -1,6 +1,6 @@
 -- Where an interval is cut: the places are in its range, and one more is past the cut.
-use Rattle.std.proofs.Common.{◌≡◌, ◌≢◌, ℕ, zero, suc, ◌+◌, ◌-◌, ◌<◌, ◌≤◌, Bool, true, false, List}
-use Rattle.std.proofs.Common.{[], ◌∷◌, length, take, map, get_or, All, refl, sym, ap, subst, ◌∙◌}
+use Rattle.std.proofs.Common.{◌≡◌, ℕ, zero, suc, ◌+◌, ◌<◌, ◌≤◌, Bool, true, false, List}
+use Rattle.std.proofs.Common.{[], ◌∷◌, length, map, get_or, All, refl, sym, ap, subst, ◌∙◌}
 use Rattle.std.proofs.Common.{Option, Some, None, arith, true≢false, max, unwrap_or, add-one, ◌⊎◌, inl, inr}
 use Rattle.std.proofs.lemmas.Bool.{cases_lt}
 use Rattle.std.specs.Prelude.{cond, filter, slice_get, slice_index}
@@ -9,9 +9,9 @@ use Rattle.std.specs.Ordering.{is_le, is_lt}
 use Rattle.std.specs.declared.cmp.Ordering.{Ordering}
 use Rattle.std.specs.declared.cmp.Ordering.TheVariants.{Less, Equal, Greater}
 use Rattle.std.proofs.lemmas.Cmp.{nat_list_cmp_total, tied_itself}
-use Rattle.std.proofs.lemmas.List.{take_all, length-map, get_or-map}
+use Rattle.std.proofs.lemmas.List.{take_all, get_or-map}
 use Rattle.std.proofs.lemmas.List.Elements.{All-head, All-tail, All-cons, All-nil, All-get_or}
-use Rattle.std.proofs.lemmas.Option.{get_or_from_slice_get, slice_get_within}
+use Rattle.std.proofs.lemmas.Option.{get_or_from_slice_get}
 use Rattle.vr_types.specs.Content.{Placed, place_cmp}
 use Rattle.vr_types.specs.Image.{Block, Image, block_at}
 use Rattle.vr_types.specs.Seen.{Seen, Only}
@@ -20,19 +20,18 @@ use Rattle.vr_types.proofs.CallerLemmas.{same_place}
 use Rattle.vr_ci.specs.Interval as ci
 use Rattle.vr_seqset.specs.Entry.{Entry}
 use Rattle.vr_space.specs.Whence.{places_kept}
-use Rattle.vr_space.specs.Room.{Lengths, Range, AscendLengths, is_in, is_above, weight, with_length}
+use Rattle.vr_space.specs.Room.{Lengths, Range, AscendLengths, is_in, is_above, with_length}
 use Rattle.vr_space.specs.Room.{with_lengths, lengths_in, length_at, length_by, lengthen_by}
 use Rattle.vr_space.specs.Room.{HaveRoom}
-use Rattle.vr_space.specs.Keyed.{Keyed, IsHead, IsKept, HoldsRange, EachMayLeave, key_of, placed}
+use Rattle.vr_space.specs.Keyed.{Keyed, IsHead, IsKept, HoldsRange, EachMayLeave, placed}
 use Rattle.vr_space.specs.Keyed.{length_of, lengths_of, items_of, entries_of, entry_block, entry_for}
 use Rattle.vr_space.specs.Keyed.{range_of}
-use Rattle.vr_space.specs.Split.{SplitNow, free_interval}
+use Rattle.vr_space.specs.Split.{free_interval}
 use Rattle.vr_space.specs.UnderWay.{IsBegun}
 use Rattle.vr_space.proofs.CallerLemmas.{AscendFrom, head-ascends, in-above, in-most, not_past}
 use Rattle.vr_split.specs.Weights.{IsPosition}
 use Rattle.vr_split.proofs.CallerLemmas.{ascend-with}
 use Rattle.vr_keyed.specs.Lent.{lengths_among, ArePlaces}
-use Rattle.vr_keyed.specs.Planned.{IsCutAt, HasNoCut}
 use Rattle.vr_keyed.proofs.Gathering.{key_in, length-key, among-ascend, above_then}
 
 -- ---- the places
@@ -96,7 +95,7 @@ is-there (entry ∷ lengths) place n =
     by Greater is more = (
       more.0,
       ap (λ (o : Ordering). length_by o entry.1
-      (length_at (with_length lengths place n) place)) is ∙ more.1,
+          (length_at (with_length lengths place n) place)) is ∙ more.1,
     )
 
 -- what holds of each place, and of one more

@@ -1,5 +1,5 @@
 -- Where an interval in which a record lacks room is cut. The cut is that of vr_split.
-use Rattle.std.specs.Prelude.{◌≡◌, ℕ, ◌+◌, ◌<◌, ◌≤◌, IsTrue, Bool, ◌↔◌, List, Option, Some, None, length}
+use Rattle.std.specs.Prelude.{◌≡◌, ℕ, ◌+◌, ◌<◌, ◌≤◌, IsTrue, Bool, ◌↔◌, List, Some, None, length}
 use Rattle.std.specs.Prelude.{false, slice_get, slice_index}
 use Rattle.vr_types.specs.Image.{Block, Image, block_at}
 use Rattle.vr_types.specs.declared.unit.StageKind.TheVariants.{CiCopy}

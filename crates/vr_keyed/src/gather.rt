@@ -42,12 +42,7 @@ fn length_of(layout: &Layout, record: &[u8]) -> u32
 }
 
 /// Adds a record that is in the range. False where there is no room.
-fn add_record(
-    layout: &Layout,
-    range: &LentRange<'_>,
-    record: &[u8],
-    weights: &mut Weights,
-) -> bool
+fn add_record(layout: &Layout, range: &LentRange<'_>, record: &[u8], weights: &mut Weights) -> bool
     ensures added { IsValid layout.now record.now → MatchBool result
         (weights.new.lengths ≡ with_record layout.now (range_lent range.now) weights.old.lengths
         record.now)
@@ -141,12 +136,7 @@ fn part_of(layout: &Layout) -> PartNo
 }
 
 /// Adds what is kept for the places of the range. False where there is no room.
-fn add_kept<K: Kept>(
-    kept: &K,
-    part: PartNo,
-    range: &LentRange<'_>,
-    weights: &mut Weights,
-) -> bool
+fn add_kept<K: Kept>(kept: &K, part: PartNo, range: &LentRange<'_>, weights: &mut Weights) -> bool
     ensures added { (layout : Keyed) → ArePlaces layout.key (K.kept kept.now part)
         → HasRoomFor layout weights.old → MatchBool result
         (weights.new.lengths ≡ with_lengths weights.old.lengths

@@ -12,5 +12,5 @@ mod slots;
 
 pub use gather::{fits, gather_lengths};
 pub use plan::{Target, cut_at, target_in};
-pub use room::{UnderWay, least_free};
 pub use range::{LentRange, is_in};
+pub use room::{UnderWay, least_free};

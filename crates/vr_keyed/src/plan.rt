@@ -112,7 +112,15 @@ fn gather_met<K: Kept>(
     ensures bytes { weights.new.bytes ≡ weights.old.bytes }
 {
     let range = range_of(slot);
-    gather_lengths(layout, &range, slot.bytes.as_slice(), kept, place, longest, weights)
+    gather_lengths(
+        layout,
+        &range,
+        slot.bytes.as_slice(),
+        kept,
+        place,
+        longest,
+        weights,
+    )
 }
 
 /// Whether the place of this number has the length of a key.

@@ -1,6 +1,6 @@
 //! Whether a record has room at its place, and which stage comes first where it has none.
 ghost use Rattle.std.specs.Prelude.{◌≡◌, ◌<◌, ℕ, List, Option, IsTrue, All, length, MatchOption};
-ghost use Rattle.std.specs.Prelude.{Some, None, nat_eq, IfOk, IfSome};
+ghost use Rattle.std.specs.Prelude.{Some, None, nat_eq, IfOk, OnOk, IfSome};
 ghost use Rattle.std.specs.List.{list_any, flat_map};
 ghost use Rattle.vr_types.specs.Image.{block_at};
 ghost use Rattle.vr_types.specs.Blocks.{Keeps};
@@ -9,15 +9,17 @@ ghost use Rattle.vr_seqset.specs.Entry.{Entry};
 ghost use Rattle.vr_space.specs.Keyed.{IsHead, entry_block};
 ghost use Rattle.vr_space.specs.Split.{SplitNow, free_from, free_interval, keyed_room, room_by_split};
 ghost use Rattle.vr_space.specs.Split.{stage_at};
-ghost use Rattle.vr_space.specs.Met.{IsMet};
+ghost use Rattle.vr_space.specs.Met.{IsMet, places_met, met_next};
 ghost use Rattle.vr_space.specs.Part.{KeyedShape, IsOn, Stands, part_no};
-ghost use Rattle.vr_keyed.specs.Slots.{IsSlotOf, met_in};
+ghost use Rattle.vr_keyed.specs.Slots.{AreSlotsOf, met_in, mets};
 ghost use Rattle.vr_keyed.specs.Lent.{ArePlaces, HasRoomFor, range_lent};
 ghost use Rattle.vr_keyed.specs.Splits.{IsSplit};
 
 use crate::gather::fits;
+use crate::meet::meet;
 use crate::range::LentRange;
 use crate::slot::Slot;
+use crate::slots::Slots;
 use vr_seqset::{SeqEntry, SeqView, interval_limit};
 use vr_space::{Kept, Layout, Room};
 use vr_split::Weights;
@@ -192,8 +194,62 @@ pub(crate) fn room_met<B: Blocks, K: Kept>(
         return Ok(Room::Stage(stage));
     }
     let range = range_of(slot);
-    if fits(layout, &range, slot.bytes.as_slice(), kept, place, longest, weights) {
+    if fits(
+        layout,
+        &range,
+        slot.bytes.as_slice(),
+        kept,
+        place,
+        longest,
+        weights,
+    ) {
         return Ok(Room::Ready);
     }
     room_beyond(layout, split, blocks)
+}
+
+/// What stands in the way of a record of this length at a place. It meets the interval of the
+/// place first, and reads the head once more where it looks for a free interval.
+pub(crate) fn room_at<B: Blocks, K: Kept>(
+    layout: &Layout,
+    split: Option<UnderWay>,
+    slots: &mut Slots,
+    blocks: &mut B,
+    kept: &K,
+    place: &Place,
+    longest: u32,
+    weights: &mut Weights,
+) -> Result<Room, DeviceFault>
+    requires on { IsOn (KeyedShape layout.now) (B.seen blocks.old) }
+    requires place { length place.now ≡ layout.now.key }
+    requires stands { IsTrue B.tells → Stands (KeyedShape layout.now) (B.seen blocks.old).cur }
+    requires slots { AreSlotsOf layout.now slots.old }
+    requires met { IsTrue B.tells
+        → All (IsMet layout.now (B.seen blocks.old).cur) (mets slots.old) }
+    requires room { HasRoomFor layout.now weights.old }
+    requires kept { IsTrue B.tells
+        → ArePlaces layout.now.key (K.kept kept.now (part_no (KeyedShape layout.now))) }
+    ensures answer { IsTrue B.tells → IfOk result (λ room. (now : Option SplitNow)
+        → IsSplit now split → room ≡ keyed_room layout.now now (B.seen blocks.old).cur
+        (K.kept kept.now (part_no (KeyedShape layout.now))) place.now longest) }
+    ensures slots { AreSlotsOf layout.now slots.new }
+    ensures places { OnOk result
+        (places_met (mets slots.new) ≡ met_next (places_met (mets slots.old)) place.now) }
+    ensures met { IsTrue B.tells
+        → All (IsMet layout.now (B.seen blocks.old).cur) (mets slots.new) }
+    ensures room { HasRoomFor layout.now weights.new }
+    ensures keeps { Keeps B.tells (B.seen blocks.old) (B.seen blocks.new) }
+    ensures cause { HasCause (B.faults blocks.old) (B.faults blocks.new) result }
+{
+    meet(slots, layout, blocks, place.as_slice())?;
+    room_met(
+        layout,
+        split,
+        &slots.first,
+        blocks,
+        kept,
+        place,
+        longest,
+        weights,
+    )
 }

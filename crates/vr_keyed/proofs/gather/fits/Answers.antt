@@ -1,4 +1,4 @@
-use Rattle.std.proofs.Common.{◌≡◌, sym}
+use Rattle.std.proofs.Common.{sym}
 use Rattle.vr_space.specs.Keyed.{lengths_of}
 use Rattle.vr_space.specs.Part.{KeyedShape, part_no}
 use Rattle.vr_keyed.specs.Lent.{range_lent}

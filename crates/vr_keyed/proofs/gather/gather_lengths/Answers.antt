@@ -2,14 +2,12 @@ use Rattle.std.proofs.Common.{◌≡◌, List, sym, ap, subst, ◌∙◌, ℕ, l
 use Rattle.std.proofs.lemmas.Bool.{false≢true}
 use Rattle.std.specs.Prelude.{MatchBool}
 use Rattle.vr_types.specs.declared.unit.PartNo.{PartNo}
-use Rattle.vr_ci.specs.Interval as ci
 use Rattle.vr_space.specs.Room.{Lengths, HaveRoom, lengths_in, with_length}
 use Rattle.vr_space.specs.Room.{with_lengths}
 use Rattle.vr_space.specs.Keyed.{lengths_of, items_of}
 use Rattle.vr_space.specs.Part.{KeyedShape, part_no}
 use Rattle.vr_space.proofs.CallerLemmas.{items-read}
-use Rattle.vr_split.specs.Weights.{LengthsRoom}
-use Rattle.vr_keyed.specs.Lent.{range_lent, lengths_among, ArePlaces, HasRoomFor}
+use Rattle.vr_keyed.specs.Lent.{range_lent, lengths_among, ArePlaces}
 use Rattle.vr_keyed.proofs.Gathering.{items-ready, room-cleared, room-kept, add-last}
 use Rattle.vr_keyed.proofs.gather.gather_lengths.Goals as goal
 

@@ -1,4 +1,4 @@
-use Rattle.std.proofs.Common.{◌≡◌, arith}
+use Rattle.std.proofs.Common.{arith}
 use Rattle.vr_keyed.proofs.Planning.{past-all}
 use Rattle.vr_keyed.proofs.plan.cut_at.Goals as goal
 use Rattle.vr_keyed.proofs.plan.cut_at.Goals.{then-len-lt2-via-then-len-lt2}

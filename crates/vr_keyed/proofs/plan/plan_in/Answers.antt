@@ -1,4 +1,4 @@
-use Rattle.std.proofs.Common.{◌≡◌, List, ℕ, sym, subst, ◌∙◌}
+use Rattle.std.proofs.Common.{List, ℕ, subst}
 use Rattle.std.proofs.lemmas.Bool.{false≢true}
 use Rattle.vr_space.specs.Part.{KeyedShape, part_no}
 use Rattle.vr_keyed.specs.Slots.{met_in}

@@ -1,4 +1,4 @@
-use Rattle.std.proofs.Common.{◌≡◌, ◌∷◌, rules, sym, ◌∙◌}
+use Rattle.std.proofs.Common.{◌≡◌, ◌∷◌, rules, sym}
 use Rattle.vr_keyed.proofs.Freeing.{look-more, look-finds, entry-single}
 use Rattle.vr_keyed.proofs.room.is_used.Goals as goal
 

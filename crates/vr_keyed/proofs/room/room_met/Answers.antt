@@ -1,13 +1,7 @@
-use Rattle.std.proofs.Common.{◌≡◌, Bool, true, false, List, ℕ, Option, None, sym, ap, subst, ◌∙◌, length, rules}
+use Rattle.std.proofs.Common.{true, false, None, sym, ◌∙◌}
 use Rattle.std.proofs.lemmas.Result.{IfOk-weaker}
 use Rattle.vr_types.proofs.CallerLemmas.{keeps-none}
-use Rattle.vr_types.specs.declared.unit.StageKind.{StageKind}
-use Rattle.vr_space.specs.declared.room.Room as answer
-use Rattle.vr_space.specs.Room.{Lengths, with_length, have_room}
-use Rattle.vr_space.specs.Keyed.{lengths_of}
-use Rattle.vr_space.specs.Met.{Met}
 use Rattle.vr_space.specs.Part.{KeyedShape, part_no}
-use Rattle.vr_space.specs.Split.{SplitNow, keyed_room, room_after, room_by, room_by_split}
 use Rattle.vr_keyed.specs.Slots.{met_in}
 use Rattle.vr_keyed.specs.Lent.{range_lent}
 use Rattle.vr_keyed.proofs.MetRoom.{met-holds, answer-met, fits-met}
