@@ -1,7 +1,9 @@
 -- Lengths that are gathered: of the records of an interval, and of what is kept for its places.
 use Rattle.std.proofs.Common.{◌≡◌, ◌≢◌, ◌⊎◌, ⊎_elim, ℕ, ◌+◌, ◌-◌, ◌*◌, ◌/◌, ◌<◌, ◌≤◌, Bool, true}
-use Rattle.std.proofs.Common.{false, List, [], ◌∷◌, ◌++◌, Option, Some, None, length, map, take, drop}
-use Rattle.std.proofs.Common.{All, refl, sym, ap, subst, ◌∙◌, arith, true≢false, append_assoc, IsTrue}
+use Rattle.std.proofs.Common.{false, List, [], ◌∷◌, ◌++◌, Option, Some, None, length, map, take}
+use Rattle.std.proofs.Common.{drop}
+use Rattle.std.proofs.Common.{All, refl, sym, ap, subst, ◌∙◌, arith, true≢false, append_assoc}
+use Rattle.std.proofs.Common.{IsTrue}
 use Rattle.std.specs.Prelude.{cond, filter, MatchBool}
 use Rattle.std.specs.List.Sorted.{IsStrictlySortedBy}
 use Rattle.std.specs.Ordering.{is_lt}

@@ -4,3 +4,4 @@ pub mod Freeing
 pub mod MetRoom
 pub mod Planning
 pub mod PlanLemmas
+pub mod Advancing

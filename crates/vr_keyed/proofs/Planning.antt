@@ -1,7 +1,8 @@
 -- Where an interval is cut: the places are in its range, and one more is past the cut.
 use Rattle.std.proofs.Common.{◌≡◌, ℕ, zero, suc, ◌+◌, ◌<◌, ◌≤◌, Bool, true, false, List}
 use Rattle.std.proofs.Common.{[], ◌∷◌, length, map, get_or, All, refl, sym, ap, subst, ◌∙◌}
-use Rattle.std.proofs.Common.{Option, Some, None, arith, true≢false, max, unwrap_or, add-one, ◌⊎◌, inl, inr}
+use Rattle.std.proofs.Common.{Option, Some, None, arith, true≢false, max, unwrap_or, add-one, ◌⊎◌}
+use Rattle.std.proofs.Common.{inl, inr}
 use Rattle.std.proofs.lemmas.Bool.{cases_lt}
 use Rattle.std.specs.Prelude.{cond, filter, slice_get, slice_index}
 use Rattle.std.specs.List.Sorted.{IsStrictlySortedBy}
@@ -24,7 +25,8 @@ use Rattle.vr_space.specs.Room.{Lengths, Range, AscendLengths, is_in, is_above, 
 use Rattle.vr_space.specs.Room.{with_lengths, lengths_in, length_at, length_by, lengthen_by}
 use Rattle.vr_space.specs.Room.{HaveRoom}
 use Rattle.vr_space.specs.Keyed.{Keyed, IsHead, IsKept, HoldsRange, EachMayLeave, placed}
-use Rattle.vr_space.specs.Keyed.{length_of, lengths_of, items_of, entries_of, entry_block, entry_for}
+use Rattle.vr_space.specs.Keyed.{length_of, lengths_of, items_of, entries_of, entry_block}
+use Rattle.vr_space.specs.Keyed.{entry_for}
 use Rattle.vr_space.specs.Keyed.{range_of}
 use Rattle.vr_space.specs.Split.{free_interval}
 use Rattle.vr_space.specs.UnderWay.{IsBegun}

@@ -2,3 +2,4 @@ pub mod Lent
 pub mod Slots
 pub mod Splits
 pub mod Planned
+pub mod Advance

@@ -2,6 +2,7 @@
 //! `vr_types`, `vr_ci`, `vr_seqset`, `vr_space` and `vr_split`.
 #![tactic(auto)]
 
+mod advance;
 mod gather;
 mod meet;
 mod plan;

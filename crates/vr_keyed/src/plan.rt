@@ -1,4 +1,4 @@
-//! Where an interval in which a record lacks room is cut, and which interval gets the upper records.
+//! Where an interval is cut in which a record lacks room, and which one gets the upper records.
 ghost use Rattle.std.specs.Prelude.{◌≡◌, ◌<◌, ℕ, IsTrue, IfSome, IfOk, MatchOption, MatchBool};
 ghost use Rattle.std.specs.Prelude.{IsSomeAnd, Some, length};
 ghost use Rattle.vr_types.specs.Image.{Image};

@@ -2,7 +2,8 @@
 -- position.
 use Rattle.std.proofs.Common.{◌≡◌, ◌≢◌, ℕ, ◌+◌, ◌-◌, ◌<◌, ◌≤◌, List, [], ◌∷◌, ◌++◌, length, take}
 use Rattle.std.proofs.Common.{drop, sym, ap, ◌∙◌, arith, max, set, subst, get_or, None}
-use Rattle.std.proofs.Common.{add-one, add-zero, Bool, true, false, true≢false, ◌⊎◌, ⊎_elim, inl, inr}
+use Rattle.std.proofs.Common.{add-one, add-zero, Bool, true, false, true≢false, ◌⊎◌, ⊎_elim, inl}
+use Rattle.std.proofs.Common.{inr}
 use Rattle.std.specs.List.{All}
 use Rattle.std.specs.Ordering.{is_le}
 use Rattle.std.specs.declared.cmp.Ordering.TheVariants.{Less}
@@ -12,7 +13,8 @@ use Rattle.std.proofs.lemmas.List.{length-take, length-drop, length-set, take-se
 use Rattle.std.proofs.lemmas.List.{take-map, drop-map, map-append, take-take, length_push, map-set}
 use Rattle.std.proofs.lemmas.List.{get_or-map, get_or-take, get_or-drop, get_or_default, drop_more}
 use Rattle.std.proofs.lemmas.List.{take-append-drop, set_split}
-use Rattle.std.proofs.lemmas.List.Elements.{All-append, All-take, All-drop, All-set, All-cons, All-get_or}
+use Rattle.std.proofs.lemmas.List.Elements.{All-append, All-take, All-drop, All-set, All-cons}
+use Rattle.std.proofs.lemmas.List.Elements.{All-get_or}
 use Rattle.std.proofs.lemmas.Slice.{take-put_mid}
 use borrow.Rule.Slice.PartMut.{mid_of, put_mid}
 use Rattle.vr_types.specs.Content.{place_cmp}
@@ -104,7 +106,8 @@ inserted_bytes bytes xs ys used at entry have room after =
     let P : Entry → Type 0 = λ e. e.place.room ≡ bytes in
     let now : HaveBytes bytes (set xs used entry) = All-set P xs used entry room have in
     let part : HaveBytes bytes (mid_of at (used + 1 - at) (set xs used entry)) =
-    All-take P (used + 1 - at) (drop at (set xs used entry)) (All-drop P at (set xs used entry) now) in
+    All-take P (used + 1 - at) (drop at (set xs used entry))
+    (All-drop P at (set xs used entry) now) in
     let n = length (mid_of at (used + 1 - at) (set xs used entry)) - 1 in
     let turn : HaveBytes bytes ys =
     subst (HaveBytes bytes) (sym after) (All-append P _ _ (All-drop P n _ part)
@@ -246,7 +249,8 @@ placed_there xs used bytes at place longest entry new ready position stands read
     omega (arith, stands.0, length_seen (take used xs), length-take used xs) in
     let inside : at < length xs = omega (arith, order, ready.within) in
     let here : entry.place.place ≡ place =
-    ap (λ (e : List ℕ × ℕ). e.0) (sym (seen_at xs used at entry (seen entry) order ready.within read))
+    ap (λ (e : List ℕ × ℕ). e.0)
+    (sym (seen_at xs used at entry (seen entry) order ready.within read))
     ∙ stands.1 (seen entry) in
     let now : lengths_seen (take used (set xs at new))
     ≡ with_length (lengths_seen (take used xs)) place longest =
@@ -331,7 +335,8 @@ pub not_there : (xs items : List Entry) (used at : ℕ) (place : List ℕ) (foun
     → xs ≡ items → found ≡ false → (StandsAt (lengths_seen (take used xs)) at place → found ≡ true)
     → StandsAt (lengths_seen (take used items)) at place → ⊥
 not_there xs items used at place found same none says stands =
-    true≢false (sym (says (subst (λ (l : List Entry). StandsAt (lengths_seen (take used l)) at place)
+    true≢false (sym (says
+    (subst (λ (l : List Entry). StandsAt (lengths_seen (take used l)) at place)
     (sym same) stands)) ∙ none)
 
 -- there is no room for it

@@ -60,4 +60,5 @@ returns-clause-added g c layout places has =
     let range = range_lent c.args.range.now in
     adding-ends range (with_lengths c.args.weights.now.lengths (lengths_in range kept)) kept
     c.loop-place.weights.lengths (last_lent c.loop-place.last)
-    (none-kept kept (last_lent c.loop-place.last) c.in_default.ensures) c.loop-place.invariant.adding
+    (none-kept kept (last_lent c.loop-place.last) c.in_default.ensures)
+    c.loop-place.invariant.adding

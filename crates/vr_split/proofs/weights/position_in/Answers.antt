@@ -14,7 +14,8 @@ pub returns-then-is_lt : goal.returns-then-is_lt
 returns-then-is_lt c ascend =
     let i = c.loop-i.i - 1 in
     let entries = c.args.entries.now in
-    let inside : i < length entries = omega (arith, c.loop-i-test.true, c.loop-i.invariant.within) in
+    let inside : i < length entries =
+    omega (arith, c.loop-i-test.true, c.loop-i.invariant.within) in
     let less : place_cmp c.index-entries-i.result.place.place c.args.place.now ≡ Less =
     less_tested _ (search rules) in
     let same : i + 1 ≡ c.loop-i.i = omega (arith, c.loop-i-test.true) in
@@ -31,12 +32,14 @@ pub loop-i-preserved : goal.loop-i-preserved
 loop-i-preserved c =
     let i = c.loop-i.i - 1 in
     let entries = c.args.entries.now in
-    let inside : i < length entries = omega (arith, c.loop-i-test.true, c.loop-i.invariant.within) in
+    let inside : i < length entries =
+    omega (arith, c.loop-i-test.true, c.loop-i.invariant.within) in
     let same : i + 1 ≡ c.loop-i.i = omega (arith, c.loop-i-test.true) in
     record {
       within = omega (arith, c.loop-i.invariant.within);
       past = past_more entries c.args.place.now i c.index-entries-i.result inside
-          c.index-entries-i.is (at_or_before c.index-entries-i.result.place.place c.args.place.now (search rules))
+          c.index-entries-i.is
+          (at_or_before c.index-entries-i.result.place.place c.args.place.now (search rules))
           (subst (λ (n : ℕ). All
           (λ (entry : List ℕ × ℕ). IsTrue (is_le (place_cmp c.args.place.now entry.0)))
           (drop n (lengths_seen entries))) (sym same) c.loop-i.invariant.past);

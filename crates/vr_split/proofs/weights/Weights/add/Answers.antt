@@ -7,6 +7,7 @@ use Rattle.vr_split.proofs.EntryLemmas.{placed_there, placed_in, with_place, no_
 use Rattle.vr_split.proofs.EntryLemmas.{position_read, not_there}
 use Rattle.vr_split.proofs.weights.Weights.add.Goals as goal
 use Rattle.vr_split.proofs.weights.Weights.add.Goals.{then-self-len-via-then-self-len}
+use Rattle.vr_split.proofs.weights.Weights.add.Goals.{}
 use Rattle.vr_split.proofs.weights.Weights.add.Goals.{then-self-len-via-else-self-len+then-self-place}
 
 pub invariant_of-self : goal.invariant_of-self

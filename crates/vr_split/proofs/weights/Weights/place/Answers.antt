@@ -25,7 +25,8 @@ returns c =
       length_seen (take used items),
       length-take used items,
     ) in
-    let here : get_or all c.args.i none ≡ (c.index.result.now.place.place, c.index.result.now.longest) =
+    let here : get_or all c.args.i none
+    ≡ (c.index.result.now.place.place, c.index.result.now.longest) =
     ap (λ (l : List (List ℕ × ℕ)). get_or l c.args.i none) (sym seen)
     ∙ seen_at items used c.args.i c.index.result.now none order c.self.invariant.within
     c.index.ensures in

@@ -1,0 +1,84 @@
+//! The stages of a split that come before a record which lacks room.
+ghost use Rattle.std.specs.Prelude.{◌≡◌, ◌≤◌, ◌<◌, [], ℕ, Some, None, IsTrue, true, false, All, length};
+ghost use Rattle.std.specs.Prelude.{IfOk, IfErr, OnOk, OnErr, IfSome, IsSome, IsSomeAnd};
+ghost use Rattle.vr_types.specs.Image.{Image, block_at};
+ghost use Rattle.vr_types.specs.Blocks.{Keeps};
+ghost use Rattle.vr_types.specs.Faults.{HasCause};
+ghost use Rattle.vr_types.specs.Regions.{Touches};
+ghost use Rattle.vr_types.specs.declared.fault.DeviceFault.TheVariants.{Read};
+ghost use Rattle.vr_types.specs.declared.unit.StageKind.TheVariants as stages;
+ghost use Rattle.vr_space.specs.declared.room.Room.TheVariants as answers;
+ghost use Rattle.vr_space.specs.Room.{Lengths};
+ghost use Rattle.vr_space.specs.Keyed.{IsKeyedAtRest, KeepsRoom};
+ghost use Rattle.vr_space.specs.Split.{SplitNow, keyed_room};
+ghost use Rattle.vr_space.specs.UnderWay.{KeyedUnderWay};
+ghost use Rattle.vr_space.specs.Met.{IsMet};
+ghost use Rattle.vr_space.specs.Part.{
+  KeyedShape,
+  IsOn,
+  InPart,
+  AddsTo,
+  Nothing,
+  SameRecords,
+  DueMore,
+  HasRoom,
+  part_no,
+};
+ghost use Rattle.vr_split.specs.Switching.{KeepsPart, IsStageDone};
+ghost use Rattle.vr_keyed.specs.Stub.{Splits, split_at, stage_now, after_stage, after_fault};
+ghost use Rattle.vr_keyed.specs.Lent.{HasRoomFor};
+ghost use Rattle.vr_keyed.specs.Slots.{AreSlotsOf, met_in, mets};
+ghost use Rattle.vr_keyed.specs.Planned.{IsPlan, HasKeyAt};
+ghost use Rattle.vr_keyed.specs.Advance.{CanBegin, IsDue, IsLater};
+
+use crate::meet::meet;
+use crate::plan::{Plan, plan_split};
+use crate::slots::Slots;
+use vr_space::{Kept, Layout};
+use vr_split::Weights;
+use vr_types::{Blocks, DeviceFault, Place, StageKind};
+
+/// What a split begins with, for a record that lacks room at a place. It meets the interval of the
+/// place first, and reads the head.
+fn plan_at<B: Blocks, K: Kept>(
+    layout: &Layout,
+    slots: &mut Slots,
+    blocks: &mut B,
+    kept: &K,
+    place: &Place,
+    longest: u32,
+    weights: &mut Weights,
+) -> Result<Option<Plan>, DeviceFault>
+    requires on { IsOn (KeyedShape layout.now) (B.seen blocks.old) }
+    requires place { length place.now ≡ layout.now.key }
+    requires longest { longest ≤ layout.now.most }
+    requires slots { AreSlotsOf layout.now slots.old }
+    requires met { IsTrue B.tells
+        → All (IsMet layout.now (B.seen blocks.old).cur) (mets slots.old) }
+    requires weights { HasRoomFor layout.now weights.old }
+    requires rests { IsTrue B.tells → IsKeyedAtRest layout.now (B.seen blocks.old) }
+    requires room { IsTrue B.tells → KeepsRoom layout.now
+        (K.kept kept.now (part_no (KeyedShape layout.now))) (B.seen blocks.old) }
+    requires due { IsTrue B.tells → IsDue layout.now None (B.seen blocks.old).cur
+        (K.kept kept.now (part_no (KeyedShape layout.now))) place.now longest }
+    ensures plan { IsTrue B.tells → IfOk result (λ plan. IsSomeAnd plan
+        (IsPlan layout.now (B.seen blocks.old).cur
+        (K.kept kept.now (part_no (KeyedShape layout.now))) (met_in slots.new.first) place.now
+        longest weights.new.lengths)) }
+    ensures number { IfOk result (λ plan. IfSome plan
+        (λ p. p.number < length weights.new.lengths)) }
+    ensures key { IfOk result (λ plan. IfSome plan
+        (λ p. HasKeyAt layout.now weights.new.lengths p.number)) }
+    ensures old { IfOk result (λ plan. IfSome plan (λ p. p.target.old < layout.now.area)) }
+    ensures into { IfOk result (λ plan. IfSome plan (λ p. p.target.into < layout.now.area)) }
+    ensures slots { AreSlotsOf layout.now slots.new }
+    ensures met { IsTrue B.tells
+        → All (IsMet layout.now (B.seen blocks.old).cur) (mets slots.new) }
+    ensures weights { HasRoomFor layout.now weights.new }
+    ensures keeps { Keeps B.tells (B.seen blocks.old) (B.seen blocks.new) }
+    ensures cause { HasCause (B.faults blocks.old) (B.faults blocks.new) result }
+{
+    let _ = &layout.most;
+    meet(slots, layout, blocks, place.as_slice())?;
+    plan_split(layout, &slots.first, blocks, kept, place, longest, weights)
+}
