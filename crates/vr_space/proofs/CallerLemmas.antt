@@ -10,7 +10,7 @@ pub use Rattle.vr_space.proofs.KeyedSound.{keyed-within, keyed-image, each-less,
 pub use Rattle.vr_space.proofs.UnderWay.{IsSplitBlock, StaysAt, AllStay, found-in, free-in}
 pub use Rattle.vr_space.proofs.UnderWay.{begun-stays, way-stays, way-keeps, way-puts, met-stays}
 pub use Rattle.vr_space.proofs.UnderWay.{knows-keeps, knows-puts}
-pub use Rattle.vr_space.proofs.Searching.{low_at, found-entry, found-none, items-read}
+pub use Rattle.vr_space.proofs.Searching.{low_at, found-entry, found-none, got-whole, items-read}
 pub use Rattle.vr_space.proofs.Rising.{stands_content, one_content}
 pub use Rattle.vr_space.proofs.Adding.{only-weaken, adds-weaken, adds-then, nothing-then}
 pub use Rattle.vr_space.proofs.Adding.{then-nothing, rest-sound, sound-image, rest-stands}
