@@ -25,7 +25,7 @@ ghost use Rattle.vr_space.specs.Part.{
   part_no,
 };
 ghost use Rattle.vr_split.specs.Switching.{KeepsPart, IsStageDone};
-ghost use Rattle.vr_keyed.specs.Stub.{Splits, split_at, stage_now, after_stage, after_fault};
+ghost use Rattle.vr_split.specs.Splits.{stage_now};
 ghost use Rattle.vr_keyed.specs.Lent.{HasRoomFor};
 ghost use Rattle.vr_keyed.specs.Slots.{AreSlotsOf, met_in, mets};
 ghost use Rattle.vr_keyed.specs.Planned.{IsPlan, HasKeyAt};
@@ -35,7 +35,7 @@ use crate::meet::meet;
 use crate::plan::{Plan, plan_split};
 use crate::slots::Slots;
 use vr_space::{Kept, Layout};
-use vr_split::Weights;
+use vr_split::{CiSplit, Weights};
 use vr_types::{Blocks, DeviceFault, Place, StageKind};
 
 /// What a split begins with, for a record that lacks room at a place. It meets the interval of the
@@ -81,4 +81,51 @@ fn plan_at<B: Blocks, K: Kept>(
     let _ = &layout.most;
     meet(slots, layout, blocks, place.as_slice())?;
     plan_split(layout, &slots.first, blocks, kept, place, longest, weights)
+}
+
+/// Begins a split for a record that lacks room at a place. False, and none begun, only where the
+/// device doesn't report its contents.
+fn begin_split<B: Blocks, K: Kept>(
+    layout: &Layout,
+    split: &mut CiSplit,
+    slots: &mut Slots,
+    blocks: &mut B,
+    kept: &K,
+    place: &Place,
+    longest: u32,
+    weights: &mut Weights,
+) -> Result<bool, DeviceFault>
+    requires on { IsOn (KeyedShape layout.now) (B.seen blocks.old) }
+    requires part { split.old.part ≡ layout.now }
+    requires none { split.old.split ≡ None }
+    requires place { length place.now ≡ layout.now.key }
+    requires longest { longest ≤ layout.now.most }
+    requires slots { AreSlotsOf layout.now slots.old }
+    requires met { IsTrue B.tells
+        → All (IsMet layout.now (B.seen blocks.old).cur) (mets slots.old) }
+    requires weights { HasRoomFor layout.now weights.old }
+    requires rests { IsTrue B.tells → IsKeyedAtRest layout.now (B.seen blocks.old) }
+    requires room { IsTrue B.tells → KeepsRoom layout.now
+        (K.kept kept.now (part_no (KeyedShape layout.now))) (B.seen blocks.old) }
+    requires due { IsTrue B.tells → IsDue layout.now None (B.seen blocks.old).cur
+        (K.kept kept.now (part_no (KeyedShape layout.now))) place.now longest }
+    ensures begun { IsTrue B.tells → IfOk result (λ begun. IsTrue begun
+        × KeyedUnderWay layout.now split.new.split (B.seen blocks.new)) }
+    ensures copy { IfOk result (λ begun. IsTrue begun
+        → stage_now split.new.split ≡ Some stages.CiCopy) }
+    ensures none { IfOk result (λ begun. begun ≡ false → split.new.split ≡ None) }
+    ensures failed { OnErr result (split.new.split ≡ None) }
+    ensures part { split.new.part ≡ layout.now }
+    ensures slots { AreSlotsOf layout.now slots.new }
+    ensures met { IsTrue B.tells
+        → All (IsMet layout.now (B.seen blocks.old).cur) (mets slots.new) }
+    ensures weights { HasRoomFor layout.now weights.new }
+    ensures keeps { Keeps B.tells (B.seen blocks.old) (B.seen blocks.new) }
+    ensures cause { HasCause (B.faults blocks.old) (B.faults blocks.new) result }
+{
+    let Some(plan) = plan_at(layout, slots, blocks, kept, place, longest, weights)? else {
+        return Ok(false);
+    };
+    split.begin(plan.target.old, plan.target.into, weights.place(plan.number));
+    Ok(true)
 }
