@@ -25,7 +25,7 @@ ghost use Rattle.vr_space.specs.Part.{
   part_no,
 };
 ghost use Rattle.vr_split.specs.Switching.{KeepsPart, IsStageDone};
-ghost use Rattle.vr_split.specs.Splits.{stage_now};
+ghost use Rattle.vr_split.specs.Splits.{stage_now, after_stage, after_fault};
 ghost use Rattle.vr_keyed.specs.Lent.{HasRoomFor};
 ghost use Rattle.vr_keyed.specs.Slots.{AreSlotsOf, met_in, mets};
 ghost use Rattle.vr_keyed.specs.Planned.{IsPlan, HasKeyAt};
@@ -128,4 +128,38 @@ fn begin_split<B: Blocks, K: Kept>(
     };
     split.begin(plan.target.old, plan.target.into, weights.place(plan.number));
     Ok(true)
+}
+
+/// Does the next stage of the split under way, and forgets what was met.
+fn go_on<B: Blocks>(
+    split: &mut CiSplit,
+    slots: &mut Slots,
+    blocks: &mut B,
+) -> Result<StageKind, DeviceFault>
+    requires on { IsOn (KeyedShape split.old.part) (B.seen blocks.old) }
+    requires under_way { IsSome split.old.split }
+    requires rests { IsTrue B.tells → IsKeyedAtRest split.old.part (B.seen blocks.old) }
+    requires way { IsTrue B.tells
+        → KeyedUnderWay split.old.part split.old.split (B.seen blocks.old) }
+    ensures part { split.new.part ≡ split.old.part }
+    ensures stage { IfOk result (λ kind. stage_now split.old.split ≡ Some kind) }
+    ensures next { OnOk result (split.new.split ≡ after_stage split.old.split) }
+    ensures failed { OnErr result (split.new.split ≡ after_fault split.old.split) }
+    ensures keeps { IsTrue B.tells → (kept : Lengths)
+        → KeepsRoom split.old.part kept (B.seen blocks.old)
+        → KeepsPart split.old.part kept (B.seen blocks.old) (B.seen blocks.new) }
+    ensures done { IsTrue B.tells → OnOk result
+        (IsStageDone split.old.part (B.seen blocks.old) (B.seen blocks.new)) }
+    ensures way { IsTrue B.tells → OnOk result
+        (KeyedUnderWay split.old.part split.new.split (B.seen blocks.new)) }
+    ensures slots { AreSlotsOf split.old.part slots.old → AreSlotsOf split.old.part slots.new }
+    ensures none { mets slots.new ≡ [] }
+    ensures unread { IfErr result (λ fault. fault ≡ Read
+        → Keeps B.tells (B.seen blocks.old) (B.seen blocks.new)) }
+    ensures count { (B.seen blocks.new).count ≡ (B.seen blocks.old).count }
+    ensures size { (B.seen blocks.new).size ≡ (B.seen blocks.old).size }
+    ensures cause { HasCause (B.faults blocks.old) (B.faults blocks.new) result }
+{
+    slots.filled = 0;
+    split.step(blocks)
 }
