@@ -1,3 +1,4 @@
+pub mod Gathering
 pub mod Meeting
 pub mod Lengths
 pub mod Adding
@@ -9,3 +10,8 @@ pub mod Refreshing
 pub mod SetThen
 pub mod Looking
 pub mod Nexting
+pub mod Freeing
+pub mod MetRoom
+pub mod Planning
+pub mod PlanLemmas
+pub mod Advancing
