@@ -1,7 +1,7 @@
 -- Where a stage is due and no split is under way, the interval that was met lacks room.
 use Rattle.std.proofs.Common.{◌≡◌, ℕ, ◌+◌, ◌<◌, ◌≤◌, Bool, true, false, List, length, refl, sym, ap}
 use Rattle.std.proofs.Common.{subst, ◌∙◌, arith, Option, Some, None, unwrap_or}
-use Rattle.std.proofs.Common.{IsTrue, [], ◌||◌}
+use Rattle.std.proofs.Common.{IsTrue, [], ◌||◌, is_some}
 use Rattle.std.specs.Prelude.{slice_index, cond, nat_eq}
 use Rattle.vr_types.specs.Image.{Block, Image, block_at}
 use Rattle.vr_types.specs.Seen.{Seen, Left}
@@ -23,6 +23,7 @@ use Rattle.vr_space.proofs.CallerLemmas.{rest-stands, found-in, nothing-then, re
 use Rattle.vr_space.proofs.CallerLemmas.{keeps-adds, same-keeps, keeps-rooms, room-keeps}
 use Rattle.vr_space.proofs.CallerLemmas.{due-then, due-keeps}
 use Rattle.vr_split.specs.Switching.{KeepsPart, IsStageDone}
+use Rattle.vr_split.specs.Splits.{stage_now}
 use Rattle.vr_keyed.specs.Advance.{IsDue}
 use Rattle.vr_keyed.specs.Planned.{LacksRoom}
 use Rattle.vr_keyed.proofs.MetRoom.{met-holds, answer-met}
@@ -175,6 +176,24 @@ new-stage part image kept place n due =
         → Stage CiCopy ≡ Stage due.0
     by None is = copy false free is
     by (Some found) is = copy (fits_in part image kept place n (Some found)) free is
+
+-- the stage that was done is the one that was due
+pub going-stage : (part : Keyed) (split : Option SplitNow) (image : Image) (kept : Lengths)
+    (place : List ℕ) (n : ℕ) → IsDue part split image kept place n → (kind : StageKind)
+    → stage_now split ≡ Some kind → Stage kind ≡ keyed_room part split image kept place n
+going-stage part None image kept place n due kind is = absurd cc
+going-stage part (Some split) image kept place n due kind is =
+    ap (λ (o : Option StageKind). Stage (unwrap_or o kind)) (sym is)
+    ∙ going-due part split image kept place n due
+
+pub copy-stage : (part : Keyed) (split after : Option SplitNow) (image : Image) (kept : Lengths)
+    (place : List ℕ) (n : ℕ) → is_some (stage_now split) ≡ false
+    → IsDue part split image kept place n → stage_now after ≡ Some CiCopy → (kind : StageKind)
+    → stage_now after ≡ Some kind → Stage kind ≡ keyed_room part split image kept place n
+copy-stage part None after image kept place n none due copy kind is =
+    ap (λ (o : Option StageKind). Stage (unwrap_or o kind)) (sym is ∙ copy)
+    ∙ new-stage part image kept place n due
+copy-stage part (Some split) after image kept place n none due copy kind is = absurd cc
 
 -- ---- calls that only read, and then a stage
 

@@ -163,3 +163,65 @@ fn go_on<B: Blocks>(
     slots.filled = 0;
     split.step(blocks)
 }
+
+/// Does the stage that comes before a record which lacks room at a place, and answers it: the next
+/// of the split under way, or the first of a new one. What was met is forgotten.
+pub(crate) fn advance_at<B: Blocks, K: Kept>(
+    layout: &Layout,
+    split: &mut CiSplit,
+    slots: &mut Slots,
+    blocks: &mut B,
+    kept: &K,
+    place: &Place,
+    longest: u32,
+    weights: &mut Weights,
+) -> Result<StageKind, DeviceFault>
+    requires on { IsOn (KeyedShape layout.now) (B.seen blocks.old) }
+    requires part { split.old.part ≡ layout.now }
+    requires later { IsLater split.old.split }
+    requires place { length place.now ≡ layout.now.key }
+    requires longest { longest ≤ layout.now.most }
+    requires slots { AreSlotsOf layout.now slots.old }
+    requires met { IsTrue B.tells
+        → All (IsMet layout.now (B.seen blocks.old).cur) (mets slots.old) }
+    requires weights { HasRoomFor layout.now weights.old }
+    requires rests { IsTrue B.tells → IsKeyedAtRest layout.now (B.seen blocks.old) }
+    requires room { IsTrue B.tells → KeepsRoom layout.now
+        (K.kept kept.now (part_no (KeyedShape layout.now))) (B.seen blocks.old) }
+    requires way { IsTrue B.tells
+        → KeyedUnderWay layout.now split.old.split (B.seen blocks.old) }
+    requires due { IsTrue B.tells → IsDue layout.now split.old.split (B.seen blocks.old).cur
+        (K.kept kept.now (part_no (KeyedShape layout.now))) place.now longest }
+    ensures stage { IsTrue B.tells → IfOk result (λ kind. answers.Stage kind
+        ≡ keyed_room layout.now split.old.split (B.seen blocks.old).cur
+        (K.kept kept.now (part_no (KeyedShape layout.now))) place.now longest) }
+    // At every moment, whether it fails or not.
+    ensures keeps { IsTrue B.tells → KeepsPart layout.now
+        (K.kept kept.now (part_no (KeyedShape layout.now))) (B.seen blocks.old)
+        (B.seen blocks.new) }
+    ensures done { IsTrue B.tells → OnOk result
+        (IsStageDone layout.now (B.seen blocks.old) (B.seen blocks.new)) }
+    ensures way { IsTrue B.tells → OnOk result
+        (KeyedUnderWay layout.now split.new.split (B.seen blocks.new)) }
+    ensures split { OnErr result (split.new.split ≡ split.old.split) }
+    ensures later { IsLater split.new.split }
+    ensures part { split.new.part ≡ layout.now }
+    ensures slots { AreSlotsOf layout.now slots.new }
+    ensures met { IsTrue B.tells
+        → All (IsMet layout.now (B.seen blocks.new).cur) (mets slots.new) }
+    ensures weights { HasRoomFor layout.now weights.new }
+    // It reads before it puts.
+    ensures unread { IfErr result (λ fault. fault ≡ Read
+        → Keeps B.tells (B.seen blocks.old) (B.seen blocks.new)) }
+    ensures count { (B.seen blocks.new).count ≡ (B.seen blocks.old).count }
+    ensures size { (B.seen blocks.new).size ≡ (B.seen blocks.old).size }
+    ensures cause { HasCause (B.faults blocks.old) (B.faults blocks.new) result }
+{
+    if split.next_stage().is_some() {
+        return go_on(split, slots, blocks);
+    }
+    if !begin_split(layout, split, slots, blocks, kept, place, longest, weights)? {
+        return Ok(StageKind::CiCopy);
+    }
+    go_on(split, slots, blocks)
+}
