@@ -15,3 +15,4 @@ pub mod MetRoom
 pub mod Planning
 pub mod PlanLemmas
 pub mod Advancing
+pub mod StageKinds

@@ -18,6 +18,13 @@ IsLaterStage CiSwitch = Unit {0}
 IsLaterStage CiClean = Unit {0}
 IsLaterStage stage = ⊥
 
+-- a stage of a split of a control interval
+abbrev pub IsIntervalStage : StageKind → Type 0
+IsIntervalStage CiCopy = Unit {0}
+IsIntervalStage CiSwitch = Unit {0}
+IsIntervalStage CiClean = Unit {0}
+IsIntervalStage stage = ⊥
+
 -- Between two calls no split is under way, or one whose copy is done.
 abbrev pub IsLater : Option SplitNow → Type 0
 IsLater None = Unit {0}

@@ -7,3 +7,4 @@ pub mod Next
 pub mod Splits
 pub mod Planned
 pub mod Advance
+pub mod Owned

@@ -29,7 +29,7 @@ ghost use Rattle.vr_split.specs.Splits.{stage_now, after_stage, after_fault};
 ghost use Rattle.vr_keyed.specs.Lent.{HasRoomFor};
 ghost use Rattle.vr_keyed.specs.Slots.{AreSlotsOf, met_in, mets};
 ghost use Rattle.vr_keyed.specs.Planned.{IsPlan, HasKeyAt};
-ghost use Rattle.vr_keyed.specs.Advance.{CanBegin, IsDue, IsLater};
+ghost use Rattle.vr_keyed.specs.Advance.{CanBegin, IsDue, IsLater, IsIntervalStage};
 
 use crate::meet::meet;
 use crate::plan::{Plan, plan_split};
@@ -195,6 +195,7 @@ pub(crate) fn advance_at<B: Blocks, K: Kept>(
     ensures stage { IsTrue B.tells → IfOk result (λ kind. answers.Stage kind
         ≡ keyed_room layout.now split.old.split (B.seen blocks.old).cur
         (K.kept kept.now (part_no (KeyedShape layout.now))) place.now longest) }
+    ensures kind { IfOk result IsIntervalStage }
     // At every moment, whether it fails or not.
     ensures keeps { IsTrue B.tells → KeepsPart layout.now
         (K.kept kept.now (part_no (KeyedShape layout.now))) (B.seen blocks.old)

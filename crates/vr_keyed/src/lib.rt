@@ -2,6 +2,7 @@
 //! `vr_types`, `vr_ci`, `vr_seqset`, `vr_space` and `vr_split`.
 #![tactic(auto)]
 
+mod keyed;
 mod look;
 mod meet;
 mod next;
@@ -16,6 +17,7 @@ mod plan;
 mod range;
 mod room;
 
+pub use keyed::{Keyed, keyed_part};
 pub use gather::{fits, gather_lengths};
 pub use plan::{Target, cut_at, target_in};
 pub use range::{LentRange, is_in};

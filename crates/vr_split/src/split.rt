@@ -1,6 +1,6 @@
 //! Splits of control intervals, one at a time.
 ghost use Rattle.std.specs.Prelude.{◌≡◌, ◌<◌, ℕ, Some, None, IsTrue, IfOk, IfErr, OnOk, OnErr};
-ghost use Rattle.std.specs.Prelude.{IsSome, length, replicate};
+ghost use Rattle.std.specs.Prelude.{IsSome, IfSome, length, replicate};
 ghost use Rattle.vr_types.specs.Blocks.{Keeps};
 ghost use Rattle.vr_types.specs.Faults.{HasCause};
 ghost use Rattle.vr_types.specs.declared.fault.DeviceFault.TheVariants.{Read};
@@ -132,6 +132,15 @@ impl CiSplit {
         ensures { result ≡ stage_now self.now.split }
     {
         self.next
+    }
+
+    /// The interval that is cut, and the one that gets the upper records, while a split is under
+    /// way.
+    pub fn intervals(&self) -> (u16, u16)
+        ensures { IfSome self.now.split (λ split. (result.0 ≡ split.old)
+            × (result.1 ≡ split.into)) }
+    {
+        (self.from, self.into)
     }
 
     /// Does the stage that is next, and leaves the split at it.

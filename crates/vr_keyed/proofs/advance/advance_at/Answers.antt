@@ -8,6 +8,7 @@ use Rattle.vr_space.proofs.CallerLemmas.{rest-keeps, room-keeps}
 use Rattle.vr_split.specs.Splits.{stage_now}
 use Rattle.vr_split.specs.Switching.{KeepsPart, IsStageDone}
 use Rattle.vr_keyed.proofs.Advancing.{going-stage, copy-stage, part-after, part-kept, done-after}
+use Rattle.vr_keyed.proofs.StageKinds.{later-kind, copy-kind}
 use Rattle.vr_keyed.proofs.advance.advance_at.Goals as goal
 
 pub returns-then-is_some-clause-stage : goal.returns-then-is_some-clause-stage
@@ -92,3 +93,14 @@ returns-clause-unread g c =
     (λ fault unread read. keeps-then g.B.Blocks.tells (g.B.Blocks.seen c.args.blocks.now)
     (g.B.Blocks.seen c.begin_split.new.blocks) (g.B.Blocks.seen c.go_on-2.new.blocks)
     c.begin_split.ensures.keeps (unread read)) c.go_on-2.ensures.unread
+
+pub returns-then-is_some-clause-kind : goal.returns-then-is_some-clause-kind
+returns-then-is_some-clause-kind g c =
+    IfOk-weaker c.go_on.result _ _
+    (λ kind is. later-kind c.args.split.now.split kind c.requires.later is) c.go_on.ensures.stage
+
+pub returns-clause-kind : goal.returns-clause-kind
+returns-clause-kind g c =
+    IfOk-weaker c.go_on-2.result _ _
+    (λ kind is. copy-kind c.begin_split.new.split.split kind
+    (c.in_ok-begin_split.ensures.copy (search rules)) is) c.go_on-2.ensures.stage
