@@ -44,6 +44,21 @@ impl Model for Layout {
 }
 
 impl Layout {
+    /// The same once more.
+    pub fn copy(&self) -> Layout
+        ensures { result ≡ self.now }
+    {
+        Layout {
+            part: self.part,
+            head: self.head,
+            area: self.area,
+            size: self.size,
+            key: self.key,
+            offset: self.offset,
+            most: self.most,
+        }
+    }
+
     /// The block of an interval.
     pub fn block_of(&self, interval: u16) -> u32
         requires { interval < self.now.area }

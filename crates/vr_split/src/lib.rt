@@ -6,11 +6,17 @@
 #![tactic(auto)]
 
 mod cut;
+mod halves;
+mod head;
+mod making;
 mod records;
+mod split;
 mod stages;
+mod steps;
 mod weights;
 
 pub use cut::plan_cut;
 pub use records::write_records;
+pub use split::{CiSplit, ci_split};
 pub use stages::{clean_interval, copy_interval, switch_head};
-pub use weights::Weights;
+pub use weights::{Weights, empty_weights};

@@ -2,6 +2,7 @@
 ghost use Rattle.std.specs.Prelude.{◌≡◌, ◌≢◌, ◌<◌, ℕ, IsTrue, OnOk, length};
 ghost use Rattle.vr_types.specs.Image.{block_at};
 ghost use Rattle.vr_types.specs.Seen.{Only};
+ghost use Rattle.vr_types.specs.Blocks.{Puts};
 ghost use Rattle.vr_types.specs.Faults.{HasWriteCause};
 ghost use Rattle.vr_space.specs.Room.{Lengths};
 ghost use Rattle.vr_space.specs.Keyed.{Keyed};
@@ -32,6 +33,7 @@ pub fn switch_head<B: Blocks>(blocks: &mut B, head: u32, top: &[u8]) -> Result<(
         → IsStageDone part (B.seen blocks.old) (B.seen blocks.new)) }
     ensures put { IsTrue B.tells → OnOk result
         (block_at (B.seen blocks.new).cur head ≡ top.now) }
+    ensures after { Puts B.tells head top.now (B.seen blocks.old) (B.seen blocks.new) }
     ensures count { (B.seen blocks.new).count ≡ (B.seen blocks.old).count }
     ensures size { (B.seen blocks.new).size ≡ (B.seen blocks.old).size }
     ensures cause { HasWriteCause (B.faults blocks.old) (B.faults blocks.new) result }
@@ -83,7 +85,6 @@ fn write_free<B: Blocks>(blocks: &mut B, n: u32, upper: &[u8]) -> Result<(), Dev
 fn rewrite<B: Blocks>(blocks: &mut B, n: u32, whole: &[u8], beside: u32) -> Result<(), DeviceFault>
     requires below { n < (B.seen blocks.old).count }
     requires beside_below { beside < (B.seen blocks.old).count }
-    requires apart { beside ≢ n }
     requires whole { length whole.now ≡ (B.seen blocks.old).size }
     ensures keeps { IsTrue B.tells → (part : Keyed) (kept : Lengths) → IsIntervalBlock part n
         → IsResting part kept (B.seen blocks.old)
@@ -95,7 +96,8 @@ fn rewrite<B: Blocks>(blocks: &mut B, n: u32, whole: &[u8], beside: u32) -> Resu
         → IsStageDone part (B.seen blocks.old) (B.seen blocks.new)) }
     ensures stable { IsTrue B.tells → OnOk result
         (Only (B.seen blocks.new) n (λ block. block ≡ whole.now)) }
-    ensures beside { IsTrue B.tells → OnOk result (Only (B.seen blocks.new) beside
+    ensures beside { IsTrue B.tells → OnOk result (beside ≢ n
+        → Only (B.seen blocks.new) beside
         (λ block. block ≡ block_at (B.seen blocks.old).cur beside)) }
     ensures elsewhere { IsTrue B.tells → (m : ℕ) → m ≢ n
         → block_at (B.seen blocks.new).cur m ≡ block_at (B.seen blocks.old).cur m }
@@ -119,7 +121,6 @@ pub fn copy_interval<B: Blocks>(
 ) -> Result<(), DeviceFault>
     requires into_below { into < (B.seen blocks.old).count }
     requires old_below { old < (B.seen blocks.old).count }
-    requires apart { into ≢ old }
     requires upper_whole { length upper.now ≡ (B.seen blocks.old).size }
     requires old_whole { length whole.now ≡ (B.seen blocks.old).size }
     ensures keeps { IsTrue B.tells → (part : Keyed) (kept : Lengths)
@@ -132,8 +133,8 @@ pub fn copy_interval<B: Blocks>(
         → IsResting part kept (B.seen blocks.old) → IsFree part (B.seen blocks.old).cur into
         → CanReplace part kept (B.seen blocks.old).cur old whole.now
         → IsStageDone part (B.seen blocks.old) (B.seen blocks.new)) }
-    ensures into_stable { IsTrue B.tells → OnOk result
-        (Only (B.seen blocks.new) into (λ block. block ≡ upper.now)) }
+    ensures into_stable { IsTrue B.tells → OnOk result (into ≢ old
+        → Only (B.seen blocks.new) into (λ block. block ≡ upper.now)) }
     ensures old_stable { IsTrue B.tells → OnOk result
         (Only (B.seen blocks.new) old (λ block. block ≡ whole.now)) }
     ensures elsewhere { IsTrue B.tells → (m : ℕ) → m ≢ into → m ≢ old

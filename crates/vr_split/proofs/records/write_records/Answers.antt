@@ -89,7 +89,8 @@ returns c value interval shape order within =
         busy =
             c.args.busy;
       })) (search rules)
-          (as_meant (form_of c.loop-i.writer) (drop c.args.from (take c.loop-i.i c.in-Ok.view.items))
+          (as_meant (form_of c.loop-i.writer)
+          (drop c.args.from (take c.loop-i.i c.in-Ok.view.items))
           (drop c.args.from (take c.args.to value.items)) c.args.busy c.loop-i.invariant.form items
           ended),
     )

@@ -56,5 +56,6 @@ returns-clause-done g c told part kept into old resting free can =
     (replace-still part kept a.cur m.cur c.args.old c.args.whole.now head first.0.same can))
 
 pub returns-clause-into_stable : goal.returns-clause-into_stable
-returns-clause-into_stable g c told block may = c.in_ok-rewrite.ensures.beside told block may
+returns-clause-into_stable g c told apart block may =
+    c.in_ok-rewrite.ensures.beside told apart block may
     ∙ c.in_ok-write_free.ensures.put told

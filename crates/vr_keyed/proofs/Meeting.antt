@@ -1,0 +1,122 @@
+-- The places that were met, as another is.
+use Rattle.std.proofs.Common.{◌≡◌, ◌<◌, ◌≤◌, ◌+◌, ℕ, zero, suc, Bool, true, false, List, []}
+use Rattle.std.proofs.Common.{◌∷◌, take, All, refl, sym, ap, ◌∙◌, arith, min}
+use Rattle.std.proofs.Common.{subst}
+use Rattle.std.proofs.lemmas.List.Elements.{All-head, All-cons, All-nil}
+use Rattle.std.specs.Prelude.{filter, not, bytes_eq, cond}
+use Rattle.std.proofs.lemmas.Slice.Eq.{bytes_eq-Decides}
+use Rattle.vr_space.specs.Met.{Met, places_met, met_next, HasMet}
+
+same-bytes : (one other : List ℕ) → one ≡ other → bytes_eq one other ≡ true
+same-bytes one other same = (bytes_eq-Decides one other).1 same
+
+other-bytes : (one other : List ℕ) → (one ≡ other → ⊥) → bytes_eq one other ≡ false
+other-bytes one other apart = by_test (bytes_eq one other) refl
+  where
+    by_test : (b : Bool) → bytes_eq one other ≡ b → b ≡ false
+    by_test true is = absurd (apart ((bytes_eq-Decides one other).0 is))
+    by_test false is = refl
+
+-- the places without this one
+abbrev without : List ℕ → List (List ℕ) → List (List ℕ)
+without place places = filter (λ (other : List ℕ). not (bytes_eq other place)) places
+
+drops : (place other : List ℕ) (places : List (List ℕ)) → other ≡ place
+    → without place (other ∷ places) ≡ without place places
+drops place other places same =
+    ap (λ (b : Bool). cond (not b) (other ∷ without place places) (without place places))
+    (same-bytes other place same)
+
+leaves : (place other : List ℕ) (places : List (List ℕ)) → (other ≡ place → ⊥)
+    → without place (other ∷ places) ≡ other ∷ without place places
+leaves place other places apart =
+    ap (λ (b : Bool). cond (not b) (other ∷ without place places) (without place places))
+    (other-bytes other place apart)
+
+module _ (a b : Met) (place : List ℕ) where
+  abbrev first-of : ℕ → List Met
+  first-of n = take n (a ∷ b ∷ [])
+
+  -- it is the last that was met
+  pub next-first : (n : ℕ) → 0 < n → n ≤ 2 → a.place ≡ place
+      → (n ≡ 2 → a.place ≡ b.place → ⊥)
+      → places_met (first-of n) ≡ met_next (places_met (first-of n)) place
+  next-first zero some few here apart = absurd (omega (arith, some))
+  next-first (suc zero) some few here apart =
+      ap (λ (p : List ℕ). p ∷ []) here
+      ∙ sym (ap (λ (ps : List (List ℕ)). place ∷ take 1 ps) (drops place a.place [] here))
+  next-first (suc (suc zero)) some few here apart =
+      ap (λ (p : List ℕ). p ∷ b.place ∷ []) here
+      ∙ sym (ap (λ (ps : List (List ℕ)). place ∷ take 1 ps)
+      (drops place a.place (b.place ∷ []) here
+      ∙ leaves place b.place [] (λ same. apart refl (here ∙ sym same))))
+  next-first (suc (suc (suc n))) some few here apart = absurd (omega (arith, few))
+
+  -- it is the one before
+  pub next-second : (n : ℕ) → n ≡ 2 → b.place ≡ place → (a.place ≡ place → ⊥)
+      → places_met (take n (b ∷ a ∷ [])) ≡ met_next (places_met (first-of n)) place
+  next-second n two here apart =
+      ap (λ (k : ℕ). places_met (take k (b ∷ a ∷ []))) two
+      ∙ ap (λ (p : List ℕ). p ∷ a.place ∷ []) here
+      ∙ sym (ap (λ (ps : List (List ℕ)). place ∷ take 1 ps)
+      (leaves place a.place (b.place ∷ []) apart
+      ∙ ap (λ (ps : List (List ℕ)). a.place ∷ ps) (drops place b.place [] here)))
+      ∙ sym (ap (λ (k : ℕ). met_next (places_met (first-of k)) place) two)
+
+  -- it is none of them
+  pub met-none : (n : ℕ) → n ≤ 2 → (0 < n → a.place ≡ place → ⊥)
+      → (n ≡ 2 → b.place ≡ place → ⊥) → HasMet (first-of n) place → ⊥
+  met-none zero few first second has = absurd (omega (arith, has.1))
+  met-none (suc zero) few first second (zero, within, is) = first (omega arith) is
+  met-none (suc zero) few first second (suc k, within, is) = absurd (omega (arith, within))
+  met-none (suc (suc zero)) few first second (zero, within, is) = first (omega arith) is
+  met-none (suc (suc zero)) few first second (suc zero, within, is) = second refl is
+  met-none (suc (suc zero)) few first second (suc (suc k), within, is) =
+      absurd (omega (arith, within))
+  met-none (suc (suc (suc n))) few first second has = absurd (omega (arith, few))
+
+  -- a new one comes before the last of the others
+  pub next-new : (n : ℕ) (new : Met) → n ≤ 2 → new.place ≡ place
+      → (HasMet (first-of n) place → ⊥)
+      → places_met (take (min n 1 + 1) (new ∷ a ∷ []))
+      ≡ met_next (places_met (first-of n)) place
+  next-new zero new few here none = ap (λ (p : List ℕ). p ∷ []) here
+  next-new (suc zero) new few here none =
+      ap (λ (p : List ℕ). p ∷ a.place ∷ []) here
+      ∙ sym (ap (λ (ps : List (List ℕ)). place ∷ take 1 ps)
+      (leaves place a.place [] (λ same. none (0, omega arith, same))))
+  next-new (suc (suc zero)) new few here none =
+      ap (λ (p : List ℕ). p ∷ a.place ∷ []) here
+      ∙ sym (ap (λ (ps : List (List ℕ)). place ∷ take 1 ps)
+      (leaves place a.place (b.place ∷ []) (λ same. none (0, omega arith, same))))
+  next-new (suc (suc (suc n))) new few here none = absurd (omega (arith, few))
+
+  -- the last of the others is at another place
+  pub met-apart : (n m : ℕ) → m ≡ min n 1 → m + 1 ≡ 2 → (HasMet (first-of n) place → ⊥)
+      → a.place ≡ place → ⊥
+  met-apart zero m least two none here = omega (arith, least, two)
+  met-apart (suc zero) m least two none here = none (0, omega arith, here)
+  met-apart (suc (suc n)) m least two none here = none (0, omega arith, here)
+
+-- what is so of all that were met is so of the last alone
+pub met-kept : (P : Met → Type 0) (a b other : Met) (n m : ℕ) → m ≡ min n 1
+    → All P (take n (a ∷ b ∷ [])) → All P (take m (a ∷ other ∷ []))
+met-kept P a b other zero m least all =
+    subst (λ (k : ℕ). All P (take k (a ∷ other ∷ []))) (sym least) all
+met-kept P a b other (suc n) m least all =
+    let one : m ≡ 1 = omega (arith, least) in
+    subst (λ (k : ℕ). All P (take k (a ∷ other ∷ []))) (sym one)
+    (All-cons P a [] (All-head P a (take n (b ∷ [])) all) (All-nil P))
+
+-- and of it after a new one
+pub met-added : (P : Met → Type 0) (a b new : Met) (n m : ℕ) → m ≡ min n 1
+    → All P (take n (a ∷ b ∷ [])) → P new → All P (take (m + 1) (new ∷ a ∷ []))
+met-added P a b new zero m least all is =
+    let one : m + 1 ≡ 1 = omega (arith, least) in
+    subst (λ (k : ℕ). All P (take k (new ∷ a ∷ []))) (sym one)
+    (All-cons P new [] is (All-nil P))
+met-added P a b new (suc n) m least all is =
+    let two : m + 1 ≡ 2 = omega (arith, least) in
+    subst (λ (k : ℕ). All P (take k (new ∷ a ∷ []))) (sym two)
+    (All-cons P new (a ∷ []) is
+    (All-cons P a [] (All-head P a (take n (b ∷ [])) all) (All-nil P)))

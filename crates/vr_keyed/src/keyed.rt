@@ -1,0 +1,197 @@
+//! A keyed part of one area.
+ghost use Rattle.std.specs.Prelude.{◌≡◌, ◌≤◌, [], Some, None, IfOk, vec_capacity};
+ghost use Rattle.vr_keyed.specs.Ready.{put_of};
+ghost use Rattle.vr_keyed.specs.Splits.{IsSplit};
+
+use crate::advance::advance_at;
+use crate::look::look_in;
+use crate::next::next_in;
+use crate::room::{UnderWay, room_at};
+use crate::set::set;
+use crate::slot::{Slot, empty_slot};
+use crate::slots::Slots;
+use std::alloc::Global;
+use std::marker::Model;
+use vr_space::{Kept, Layout, Part, Room, Whence};
+use vr_split::{CiSplit, Weights, ci_split, empty_weights};
+use vr_types::{
+    Blocks, DeviceFault, OutOfMemory, Place, PlaceBuffer, Space, StageKind,
+};
+
+/// A key-sequenced part of one area on blocks (DFSMS Using Data Sets, key-sequenced data sets): its
+/// head is a sequence-set record, and its records stand in control intervals. It has the buffers
+/// that its calls need, so that none of them takes memory.
+#[derive(Debug, Drop)]
+pub struct Keyed {
+    layout: Layout,
+    split: CiSplit,
+    slots: Slots,
+    spare: Slot,
+    weights: Weights,
+    out: Vec<u8>,
+    put: Vec<u32>,
+}
+
+impl Model for Keyed {
+    ghost use Rattle.std.specs.Prelude.{◌≡◌, ◌≤◌, vec_len, vec_capacity};
+    ghost use Rattle.vr_keyed.specs.Owned.{Owned};
+    ghost use Rattle.vr_keyed.specs.Slots.{AreSlotsOf, IsSlotOf, mets};
+    ghost use Rattle.vr_keyed.specs.Lent.{HasRoomFor};
+    ghost use Rattle.vr_keyed.specs.Advance.{IsLater};
+
+    ghost Value = { Owned };
+
+    ghost view = { λ keyed. record {
+      part = keyed.layout;
+      split = keyed.split.split;
+      met = mets keyed.slots;
+      put = keyed.put.items;
+    } };
+
+    ghost invariant = { λ keyed. (keyed.split.part ≡ keyed.layout)
+        × IsLater keyed.split.split
+        × AreSlotsOf keyed.layout keyed.slots
+        × IsSlotOf keyed.layout keyed.spare
+        × HasRoomFor keyed.layout keyed.weights
+        × (vec_len keyed.out ≡ keyed.layout.size)
+        × (1 ≤ vec_capacity keyed.put) };
+}
+
+/// The split that is under way.
+fn under_way(split: &CiSplit) -> Option<UnderWay>
+    ensures { IsSplit split.now.split result }
+{
+    let stage = split.next_stage()?;
+    let (old, into) = split.intervals();
+    Some(UnderWay { old, into, stage })
+}
+
+/// Notes the block that was put.
+fn note_put(noted: &mut Vec<u32>, put: Option<u32>)
+    requires { 1 ≤ vec_capacity noted.old }
+    ensures put { noted.new.items ≡ put_of put }
+    ensures room { 1 ≤ vec_capacity noted.new }
+{
+    noted.clear();
+    if let Some(number) = put
+        && noted.push(number).is_err()
+    {
+        unreachable!("there is room")
+    }
+}
+
+/// A part of this layout, with no split under way and nothing met. It fails only if memory runs
+/// out, and takes all that the part needs.
+pub fn keyed_part(alloc: Global, layout: Layout) -> Result<Keyed, OutOfMemory>
+    ensures { IfOk result (λ keyed. keyed
+        ≡ record { part = layout; split = None; met = []; put = [] }) }
+{
+    let split = ci_split(alloc, layout.copy())?;
+    let slots = Slots::empty(alloc, &layout)?;
+    let spare = empty_slot(alloc, &layout)?;
+    let weights = empty_weights(alloc, layout.size / 3 + 1, layout.key)?;
+    let out = vec![in alloc; 0; layout.size as usize]?;
+    let put = Vec::with_capacity(alloc, 1)?;
+    Ok(Keyed {
+        layout,
+        split,
+        slots,
+        spare,
+        weights,
+        out,
+        put,
+    })
+}
+
+impl Part for Keyed {
+    ghost use Rattle.vr_space.specs.Part.{KeyedShape};
+
+    ghost shape = { λ keyed. KeyedShape keyed.part };
+
+    ghost split = { λ keyed. keyed.split };
+
+    ghost met = { λ keyed. keyed.met };
+
+    ghost put = { λ keyed. keyed.put };
+
+    fn look<'a, B: Blocks>(
+        blocks: &'a mut B,
+        part: &mut Self,
+        place: &Place,
+    ) -> Result<Option<&'a [u8]>, DeviceFault> {
+        look_in(blocks, &part.layout, place.as_slice())
+    }
+
+    fn next<B: Blocks>(
+        &mut self,
+        blocks: &mut B,
+        from: Whence<'_>,
+        into: &mut PlaceBuffer,
+    ) -> Result<bool, DeviceFault> {
+        next_in(&mut self.spare, &self.layout, blocks, from, into)
+    }
+
+    fn room<B: Blocks, K: Kept>(
+        &mut self,
+        blocks: &mut B,
+        _space: &Space,
+        kept: &K,
+        place: &Place,
+        length: u32,
+    ) -> Result<Room, DeviceFault> {
+        let split = under_way(&self.split);
+        room_at(
+            &self.layout,
+            split,
+            &mut self.slots,
+            blocks,
+            kept,
+            place,
+            length,
+            &mut self.weights,
+        )
+    }
+
+    fn advance<B: Blocks, K: Kept>(
+        &mut self,
+        blocks: &mut B,
+        _space: &mut Space,
+        kept: &K,
+        place: &Place,
+        length: u32,
+    ) -> Result<StageKind, DeviceFault> {
+        advance_at(
+            &self.layout,
+            &mut self.split,
+            &mut self.slots,
+            blocks,
+            kept,
+            place,
+            length,
+            &mut self.weights,
+        )
+    }
+
+    fn set<B: Blocks, K: Kept>(
+        &mut self,
+        blocks: &mut B,
+        _kept: &K,
+        place: &Place,
+        bytes: Option<&[u8]>,
+    ) -> Result<(), DeviceFault> {
+        let put = set(
+            &mut self.slots,
+            &self.layout,
+            blocks,
+            self.out.as_mut_slice(),
+            place.as_slice(),
+            bytes,
+        )?;
+        note_put(&mut self.put, put);
+        Ok(())
+    }
+
+    fn put_blocks(&self) -> &[u32] {
+        self.put.as_slice()
+    }
+}

@@ -1,0 +1,148 @@
+//! Meeting the interval of a place: its range and what its block has.
+ghost use Rattle.std.specs.Prelude.{◌≡◌, ◌≢◌, ◌<◌, ℕ, IsTrue, true, false, All, length, IsOk, OnOk};
+ghost use Rattle.vr_types.specs.Image.{Image, block_at};
+ghost use Rattle.vr_types.specs.Blocks.{Keeps};
+ghost use Rattle.vr_types.specs.Faults.{HasCause};
+ghost use Rattle.vr_space.specs.Keyed.{Keyed, IsHead};
+ghost use Rattle.vr_space.specs.Met.{IsMet, HasMet, places_met, met_next};
+ghost use Rattle.vr_space.specs.Part.{KeyedShape, IsOn};
+ghost use Rattle.vr_keyed.specs.Slots.{IsSlotOf, AreSlotsOf, IsFirst, IsLed, met_in, mets};
+
+use crate::slot::Slot;
+use crate::slots::Slots;
+use std::mem::swap;
+use vr_space::{Layout, entry_for};
+use vr_types::{Blocks, DeviceFault};
+
+/// Makes the range and the block of a slot those of a place, by way of the head that is read.
+fn find<B: Blocks>(
+    slot: &mut Slot,
+    layout: &Layout,
+    blocks: &mut B,
+    place: &[u8],
+) -> Result<(), DeviceFault>
+    requires on { IsOn (KeyedShape layout.now) (B.seen blocks.old) }
+    requires place { length place.now ≡ layout.now.key }
+    requires slot { IsSlotOf layout.now slot.old }
+    requires head { IsTrue B.tells
+        → IsHead layout.now (block_at (B.seen blocks.old).cur layout.now.head) }
+    ensures slot { IsSlotOf layout.now slot.new }
+    ensures place { OnOk result (slot.new.place.place ≡ place.now) }
+    ensures led { IsTrue B.tells → OnOk result
+        (IsLed layout.now (block_at (B.seen blocks.old).cur layout.now.head) slot.new) }
+    ensures keeps { Keeps B.tells (B.seen blocks.old) (B.seen blocks.new) }
+    ensures cause { HasCause (B.faults blocks.old) (B.faults blocks.new) result }
+{
+    let top = blocks.get(layout.head)?;
+    slot.place.set(place);
+    if let Some(found) = entry_for(layout, top, place) {
+        slot.set_entry(layout, &found);
+    }
+    Ok(())
+}
+
+/// Fills a slot with the interval of a place, by reading the head and the interval.
+fn fill<B: Blocks>(
+    slot: &mut Slot,
+    layout: &Layout,
+    blocks: &mut B,
+    place: &[u8],
+) -> Result<(), DeviceFault>
+    requires on { IsOn (KeyedShape layout.now) (B.seen blocks.old) }
+    requires place { length place.now ≡ layout.now.key }
+    requires slot { IsSlotOf layout.now slot.old }
+    requires head { IsTrue B.tells
+        → IsHead layout.now (block_at (B.seen blocks.old).cur layout.now.head) }
+    ensures slot { IsSlotOf layout.now slot.new }
+    ensures place { OnOk result (slot.new.place.place ≡ place.now) }
+    ensures met { IsTrue B.tells → OnOk result
+        (IsMet layout.now (B.seen blocks.old).cur (met_in slot.new)) }
+    ensures keeps { Keeps B.tells (B.seen blocks.old) (B.seen blocks.new) }
+    ensures cause { HasCause (B.faults blocks.old) (B.faults blocks.new) result }
+{
+    find(slot, layout, blocks, place)?;
+    slot.bytes.copy_from_slice(blocks.get(slot.number)?);
+    Ok(())
+}
+
+/// Makes the interval of a place the one that was met last, if it is one of the two.
+fn recall(slots: &mut Slots, place: &[u8]) -> bool
+    ensures found { IsTrue result → IsFirst place.now slots.new
+        × (places_met (mets slots.new) ≡ met_next (places_met (mets slots.old)) place.now) }
+    ensures none { result ≡ false
+        → (slots.new ≡ slots.old) × (HasMet (mets slots.old) place.now → ⊥) }
+    ensures met { (part : Keyed) (image : Image) → All (IsMet part image) (mets slots.old)
+        → All (IsMet part image) (mets slots.new) }
+    ensures room { (part : Keyed) → AreSlotsOf part slots.old → AreSlotsOf part slots.new }
+{
+    if slots.is_first(place) {
+        return true;
+    }
+    if !slots.is_second(place) {
+        return false;
+    }
+    swap(&mut slots.first, &mut slots.second);
+    true
+}
+
+/// Fills the second slot, and makes its interval the one that was met last.
+fn read_in<B: Blocks>(
+    slots: &mut Slots,
+    layout: &Layout,
+    blocks: &mut B,
+    place: &[u8],
+) -> Result<(), DeviceFault>
+    requires on { IsOn (KeyedShape layout.now) (B.seen blocks.old) }
+    requires place { length place.now ≡ layout.now.key }
+    requires room { AreSlotsOf layout.now slots.old }
+    requires head { IsTrue B.tells
+        → IsHead layout.now (block_at (B.seen blocks.old).cur layout.now.head) }
+    requires met { IsTrue B.tells
+        → All (IsMet layout.now (B.seen blocks.old).cur) (mets slots.old) }
+    requires none { HasMet (mets slots.old) place.now → ⊥ }
+    ensures room { AreSlotsOf layout.now slots.new }
+    ensures first { OnOk result (IsFirst place.now slots.new) }
+    ensures places { OnOk result
+        (places_met (mets slots.new) ≡ met_next (places_met (mets slots.old)) place.now) }
+    ensures met { IsTrue B.tells
+        → All (IsMet layout.now (B.seen blocks.old).cur) (mets slots.new) }
+    ensures keeps { Keeps B.tells (B.seen blocks.old) (B.seen blocks.new) }
+    ensures cause { HasCause (B.faults blocks.old) (B.faults blocks.new) result }
+{
+    slots.filled = slots.filled.min(1);
+    fill(&mut slots.second, layout, blocks, place)?;
+    swap(&mut slots.first, &mut slots.second);
+    slots.filled += 1;
+    Ok(())
+}
+
+/// Makes the interval of a place the one that was met last. Where it is one of the two that were
+/// met, nothing is read; else the head and the interval are.
+pub(crate) fn meet<B: Blocks>(
+    slots: &mut Slots,
+    layout: &Layout,
+    blocks: &mut B,
+    place: &[u8],
+) -> Result<(), DeviceFault>
+    requires on { IsOn (KeyedShape layout.now) (B.seen blocks.old) }
+    requires place { length place.now ≡ layout.now.key }
+    requires room { AreSlotsOf layout.now slots.old }
+    requires head { IsTrue B.tells
+        → IsHead layout.now (block_at (B.seen blocks.old).cur layout.now.head) }
+    requires met { IsTrue B.tells
+        → All (IsMet layout.now (B.seen blocks.old).cur) (mets slots.old) }
+    ensures room { AreSlotsOf layout.now slots.new }
+    ensures first { OnOk result (IsFirst place.now slots.new) }
+    ensures places { OnOk result
+        (places_met (mets slots.new) ≡ met_next (places_met (mets slots.old)) place.now) }
+    ensures met { IsTrue B.tells
+        → All (IsMet layout.now (B.seen blocks.old).cur) (mets slots.new) }
+    ensures known { HasMet (mets slots.old) place.now → IsOk result }
+    ensures keeps { Keeps B.tells (B.seen blocks.old) (B.seen blocks.new) }
+    ensures cause { HasCause (B.faults blocks.old) (B.faults blocks.new) result }
+{
+    if recall(slots, place) {
+        return Ok(());
+    }
+    read_in(slots, layout, blocks, place)
+}
