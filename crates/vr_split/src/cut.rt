@@ -1,6 +1,6 @@
 //! Where an interval is cut.
-ghost use Rattle.std.specs.Prelude.{◌≡◌, ◌+◌, ◌<◌, ◌≤◌, ◌^◌, IsTrue, length};
-ghost use Rattle.vr_split.specs.Cut.{total, IsMiddle};
+ghost use Rattle.std.specs.Prelude.{◌≡◌, ◌+◌, ◌<◌, ◌≤◌, IsTrue, length};
+ghost use Rattle.vr_split.specs.Cut.{IsMiddle};
 
 use crate::weights::Weights;
 
@@ -8,11 +8,11 @@ use crate::weights::Weights;
 /// the last of the last interval of the data set, the cut is just before it; else after the least
 /// first places that have half of the weight, and never after the last.
 pub fn plan_cut(items: &Weights, at: usize, last: bool) -> usize
-    requires two { 2 ≤ length items.now }
-    requires at { at < length items.now }
-    requires sum { total items.now < 2 ^ 32 }
-    ensures end { IsTrue last → at + 1 ≡ length items.now → result ≡ at }
-    ensures middle { (IsTrue last → at + 1 ≡ length items.now → ⊥) → IsMiddle items.now result }
+    requires two { 2 ≤ length items.now.lengths }
+    requires at { at < length items.now.lengths }
+    ensures end { IsTrue last → at + 1 ≡ length items.now.lengths → result ≡ at }
+    ensures middle { (IsTrue last → at + 1 ≡ length items.now.lengths → ⊥)
+        → IsMiddle items.now.lengths result }
 {
     if last && at == items.len() - 1 {
         return at;

@@ -1,0 +1,227 @@
+-- Where a stage is due and no split is under way, the interval that was met lacks room.
+use Rattle.std.proofs.Common.{◌≡◌, ℕ, ◌+◌, ◌<◌, ◌≤◌, Bool, true, false, List, length, refl, sym, ap}
+use Rattle.std.proofs.Common.{subst, ◌∙◌, arith, Option, Some, None, unwrap_or}
+use Rattle.std.proofs.Common.{IsTrue, [], ◌||◌, is_some}
+use Rattle.std.specs.Prelude.{slice_index, cond, nat_eq}
+use Rattle.vr_types.specs.Image.{Block, Image, block_at}
+use Rattle.vr_types.specs.Seen.{Seen, Left}
+use Rattle.vr_types.specs.Blocks.{Keeps}
+use Rattle.vr_types.proofs.CallerLemmas.{touches-then}
+use Rattle.vr_types.specs.declared.unit.StageKind.{StageKind}
+use Rattle.vr_types.specs.declared.unit.StageKind.TheVariants.{CiCopy}
+use Rattle.vr_space.specs.declared.room.Room as answer
+use Rattle.vr_space.specs.declared.room.Room.TheVariants.{Stage, Ready, NoSpace}
+use Rattle.vr_seqset.specs.Entry.{Entry}
+use Rattle.vr_space.specs.Room.{Lengths, Range, HaveRoom, have_room, with_length}
+use Rattle.vr_space.specs.Keyed.{Keyed, IsHead, IsKeyedAtRest, KeepsRoom, entries_of, entry_block}
+use Rattle.vr_space.specs.Keyed.{lengths_of, entry_for}
+use Rattle.vr_space.specs.Split.{SplitNow, free_interval, keyed_room, room_by, room_by_split}
+use Rattle.vr_space.specs.Met.{Met, IsMet}
+use Rattle.vr_space.specs.Split.{room_after, stage_in, fits_in}
+use Rattle.vr_space.specs.Part.{KeyedShape, Stands, InPart, Nothing, HasRoom}
+use Rattle.vr_space.proofs.CallerLemmas.{rest-stands, found-in, nothing-then, records-then}
+use Rattle.vr_space.proofs.CallerLemmas.{keeps-adds, same-keeps, keeps-rooms, room-keeps}
+use Rattle.vr_space.proofs.CallerLemmas.{due-then, due-keeps}
+use Rattle.vr_split.specs.Switching.{KeepsPart, IsStageDone}
+use Rattle.vr_split.specs.Splits.{stage_now}
+use Rattle.vr_keyed.specs.Advance.{IsDue}
+use Rattle.vr_keyed.specs.Planned.{LacksRoom}
+use Rattle.vr_keyed.proofs.MetRoom.{met-holds, answer-met}
+use Rattle.vr_keyed.proofs.Planning.{each-found}
+
+-- What a stage that is due says where no split is under way.
+pub record IsDueNew (fits : Bool) (free : Option ℕ) (kind : StageKind) : Type 0 where
+  pub lacks : fits ≡ false
+  pub into : ℕ
+  pub free_is : free ≡ Some into
+  pub copy : kind ≡ CiCopy
+
+stage-is : (one other : StageKind) → Stage one ≡ Stage other → one ≡ other
+stage-is one other same = cc
+
+new-due : (fits : Bool) (free : Option ℕ) (kind : StageKind)
+    → room_by fits (room_by_split None free) ≡ Stage kind → IsDueNew fits free kind
+new-due true free kind is = absurd (other is)
+  where
+    other : Ready ≡ Stage kind → ⊥
+    other same = cc
+new-due false None kind is = absurd (other is)
+  where
+    other : NoSpace 1 0 ≡ Stage kind → ⊥
+    other same = cc
+new-due false (Some into) kind is = record {
+  lacks = refl;
+  into = into;
+  free_is = refl;
+  copy = sym (stage-is CiCopy kind is);
+}
+
+module _ (part : Keyed) (now : Seen) (left : Left now now.cur) (rests : IsKeyedAtRest part now)
+    (kept : Lengths) (room : KeepsRoom part kept now) (met : Met)
+    (known : IsMet part now.cur met) (place : List ℕ) (same : met.place ≡ place) (n : ℕ)
+    (due : IsDue part None now.cur kept place n) where
+  top : Block
+  top = block_at now.cur part.head
+
+  top-may : now.may part.head (block_at now.cur part.head)
+  top-may = left.each part.head (omega (arith, rests.sound.area))
+
+  head : IsHead part (block_at now.cur part.head)
+  head = rests.sound.heads (block_at now.cur part.head) top-may
+
+  stands : Stands (KeyedShape part) now.cur
+  stands = rest-stands (KeyedShape part) now rests.sound left
+
+  -- it lacks room, and an interval is free
+  pub due-new : IsDueNew
+      (have_room part.size (with_length (lengths_of part kept met.range met.block) place n))
+      (free_interval part (block_at now.cur part.head)) due.0
+  due-new =
+      new-due (have_room part.size (with_length (lengths_of part kept met.range met.block) place n))
+      (free_interval part (block_at now.cur part.head)) due.0
+      (sym (answer-met part now.cur met known None kept n place None
+      (have_room part.size (with_length (lengths_of part kept met.range met.block) place n)) same
+      refl refl) ∙ due.1)
+
+  entry-may : now.may (entry_block part known.entry)
+      (block_at now.cur (entry_block part known.entry))
+  entry-may = left.each (entry_block part known.entry)
+      (omega (
+        arith,
+        found-in part (block_at now.cur part.head) met.place (met.range, known.entry) head
+            known.leads,
+        rests.sound.area,
+      ))
+
+  -- what stands and what is kept has room
+  has-room : HaveRoom part.size (lengths_of part kept met.range met.block)
+  has-room =
+      subst (λ (block : Block). HaveRoom part.size (lengths_of part kept met.range block))
+      (ap (block_at now.cur) known.number ∙ known.still)
+      (each-found part now None (entries_of (block_at now.cur part.head))
+      (λ range block. HaveRoom part.size (lengths_of part kept range block)) met.place
+      (met.range, known.entry) (room.each (block_at now.cur part.head) top-may) known.leads
+      (block_at now.cur (entry_block part known.entry)) entry-may)
+
+  pub lacks-room : length place ≡ part.key → n + 7 ≤ part.size
+      → LacksRoom part now.cur kept met place n
+  lacks-room key alone = record {
+    known = known;
+    same = same;
+    head = head;
+    holds = met-holds part now.cur met known stands;
+    places = room.places;
+    key = key;
+    fits = has-room;
+    alone = alone;
+    lacks = due-new.lacks;
+  }
+
+-- ---- the stage that is answered
+
+-- where a split is under way, its stage is the one that is due
+pub going-due : (part : Keyed) (split : SplitNow) (image : Image) (kept : Lengths) (place : List ℕ)
+    (n : ℕ) → (due : IsDue part (Some split) image kept place n)
+    → Stage split.stage ≡ keyed_room part (Some split) image kept place n
+going-due part split image kept place n due =
+    by (entry_for None (entries_of (block_at image part.head)) place) due.1 ∙ sym due.1
+  where
+    free : Option ℕ
+    free = free_interval part (block_at image part.head)
+
+    lacking : (fits : Bool) → room_by fits (room_by_split (Some split) free) ≡ Stage due.0
+        → Stage split.stage ≡ Stage due.0
+    lacking true is = absurd (other is)
+      where
+        other : Ready ≡ Stage due.0 → ⊥
+        other same = cc
+    lacking false is = is
+
+    of_stage : (b : Bool) (fits : Bool)
+        → room_after (cond b (Some split.stage) None)
+        (room_by fits (room_by_split (Some split) free)) ≡ Stage due.0
+        → Stage split.stage ≡ Stage due.0
+    of_stage true fits is = is
+    of_stage false fits is = lacking fits is
+
+    by : (found : Option (Range × Entry))
+        → room_after (stage_in (Some split) found)
+        (room_by (fits_in part image kept place n found) (room_by_split (Some split) free))
+        ≡ Stage due.0
+        → Stage split.stage ≡ Stage due.0
+    by None is = lacking false is
+    by (Some found) is =
+        of_stage
+        (nat_eq (slice_index found.1.intervals 0) split.old
+        || nat_eq (slice_index found.1.intervals 0) split.into)
+        (fits_in part image kept place n (Some found)) is
+
+-- where none is, it is a copy
+pub new-stage : (part : Keyed) (image : Image) (kept : Lengths) (place : List ℕ) (n : ℕ)
+    → (due : IsDue part None image kept place n)
+    → Stage CiCopy ≡ keyed_room part None image kept place n
+new-stage part image kept place n due =
+    by (entry_for None (entries_of (block_at image part.head)) place) due.1 ∙ sym due.1
+  where
+    free : Option ℕ
+    free = free_interval part (block_at image part.head)
+
+    copy : (fits : Bool) (f : Option ℕ) → room_by fits (room_by_split None f) ≡ Stage due.0
+        → Stage CiCopy ≡ Stage due.0
+    copy fits f is = sym (ap (λ (k : StageKind). Stage k) (new-due fits f due.0 is).copy)
+
+    by : (found : Option (Range × Entry))
+        → room_after (stage_in None found)
+        (room_by (fits_in part image kept place n found) (room_by_split None free)) ≡ Stage due.0
+        → Stage CiCopy ≡ Stage due.0
+    by None is = copy false free is
+    by (Some found) is = copy (fits_in part image kept place n (Some found)) free is
+
+-- the stage that was done is the one that was due
+pub going-stage : (part : Keyed) (split : Option SplitNow) (image : Image) (kept : Lengths)
+    (place : List ℕ) (n : ℕ) → IsDue part split image kept place n → (kind : StageKind)
+    → stage_now split ≡ Some kind → Stage kind ≡ keyed_room part split image kept place n
+going-stage part None image kept place n due kind is = absurd cc
+going-stage part (Some split) image kept place n due kind is =
+    ap (λ (o : Option StageKind). Stage (unwrap_or o kind)) (sym is)
+    ∙ going-due part split image kept place n due
+
+pub copy-stage : (part : Keyed) (split after : Option SplitNow) (image : Image) (kept : Lengths)
+    (place : List ℕ) (n : ℕ) → is_some (stage_now split) ≡ false
+    → IsDue part split image kept place n → stage_now after ≡ Some CiCopy → (kind : StageKind)
+    → stage_now after ≡ Some kind → Stage kind ≡ keyed_room part split image kept place n
+copy-stage part None after image kept place n none due copy kind is =
+    ap (λ (o : Option StageKind). Stage (unwrap_or o kind)) (sym is ∙ copy)
+    ∙ new-stage part image kept place n due
+copy-stage part (Some split) after image kept place n none due copy kind is = absurd cc
+
+-- ---- calls that only read, and then a stage
+
+module _ (tells : Bool) (told : IsTrue tells) (part : Keyed) (kept : Lengths) (a b c : Seen)
+    (call : Keeps tells a b) (rests : IsKeyedAtRest part a) (room : KeepsRoom part kept a) where
+  pub part-after : KeepsPart part kept b c → KeepsPart part kept a c
+  part-after after = record {
+    adds = nothing-then (KeyedShape part) Nothing a b c
+        (keeps-adds tells told (KeyedShape part) a b call rests.sound) after.adds;
+    same = records-then (KeyedShape part) a.cur b.cur c.cur
+        (same-keeps tells told (KeyedShape part) a b call) after.same;
+    room = after.room;
+    rooms = touches-then (InPart (KeyedShape part)) (HasRoom (KeyedShape part) kept) a b c
+        (keeps-rooms tells told (KeyedShape part) kept a b call rests.sound room) after.rooms;
+  }
+
+  -- or nothing more
+  pub part-kept : KeepsPart part kept a b
+  part-kept = record {
+    adds = keeps-adds tells told (KeyedShape part) a b call rests.sound;
+    same = same-keeps tells told (KeyedShape part) a b call;
+    room = room-keeps tells told (KeyedShape part) kept a b call rests.sound room;
+    rooms = keeps-rooms tells told (KeyedShape part) kept a b call rests.sound room;
+  }
+
+  pub done-after : IsStageDone part b c → IsStageDone part a c
+  done-after after = record {
+    rests = after.rests;
+    due = due-then (KeyedShape part) [] a b c
+        (due-keeps tells told (KeyedShape part) a b call rests.sound) after.due;
+  }
