@@ -28,7 +28,7 @@ use Rattle.vr_space.proofs.CallerLemmas.{record-filter, in-above, in-most, in-bo
 use Rattle.vr_split.specs.Switching.{OfBlock, CanReplace, CanSwitch, IsSettledAt}
 use Rattle.vr_split.specs.Switching.{IsResting}
 use Rattle.vr_split.specs.Halves.{HasRange, IsBusyCopy, halves, halved_record}
-use Rattle.vr_split.proofs.Leading.{is-less, in-range, of-each, of-more, of-one, one-range}
+use Rattle.vr_split.proofs.Leading.{is-less, found-range, of-each, of-more, of-one, one-range}
 use Rattle.vr_split.proofs.Lighter.{IsInside, twice, room-inside}
 use Rattle.vr_split.proofs.HalvedHead.{found-halves, cut-halves, each-halves, halved-head}
 use Rattle.vr_split.proofs.HalvedHead.{le-trans}
@@ -148,7 +148,7 @@ module _ (part : Keyed) (kept : Lengths) (split : SplitNow) (a : Seen)
     at_range = begun.at.0
 
     cut-in : is_in at_range split.cut ≡ true
-    cut-in = in-range None (entries_of (block_at a.cur part.head)) split.cut begun.at refl
+    cut-in = found-range None (entries_of (block_at a.cur part.head)) split.cut begun.at refl
         begun.found
 
     old-range : HoldsRange part at_range old_now
@@ -209,7 +209,7 @@ module _ (part : Keyed) (kept : Lengths) (split : SplitNow) (a : Seen)
         ∙ same))
         (λ moved.
         let within : is_in moved.to.0 place ≡ true =
-        in-range None (halves split.old split.into split.cut
+        found-range None (halves split.old split.into split.cut
         (entries_of (block_at a.cur part.head))) place moved.to refl moved.now_at in
         inr (
           moved.to,
@@ -284,7 +284,7 @@ module _ (part : Keyed) (kept : Lengths) (split : SplitNow) (a : Seen)
         (one-range part None (entries_of (block_at a.cur part.head)) split.cut place switched.at
         at (once-now part split a resting.rests left) switched.found leads
         (here ∙ sym clean-block))
-        (in-range None (entries_of (block_at a.cur part.head)) place at refl leads)
+        (found-range None (entries_of (block_at a.cur part.head)) place at refl leads)
 
     -- the old interval may be written with the records of its range alone
     pub can-clean : (lower : Block) → HasRange part switched.at.0 old_now lower
