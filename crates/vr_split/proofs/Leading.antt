@@ -5,8 +5,6 @@ use Rattle.std.proofs.Common.{arith, All, is_some, true≢false, eqb}
 use Rattle.std.specs.Prelude.{cond, unwrap_or, slice_index}
 use Rattle.std.specs.List.{flat_map, list_any, IsDistinct, AllByRecursion}
 use Rattle.std.specs.Ordering.{is_le, is_lt}
-use Rattle.std.specs.declared.cmp.Ordering.{Ordering}
-use Rattle.std.specs.declared.cmp.Ordering.TheVariants.{Less, Equal, Greater}
 use Rattle.std.proofs.lemmas.Bool.{eqb-false, eq-eqb, or_left}
 use Rattle.std.proofs.lemmas.List.Elements.{All-head, All-tail}
 use Rattle.std.proofs.lemmas.Map.Keys.{IsDistinct-head, IsDistinct-tail}
@@ -21,11 +19,6 @@ use Rattle.vr_space.specs.UnderWay.{interval_block}
 use Rattle.vr_space.proofs.CallerLemmas.{in-both, is_past}
 use Rattle.vr_split.specs.Switching.{OfBlock}
 use Rattle.vr_split.proofs.Puts.{of-found}
-
-pub is-less : (o : Ordering) → is_lt o ≡ true → o ≡ Less
-is-less Less is = refl
-is-less Equal is = absurd (true≢false (sym is))
-is-less Greater is = absurd (true≢false (sym is))
 
 -- ---- by place
 
