@@ -1,12 +1,10 @@
 -- The stages of a split: the blocks that each writes may be put, and what they leave is what the
 -- next one wants.
 use Rattle.std.proofs.Common.{◌≡◌, ◌≢◌, ◌⊎◌, inl, inr, ⊎_elim, ◌<◌, ℕ, Bool, IsTrue, true}
-use Rattle.std.proofs.Common.{List, Option, Some, None, refl, sym, ap, subst, ◌∙◌, arith}
+use Rattle.std.proofs.Common.{List, Some, None, refl, sym, ap, subst, ◌∙◌, arith}
 use Rattle.std.proofs.Common.{true≢false, length}
 use Rattle.std.specs.Prelude.{filter, map}
-use Rattle.std.specs.Ordering.{is_lt}
-use Rattle.std.proofs.lemmas.Cmp.{nat_list_cmp_total}
-use Rattle.vr_types.specs.Content.{Content, Placed, place_cmp, record_at}
+use Rattle.vr_types.specs.Content.{Content, Placed, record_at}
 use Rattle.vr_types.specs.Image.{Block, block_at}
 use Rattle.vr_types.specs.Seen.{Seen, Left, Only}
 use Rattle.vr_types.specs.Blocks.{Puts}
@@ -16,7 +14,7 @@ use Rattle.vr_seqset.specs.Entry.{Entry}
 use Rattle.vr_seqset.specs.SequenceSet.{SequenceSet, IsSequenceSet}
 use Rattle.vr_seqset.specs.Reading.{record_in}
 use Rattle.vr_seqset.proofs.CallerLemmas.{record_is}
-use Rattle.vr_space.specs.Room.{Lengths, Range, HaveRoom, is_in, is_above, lengths_in, with_lengths}
+use Rattle.vr_space.specs.Room.{Lengths, Range, HaveRoom, is_in, lengths_in, with_lengths}
 use Rattle.vr_space.specs.Keyed.{Keyed, HoldsRange, EachMayLeave, IsKeyedAtRest}
 use Rattle.vr_space.specs.Keyed.{entries_of, entry_block, entry_for, length_of, lengths_of}
 use Rattle.vr_space.specs.Keyed.{records_of, records_in, way_in, way_under}
@@ -24,11 +22,11 @@ use Rattle.vr_space.specs.Part.{KeyedShape, item_of}
 use Rattle.vr_space.specs.Split.{SplitNow, free_interval}
 use Rattle.vr_space.specs.UnderWay.{IsBegun, IsCopied, IsSwitched, IsStable, interval_block}
 use Rattle.vr_space.specs.UnderWay.{above_cut}
-use Rattle.vr_space.proofs.CallerLemmas.{record-filter, in-above, in-most, in-both}
+use Rattle.vr_space.proofs.CallerLemmas.{above-more, record-filter, in-above, in-most, in-both}
 use Rattle.vr_split.specs.Switching.{OfBlock, CanReplace, CanSwitch, IsSettledAt}
 use Rattle.vr_split.specs.Switching.{IsResting}
 use Rattle.vr_split.specs.Halves.{HasRange, IsBusyCopy, halves, halved_record}
-use Rattle.vr_split.proofs.Leading.{is-less, in-range, of-each, of-more, of-one, one-range}
+use Rattle.vr_split.proofs.Leading.{found-range, of-each, of-more, of-one, one-range}
 use Rattle.vr_split.proofs.Lighter.{IsInside, twice, room-inside}
 use Rattle.vr_split.proofs.HalvedHead.{found-halves, cut-halves, each-halves, halved-head}
 use Rattle.vr_split.proofs.HalvedHead.{le-trans}
@@ -36,13 +34,6 @@ use Rattle.vr_split.proofs.Ready.{may-top, head-now, once-now, may-found, holds-
 use Rattle.vr_split.proofs.Ready.{item-found, is-old, old-holds, old-in, into-in}
 
 -- ---- ranges
-
-above-both : (low : Option (List ℕ)) (cut place : List ℕ) → is_above low cut ≡ true
-    → is_above (Some cut) place ≡ true → is_above low place ≡ true
-above-both None cut place above more = refl
-above-both (Some low) cut place above more =
-    ap is_lt (nat_list_cmp_total.trans low cut place (is-less (place_cmp low cut) above)
-    (is-less (place_cmp cut place) more))
 
 abbrev pub below_cut : Range → List ℕ → Range
 below_cut range cut = record { low = range.low; high = cut }
@@ -59,7 +50,7 @@ pub upper-inside : (range : Range) (cut : List ℕ) → is_in range cut ≡ true
     → IsInside (above_cut range cut) range
 upper-inside range cut within place is =
     in-both range place
-    (above-both range.low cut place (in-above range cut within)
+    (above-more range.low cut place (in-above range cut within)
     (in-above (above_cut range cut) place is)) (in-most (above_cut range cut) place is)
 
 -- ---- blocks
@@ -148,7 +139,7 @@ module _ (part : Keyed) (kept : Lengths) (split : SplitNow) (a : Seen)
     at_range = begun.at.0
 
     cut-in : is_in at_range split.cut ≡ true
-    cut-in = in-range None (entries_of (block_at a.cur part.head)) split.cut begun.at refl
+    cut-in = found-range None (entries_of (block_at a.cur part.head)) split.cut begun.at refl
         begun.found
 
     old-range : HoldsRange part at_range old_now
@@ -209,7 +200,7 @@ module _ (part : Keyed) (kept : Lengths) (split : SplitNow) (a : Seen)
         ∙ same))
         (λ moved.
         let within : is_in moved.to.0 place ≡ true =
-        in-range None (halves split.old split.into split.cut
+        found-range None (halves split.old split.into split.cut
         (entries_of (block_at a.cur part.head))) place moved.to refl moved.now_at in
         inr (
           moved.to,
@@ -284,7 +275,7 @@ module _ (part : Keyed) (kept : Lengths) (split : SplitNow) (a : Seen)
         (one-range part None (entries_of (block_at a.cur part.head)) split.cut place switched.at
         at (once-now part split a resting.rests left) switched.found leads
         (here ∙ sym clean-block))
-        (in-range None (entries_of (block_at a.cur part.head)) place at refl leads)
+        (found-range None (entries_of (block_at a.cur part.head)) place at refl leads)
 
     -- the old interval may be written with the records of its range alone
     pub can-clean : (lower : Block) → HasRange part switched.at.0 old_now lower

@@ -22,7 +22,7 @@ use Rattle.vr_space.specs.Keyed.{range_of, way_in}
 use Rattle.vr_space.specs.UnderWay.{interval_block, above_cut}
 use Rattle.vr_space.proofs.CallerLemmas.{not_past}
 use Rattle.vr_split.specs.Halves.{one_entry, halves, halved_record}
-use Rattle.vr_split.proofs.Leading.{slot, Without, EachOnce, AreSingle, led, leads-here}
+use Rattle.vr_split.proofs.Leading.{slot, OtherThan, AreApart, AreSingle, led, leads-here}
 use Rattle.vr_split.proofs.Leading.{leads-on, none-some, without-found}
 use Rattle.vr_split.proofs.HalvedRules.{halves-both, halves-one, halves-none, two_entries}
 use Rattle.vr_split.proofs.HalvedRules.{single-halves, more-entries}
@@ -117,7 +117,7 @@ module _ (part : Keyed) (old into : ℕ) (cut : List ℕ) where
       by-cut false past = by-high past (is_le (place_cmp place entry.high)) refl
 
   pub found-halves : (low : Option (List ℕ)) (entries : List Entry) (at : Range × Entry)
-      (place : List ℕ) → EachOnce entries → entry_for low entries cut ≡ Some at
+      (place : List ℕ) → AreApart entries → entry_for low entries cut ≡ Some at
       → slot at.1 ≡ old
       → (way_in part place (entry_for low (halves old into cut entries) place)
       ≡ way_in part place (entry_for low entries place))
@@ -132,7 +132,7 @@ module _ (part : Keyed) (old into : ℕ) (cut : List ℕ) where
       let both : halves old into cut (entry ∷ entries) ≡ two_entries old into cut entry ++ entries =
       halves-both old into cut entry entries same
       ∙ ap (λ (es : List Entry). two_entries old into cut entry ++ es)
-      (halves-none old into cut entries (subst (λ (n : ℕ). Without n entries) same once.0)) in
+      (halves-none old into cut entries (subst (λ (n : ℕ). OtherThan n entries) same once.0)) in
       subst (λ (es : List Entry).
       (way_in part place (entry_for low es place)
       ≡ way_in part place (entry_for low (entry ∷ entries) place))
@@ -191,7 +191,7 @@ module _ (part : Keyed) (old into : ℕ) (cut : List ℕ) where
 
   -- the cut is found in the old interval
   pub cut-halves : (low : Option (List ℕ)) (entries : List Entry) (at : Range × Entry)
-      → EachOnce entries → entry_for low entries cut ≡ Some at → slot at.1 ≡ old
+      → AreApart entries → entry_for low entries cut ≡ Some at → slot at.1 ≡ old
       → (to : Range × Entry) × (entry_for low (halves old into cut entries) cut ≡ Some to)
       × (slot to.1 ≡ old)
   cut-halves low [] at once leads is = absurd (none-some cut low at leads)
@@ -219,7 +219,7 @@ module _ (part : Keyed) (old into : ℕ) (cut : List ℕ) where
 
   -- what holds of each interval, and of the two halves of the range, holds of each again
   pub each-halves : (now : Seen) (Q : Range → Block → Type 0) (low : Option (List ℕ))
-      (entries : List Entry) (at : Range × Entry) → EachOnce entries
+      (entries : List Entry) (at : Range × Entry) → AreApart entries
       → entry_for low entries cut ≡ Some at → slot at.1 ≡ old
       → Only now (interval_block part old) (Q (record { low = at.0.low; high = cut }))
       → Only now (interval_block part into) (Q (above_cut at.0 cut))
@@ -232,7 +232,7 @@ module _ (part : Keyed) (old into : ℕ) (cut : List ℕ) where
       let both : halves old into cut (entry ∷ entries) ≡ two_entries old into cut entry ++ entries =
       halves-both old into cut entry entries same
       ∙ ap (λ (es : List Entry). two_entries old into cut entry ++ es)
-      (halves-none old into cut entries (subst (λ (n : ℕ). Without n entries) same once.0)) in
+      (halves-none old into cut entries (subst (λ (n : ℕ). OtherThan n entries) same once.0)) in
       subst (λ (es : List Entry). EachMayLeave part now low es Q) (sym both) (
         subst (λ (r : Range). Only now (interval_block part old)
             (Q (record { low = r.low; high = cut }))) here.its_range lower,

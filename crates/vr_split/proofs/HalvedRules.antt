@@ -26,8 +26,8 @@ use Rattle.vr_space.specs.Room.{Range}
 use Rattle.vr_space.specs.Keyed.{entry_for}
 use Rattle.vr_space.proofs.CallerLemmas.{is_past}
 use Rattle.vr_split.specs.Halves.{one_entry, halves, halved_record, CanHalve}
-use Rattle.vr_split.proofs.Leading.{slot, Without, EachOnce, AreSingle, used, led}
-use Rattle.vr_split.proofs.Leading.{without-found, once-of, used-more, without-unused}
+use Rattle.vr_split.proofs.Leading.{slot, OtherThan, AreApart, AreSingle, used, led}
+use Rattle.vr_split.proofs.Leading.{without-found, are-apart, used-more, without-unused}
 use Rattle.vr_split.proofs.Leading.{single-numbers, none-some}
 
 module _ (old into : ℕ) (cut : List ℕ) where
@@ -48,7 +48,7 @@ module _ (old into : ℕ) (cut : List ℕ) where
       (ne_eqb (slot entry) old other)
 
   -- where no entry has the interval, nothing changes
-  pub halves-none : (entries : List Entry) → Without old entries
+  pub halves-none : (entries : List Entry) → OtherThan old entries
       → halves old into cut entries ≡ entries
   halves-none [] none = refl
   halves-none (entry ∷ entries) none =
@@ -82,35 +82,35 @@ module _ (old into : ℕ) (cut : List ℕ) where
 
   -- ---- interval numbers
 
-  without-halves : (n : ℕ) (entries : List Entry) → n ≢ into → Without n entries
-      → Without n (halves old into cut entries)
+  without-halves : (n : ℕ) (entries : List Entry) → n ≢ into → OtherThan n entries
+      → OtherThan n (halves old into cut entries)
   without-halves n [] apart none = tt
   without-halves n (entry ∷ entries) apart none =
-      let more : Without n (halves old into cut entries) =
+      let more : OtherThan n (halves old into cut entries) =
       without-halves n entries apart none.1 in
       ⊎_elim
-      (λ same. subst (Without n) (sym (halves-both entry entries same))
+      (λ same. subst (OtherThan n) (sym (halves-both entry entries same))
       (λ here. none.0 (same ∙ here), (λ here. apart (sym here), more)))
-      (λ other. subst (Without n) (sym (halves-one entry entries other)) (none.0, more))
+      (λ other. subst (OtherThan n) (sym (halves-one entry entries other)) (none.0, more))
       (cases_eq (slot entry) old)
 
-  once-halves : (entries : List Entry) → EachOnce entries → Without into entries
-      → EachOnce (halves old into cut entries)
+  once-halves : (entries : List Entry) → AreApart entries → OtherThan into entries
+      → AreApart (halves old into cut entries)
   once-halves [] once none = tt
   once-halves (entry ∷ entries) once none = ⊎_elim
       (λ same.
-      let others : Without old entries =
-      subst (λ (n : ℕ). Without n entries) same once.0 in
-      subst EachOnce (sym (halves-both entry entries same
+      let others : OtherThan old entries =
+      subst (λ (n : ℕ). OtherThan n entries) same once.0 in
+      subst AreApart (sym (halves-both entry entries same
       ∙ ap (λ (es : List Entry). two_entries entry ++ es) (halves-none entries others)))
       ((λ here. none.0 (same ∙ sym here), others), (none.1, once.1)))
-      (λ other. subst EachOnce (sym (halves-one entry entries other)) (
+      (λ other. subst AreApart (sym (halves-one entry entries other)) (
         without-halves (slot entry) entries none.0 once.0,
         once-halves entries once.1 none.1,
       ))
       (cases_eq (slot entry) old)
 
-apart-of : (n : ℕ) (entries : List Entry) → AreSingle entries → Without n entries
+apart-of : (n : ℕ) (entries : List Entry) → AreSingle entries → OtherThan n entries
     → AllByRecursion (λ m. eqb n m ≡ false) (used entries)
 apart-of n [] single none = tt
 apart-of n (entry ∷ entries) single none =
@@ -123,7 +123,7 @@ apart-of n (entry ∷ entries) single none =
     )
 
 -- entries of one interval each, none of which comes twice
-pub distinct-of : (entries : List Entry) → AreSingle entries → EachOnce entries
+pub distinct-of : (entries : List Entry) → AreSingle entries → AreApart entries
     → IsDistinct eqb (used entries)
 unfolding IsDistinct
 distinct-of [] single once = tt
@@ -244,7 +244,7 @@ past-halves old into cut place (entry ∷ entries) less past =
 
 -- the cut is between the entry's high place and the one before it
 pub sorted-halves : (old into : ℕ) (cut : List ℕ) (low : Option (List ℕ)) (entries : List Entry)
-    (at : Range × Entry) → EachOnce entries → entry_for low entries cut ≡ Some at
+    (at : Range × Entry) → AreApart entries → entry_for low entries cut ≡ Some at
     → slot at.1 ≡ old → place_cmp cut at.1.high ≡ Less
     → IsStrictlySortedBy place_cmp (highs entries)
     → IsStrictlySortedBy place_cmp (highs (halves old into cut entries))
@@ -261,7 +261,7 @@ sorted-halves old into cut low (entry ∷ entries) at once leads is less sorted 
     subst (λ (e : Entry). place_cmp cut e.high ≡ Less) here.is_it less in
     subst Sorted (sym (halves-both old into cut entry entries same
     ∙ ap (λ (es : List Entry). two_entries old into cut entry ++ es)
-    (halves-none old into cut entries (subst (λ (n : ℕ). Without n entries) same once.0))))
+    (halves-none old into cut entries (subst (λ (n : ℕ). OtherThan n entries) same once.0))))
     (sorted-one cut (entry.high ∷ highs entries)
     (below, past-trans cut entry.high (highs entries) below past)
     (sorted-one entry.high (highs entries) past others)))
@@ -329,7 +329,7 @@ halved-rules cis size old into cut s rules can =
     let both : List Entry = halves old into cut s.entries in
     let limit : ℕ = intervals_used cis size (length s.low) in
     let single : AreSingle both = single-halves old into cut s.entries can.others.single in
-    let once : EachOnce s.entries = once-of s.entries can.others.single rules.numbers.once in
+    let once : AreApart s.entries = are-apart s.entries can.others.single rules.numbers.once in
     let distinct : IsDistinct eqb (used both) =
     distinct-of both single (once-halves old into cut s.entries once
     (without-unused into s.entries can.others.single can.others.unused)) in

@@ -5,8 +5,6 @@ use Rattle.std.proofs.Common.{arith, All, is_some, true≢false, eqb}
 use Rattle.std.specs.Prelude.{cond, unwrap_or, slice_index}
 use Rattle.std.specs.List.{flat_map, list_any, IsDistinct, AllByRecursion}
 use Rattle.std.specs.Ordering.{is_le, is_lt}
-use Rattle.std.specs.declared.cmp.Ordering.{Ordering}
-use Rattle.std.specs.declared.cmp.Ordering.TheVariants.{Less, Equal, Greater}
 use Rattle.std.proofs.lemmas.Bool.{eqb-false, eq-eqb, or_left}
 use Rattle.std.proofs.lemmas.List.Elements.{All-head, All-tail}
 use Rattle.std.proofs.lemmas.Map.Keys.{IsDistinct-head, IsDistinct-tail}
@@ -15,16 +13,12 @@ use Rattle.vr_types.specs.Image.{Block}
 use Rattle.vr_types.specs.Seen.{Seen, Only}
 use Rattle.vr_seqset.specs.Entry.{Entry}
 use Rattle.vr_space.specs.Room.{Range, is_in, is_above}
-use Rattle.vr_space.specs.Keyed.{Keyed, EachMayLeave, entry_block, entry_for, range_of}
+use Rattle.vr_space.specs.Keyed.{Keyed, IsHead, EachMayLeave, entries_of, entry_block, entry_for}
+use Rattle.vr_space.specs.Keyed.{range_of}
 use Rattle.vr_space.specs.UnderWay.{interval_block}
 use Rattle.vr_space.proofs.CallerLemmas.{in-both, is_past}
 use Rattle.vr_split.specs.Switching.{OfBlock}
 use Rattle.vr_split.proofs.Puts.{of-found}
-
-pub is-less : (o : Ordering) → is_lt o ≡ true → o ≡ Less
-is-less Less is = refl
-is-less Equal is = absurd (true≢false (sym is))
-is-less Greater is = absurd (true≢false (sym is))
 
 -- ---- by place
 
@@ -79,14 +73,14 @@ pub none-some : (place : List ℕ) (low : Option (List ℕ)) (at : Range × Entr
 none-some place low at is = true≢false (ap is_some (sym is))
 
 -- a place is in the range that it leads to
-pub in-range : (low : Option (List ℕ)) (entries : List Entry) (place : List ℕ)
+pub found-range : (low : Option (List ℕ)) (entries : List Entry) (place : List ℕ)
     (at : Range × Entry) → is_above low place ≡ true → entry_for low entries place ≡ Some at
     → is_in at.0 place ≡ true
-in-range low [] place at above is = absurd (none-some place low at is)
-in-range low (entry ∷ entries) place at above is = ⊎_elim
+found-range low [] place at above is = absurd (none-some place low at is)
+found-range low (entry ∷ entries) place at above is = ⊎_elim
     (λ here. subst (λ (range : Range). is_in range place ≡ true) (sym here.its_range)
     (in-both (range_of low entry) place above here.reaches))
-    (λ on. in-range (Some entry.high) entries place at
+    (λ on. found-range (Some entry.high) entries place at
     (ap is_lt (is_past place entry.high on.past)) on.further)
     (led low entry entries place at is)
 
@@ -109,17 +103,17 @@ abbrev pub slot : Entry → ℕ
 slot entry = slice_index entry.intervals 0
 
 -- no entry has the interval
-abbrev pub Without : ℕ → List Entry → Type 0
-Without n [] = Unit {0}
-Without n (entry ∷ entries) = (slot entry ≢ n) × Without n entries
+abbrev pub OtherThan : ℕ → List Entry → Type 0
+OtherThan n [] = Unit {0}
+OtherThan n (entry ∷ entries) = (slot entry ≢ n) × OtherThan n entries
 
 -- no two have one
-abbrev pub EachOnce : List Entry → Type 0
-EachOnce [] = Unit {0}
-EachOnce (entry ∷ entries) = Without (slot entry) entries × EachOnce entries
+abbrev pub AreApart : List Entry → Type 0
+AreApart [] = Unit {0}
+AreApart (entry ∷ entries) = OtherThan (slot entry) entries × AreApart entries
 
 pub without-found : (n : ℕ) (low : Option (List ℕ)) (entries : List Entry) (place : List ℕ)
-    (at : Range × Entry) → Without n entries → entry_for low entries place ≡ Some at
+    (at : Range × Entry) → OtherThan n entries → entry_for low entries place ≡ Some at
     → slot at.1 ≢ n
 without-found n low [] place at none is = absurd (none-some place low at is)
 without-found n low (entry ∷ entries) place at none is = ⊎_elim
@@ -128,7 +122,7 @@ without-found n low (entry ∷ entries) place at none is = ⊎_elim
     (led low entry entries place at is)
 
 pub of-without : (part : Keyed) (n : ℕ) (P : Range → Type 0) (low : Option (List ℕ))
-    (entries : List Entry) → Without n entries
+    (entries : List Entry) → OtherThan n entries
     → OfBlock part (interval_block part n) low entries P
 of-without part n P low [] none = tt
 of-without part n P low (entry ∷ entries) none = (
@@ -138,7 +132,7 @@ of-without part n P low (entry ∷ entries) none = (
 
 -- the range of the one entry that leads to a block
 pub of-one : (part : Keyed) (P : Range → Type 0) (low : Option (List ℕ)) (entries : List Entry)
-    (place : List ℕ) (at : Range × Entry) → EachOnce entries
+    (place : List ℕ) (at : Range × Entry) → AreApart entries
     → entry_for low entries place ≡ Some at → P at.0
     → OfBlock part (entry_block part at.1) low entries P
 of-one part P low [] place at once is holds = tt
@@ -155,9 +149,18 @@ of-one part P low (entry ∷ entries) place at once is holds = ⊎_elim
     ))
     (led low entry entries place at is)
 
+-- the same of a block that it leads to
+pub of-same : (part : Keyed) (n : ℕ) (low : Option (List ℕ)) (entries : List Entry) (P : Range
+    → Type 0) (place : List ℕ) (at : Range × Entry) → AreApart entries
+    → entry_for low entries place ≡ Some at → entry_block part at.1 ≡ n → P at.0
+    → OfBlock part n low entries P
+of-same part n low entries P place at apart is here holds =
+    subst (λ (k : ℕ). OfBlock part k low entries P) here
+    (of-one part P low entries place at apart is holds)
+
 -- places that lead to one block lead to one range
 pub one-range : (part : Keyed) (low : Option (List ℕ)) (entries : List Entry)
-    (place other : List ℕ) (at to : Range × Entry) → EachOnce entries
+    (place other : List ℕ) (at to : Range × Entry) → AreApart entries
     → entry_for low entries place ≡ Some at → entry_for low entries other ≡ Some to
     → entry_block part to.1 ≡ entry_block part at.1 → to.0 ≡ at.0
 one-range part low entries place other at to once leads leads-too same =
@@ -207,7 +210,7 @@ used-more entry entries one =
     ap (λ (ns : List ℕ). ns ++ used entries) (single-numbers entry one)
 
 without-of : (n : ℕ) (entries : List Entry) → AreSingle entries
-    → AllByRecursion (λ m. eqb n m ≡ false) (used entries) → Without n entries
+    → AllByRecursion (λ m. eqb n m ≡ false) (used entries) → OtherThan n entries
 without-of n [] single apart = tt
 without-of n (entry ∷ entries) single apart =
     let first : length entry.intervals ≡ 1 =
@@ -219,10 +222,10 @@ without-of n (entry ∷ entries) single apart =
           (All-tail (λ (e : Entry). length e.intervals ≡ 1) entry entries single) all.1,
     )
 
-pub once-of : (entries : List Entry) → AreSingle entries → IsDistinct eqb (used entries)
-    → EachOnce entries
-once-of [] single once = tt
-once-of (entry ∷ entries) single once =
+pub are-apart : (entries : List Entry) → AreSingle entries → IsDistinct eqb (used entries)
+    → AreApart entries
+are-apart [] single once = tt
+are-apart (entry ∷ entries) single once =
     let first : length entry.intervals ≡ 1 =
     All-head (λ (e : Entry). length e.intervals ≡ 1) entry entries single in
     let others : AreSingle entries =
@@ -231,12 +234,17 @@ once-of (entry ∷ entries) single once =
     subst (IsDistinct eqb) (used-more entry entries first) once in (
       without-of (slot entry) entries others
           (IsDistinct-head eqb (slot entry) (used entries) all),
-      once-of entries others (IsDistinct-tail eqb (slot entry) (used entries) all),
+      are-apart entries others (IsDistinct-tail eqb (slot entry) (used entries) all),
     )
+
+-- no two entries of a head have one interval
+pub head-apart : (part : Keyed) (top : Block) → IsHead part top → AreApart (entries_of top)
+head-apart part top head =
+    are-apart (entries_of top) head.single head.spelled.rules.numbers.once
 
 -- a number that is none of them
 pub without-unused : (n : ℕ) (entries : List Entry) → AreSingle entries
-    → list_any (eqb n) (used entries) ≡ false → Without n entries
+    → list_any (eqb n) (used entries) ≡ false → OtherThan n entries
 without-unused n [] single unused = tt
 without-unused n (entry ∷ entries) single unused =
     let first : length entry.intervals ≡ 1 =

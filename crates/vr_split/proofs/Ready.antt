@@ -23,8 +23,8 @@ use Rattle.vr_space.specs.Split.{SplitNow, free_from}
 use Rattle.vr_space.specs.UnderWay.{IsBegun, interval_block}
 use Rattle.vr_space.proofs.CallerLemmas.{found-in, AscendFrom}
 use Rattle.vr_split.specs.Switching.{IsIntervalBlock, IsFree}
-use Rattle.vr_split.proofs.Leading.{led, slot, Without, EachOnce, used, each-found}
-use Rattle.vr_split.proofs.Leading.{of-without, once-of, without-found, without-unused}
+use Rattle.vr_split.proofs.Leading.{led, slot, OtherThan, AreApart, used, each-found}
+use Rattle.vr_split.proofs.Leading.{of-without, head-apart, without-found, without-unused}
 use Rattle.vr_split.specs.Halves.{CanHalve}
 
 -- ---- the free interval
@@ -69,8 +69,8 @@ module _ (part : Keyed) (split : SplitNow) (a : Seen) (rests : IsKeyedAtRest par
   pub head-now : IsHead part top_now
   head-now = rests.sound.heads top_now may-top
 
-  pub once-now : EachOnce (entries_of top_now)
-  once-now = once-of (entries_of top_now) head-now.single head-now.spelled.rules.numbers.once
+  pub once-now : AreApart (entries_of top_now)
+  once-now = head-apart part top_now head-now
 
   -- the interval of the cut
   pub in-area : (at : Range × Entry) → entry_for None (entries_of top_now) split.cut ≡ Some at
@@ -130,7 +130,7 @@ module _ (part : Keyed) (split : SplitNow) (a : Seen) (rests : IsKeyedAtRest par
         min-least : (m n : ℕ) → min m n ≤ m
         min-least m n = omega arith
 
-    pub none-into : Without split.into (entries_of top_now)
+    pub none-into : OtherThan split.into (entries_of top_now)
     none-into = without-unused split.into (entries_of top_now) head-now.single free-is.1
 
     pub two-blocks : interval_block part split.into ≢ interval_block part split.old

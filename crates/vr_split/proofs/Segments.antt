@@ -25,7 +25,7 @@ use Rattle.vr_space.specs.Room.{Range, is_in, is_above}
 use Rattle.vr_space.specs.Keyed.{Keyed, HoldsRange, IsKept, items_of, key_of, placed}
 use Rattle.vr_space.specs.Search.{AreUpTo, keys_of}
 use Rattle.vr_space.proofs.CallerLemmas.{not_past, in-most, in-above, in-both}
-use Rattle.vr_split.proofs.Leading.{is-less}
+use Rattle.vr_space.proofs.CallerLemmas.{lt_from_test}
 use Rattle.vr_split.specs.Halves.{HasRange, IsBusyCopy, AreBefore}
 
 -- ---- a filter that keeps what stands between two numbers
@@ -78,7 +78,7 @@ low-out keys None high n none =
     (All-nil (λ key. is_in (record { low = None; high = high }) key ≡ false))
 low-out keys (Some low) high n upto = λ k d lt. not-true _
     (λ it. not_past (get_or (take n keys) k d) low (upto.upto k d lt)
-    (is-less (place_cmp low (get_or (take n keys) k d))
+    (lt_from_test (place_cmp low (get_or (take n keys) k d))
     (in-above (record { low = Some low; high = high }) (get_or (take n keys) k d) it)))
 
 high-out : (keys : List (List ℕ)) (low : Option (List ℕ)) (high : List ℕ) (n : ℕ)
@@ -128,7 +128,7 @@ in-order keys (Some low) high from to above first last =
           subst (λ (q : List ℕ). place_cmp high q ≡ Less) there
           (last.past 0 [] (omega (arith, length-drop to keys, first.within, less))) in
           absurd (not_past key low most
-          (nat_list_cmp_total.trans low high key (is-less (place_cmp low high) above) past))
+          (nat_list_cmp_total.trans low high key (lt_from_test (place_cmp low high) above) past))
       | inr most ↦ most
     ]
 

@@ -3,7 +3,7 @@ use Rattle.std.specs.Ordering.{is_lt}
 use Rattle.std.proofs.lemmas.Bool.{eqb-true}
 use Rattle.vr_types.specs.Content.{place_cmp}
 use Rattle.vr_space.proofs.CallerLemmas.{found-entry, found-none, got-whole}
-use Rattle.vr_split.proofs.Leading.{is-less}
+use Rattle.vr_space.proofs.CallerLemmas.{lt_from_test}
 use Rattle.vr_split.proofs.HeadTests.{cut-no-entry, cut-entry, cut-found}
 use Rattle.vr_split.proofs.head.is_cut_of.Goals as goal
 
@@ -26,7 +26,7 @@ returns-then-interval-old c =
     c.cmp.ensures ∙ ap (place_cmp c.args.cut.now) c.high.ensures in (
       λ is. cut-found c.args.old c.args.cut.now c.args.view.now.entries _ c.in-Some.entry leads
           (sym c.interval.ensures ∙ c.if-interval-old.true)
-          (is-less (place_cmp c.args.cut.now c.in-Some.entry.high)
+          (lt_from_test (place_cmp c.args.cut.now c.in-Some.entry.high)
           (ap is_lt (sym compared) ∙ sym c.is_lt.ensures ∙ is)),
       λ is. c.is_lt.ensures ∙ ap is_lt (compared ∙ (cut-entry c.args.old c.args.cut.now
           c.args.view.now.entries _ c.in-Some.entry leads is).1),
