@@ -1,5 +1,15 @@
 pub mod Gathering
 pub mod Meeting
+pub mod Lengths
+pub mod Adding
+pub mod Parts
+pub mod Contents
+pub mod Roomy
+pub mod Setting
+pub mod Refreshing
+pub mod SetThen
+pub mod Looking
+pub mod Nexting
 pub mod Freeing
 pub mod MetRoom
 pub mod Planning

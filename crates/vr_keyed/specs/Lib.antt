@@ -1,5 +1,9 @@
 pub mod Lent
 pub mod Slots
+pub mod Setting
+pub mod Ready
+pub mod Look
+pub mod Next
 pub mod Splits
 pub mod Planned
 pub mod Advance

@@ -2,14 +2,19 @@
 //! `vr_types`, `vr_ci`, `vr_seqset`, `vr_space` and `vr_split`.
 #![tactic(auto)]
 
+mod look;
+mod meet;
+mod next;
+mod set;
+mod slot;
+mod slots;
+mod stretch;
+mod writing;
 mod advance;
 mod gather;
-mod meet;
 mod plan;
 mod range;
 mod room;
-mod slot;
-mod slots;
 
 pub use gather::{fits, gather_lengths};
 pub use plan::{Target, cut_at, target_in};

@@ -1,8 +1,10 @@
 //! What is kept of the interval of a place.
-ghost use Rattle.std.specs.Prelude.{◌≡◌, ◌<◌, IfOk};
+ghost use Rattle.std.specs.Prelude.{◌≡◌, ◌<◌, ℕ, List, IfOk};
+ghost use Rattle.std.specs.Borrow.{Bor};
+ghost use Rattle.std.specs.Option.{option_map};
 ghost use Rattle.vr_space.specs.Search.{HasPlaces, range_found};
 ghost use Rattle.vr_space.specs.UnderWay.{interval_block};
-ghost use Rattle.vr_keyed.specs.Slots.{IsSlotOf, met_in};
+ghost use Rattle.vr_keyed.specs.Slots.{IsSlotOf, low_of, met_in};
 
 use std::alloc::Global;
 use vr_space::{FoundEntry, Layout};
@@ -36,6 +38,14 @@ pub(crate) fn empty_slot(alloc: Global, layout: &Layout) -> Result<Slot, OutOfMe
 }
 
 impl Slot {
+    /// Where the range begins, if it has a low place.
+    pub(crate) fn low_place(&self) -> Option<&[u8]>
+        ensures { option_map (λ (low : Bor (List ℕ)). low.now) result
+            ≡ low_of self.now.from_start self.now.low.place }
+    {
+        if self.from_start { None } else { Some(self.low.as_slice()) }
+    }
+
     /// Makes the range and the block those of an entry.
     pub(crate) fn set_entry(&mut self, layout: &Layout, found: &FoundEntry<'_>)
         requires slot { IsSlotOf layout.now self.old }

@@ -4,6 +4,7 @@ ghost use Rattle.std.proofs.Props.{props};
 
 use crate::slot::{Slot, empty_slot};
 use std::alloc::Global;
+use std::mem::swap;
 use vr_space::Layout;
 use vr_types::OutOfMemory;
 
@@ -50,5 +51,13 @@ impl Slots {
             → self.now.filled ≡ 2 → self.now.second.place.place ≡ place.now → ⊥ }
     {
         self.filled > 1 && self.second.place.as_slice() == place
+    }
+    /// Puts the two in the other order.
+    pub(crate) fn turn(&mut self)
+        ensures first { self.new.first ≡ self.old.second }
+        ensures second { self.new.second ≡ self.old.first }
+        ensures filled { self.new.filled ≡ self.old.filled }
+    {
+        swap(&mut self.first, &mut self.second);
     }
 }

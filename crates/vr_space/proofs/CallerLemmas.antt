@@ -4,14 +4,18 @@ pub use Rattle.vr_space.proofs.Ways.{found-may, find-more, within-less, found-sa
 pub use Rattle.vr_space.proofs.Places.{NoneAt, AllAbove, none-record, record-left, record-right}
 pub use Rattle.vr_space.proofs.Places.{record-filter, none-filter, above-filter, none-above}
 pub use Rattle.vr_space.proofs.Places.{in-above, in-most, in-both, in-past, is_past, not_past}
+pub use Rattle.vr_space.proofs.Places.{same_is_equal, lt_from_test, above-more, by_other}
+pub use Rattle.vr_space.proofs.Places.{above-append, above-weaken}
 pub use Rattle.vr_space.proofs.KeyedContent.{AscendFrom, content-above, way-content}
 pub use Rattle.vr_space.proofs.KeyedSound.{head-ascends, AreIn, head-in, entry-in, IsBlock}
 pub use Rattle.vr_space.proofs.KeyedSound.{keyed-within, keyed-image, each-less, keyed-less}
 pub use Rattle.vr_space.proofs.UnderWay.{IsSplitBlock, StaysAt, AllStay, found-in, free-in}
 pub use Rattle.vr_space.proofs.UnderWay.{begun-stays, way-stays, way-keeps, way-puts, met-stays}
 pub use Rattle.vr_space.proofs.UnderWay.{knows-keeps, knows-puts}
+pub use Rattle.vr_space.proofs.Rising.{stands_content, one_content, Rising, rising-sorted}
+pub use Rattle.vr_space.proofs.Rising.{rising-filtered, places-placed, sorted-rising}
+pub use Rattle.vr_space.proofs.Rising.{rising-append}
 pub use Rattle.vr_space.proofs.Searching.{low_at, found-entry, found-none, got-whole, items-read}
-pub use Rattle.vr_space.proofs.Rising.{stands_content, one_content}
 pub use Rattle.vr_space.proofs.Adding.{only-weaken, adds-weaken, adds-then, nothing-then}
 pub use Rattle.vr_space.proofs.Adding.{then-nothing, rest-sound, sound-image, rest-stands}
 pub use Rattle.vr_space.proofs.Adding.{content_item, sound-keeps, rest-keeps, room-keeps}

@@ -33,7 +33,7 @@ above-by : (p : List ℕ) (content : Content)
 above-by p [] all = tt
 above-by p (entry ∷ content) all = (ap is_lt all.0, above-by p content all.1)
 
-rising-sorted : (content : Content) → Ascends content → Rising content
+pub rising-sorted : (content : Content) → Ascends content → Rising content
 rising-sorted [] sorted = tt
 rising-sorted (entry ∷ content) sorted = (
   above-by entry.0 content (sorted_head place_cmp entry.0 (places_of content) sorted),
@@ -46,7 +46,7 @@ back-above p [] all = tt
 back-above p (entry ∷ content) all =
     (lt_from_test (place_cmp p entry.0) all.0, back-above p content all.1)
 
-sorted-rising : (content : Content) → Rising content → Ascends content
+pub sorted-rising : (content : Content) → Rising content → Ascends content
 unfolding IsStrictlySortedBy
 sorted-rising [] rising = tt
 sorted-rising (entry ∷ content) rising =
@@ -67,7 +67,7 @@ above-filtered low range (entry ∷ xs) all =
     kept true more = (all.0, more)
     kept false more = more
 
-rising-filtered : (range : Range) (xs : Content) → Rising xs
+pub rising-filtered : (range : Range) (xs : Content) → Rising xs
     → Rising (filter (λ (entry : Placed). is_in range entry.0) xs)
 rising-filtered range [] rising = tt
 rising-filtered range (entry ∷ xs) rising =
@@ -122,7 +122,7 @@ above-both : (low : Option (List ℕ)) (xs ys : Content) → AllAbove low xs →
 above-both low [] ys left right = right
 above-both low (entry ∷ xs) ys left right = (left.0, above-both low xs ys left.1 right)
 
-rising-append : (high : List ℕ) (xs ys : Content) → Rising xs → Rising ys → AllMost high xs
+pub rising-append : (high : List ℕ) (xs ys : Content) → Rising xs → Rising ys → AllMost high xs
     → AllAbove (Some high) ys → Rising (xs ++ ys)
 rising-append high [] ys left right most above = right
 rising-append high (entry ∷ xs) ys left right most above = (
@@ -133,7 +133,7 @@ rising-append high (entry ∷ xs) ys left right most above = (
 
 -- ---- entry by entry
 
-places-placed : (part : Keyed) (items : List ci.Item)
+pub places-placed : (part : Keyed) (items : List ci.Item)
     → places_of (map (placed part) items) ≡ map (λ (item : ci.Item). key_of part item.bytes) items
 places-placed part [] = refl
 places-placed part (item ∷ items) =

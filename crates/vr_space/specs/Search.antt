@@ -3,6 +3,7 @@ use Rattle.std.specs.Prelude.{◌≡◌, ◌↔◌, ℕ, zero, suc, ◌+◌, ◌
 use Rattle.std.specs.Prelude.{map, take, drop, length}
 use Rattle.std.specs.Prelude.{Option, Some, None, IfSome, slice_get, slice_index}
 use Rattle.std.specs.Borrow.{Bor}
+use Rattle.std.specs.List.{position}
 use Rattle.std.specs.Option.{option_map}
 use Rattle.std.specs.Ordering.{is_le}
 use Rattle.std.specs.declared.cmp.Ordering.TheVariants.{Less}
@@ -10,8 +11,9 @@ use Rattle.vr_types.specs.Content.{place_cmp}
 use Rattle.vr_types.specs.Image.{Block}
 use Rattle.vr_ci.specs.Interval as ci
 use Rattle.vr_seqset.specs.Entry.{Entry}
+use Rattle.vr_seqset.specs.Search.{reaches as entry_reaches}
 use Rattle.vr_space.specs.Room.{Range}
-use Rattle.vr_space.specs.Keyed.{Keyed, key_of, entries_of, entry_for, items_of}
+use Rattle.vr_space.specs.Keyed.{Keyed, key_of, entries_of, entry_for, items_of, range_of}
 use Rattle.vr_space.specs.declared.search.FoundEntry.{FoundEntry}
 
 -- where the range of an entry of this number begins: at the end of the one before
@@ -38,7 +40,15 @@ pub record IsEntryFor (top : Block) (place : List ℕ) (found : FoundEntry) : Ty
   pub reaches : entry_for None (entries_of top) place ≡ Some (range_found found, entry)
   pub interval : found.interval ≡ slice_index entry.intervals 0
   pub number : slice_get (entries_of top) found.number ≡ Some entry
+  pub first : position (entry_reaches place) (entries_of top) ≡ Some found.number
   pub last : IsTrue found.last ↔ (found.number + 1 ≡ length (entries_of top))
+
+-- It is the entry of its number, with its range.
+pub record IsEntryAt (top : Block) (n : ℕ) (found : FoundEntry) : Type 0 where
+  pub entry : Entry
+  pub number : slice_get (entries_of top) n ≡ Some entry
+  pub range : range_found found ≡ range_of (low_before None (entries_of top) n) entry
+  pub interval : found.interval ≡ slice_index entry.intervals 0
 
 -- the keys of the records of a block
 abbrev pub keys_of : Keyed → Block → List (List ℕ)

@@ -23,5 +23,5 @@ pub use layout::Layout;
 pub use pair::{NewRecord, set_pair};
 pub use part::Part;
 pub use room::Room;
-pub use search::{FoundEntry, count_up_to, entry_for, record_at};
+pub use search::{FoundEntry, count_up_to, entry_at, entry_count, entry_for, record_at};
 pub use whence::Whence;

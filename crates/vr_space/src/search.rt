@@ -1,5 +1,5 @@
 //! Where a place is found in a head or among the records of an interval.
-ghost use Rattle.std.specs.Prelude.{◌≡◌, ◌<◌, ℕ, List, Some, None, MatchOption, IfSome, All};
+ghost use Rattle.std.specs.Prelude.{◌≡◌, ◌<◌, ◌≤◌, ℕ, List, Some, None, MatchOption, IfSome, All};
 ghost use Rattle.std.specs.Prelude.{length, map};
 ghost use Rattle.std.specs.Borrow.{Bor};
 ghost use Rattle.std.specs.Option.{option_map};
@@ -12,7 +12,7 @@ ghost use Rattle.vr_seqset.specs.SequenceSet.{KeepsRules};
 ghost use Rattle.vr_space.specs.Room.{Range};
 ghost use Rattle.vr_space.specs.Keyed.{IsHead, HoldsRange, IsKept, entries_of, entry_for, records_of};
 ghost use Rattle.vr_space.specs.Keyed.{placed, key_of};
-ghost use Rattle.vr_space.specs.Search.{IsEntryFor, HasPlaces, AreUpTo, keys_of, low_before};
+ghost use Rattle.vr_space.specs.Search.{IsEntryFor, IsEntryAt, HasPlaces, AreUpTo, keys_of, low_before};
 
 use crate::layout::Layout;
 use vr_ci::{CiView, Form};
@@ -80,6 +80,54 @@ pub fn entry_for<'a>(layout: &Layout, top: &'a [u8], place: &[u8]) -> Option<Fou
         return None;
     }
     found_in(layout.area, &view, place)
+}
+
+/// The same as `entry_at`, of a head that was read.
+fn found_at<'a>(area: u16, view: &SeqView<'a>, number: usize) -> Option<FoundEntry<'a>>
+    requires { (size : ℕ) × KeepsRules area size view.now }
+    ensures found { (top : Block) → entries_of top ≡ view.now.entries → MatchOption result
+        (length (entries_of top) ≤ number) (IsEntryAt top number) }
+    ensures interval { IfSome result (λ found. found.interval < area) }
+    ensures places { IfSome result (HasPlaces (length view.now.low)) }
+{
+    if number >= view.count() {
+        return None;
+    }
+    let entry = view.entry(number);
+    Some(FoundEntry {
+        number,
+        interval: entry.interval(0),
+        low: low_of(view, number),
+        high: entry.high(),
+        last: number + 1 == view.count(),
+    })
+}
+
+/// The entry of a number, from 0 on. None where there is none, or the block is no head.
+pub fn entry_at<'a>(layout: &Layout, top: &'a [u8], number: usize) -> Option<FoundEntry<'a>>
+    ensures found { IsHead layout.now top.now → MatchOption result
+        (length (entries_of top.now) ≤ number) (IsEntryAt top.now number) }
+    // Whatever the block has.
+    ensures interval { IfSome result (λ found. found.interval < layout.now.area) }
+    ensures places { IfSome result (HasPlaces layout.now.key) }
+{
+    let Ok(view) = SeqView::read(top, layout.area) else {
+        return None;
+    };
+    if view.low().len() != usize::from(layout.key) {
+        return None;
+    }
+    found_at(layout.area, &view, number)
+}
+
+/// How many entries a head has. None where the block is no head.
+pub fn entry_count(layout: &Layout, top: &[u8]) -> Option<usize>
+    ensures { IsHead layout.now top.now → result ≡ Some (length (entries_of top.now)) }
+{
+    let Ok(view) = SeqView::read(top, layout.area) else {
+        return None;
+    };
+    Some(view.count())
 }
 
 /// The same as `record_at`, of an interval that was read.

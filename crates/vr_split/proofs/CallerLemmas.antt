@@ -2,7 +2,7 @@
 -- leaves of a keyed part; and lengths with a place more.
 pub use Rattle.vr_split.proofs.Puts.{also, now-entries, KeepsOthers, of-found, set-adds, head-still}
 pub use Rattle.vr_split.proofs.Puts.{current-held, led-is, after-put, equal_or}
-pub use Rattle.vr_split.proofs.After.{rest-after, room-after, sets-one, due-put}
+pub use Rattle.vr_split.proofs.After.{rest-after, room-after, rooms-after, sets-one, due-put}
 pub use Rattle.vr_split.proofs.Heads.{AreApart, head-apart, of-same, found-range, found-some}
 pub use Rattle.vr_split.proofs.LengthLemmas.{with_length-after, ascend-with, weight-with}
 pub use Rattle.vr_split.proofs.LengthLemmas.{weight_places, past-trans, ArePast}

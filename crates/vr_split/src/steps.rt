@@ -124,7 +124,8 @@ pub(crate) fn switch<B: Blocks>(
     ensures switched { IsTrue B.tells → OnOk result
         (IsSwitched layout.now (split_of split.now stages.CiClean) (B.seen blocks.new)) }
     ensures made { IsTrue B.tells → OnOk result (HasDoneStage layout.now
-        (Some (split_of split.now stages.CiSwitch)) (B.seen blocks.old).cur (B.seen blocks.new).cur) }
+        (Some (split_of split.now stages.CiSwitch))
+        (B.seen blocks.old).cur (B.seen blocks.new).cur) }
     ensures unread { IfErr result (λ fault. fault ≡ Read
         → Keeps B.tells (B.seen blocks.old) (B.seen blocks.new)) }
     ensures count { (B.seen blocks.new).count ≡ (B.seen blocks.old).count }
@@ -181,7 +182,8 @@ pub(crate) fn clean<B: Blocks>(
     ensures done { IsTrue B.tells → OnOk result
         (IsStageDone layout.now (B.seen blocks.old) (B.seen blocks.new)) }
     ensures made { IsTrue B.tells → OnOk result (HasDoneStage layout.now
-        (Some (split_of split.now stages.CiClean)) (B.seen blocks.old).cur (B.seen blocks.new).cur) }
+        (Some (split_of split.now stages.CiClean))
+        (B.seen blocks.old).cur (B.seen blocks.new).cur) }
     ensures unread { IfErr result (λ fault. fault ≡ Read
         → Keeps B.tells (B.seen blocks.old) (B.seen blocks.new)) }
     ensures count { (B.seen blocks.new).count ≡ (B.seen blocks.old).count }

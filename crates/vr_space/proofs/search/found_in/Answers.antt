@@ -1,5 +1,7 @@
 use Rattle.std.proofs.Common.{◌≡◌, ◌<◌, ℕ, rules, tests, length, Some, None, List}
 use Rattle.std.proofs.Common.{ap, sym, subst, ◌∙◌}
+use Rattle.std.specs.List.{position}
+use Rattle.vr_seqset.specs.Search.{reaches}
 use Rattle.vr_seqset.specs.Entry.{Entry}
 use Rattle.vr_space.specs.Room.{Range}
 use Rattle.vr_space.specs.Keyed.{entry_for}
@@ -36,6 +38,8 @@ returns-clause-found c = λ top same.
       interval = c.interval.ensures;
       number = ap (λ (es : List Entry). Rattle.std.specs.List.slice_get es c.in_ok-number.number)
           same ∙ c.in_ok-number.ensures.entry;
+      first = ap (λ (es : List Entry). position (reaches c.args.place.now) es) same
+          ∙ c.in_ok-number.ensures.first;
       last = search (rules, tests);
     }
 

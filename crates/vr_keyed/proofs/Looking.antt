@@ -1,0 +1,49 @@
+-- What the blocks of a keyed part have at a place.
+use Rattle.std.proofs.Common.{◌≡◌, ℕ, Bool, true, false, List, [], ◌∷◌, Option, Some, None, refl, sym}
+use Rattle.std.proofs.Common.{ap, subst, ◌∙◌}
+use Rattle.std.specs.Prelude.{cond, unwrap_or}
+use Rattle.std.specs.Ordering.{is_le}
+use Rattle.vr_types.specs.Content.{place_cmp, record_at}
+use Rattle.vr_types.specs.Image.{Block, Image, block_at}
+use Rattle.vr_seqset.specs.Entry.{Entry}
+use Rattle.vr_space.specs.Way.{found_on}
+use Rattle.vr_space.specs.Room.{Range}
+use Rattle.vr_space.specs.Keyed.{Keyed, HoldsRange, HoldRanges, entries_of, entry_block, entry_for}
+use Rattle.vr_space.specs.Keyed.{range_of, records_of, way_in}
+use Rattle.vr_space.specs.Part.{KeyedShape, Stands, item_of}
+use Rattle.vr_keyed.specs.Look.{LeadsTo}
+
+-- the interval of the entry that is found is one of its range
+pub holds-found : (part : Keyed) (image : Image) (low : Option (List ℕ)) (entries : List Entry)
+    (place : List ℕ) (at : Range × Entry) → HoldRanges part image low entries
+    → entry_for low entries place ≡ Some at
+    → HoldsRange part at.0 (block_at image (entry_block part at.1))
+holds-found part image low [] place at hold is = absurd cc
+holds-found part image low (entry ∷ entries) place at hold is =
+    by (is_le (place_cmp place entry.high)) is
+    (λ more. holds-found part image (Some entry.high) entries place at hold.1 more)
+  where
+    by : (b : Bool)
+        → cond b (Some (range_of low entry, entry)) (entry_for (Some entry.high) entries place)
+        ≡ Some at
+        → (entry_for (Some entry.high) entries place ≡ Some at
+        → HoldsRange part at.0 (block_at image (entry_block part at.1)))
+        → HoldsRange part at.0 (block_at image (entry_block part at.1))
+    by true same more = subst
+        (λ (f : Range × Entry). HoldsRange part f.0 (block_at image (entry_block part f.1)))
+        (ap (λ (o : Option (Range × Entry)). unwrap_or o (range_of low entry, entry)) same) hold.0
+    by false same more = more same
+
+module _ (part : Keyed) (image : Image) (place : List ℕ) (n : ℕ)
+    (leads : LeadsTo part (block_at image part.head) place n) where
+  -- the block is an interval of the range
+  pub led-holds : Stands (KeyedShape part) image → HoldsRange part leads.at.0 (block_at image n)
+  led-holds stands = subst (λ (k : ℕ). HoldsRange part leads.at.0 (block_at image k)) leads.block
+      (holds-found part image None (entries_of (block_at image part.head)) place leads.at
+      stands.1.intervals leads.found)
+
+  -- and has the record that is read
+  pub led-item : item_of (KeyedShape part) image place
+      ≡ record_at (records_of part (block_at image n)) place
+  led-item = ap (λ (o : Option (Range × Entry)). found_on image (way_in part place o)) leads.found
+      ∙ ap (λ (k : ℕ). record_at (records_of part (block_at image k)) place) leads.block

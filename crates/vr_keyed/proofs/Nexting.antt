@@ -1,0 +1,456 @@
+-- Searching for the next place with a record.
+use Rattle.std.proofs.Common.{◌≡◌, ◌≢◌, ◌⊎◌, inl, inr, ⊎_elim, ◌<◌, ◌≤◌, ◌+◌, ◌-◌, ℕ, zero, suc}
+use Rattle.std.proofs.Common.{Bool, IsTrue, true, false, ◌&&◌, List, [], ◌∷◌, Option, Some, None, All}
+use Rattle.std.proofs.Common.{refl, sym, ap, subst, ◌∙◌, arith, true≢false, length, map}
+use Rattle.std.specs.Prelude.{cond, filter, is_some, unwrap_or, slice_get}
+use Rattle.std.specs.List.{position, position_from}
+use Rattle.std.specs.Ordering.{is_le, is_lt, ordering_reverse}
+use Rattle.std.specs.declared.cmp.Ordering.{Ordering}
+use Rattle.std.specs.declared.cmp.Ordering.TheVariants.{Less, Equal, Greater}
+use Rattle.std.proofs.lemmas.Cmp.{nat_list_cmp_total}
+use Rattle.std.proofs.lemmas.Iterator.Adapters.{position_from-zero}
+use Rattle.std.proofs.lemmas.List.Elements.{All-head, All-tail}
+use Rattle.vr_types.specs.Content.{Content, Placed, place_cmp, places_of, record_at, record_of}
+use Rattle.vr_types.specs.Content.{found_by}
+use Rattle.vr_types.specs.Image.{Block, Image, block_at}
+use Rattle.vr_types.proofs.CallerLemmas.{same_place}
+use Rattle.vr_ci.specs.Interval as ci
+use Rattle.vr_seqset.specs.Entry.{Entry}
+use Rattle.vr_seqset.specs.Search.{reaches}
+use Rattle.vr_space.specs.declared.whence.Whence.{Whence}
+use Rattle.vr_space.specs.Whence.{allows, first_of}
+use Rattle.vr_space.specs.Room.{Range, is_in, is_above}
+use Rattle.vr_space.specs.Keyed.{Keyed, IsKept, HoldsRange, entries_of, entry_for, key_of, placed}
+use Rattle.vr_space.specs.Keyed.{records_of, range_of, HoldRanges, entry_block, way_in}
+use Rattle.vr_space.specs.Way.{found_on}
+use Rattle.vr_space.specs.Part.{KeyedShape, Stands, IsNextPlace, HasNoNext, item_of}
+use Rattle.vr_space.specs.Search.{low_before, keys_of}
+use Rattle.vr_space.proofs.CallerLemmas.{AllAbove, Rising, by_other, same_is_equal, lt_from_test}
+use Rattle.vr_space.proofs.CallerLemmas.{AscendFrom, head-ascends, in-most, in-above, above-more}
+use Rattle.vr_space.proofs.CallerLemmas.{found-entry, found-none, places-placed, rising-sorted}
+use Rattle.vr_split.proofs.CallerLemmas.{found-range}
+use Rattle.vr_keyed.specs.Next.{is_sought, first_sought, HasNth}
+use Rattle.std.proofs.lemmas.Bool.{cases_lt}
+
+-- ---- the order
+
+pub le-trans : (p q h : List ℕ) → is_le (place_cmp p q) ≡ true → is_le (place_cmp q h) ≡ true
+    → is_le (place_cmp p h) ≡ true
+le-trans p q h first second = by (place_cmp p q) (place_cmp q h) refl refl first second
+  where
+    by : (o u : Ordering) → place_cmp p q ≡ o → place_cmp q h ≡ u → is_le o ≡ true
+        → is_le u ≡ true → is_le (place_cmp p h) ≡ true
+    by Less Less is is_u most most_u = ap is_le (nat_list_cmp_total.trans p q h is is_u)
+    by Less Equal is is_u most most_u =
+        ap is_le (ap (place_cmp p) (sym (same_place q h is_u)) ∙ is)
+    by Less Greater is is_u most most_u = absurd (true≢false (sym most_u))
+    by Equal u is is_u most most_u =
+        ap is_le (ap (λ (x : List ℕ). place_cmp x h) (same_place p q is) ∙ is_u) ∙ most_u
+    by Greater u is is_u most most_u = absurd (true≢false (sym most))
+
+-- ---- records of an interval
+
+abbrev pub item_key : Keyed → ci.Item → List ℕ
+item_key part item = key_of part item.bytes
+
+-- The search has passed i records without finding one that is sought.
+pub record IsLooking (part : Keyed) (range : Range) (from : Whence) (all left : List ci.Item)
+    (i : ℕ) : Type 0 where
+  pub kept : All (IsKept part) left
+  pub same : first_sought range from (map (item_key part) left)
+      ≡ first_sought range from (map (item_key part) all)
+  pub count : length left + i ≡ length all
+
+pub looking-starts : (part : Keyed) (range : Range) (from : Whence) (all : List ci.Item)
+    → All (IsKept part) all → IsLooking part range from all all 0
+looking-starts part range from all kept = record { kept = kept; same = refl; count = omega arith }
+
+module _ (part : Keyed) (range : Range) (from : Whence) (all old left : List ci.Item) (i : ℕ)
+    (item : ci.Item) where
+  first-by : (b : Bool) → is_sought range from (item_key part item) ≡ b → old ≡ item ∷ left
+      → first_sought range from (map (item_key part) old)
+      ≡ first_of (cond b (item_key part item
+      ∷ filter (is_sought range from) (map (item_key part) left))
+      (filter (is_sought range from) (map (item_key part) left)))
+  first-by b is cut =
+      ap (λ (xs : List ci.Item). first_sought range from (map (item_key part) xs)) cut
+      ∙ ap (λ (t : Bool). first_of (cond t (item_key part item
+      ∷ filter (is_sought range from) (map (item_key part) left))
+      (filter (is_sought range from) (map (item_key part) left)))) is
+
+  pub looking-passes : old ≡ item ∷ left
+      → (IsKept part item → is_sought range from (item_key part item) ≡ false)
+      → IsLooking part range from all old i → IsLooking part range from all left (i + 1)
+  looking-passes cut other looking =
+      let kept : All (IsKept part) (item ∷ left) = subst (All (IsKept part)) cut looking.kept in
+      record {
+        kept = All-tail (IsKept part) item left kept;
+        same = sym (first-by false (other (All-head (IsKept part) item left kept)) cut)
+            ∙ looking.same;
+        count = omega (arith, ap length cut, looking.count);
+      }
+
+  pub looking-finds : old ≡ item ∷ left → is_sought range from (item_key part item) ≡ true
+      → IsLooking part range from all old i
+      → first_sought range from (map (item_key part) all) ≡ Some (item_key part item)
+  looking-finds cut is looking = sym looking.same ∙ first-by true is cut
+
+no_items : (xs : List ci.Item) → length xs ≡ 0 → xs ≡ []
+no_items [] none = refl
+no_items (x ∷ xs) none = absurd (omega (arith, none))
+
+pub looking-ends : (part : Keyed) (range : Range) (from : Whence) (all left : List ci.Item) (i : ℕ)
+    → length left ≡ 0 → IsLooking part range from all left i
+    → first_sought range from (map (item_key part) all) ≡ None
+looking-ends part range from all left i none looking =
+    sym looking.same
+    ∙ ap (λ (xs : List ci.Item). first_sought range from (map (item_key part) xs))
+    (no_items left none)
+
+-- ---- what the first key says of the records
+
+module _ (test : List ℕ → Bool) where
+  abbrev first : Content → Option (List ℕ)
+  first content = first_of (filter test (places_of content))
+
+  -- none passes
+  pub none-passes : (content : Content) (q : List ℕ) → first content ≡ None → test q ≡ true
+      → record_at content q ≡ None
+  none-passes [] q none is = refl
+  none-passes (entry ∷ content) q none is =
+      by (test entry.0) refl none (λ more. none-passes content q more is)
+    where
+      by : (b : Bool) → test entry.0 ≡ b
+          → first_of (cond b (entry.0 ∷ filter test (places_of content))
+          (filter test (places_of content))) ≡ None
+          → (first content ≡ None → record_at content q ≡ None)
+          → record_at (entry ∷ content) q ≡ None
+      by true it same more = absurd cc
+      by false it same more =
+          by_other (place_cmp q entry.0) (record_of entry.1) (record_at content q)
+          (λ equal. true≢false (sym is ∙ ap test (same_place q entry.0 equal) ∙ it))
+          ∙ more same
+
+  pub first-passes : (content : Content) (key : List ℕ) → first content ≡ Some key
+      → test key ≡ true
+  first-passes [] key is = absurd cc
+  first-passes (entry ∷ content) key is =
+      by (test entry.0) refl is (λ more. first-passes content key more)
+    where
+      by : (b : Bool) → test entry.0 ≡ b
+          → first_of (cond b (entry.0 ∷ filter test (places_of content))
+          (filter test (places_of content))) ≡ Some key
+          → (first content ≡ Some key → test key ≡ true) → test key ≡ true
+      by true it same more =
+          let here : entry.0 ≡ key = ap (λ (o : Option (List ℕ)). unwrap_or o key) same in
+          ap test (sym here) ∙ it
+      by false it same more = more same
+
+  -- those before the first that passes don't
+  pub none-before : (content : Content) (key q : List ℕ) → Rising content
+      → first content ≡ Some key → test q ≡ true → place_cmp q key ≡ Less
+      → record_at content q ≡ None
+  none-before [] key q rising is passes less = refl
+  none-before (entry ∷ content) key q rising is passes less =
+      by (test entry.0) refl is
+      (λ more. none-before content key q rising.1 more passes less)
+    where
+      never : (xs : Content) → AllAbove (Some entry.0) xs → place_cmp q entry.0 ≡ Less
+          → record_at xs q ≡ None
+      never [] above under = refl
+      never (x ∷ xs) above under =
+          by_other (place_cmp q x.0) (record_of x.1) (record_at xs q)
+          (λ equal. absurd (unequal (nat_list_cmp_total.trans q entry.0 x.0 under
+          (lt_from_test (place_cmp entry.0 x.0) above.0)) equal))
+          ∙ never xs above.1 under
+        where
+          unequal : {o : Ordering} → o ≡ Less → o ≡ Equal → ⊥
+          unequal is_less is_equal = cc
+
+      by : (b : Bool) → test entry.0 ≡ b
+          → first_of (cond b (entry.0 ∷ filter test (places_of content))
+          (filter test (places_of content))) ≡ Some key
+          → (first content ≡ Some key → record_at content q ≡ None)
+          → record_at (entry ∷ content) q ≡ None
+      by true it same more =
+          let here : entry.0 ≡ key = ap (λ (o : Option (List ℕ)). unwrap_or o key) same in
+          let under : place_cmp q entry.0 ≡ Less = ap (place_cmp q) here ∙ less in
+          by_other (place_cmp q entry.0) (record_of entry.1) (record_at content q)
+          (λ equal. absurd (two under equal))
+          ∙ never content rising.0 under
+        where
+          two : place_cmp q entry.0 ≡ Less → place_cmp q entry.0 ≡ Equal → ⊥
+          two is_less is_equal = cc
+      by false it same more =
+          by_other (place_cmp q entry.0) (record_of entry.1) (record_at content q)
+          (λ equal. true≢false (sym passes ∙ ap test (same_place q entry.0 equal) ∙ it))
+          ∙ more same
+
+-- the first has a record
+pub first-has : (part : Keyed) (test : List ℕ → Bool) (items : List ci.Item) (key : List ℕ)
+    → first_of (filter test (map (item_key part) items)) ≡ Some key
+    → record_at (map (placed part) items) key ≢ None
+first-has part test [] key is none = absurd cc
+first-has part test (item ∷ items) key is none =
+    by (test (item_key part item)) is (place_cmp key (item_key part item)) refl
+    (λ more. first-has part test items key more)
+  where
+    Has : Ordering → Type 0
+    Has o = found_by o (Some item.bytes) (record_at (map (placed part) items) key) ≡ None
+
+    none_by : (o : Ordering) → place_cmp key (item_key part item) ≡ o
+        → found_by o (Some item.bytes) (record_at (map (placed part) items) key) ≡ None
+    none_by o same = sym (ap (λ (u : Ordering).
+        found_by u (Some item.bytes) (record_at (map (placed part) items) key)) same) ∙ none
+
+    by : (b : Bool)
+        → first_of (cond b (item_key part item ∷ filter test (map (item_key part) items))
+        (filter test (map (item_key part) items))) ≡ Some key
+        → (o : Ordering) → place_cmp key (item_key part item) ≡ o
+        → (first_of (filter test (map (item_key part) items)) ≡ Some key
+        → record_at (map (placed part) items) key ≢ None) → ⊥
+    by true same o compared more =
+        let here : item_key part item ≡ key =
+        ap (λ (x : Option (List ℕ)). unwrap_or x key) same in
+        true≢false (ap is_some (none_by Equal
+        (ap (place_cmp key) here ∙ same_is_equal key)))
+    by false same Less compared more = more same (none_by Less compared)
+    by false same Equal compared more = true≢false (ap is_some (none_by Equal compared))
+    by false same Greater compared more = more same (none_by Greater compared)
+
+-- ---- entries
+
+pub position-up : (p q : List ℕ) (entries : List Entry) (k i j : ℕ)
+    → is_le (place_cmp p q) ≡ true → position_from (reaches p) k entries ≡ Some i
+    → position_from (reaches q) k entries ≡ Some j → i ≤ j
+position-up p q [] k i j most first second = absurd cc
+position-up p q (entry ∷ entries) k i j most first second =
+    by (reaches p entry) (reaches q entry) refl refl first second
+    (λ one other. position-up p q entries (k + 1) i j most one other)
+  where
+    least : (es : List Entry) (n m : ℕ) → position_from (reaches q) n es ≡ Some m → n ≤ m
+    least [] n m is = absurd cc
+    least (e ∷ es) n m is = at (reaches q e) is (λ more. least es (n + 1) m more)
+      where
+        at : (b : Bool) → cond b (Some n) (position_from (reaches q) (n + 1) es) ≡ Some m
+            → (position_from (reaches q) (n + 1) es ≡ Some m → n + 1 ≤ m) → n ≤ m
+        at true same more =
+            let here : n ≡ m = ap (λ (o : Option ℕ). unwrap_or o n) same in omega (arith, here)
+        at false same more = omega (arith, more same)
+
+    by : (b c : Bool) → reaches p entry ≡ b → reaches q entry ≡ c
+        → cond b (Some k) (position_from (reaches p) (k + 1) entries) ≡ Some i
+        → cond c (Some k) (position_from (reaches q) (k + 1) entries) ≡ Some j
+        → (position_from (reaches p) (k + 1) entries ≡ Some i
+        → position_from (reaches q) (k + 1) entries ≡ Some j → i ≤ j) → i ≤ j
+    by true true is_p is_q one other more =
+        let here : k ≡ i = ap (λ (o : Option ℕ). unwrap_or o k) one in
+        let there : k ≡ j = ap (λ (o : Option ℕ). unwrap_or o k) other in
+        omega (arith, here, there)
+    by true false is_p is_q one other more =
+        let here : k ≡ i = ap (λ (o : Option ℕ). unwrap_or o k) one in
+        omega (arith, here, least entries (k + 1) j other)
+    by false true is_p is_q one other more =
+        absurd (true≢false (sym (le-trans p q entry.high most is_q) ∙ is_p))
+    by false false is_p is_q one other more = more one other
+
+pub position-most : (p q : List ℕ) (entries : List Entry) (i j : ℕ)
+    → is_le (place_cmp p q) ≡ true → position (reaches p) entries ≡ Some i
+    → position (reaches q) entries ≡ Some j → i ≤ j
+position-most p q entries i j most first second =
+    position-up p q entries 0 i j most (sym (position_from-zero (reaches p) entries) ∙ first)
+    (sym (position_from-zero (reaches q) entries) ∙ second)
+
+-- ---- the entry of a number
+
+position-in : (place : List ℕ) (low : Option (List ℕ)) (entries : List Entry) (k n : ℕ)
+    (entry : Entry) → AscendFrom low entries → slice_get entries n ≡ Some entry
+    → is_in (range_of (low_before low entries n) entry) place ≡ true
+    → position_from (reaches place) k entries ≡ Some (k + n)
+position-in place low [] k n entry ascend is inside = absurd cc
+position-in place low (first_entry ∷ entries) k zero entry ascend is inside =
+    let here : first_entry ≡ entry = ap (λ (o : Option Entry). unwrap_or o first_entry) is in
+    let same : k ≡ k + 0 = omega arith in
+    ap (λ (b : Bool). cond b (Some k) (position_from (reaches place) (k + 1) entries))
+    (ap (reaches place) here ∙ in-most (range_of low entry) place inside)
+    ∙ ap (λ (m : ℕ). Some m) same
+position-in place low (first_entry ∷ entries) k (suc n) entry ascend is inside =
+    let past : is_above (Some first_entry.high) place ≡ true =
+    low-above entries n first_entry.high ascend.1
+    (in-above (range_of (low_before (Some first_entry.high) entries n) entry) place inside) in
+    let missed : reaches place first_entry ≡ false =
+    ap is_le (nat_list_cmp_total.antisymm place first_entry.high
+    ∙ ap ordering_reverse (lt_from_test (place_cmp first_entry.high place) past)) in
+    let same : k + 1 + n ≡ k + suc n = omega arith in
+    ap (λ (b : Bool). cond b (Some k) (position_from (reaches place) (k + 1) entries)) missed
+    ∙ position-in place (Some first_entry.high) entries (k + 1) n entry ascend.1 is inside
+    ∙ ap (λ (m : ℕ). Some m) same
+  where
+    low-above : (es : List Entry) (m : ℕ) (high : List ℕ) → AscendFrom (Some high) es
+        → is_above (low_before (Some high) es m) place ≡ true
+        → is_above (Some high) place ≡ true
+    low-above es zero high up above = above
+    low-above [] (suc m) high up above = above
+    low-above (e ∷ es) (suc m) high up above =
+        above-more (Some high) e.high place up.0 (low-above es m e.high up.1 above)
+
+position-below : (place : List ℕ) (entries : List Entry) (k i : ℕ)
+    → position_from (reaches place) k entries ≡ Some i → i < k + length entries
+position-below place [] k i is = absurd cc
+position-below place (entry ∷ entries) k i is =
+    by (reaches place entry) is (λ more. position-below place entries (k + 1) i more)
+  where
+    by : (b : Bool) → cond b (Some k) (position_from (reaches place) (k + 1) entries) ≡ Some i
+        → (position_from (reaches place) (k + 1) entries ≡ Some i → i < k + 1 + length entries)
+        → i < k + length (entry ∷ entries)
+    by true same more =
+        let here : k ≡ i = ap (λ (o : Option ℕ). unwrap_or o k) same in omega (arith, here)
+    by false same more = omega (arith, more same)
+
+pub holds-nth : (part : Keyed) (image : Image) (low : Option (List ℕ)) (entries : List Entry)
+    (n : ℕ) (entry : Entry) → HoldRanges part image low entries → slice_get entries n ≡ Some entry
+    → HoldsRange part (range_of (low_before low entries n) entry)
+    (block_at image (entry_block part entry))
+holds-nth part image low [] n entry hold is = absurd cc
+holds-nth part image low (first_entry ∷ entries) zero entry hold is =
+    let here : first_entry ≡ entry = ap (λ (o : Option Entry). unwrap_or o first_entry) is in
+    subst (λ (e : Entry). HoldsRange part (range_of low e) (block_at image (entry_block part e)))
+    here hold.0
+holds-nth part image low (first_entry ∷ entries) (suc n) entry hold is =
+    holds-nth part image (Some first_entry.high) entries n entry hold.1 is
+
+-- ---- entry after entry
+
+module _ (part : Keyed) (image : Image) (from : Whence)
+    (stands : Stands (KeyedShape part) image) where
+  abbrev all-entries : List Entry
+  all-entries = entries_of (block_at image part.head)
+
+  -- none of the entries before holds a place that the search may find, with a record
+  abbrev pub NoneBefore : ℕ → Type 0
+  NoneBefore n = (q : List ℕ) (i : ℕ) → IsTrue (allows from q)
+      → position (reaches q) all-entries ≡ Some i → i < n
+      → item_of (KeyedShape part) image q ≡ None
+
+  module _ (n : ℕ) (first_is : Option (List ℕ)) (has : HasNth part image n from first_is) where
+    abbrev nth-range : Range
+    nth-range = range_of (low_before None all-entries n) has.entry
+
+    abbrev nth-block : Block
+    nth-block = block_at image (entry_block part has.entry)
+
+    nth-holds : HoldsRange part nth-range nth-block
+    nth-holds = holds-nth part image None all-entries n has.entry stands.1.intervals has.is
+
+    nth-first : first_of (filter (is_sought nth-range from)
+        (places_of (records_of part nth-block))) ≡ first_is
+    nth-first = ap (λ (places : List (List ℕ)). first_of (filter (is_sought nth-range from) places))
+        (places-placed part (Rattle.vr_space.specs.Keyed.items_of nth-block)) ∙ has.first_is
+
+    nth-rises : Rising (records_of part nth-block)
+    nth-rises = rising-sorted (records_of part nth-block)
+        (subst (Rattle.std.specs.List.Sorted.IsStrictlySortedBy place_cmp)
+        (sym (places-placed part (Rattle.vr_space.specs.Keyed.items_of nth-block)))
+        nth-holds.ascends)
+
+    -- what is read at a place of the range
+    nth-item : (q : List ℕ) → position (reaches q) all-entries ≡ Some n
+        → item_of (KeyedShape part) image q ≡ record_at (records_of part nth-block) q
+    nth-item q is = ap (λ (o : Option (Range × Entry)). found_on image (way_in part q o))
+        (found-entry q all-entries n has.entry is has.is)
+
+    nth-sought : (q : List ℕ) → IsTrue (allows from q)
+        → position (reaches q) all-entries ≡ Some n → is_sought nth-range from q ≡ true
+    nth-sought q allowed is =
+        both (is_in nth-range q) (allows from q)
+        (found-range None all-entries q (nth-range, has.entry) refl
+        (found-entry q all-entries n has.entry is has.is)) allowed
+      where
+        both : (x y : Bool) → x ≡ true → y ≡ true → (x && y) ≡ true
+        both true y left right = right
+        both false y left right = absurd (true≢false (sym left))
+
+  -- one more
+  pub none-more : (n : ℕ)
+      → (HasNth part image n from None ⊎ (length all-entries ≤ n))
+      → NoneBefore n → NoneBefore (n + 1)
+  none-more n has none q i allowed is below =
+      ⊎_elim (λ less. none q i allowed is less)
+      (λ most.
+      let here : i ≡ n = omega (arith, most, below) in
+      let at_n : position (reaches q) all-entries ≡ Some n = is ∙ ap (λ (m : ℕ). Some m) here in
+      ⊎_elim
+      (λ nth. nth-item n None nth q at_n
+      ∙ none-passes (is_sought (nth-range n None nth) from)
+      (records_of part (nth-block n None nth)) q (nth-first n None nth)
+      (nth-sought n None nth q allowed at_n))
+      (λ past. absurd (omega (arith, past, position-below q all-entries 0 n
+      (sym (position_from-zero (reaches q) all-entries) ∙ at_n))))
+      has)
+      (cases_lt i n)
+
+  -- none at all
+  pub no-next : (n : ℕ) → length all-entries ≤ n → NoneBefore n
+      → HasNoNext (KeyedShape part) image from
+  no-next n all none q allowed = by (position (reaches q) all-entries) refl
+    where
+      by : (o : Option ℕ) → position (reaches q) all-entries ≡ o
+          → item_of (KeyedShape part) image q ≡ None
+      by None is = ap (λ (o : Option (Range × Entry)). found_on image (way_in part q o))
+          (found-none q all-entries is)
+      by (Some i) is = none q i allowed is (omega (arith, all,
+          position-below q all-entries 0 i
+          (sym (position_from-zero (reaches q) all-entries) ∙ is)))
+
+  -- the first of the entry of this number
+  pub next-is : (n : ℕ) (place : List ℕ) → HasNth part image n from (Some place) → NoneBefore n
+      → IsNextPlace (KeyedShape part) image from place
+  next-is n place has none = record {
+    allowed = right (is_in range place) (allows from place) passes;
+    some = λ nothing. first-has part (is_sought range from)
+        (Rattle.vr_space.specs.Keyed.items_of (nth-block n (Some place) has)) place has.first_is
+        (sym (nth-item n (Some place) has place at_n) ∙ nothing);
+    least = λ q allowed less. by q (position (reaches q) all-entries) refl allowed less;
+  }
+    where
+      range : Range
+      range = nth-range n (Some place) has
+
+      passes : is_sought range from place ≡ true
+      passes = first-passes (is_sought range from)
+          (records_of part (nth-block n (Some place) has)) place (nth-first n (Some place) has)
+
+      left : (x y : Bool) → (x && y) ≡ true → x ≡ true
+      left true y is = refl
+      left false y is = is
+
+      right : (x y : Bool) → (x && y) ≡ true → y ≡ true
+      right true y is = is
+      right false y is = absurd (true≢false (sym is))
+
+      at_n : position (reaches place) all-entries ≡ Some n
+      at_n =
+          let same : 0 + n ≡ n = omega arith in
+          position_from-zero (reaches place) all-entries
+          ∙ position-in place None all-entries 0 n has.entry
+          (head-ascends part (block_at image part.head) stands.1.head) has.is
+          (left (is_in range place) (allows from place) passes)
+          ∙ ap (λ (m : ℕ). Some m) same
+
+      by : (q : List ℕ) (o : Option ℕ) → position (reaches q) all-entries ≡ o
+          → IsTrue (allows from q) → place_cmp q place ≡ Less
+          → item_of (KeyedShape part) image q ≡ None
+      by q None is allowed less =
+          ap (λ (o : Option (Range × Entry)). found_on image (way_in part q o))
+          (found-none q all-entries is)
+      by q (Some i) is allowed less = ⊎_elim (λ under. none q i allowed is under)
+          (λ most.
+          let up : i ≤ n = position-most q place all-entries i n (ap is_le less) is at_n in
+          let here : i ≡ n = omega (arith, most, up) in
+          let there : position (reaches q) all-entries ≡ Some n = is ∙ ap (λ (m : ℕ). Some m) here
+          in
+          nth-item n (Some place) has q there
+          ∙ none-before (is_sought range from)
+          (records_of part (nth-block n (Some place) has)) place q (nth-rises n (Some place) has)
+          (nth-first n (Some place) has) (nth-sought n (Some place) has q allowed there) less)
+          (cases_lt i n)

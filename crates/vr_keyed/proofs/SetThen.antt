@@ -1,0 +1,107 @@
+-- A `set` after a call that puts nothing, and the order of what was met.
+use Rattle.std.proofs.Common.{◌≡◌, ◌<◌, ◌≤◌, ◌+◌, ℕ, zero, suc, Bool, IsTrue, List, [], ◌∷◌, Option}
+use Rattle.std.proofs.Common.{Some, None, take, All, refl, sym, ap, subst, ◌∙◌, arith}
+use Rattle.std.proofs.lemmas.List.Elements.{All-head, All-tail, All-cons, All-nil}
+use Rattle.vr_types.specs.Image.{Image}
+use Rattle.vr_types.specs.Seen.{Seen, Left}
+use Rattle.vr_types.specs.Blocks.{Keeps}
+use Rattle.vr_types.proofs.CallerLemmas.{touches-then}
+use Rattle.vr_space.specs.Room.{Lengths}
+use Rattle.vr_space.specs.Keyed.{Keyed}
+use Rattle.vr_space.specs.Split.{SplitNow}
+use Rattle.vr_space.specs.Met.{Met, HasMet, places_met}
+use Rattle.vr_space.specs.Part.{KeyedShape, InPart, HasRoom, CanSet, SetsOne, Just}
+use Rattle.vr_space.proofs.CallerLemmas.{rest-keeps, room-keeps, way-keeps, keeps-adds, keeps-rooms}
+use Rattle.vr_space.proofs.CallerLemmas.{nothing-then, due-keeps, due-then}
+use Rattle.vr_keyed.specs.Ready.{IsReady, MaySet, IsSetNow}
+
+module _ (part : Keyed) (kept : Lengths) (split : Option SplitNow) (place : List ℕ)
+    (item : Option (List ℕ)) (tells : Bool) (told : IsTrue tells) (a m : Seen)
+    (call : Keeps tells a m) (left : Left a a.cur) (ready : IsReady part kept split place item a)
+    where
+      pub ready-keeps : IsReady part kept split place item m
+      ready-keeps = record {
+        rests = rest-keeps tells told (KeyedShape part) a m call ready.rests;
+        room = room-keeps tells told (KeyedShape part) kept a m call ready.rests.sound ready.room;
+        way = way-keeps tells told (KeyedShape part) split a m call ready.rests.sound left
+            ready.way;
+        can = subst (λ (image : Image). CanSet (KeyedShape part) split image kept place item)
+            (sym (call.content told)) ready.can;
+        valid = ready.valid;
+      }
+
+      -- where nothing more is done
+      pub may-keeps : MaySet part kept place item a m
+      may-keeps = record {
+        adds = Rattle.vr_space.proofs.CallerLemmas.adds-weaken (KeyedShape part)
+            Rattle.vr_space.specs.Part.Nothing (Just place item) a m
+            (keeps-adds tells told (KeyedShape part) a m call ready.rests.sound)
+            (λ p i none. absurd none);
+        room = room-keeps tells told (KeyedShape part) kept a m call ready.rests.sound ready.room;
+        rooms = keeps-rooms tells told (KeyedShape part) kept a m call ready.rests.sound
+            ready.room;
+      }
+
+      pub may-then : (b : Seen) → MaySet part kept place item m b → MaySet part kept place item a b
+      may-then b may = record {
+        adds = nothing-then (KeyedShape part) (Just place item) a m b
+            (keeps-adds tells told (KeyedShape part) a m call ready.rests.sound) may.adds;
+        room = may.room;
+        rooms = touches-then (InPart (KeyedShape part)) (HasRoom (KeyedShape part) kept) a m b
+            (keeps-rooms tells told (KeyedShape part) kept a m call ready.rests.sound ready.room)
+            may.rooms;
+      }
+
+      pub done-then : (b : Seen) (put : List ℕ) → IsSetNow part split put place item m b
+          → IsSetNow part split put place item a b
+      done-then b put done = record {
+        set = subst (λ (image : Image). SetsOne (KeyedShape part) place item image b.cur)
+            (call.content told) done.set;
+        due = due-then (KeyedShape part) put a m b
+            (due-keeps tells told (KeyedShape part) a m call ready.rests.sound) done.due;
+        rests = done.rests;
+        way = done.way;
+      }
+
+-- ---- the order
+
+-- all of both, in the other order
+pub all-turned : (P : Met → Type 0) (n : ℕ) (a b c d : Met) → n ≡ 2 → c ≡ b → d ≡ a
+    → All P (take n (a ∷ b ∷ [])) → All P (take n (c ∷ d ∷ []))
+all-turned P n a b c d two first second all =
+    let both : All P (a ∷ b ∷ []) = subst (λ (k : ℕ). All P (take k (a ∷ b ∷ []))) two all in
+    subst (λ (k : ℕ). All P (take k (c ∷ d ∷ []))) (sym two)
+    (All-cons P c (d ∷ [])
+    (subst P (sym first) (All-head P b [] (All-tail P a (b ∷ []) both)))
+    (All-cons P d [] (subst P (sym second) (All-head P a (b ∷ []) both)) (All-nil P)))
+
+-- places that were met, turned twice
+pub places-turned : (n k : ℕ) (a b c d e f : Met) → n ≡ 2 → k ≡ n
+    → places_met (take k (c ∷ d ∷ [])) ≡ places_met (take n (b ∷ a ∷ [])) → e ≡ d → f ≡ c
+    → places_met (take k (e ∷ f ∷ [])) ≡ places_met (take n (a ∷ b ∷ []))
+places-turned n k a b c d e f two same middle first second =
+    let k_two : k ≡ 2 = same ∙ two in
+    let now : c.place ∷ d.place ∷ [] ≡ b.place ∷ a.place ∷ [] =
+    sym (ap (λ (j : ℕ). places_met (take j (c ∷ d ∷ []))) k_two) ∙ middle
+    ∙ ap (λ (j : ℕ). places_met (take j (b ∷ a ∷ []))) two in
+    let one : c.place ≡ b.place = cc in
+    let other : d.place ≡ a.place = cc in
+    ap (λ (j : ℕ). places_met (take j (e ∷ f ∷ []))) k_two
+    ∙ ap (λ (x : Met). x.place ∷ f.place ∷ []) first
+    ∙ ap (λ (x : Met). d.place ∷ x.place ∷ []) second
+    ∙ ap (λ (p : List ℕ). p ∷ c.place ∷ []) other
+    ∙ ap (λ (p : List ℕ). a.place ∷ p ∷ []) one
+    ∙ sym (ap (λ (j : ℕ). places_met (take j (a ∷ b ∷ []))) two)
+
+-- a place that was met, and not before the last, is the last
+pub has-first : (n : ℕ) (a b : Met) (place : List ℕ) → n ≤ 2
+    → HasMet (take n (a ∷ b ∷ [])) place → (n ≡ 2 → b.place ≡ place → ⊥)
+    → (0 < n) × (a.place ≡ place)
+has-first zero a b place few has none = absurd (omega (arith, has.1))
+has-first (suc zero) a b place few (zero, within, is) none = (omega arith, is)
+has-first (suc zero) a b place few (suc k, within, is) none = absurd (omega (arith, within))
+has-first (suc (suc zero)) a b place few (zero, within, is) none = (omega arith, is)
+has-first (suc (suc zero)) a b place few (suc zero, within, is) none = absurd (none refl is)
+has-first (suc (suc zero)) a b place few (suc (suc k), within, is) none =
+    absurd (omega (arith, within))
+has-first (suc (suc (suc n))) a b place few has none = absurd (omega (arith, few))

@@ -1,0 +1,369 @@
+-- A put into the interval that was met, with a record set in it.
+use Rattle.std.proofs.Common.{◌≡◌, ◌≢◌, ◌⊎◌, inl, inr, ⊎_elim, ◌<◌, ◌≤◌, ◌+◌, ◌-◌, ℕ, Bool, IsTrue}
+use Rattle.std.proofs.Common.{true, false, List, [], ◌∷◌, Option, Some, None, All, refl, sym, ap}
+use Rattle.std.proofs.Common.{subst, ◌∙◌, arith, true≢false, length, map, ◌||◌, eq-eqb}
+use Rattle.std.proofs.lemmas.List.Elements.{All-map, All-weaker, Contains-push}
+use Rattle.std.specs.Prelude.{cond, IfSome, slice_index, nat_eq, nat_le, is_some, Contains}
+use Rattle.std.specs.List.Sorted.{IsStrictlySortedBy}
+use Rattle.std.specs.Ordering.{is_le, is_eq}
+use Rattle.std.specs.declared.cmp.Ordering.{Ordering}
+use Rattle.std.specs.declared.cmp.Ordering.TheVariants.{Less, Equal, Greater}
+use Rattle.vr_types.specs.Content.{Content, place_cmp, record_at}
+use Rattle.vr_types.specs.Image.{Block, Image, block_at}
+use Rattle.vr_types.specs.Seen.{Seen, Left, Only}
+use Rattle.vr_types.specs.Blocks.{Puts}
+use Rattle.vr_types.specs.declared.unit.StageKind.{StageKind}
+use Rattle.vr_types.proofs.CallerLemmas.{same_place, cur-elsewhere}
+use Rattle.vr_ci_match.specs.declared.form.Form.TheVariants.{Plain}
+use Rattle.vr_ci_match.specs.declared.form.Shape.TheVariants as shapes
+use Rattle.vr_ci_match.specs.Fault.{is_busy}
+use Rattle.vr_ci.specs.Interval as ci
+use Rattle.vr_ci.proofs.CallerLemmas.{interval_says}
+use Rattle.vr_seqset.specs.Entry.{Entry}
+use Rattle.vr_space.specs.Way.{MayOnceForced, found_on}
+use Rattle.vr_space.specs.Room.{Lengths, Range, HaveRoom, is_in, weight, with_length}
+use Rattle.vr_space.specs.Keyed.{Keyed, IsHead, IsKept, HoldsRange, EachMayLeave, items_of, key_of}
+use Rattle.vr_space.specs.Keyed.{records_of, lengths_of, entries_of, entry_block, entry_for, range_of}
+use Rattle.vr_space.specs.Keyed.{way_in}
+use Rattle.vr_space.specs.Split.{SplitNow, stage_at, stage_in}
+use Rattle.vr_space.specs.UnderWay.{interval_block}
+use Rattle.vr_space.specs.Met.{Met, IsMet}
+use Rattle.vr_space.specs.Part.{KeyedShape, InPart, IsRecordOf, HasRoomFor, item_of, SetsOne}
+use Rattle.vr_space.proofs.CallerLemmas.{found-in, IsSplitBlock, way-puts, met-stays, same_is_equal}
+use Rattle.vr_split.specs.Switching.{OfBlock}
+use Rattle.vr_split.proofs.CallerLemmas.{now-entries, KeepsOthers, of-found, set-adds, head-still}
+use Rattle.vr_split.proofs.CallerLemmas.{led-is, equal_or, rest-after, room-after, rooms-after}
+use Rattle.vr_split.proofs.CallerLemmas.{sets-one, due-put, head-apart, of-same, found-range}
+use Rattle.vr_keyed.specs.Setting.{items_set}
+use Rattle.vr_keyed.specs.Ready.{IsReady, MaySet, IsSetNow, refreshed}
+use Rattle.vr_keyed.proofs.Contents.{content_set, records-set, set-here, set-other, set-kept}
+use Rattle.vr_keyed.proofs.Contents.{set-within, set-ascends}
+use Rattle.vr_keyed.proofs.Roomy.{AllStand, HasPlace, length_in, set-room-of, set-have-room}
+
+-- ---- what is so of the interval of the entry that is found
+
+some_is : (one at : Range × Entry) → Some one ≡ Some at → one ≡ at
+some_is one at same =
+    ap (λ (o : Option (Range × Entry)). Rattle.std.specs.Prelude.unwrap_or o one) same
+
+pub each-found : (part : Keyed) (now : Seen) (Q : Range → Block → Type 0)
+    (low : Option (List ℕ)) (entries : List Entry) (place : List ℕ) (at : Range × Entry)
+    → EachMayLeave part now low entries Q → entry_for low entries place ≡ Some at
+    → Only now (entry_block part at.1) (Q at.0)
+each-found part now Q low [] place at each is = absurd cc
+each-found part now Q low (entry ∷ entries) place at each is =
+    by (is_le (place_cmp place entry.high)) is
+    (λ more. each-found part now Q (Some entry.high) entries place at each.1 more)
+  where
+    by : (b : Bool)
+        → cond b (Some (range_of low entry, entry)) (entry_for (Some entry.high) entries place)
+        ≡ Some at
+        → (entry_for (Some entry.high) entries place ≡ Some at
+        → Only now (entry_block part at.1) (Q at.0))
+        → Only now (entry_block part at.1) (Q at.0)
+    by true same more = subst
+        (λ (f : Range × Entry). Only now (entry_block part f.1) (Q f.0))
+        (some_is (range_of low entry, entry) at same) each.0
+    by false same more = more same
+
+-- ---- an interval with a record set
+
+module _ (part : Keyed) (range : Range) (place : List ℕ) (item : Option (List ℕ)) (old bytes : Block)
+    where
+  -- what is written
+  abbrev pub IsWritten : Type 0
+  IsWritten = ci.IsInterval Plain bytes (record {
+    shape = shapes.Records;
+    items = items_set part range place item (items_of old);
+    busy = false;
+  })
+
+  pub written-items : IsWritten
+      → items_of bytes ≡ items_set part range place item (items_of old)
+  written-items written = sym (interval_says Plain bytes _ written refl).0
+
+  pub written-holds : IsWritten → length bytes ≡ part.size → HoldsRange part range old
+      → IfSome item (IsRecordOf (KeyedShape part) place) → is_in range place ≡ true
+      → HoldsRange part range bytes
+  written-holds written long holds valid here =
+      let items = written-items written in
+      let idle : is_busy bytes ≡ false = sym (interval_says Plain bytes _ written refl).1 in
+      record {
+        spelled = subst (λ (xs : List ci.Item). ci.IsInterval Plain bytes (record {
+          shape = shapes.Records;
+          items = xs;
+          busy = is_busy bytes;
+        })) (sym items)
+            (subst (λ (b : Bool). ci.IsInterval Plain bytes (record {
+          shape = shapes.Records;
+          items = items_set part range place item (items_of old);
+          busy = b;
+        })) (sym idle) written);
+        size = long;
+        kept = subst (All (IsKept part)) (sym items)
+            (set-kept part range place item (items_of old) valid holds.kept);
+        ascends = subst (λ (xs : List ci.Item). IsStrictlySortedBy place_cmp
+            (map (λ (x : ci.Item). key_of part x.bytes) xs)) (sym items)
+            (set-ascends part range place item (items_of old) valid holds.ascends);
+        within = λ not_busy. subst
+            (All (λ (x : ci.Item). IsTrue (is_in range (key_of part x.bytes)))) (sym items)
+            (set-within part range place item (items_of old) valid here);
+      }
+
+  pub written-records : IsWritten → IfSome item (IsRecordOf (KeyedShape part) place)
+      → records_of part bytes ≡ content_set range place item (records_of part old)
+  written-records written valid =
+      ap (map (Rattle.vr_space.specs.Keyed.placed part)) (written-items written)
+      ∙ records-set part range place item (items_of old) valid
+
+-- ---- the put
+
+none_some : (o : Option StageKind) (stage : StageKind) → o ≡ None → o ≡ Some stage → ⊥
+none_some o stage none some = true≢false (ap is_some (sym some ∙ none))
+
+either-false : (a b : Bool) (stage : StageKind) → cond (a || b) (Some stage) None ≡ None
+    → (a ≡ false) × (b ≡ false)
+either-false true b stage is = absurd (none_some _ stage is refl)
+either-false false true stage is = absurd (none_some _ stage is refl)
+either-false false false stage is = (refl, refl)
+
+test-apart : (n m : ℕ) → nat_eq n m ≡ false → n ≢ m
+test-apart n m is same = true≢false (sym (eq-eqb n m same) ∙ is)
+
+le-from : (n m : ℕ) → nat_le n m ≡ true → n ≤ m
+le-from n m is = Rattle.std.proofs.Common.leb-true n m is
+
+module _ (part : Keyed) (kept : Lengths) (split : Option SplitNow) (place : List ℕ)
+    (item : Option (List ℕ)) (met : Met) (a : Seen) (ready : IsReady part kept split place item a)
+    (is : IsMet part a.cur met) (at_place : met.place ≡ place) (left : Left a a.cur) where
+  abbrev top : Block
+  top = block_at a.cur part.head
+
+  abbrev at : Range × Entry
+  at = (met.range, is.entry)
+
+  may-top : a.may part.head top
+  may-top = left.each part.head (omega (arith, ready.rests.sound.area))
+
+  pub now-head : IsHead part (block_at a.cur part.head)
+  now-head = ready.rests.sound.heads top may-top
+
+  leads : entry_for None (entries_of top) place ≡ Some at
+  leads = subst (λ (p : List ℕ). entry_for None (entries_of top) p ≡ Some at) at_place is.leads
+
+  in-area : slice_index is.entry.intervals 0 < part.area
+  in-area = found-in part top place at now-head leads
+
+  other : met.number ≢ part.head
+  other same = omega (arith, is.number, same)
+
+  pub inside-part : InPart (KeyedShape part) met.number
+  inside-part = (omega (arith, is.number), omega (arith, is.number, in-area))
+
+  within : met.number < a.count
+  within = omega (arith, inside-part.1, ready.rests.sound.area)
+
+  pub in-range : is_in met.range place ≡ true
+  in-range = found-range None (entries_of top) place at refl leads
+
+  may-block : a.may (entry_block part is.entry) met.block
+  may-block = subst (λ (n : ℕ). a.may n met.block) (sym is.number)
+      (subst (a.may met.number) is.still (left.each met.number within))
+
+  pub old-holds : HoldsRange part met.range met.block
+  old-holds = each-found part a (HoldsRange part) None (entries_of top) place at
+      (ready.rests.sound.intervals top may-top) leads met.block may-block
+
+  old-room : weight (lengths_of part kept met.range met.block) ≤ part.size - 4
+  old-room = each-found part a
+      (λ range block. HaveRoom part.size (lengths_of part kept range block)) None (entries_of top)
+      place at (ready.room.each top may-top) leads met.block may-block
+
+  has-place : (stand : AllStand (content_set met.range place item (records_of part met.block)))
+      → HasPlace part met.range place item met.block old-holds in-range stand kept
+  has-place stand = by item refl ready.can.room
+    where
+      by : (o : Option (List ℕ)) → item ≡ o
+          → HasRoomFor (KeyedShape part) a.cur kept place o
+          → HasPlace part met.range place item met.block old-holds in-range stand kept
+      by None same room = inl same
+      by (Some record_given) same room = inr (
+        length record_given,
+        subst (λ (o : Option (List ℕ)).
+        Rattle.vr_keyed.proofs.Lengths.NoMore (length_in o) (Some (length record_given)))
+            (sym same) (omega arith),
+        ⊎_elim
+            (λ fits. inl (subst (λ (block : Block).
+            weight (with_length (lengths_of part kept met.range block) place (length record_given))
+            ≤ part.size - 4) (ap (block_at a.cur) is.number ∙ is.still)
+            (le-from _ _ (sym (ap (Rattle.vr_space.specs.Split.fits_in part a.cur kept place
+            (length record_given)) leads) ∙ fits))))
+            (λ covered. inr covered)
+            room,
+      )
+
+  -- the records to be written have room
+  pub room-to-write : ci.room (items_set part met.range place item (items_of met.block))
+      ≤ part.size - 4
+  room-to-write = set-room-of part met.range place item met.block old-holds in-range kept
+      ready.valid has-place old-room
+
+  module _ (bytes : Block) (long : length bytes ≡ part.size)
+      (written : IsWritten part met.range place item met.block bytes) where
+    new-holds : HoldsRange part met.range bytes
+    new-holds = written-holds part met.range place item met.block bytes written long old-holds
+        ready.valid in-range
+
+    of-holds : OfBlock part met.number None (now-entries part a met.number bytes)
+        (λ range. HoldsRange part range bytes)
+    of-holds = of-same part met.number None (entries_of top)
+        (λ range. HoldsRange part range bytes) place at (head-apart part top now-head) leads
+        is.number new-holds
+
+    of-room : OfBlock part met.number None (now-entries part a met.number bytes)
+        (λ range. HaveRoom part.size (lengths_of part kept range bytes))
+    of-room = of-same part met.number None (entries_of top)
+        (λ range. HaveRoom part.size (lengths_of part kept range bytes)) place at
+        (head-apart part top now-head) leads is.number
+        (set-have-room part met.range place item met.block old-holds in-range kept bytes ready.valid
+        (written-items part met.range place item met.block bytes written) new-holds has-place
+        old-room)
+
+    same-range : OfBlock part met.number None (entries_of top) (λ range. range ≡ met.range)
+    same-range = of-same part met.number None (entries_of top) (λ range. range ≡ met.range) place at
+        (head-apart part top now-head) leads is.number refl
+
+    has : record_at (records_of part bytes) place ≡ item
+    has = ap (λ (content : Content). record_at content place)
+        (written-records part met.range place item met.block bytes written ready.valid)
+        ∙ set-here met.range place item (records_of part met.block)
+
+    keeps : KeepsOthers part a met.number bytes place item
+    keeps q found leads_q there = by (is_eq (place_cmp q place)) refl
+      where
+        Kept : Type 0
+        Kept = (record_at (records_of part bytes) q ≡ item_of (KeyedShape part) a.cur q)
+            ⊎ ((q ≡ place) × (record_at (records_of part bytes) q ≡ item))
+
+        equal-is : (o : Ordering) → is_eq o ≡ true → o ≡ Equal
+        equal-is Less it = absurd (true≢false (sym it))
+        equal-is Equal it = refl
+        equal-is Greater it = absurd (true≢false (sym it))
+
+        range-is : found.0 ≡ met.range
+        range-is = of-found part met.number None (entries_of top) (λ range. range ≡ met.range) q
+            found same-range leads_q there
+
+        in-it : is_in met.range q ≡ true
+        in-it = subst (λ (range : Range). is_in range q ≡ true) range-is
+            (found-range None (entries_of top) q found refl leads_q)
+
+        block-is : block_at a.cur (entry_block part found.1) ≡ met.block
+        block-is = ap (block_at a.cur) there ∙ is.still
+
+        by : (b : Bool) → is_eq (place_cmp q place) ≡ b
+            → (record_at (records_of part bytes) q ≡ item_of (KeyedShape part) a.cur q)
+            ⊎ ((q ≡ place) × (record_at (records_of part bytes) q ≡ item))
+        by true it =
+            let same : q ≡ place = same_place q place (equal-is (place_cmp q place) it) in
+            inr (same, ap (record_at (records_of part bytes)) same ∙ has)
+        by false it = inl
+            (ap (λ (content : Content). record_at content q)
+            (written-records part met.range place item met.block bytes written ready.valid)
+            ∙ set-other met.range place item (records_of part met.block) q in-it
+            (λ same. true≢false (sym (ap is_eq (ap (place_cmp q) (sym same) ∙ same_is_equal q))
+            ∙ it))
+            ∙ sym (ap (λ (block : Block). record_at (records_of part block) q) block-is)
+            ∙ sym (ap (λ (o : Option (Range × Entry)). found_on a.cur (way_in part q o)) leads_q))
+
+    module _ (tells : Bool) (told : IsTrue tells) (b : Seen)
+        (call : Puts tells met.number bytes a b) where
+      pub may-set : MaySet part kept place item a b
+      may-set = record {
+        adds = set-adds part tells told a b met.number bytes place item ready.rests left call other
+            inside-part of-holds keeps;
+        room = room-after part tells told a b met.number bytes kept ready.rests call other
+            ready.room of-room;
+        rooms = rooms-after part tells told a b met.number bytes kept ready.rests call other
+            inside-part ready.room of-holds of-room;
+      }
+
+      off-split : (now : SplitNow) → split ≡ Some now → (m : ℕ) → InPart (KeyedShape part) m
+          → IsSplitBlock part now m → m ≢ met.number
+      off-split now some m within_part named same =
+          let stage : stage_at split is.entry ≡ None =
+          sym (ap (stage_in split) leads) ∙ ready.can.no_stage in
+          let tests = either-false (nat_eq (slice_index is.entry.intervals 0) now.old)
+          (nat_eq (slice_index is.entry.intervals 0) now.into) now.stage
+          (subst (λ (o : Option SplitNow). stage_at o is.entry ≡ None) some stage) in
+          ⊎_elim
+          (λ head. other (sym same ∙ head))
+          (λ named_interval. ⊎_elim
+          (λ old. test-apart (slice_index is.entry.intervals 0) now.old tests.0
+          (omega (arith, is.number, same, old)))
+          (λ into. test-apart (slice_index is.entry.intervals 0) now.into tests.1
+          (omega (arith, is.number, same, into)))
+          named_interval)
+          named
+
+      -- what is read by way of an entry that leads to the block
+      read-now : (q : List ℕ) (found : Range × Entry)
+          → entry_for None (entries_of top) q ≡ Some found → entry_block part found.1 ≡ met.number
+          → item_of (KeyedShape part) b.cur q
+          ≡ record_at (records_of part (block_at b.cur met.number)) q
+      read-now q found leads_q there =
+          led-is part tells told b b met.number bytes q found
+          (ap (λ (block : Block). entry_for None (entries_of block) q)
+          (head-still part tells told a b met.number bytes call other) ∙ leads_q)
+          ∙ ap (λ (n : ℕ). record_at (records_of part (block_at b.cur n)) q) there
+
+      pub done-set : block_at b.cur met.number ≡ bytes
+          → IsSetNow part split (met.number ∷ []) place item a b
+      done-set now = record {
+        set = sets-one part tells told a b met.number bytes place item at call other now leads
+            is.number has keeps;
+        due = λ listed q due within_list. due-put part tells told a b met.number bytes listed q
+            ready.rests left call other
+            (λ found leads_q there block once.
+            ap (λ (x : Block). record_at (records_of part x) q)
+            (once.1 (within_list met.number (Contains-push [] met.number)))
+            ∙ sym (read-now q found leads_q there)) due;
+        rests = rest-after part tells told a b met.number bytes ready.rests call other
+            may-set.adds.sound;
+        way = way-puts tells told part split met.number bytes a b call ready.rests.sound left
+            off-split ready.way;
+      }
+
+      -- what was met is as it is now
+      pub refresh-met : block_at b.cur met.number ≡ bytes → (one : Met) → IsMet part a.cur one
+          → IsMet part b.cur (refreshed met.number bytes one)
+      refresh-met now one is_one = by (nat_eq one.number met.number) refl
+        where
+          still-head : block_at b.cur part.head ≡ block_at a.cur part.head
+          still-head = head-still part tells told a b met.number bytes call other
+
+          leads-still : entry_for None (entries_of (block_at b.cur part.head)) one.place
+              ≡ Some (one.range, is_one.entry)
+          leads-still = ap (λ (block : Block). entry_for None (entries_of block) one.place)
+              still-head ∙ is_one.leads
+
+          by : (t : Bool) → nat_eq one.number met.number ≡ t
+              → IsMet part b.cur (refreshed met.number bytes one)
+          by true it =
+              let same : one.number ≡ met.number =
+              Rattle.std.proofs.Common.eqb-true one.number met.number it in
+              record {
+                entry = is_one.entry;
+                leads = leads-still;
+                number = is_one.number;
+                still = ap (block_at b.cur) same ∙ now
+                    ∙ sym (ap (λ (t : Bool). cond t bytes one.block) it);
+              }
+          by false it = record {
+            entry = is_one.entry;
+            leads = leads-still;
+            number = is_one.number;
+            still = cur-elsewhere tells a b one.number met.number bytes told
+                (test-apart one.number met.number it) call ∙ is_one.still
+                ∙ sym (ap (λ (t : Bool). cond t bytes one.block) it);
+          }

@@ -1,0 +1,44 @@
+use Rattle.std.proofs.Common.{◌≡◌, ℕ, List, Option, Some, None, MatchOption, refl, rules, sym, ap, subst}
+use Rattle.std.proofs.Common.{◌∙◌}
+use Rattle.vr_types.specs.Content.{record_at}
+use Rattle.vr_types.specs.Image.{Block, Image, block_at}
+use Rattle.vr_types.proofs.CallerLemmas.{keeps-then}
+use Rattle.vr_space.specs.Keyed.{HoldsRange, records_of}
+use Rattle.vr_space.specs.Part.{KeyedShape, item_of}
+use Rattle.vr_keyed.proofs.Looking.{led-holds, led-item}
+use Rattle.vr_keyed.proofs.look.look_in.Goals as goal
+
+pub returns : goal.returns
+returns g c =
+    let B = g.B.Blocks in
+    let a = B.seen c.args.blocks.now in
+    let m = B.seen c.block_for.new.blocks in
+    let part = c.args.layout.now in
+    let place = c.args.place.now in
+    (
+      (
+        refl,
+        λ x. tt,
+        (keeps-then B.tells a m (B.seen c.get.follows.lender-at-none)
+            c.block_for.ensures.keeps c.get.follows.holds-at-none.0, search rules),
+      ),
+      record {
+        item = λ told.
+            let leads = c.in_ok-number.ensures.leads told in
+            let same : c.in_ok-block.block.now ≡ block_at a.cur c.in_ok-number.number =
+            c.in_ok-block.ensures.content told
+            ∙ ap (λ (image : Image). block_at image c.in_ok-number.number)
+            (c.block_for.ensures.keeps.content told) in
+            let holds = led-holds part a.cur place c.in_ok-number.number leads
+            (c.requires.stands told) in
+            let has = c.record_at.ensures leads.at.0
+            (subst (HoldsRange part leads.at.0) (sym same) holds) in
+            let is : item_of (KeyedShape part) a.cur place
+            ≡ record_at (records_of part c.in_ok-block.block.now) place =
+            led-item part a.cur place c.in_ok-number.number leads
+            ∙ sym (ap (λ (block : Block). record_at (records_of part block) place) same) in
+            subst (λ (o : Option (List ℕ)). MatchOption c.record_at.result (o ≡ None)
+            (λ s. o ≡ Some s.now)) (sym is) has;
+        after = tt;
+      },
+    )

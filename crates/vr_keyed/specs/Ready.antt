@@ -1,0 +1,52 @@
+-- What a `set` finds of a keyed part, and what it leaves. The rules are this project's own.
+use Rattle.std.specs.Prelude.{ℕ, Bool, List, [], ◌∷◌, Option, Some, None, IfSome, cond, nat_eq}
+use Rattle.vr_types.specs.Image.{Block}
+use Rattle.vr_types.specs.Regions.{Touches}
+use Rattle.vr_types.specs.Seen.{Seen}
+use Rattle.vr_space.specs.Room.{Lengths}
+use Rattle.vr_space.specs.Keyed.{Keyed, IsKeyedAtRest, KeepsRoom}
+use Rattle.vr_space.specs.Split.{SplitNow}
+use Rattle.vr_space.specs.UnderWay.{KeyedUnderWay}
+use Rattle.vr_space.specs.Met.{Met}
+use Rattle.vr_space.specs.Part.{KeyedShape, InPart, IsRecordOf, CanSet, AddsTo, Just, SetsOne, DueMore}
+use Rattle.vr_space.specs.Part.{HasRoom}
+
+-- At rest, with room for what is kept, and this may be set at the place.
+pub record IsReady (part : Keyed) (kept : Lengths) (split : Option SplitNow) (place : List ℕ)
+    (item : Option (List ℕ)) (now : Seen) : Type 0 where
+  pub rests : IsKeyedAtRest part now
+  pub room : KeepsRoom part kept now
+  pub way : KeyedUnderWay part split now
+  pub can : CanSet (KeyedShape part) split now.cur kept place item
+  pub valid : IfSome item (IsRecordOf (KeyedShape part) place)
+
+-- Whether it failed or not: at most this is added at the place, and there is room for what is kept,
+-- in the image of each moment and from then on.
+pub record MaySet (part : Keyed) (kept : Lengths) (place : List ℕ) (item : Option (List ℕ))
+    (old new : Seen) : Type 0 where
+  pub adds : AddsTo (KeyedShape part) (Just place item) old new
+  pub room : KeepsRoom part kept new
+  pub rooms : Touches (InPart (KeyedShape part)) (HasRoom (KeyedShape part) kept) old new
+
+-- It is set: these blocks have to be forced for it, and the part is at rest, with the split that was
+-- under way.
+pub record IsSetNow (part : Keyed) (split : Option SplitNow) (put place : List ℕ)
+    (item : Option (List ℕ)) (old new : Seen) : Type 0 where
+  pub set : SetsOne (KeyedShape part) place item old.cur new.cur
+  pub due : DueMore (KeyedShape part) put old new
+  pub rests : IsKeyedAtRest part new
+  pub way : KeyedUnderWay part split new
+
+-- the blocks that were put
+abbrev pub put_of : Option ℕ → List ℕ
+put_of None = []
+put_of (Some n) = n ∷ []
+
+-- what was met of a block, once these bytes are put into block n
+abbrev pub refreshed : ℕ → Block → Met → Met
+refreshed n bytes met = record {
+  place = met.place;
+  range = met.range;
+  number = met.number;
+  block = cond (nat_eq met.number n) bytes met.block;
+}
