@@ -1,5 +1,5 @@
 //! The stages of a split that come before a record which lacks room.
-ghost use Rattle.std.specs.Prelude.{◌≡◌, ◌≤◌, ◌<◌, [], ℕ, Some, None, IsTrue, true, false, All, length};
+ghost use Rattle.std.specs.Prelude.{◌≡◌, ◌≤◌, ◌<◌, [], ℕ, Some, None, IsTrue, false, All, length};
 ghost use Rattle.std.specs.Prelude.{IfOk, IfErr, OnOk, OnErr, IfSome, IsSome, IsSomeAnd};
 ghost use Rattle.vr_types.specs.Image.{Image, block_at};
 ghost use Rattle.vr_types.specs.Blocks.{Keeps};
@@ -126,7 +126,11 @@ fn begin_split<B: Blocks, K: Kept>(
     let Some(plan) = plan_at(layout, slots, blocks, kept, place, longest, weights)? else {
         return Ok(false);
     };
-    split.begin(plan.target.old, plan.target.into, weights.place(plan.number));
+    split.begin(
+        plan.target.old,
+        plan.target.into,
+        weights.place(plan.number),
+    );
     Ok(true)
 }
 

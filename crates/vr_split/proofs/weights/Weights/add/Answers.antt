@@ -54,7 +54,8 @@ returns-then-self-len c =
     let count : c.len.result ≡ length items = c.len.ensures ∙ sym c.deref.ensures.len
     ∙ ap length c.deref.ensures.value in (
       refl,
-      no_room items used c.self.inside.bytes at place c.args.self.now c.self.invariant position other
+      no_room items used c.self.inside.bytes at place c.args.self.now c.self.invariant position
+          other
           (elim c.then-self-len.branch [
             | then-self-len-via-then-self-len w ↦ inl (w.if-self-len.true ∙ count)
             | then-self-len-via-else-self-len+then-self-place w ↦ inr w.if-self-place.true
