@@ -2,14 +2,14 @@
 use Rattle.std.proofs.Common.{◌≡◌, ◌≢◌, ◌⊎◌, inl, inr, ⊎_elim, ◌<◌, ◌≤◌, ◌+◌, ◌-◌, ℕ, Bool, IsTrue}
 use Rattle.std.proofs.Common.{true, false, List, [], ◌∷◌, Option, Some, None, All, refl, sym, ap}
 use Rattle.std.proofs.Common.{subst, ◌∙◌, arith, true≢false, length, map, ◌||◌, eq-eqb}
-use Rattle.std.proofs.lemmas.List.Elements.{All-map, All-weaker, Contains-push}
+use Rattle.std.proofs.lemmas.List.Elements.{Contains-push}
 use Rattle.std.specs.Prelude.{cond, IfSome, slice_index, nat_eq, nat_le, is_some, Contains}
 use Rattle.std.specs.List.Sorted.{IsStrictlySortedBy}
 use Rattle.std.specs.Ordering.{is_le, is_eq}
 use Rattle.std.specs.declared.cmp.Ordering.{Ordering}
 use Rattle.std.specs.declared.cmp.Ordering.TheVariants.{Less, Equal, Greater}
 use Rattle.vr_types.specs.Content.{Content, place_cmp, record_at}
-use Rattle.vr_types.specs.Image.{Block, Image, block_at}
+use Rattle.vr_types.specs.Image.{Block, block_at}
 use Rattle.vr_types.specs.Seen.{Seen, Left, Only}
 use Rattle.vr_types.specs.Blocks.{Puts}
 use Rattle.vr_types.specs.declared.unit.StageKind.{StageKind}
@@ -20,19 +20,18 @@ use Rattle.vr_ci_match.specs.Fault.{is_busy}
 use Rattle.vr_ci.specs.Interval as ci
 use Rattle.vr_ci.proofs.CallerLemmas.{interval_says}
 use Rattle.vr_seqset.specs.Entry.{Entry}
-use Rattle.vr_space.specs.Way.{MayOnceForced, found_on}
+use Rattle.vr_space.specs.Way.{found_on}
 use Rattle.vr_space.specs.Room.{Lengths, Range, HaveRoom, is_in, weight, with_length}
 use Rattle.vr_space.specs.Keyed.{Keyed, IsHead, IsKept, HoldsRange, EachMayLeave, items_of, key_of}
 use Rattle.vr_space.specs.Keyed.{records_of, lengths_of, entries_of, entry_block, entry_for, range_of}
 use Rattle.vr_space.specs.Keyed.{way_in}
 use Rattle.vr_space.specs.Split.{SplitNow, stage_at, stage_in}
-use Rattle.vr_space.specs.UnderWay.{interval_block}
 use Rattle.vr_space.specs.Met.{Met, IsMet}
-use Rattle.vr_space.specs.Part.{KeyedShape, InPart, IsRecordOf, HasRoomFor, item_of, SetsOne}
-use Rattle.vr_space.proofs.CallerLemmas.{found-in, IsSplitBlock, way-puts, met-stays, same_is_equal}
+use Rattle.vr_space.specs.Part.{KeyedShape, InPart, IsRecordOf, HasRoomFor, item_of}
+use Rattle.vr_space.proofs.CallerLemmas.{found-in, IsSplitBlock, way-puts, same_is_equal}
 use Rattle.vr_split.specs.Switching.{OfBlock}
 use Rattle.vr_split.proofs.CallerLemmas.{now-entries, KeepsOthers, of-found, set-adds, head-still}
-use Rattle.vr_split.proofs.CallerLemmas.{led-is, equal_or, rest-after, room-after, rooms-after}
+use Rattle.vr_split.proofs.CallerLemmas.{led-is, rest-after, room-after, rooms-after}
 use Rattle.vr_split.proofs.CallerLemmas.{sets-one, due-put, head-apart, of-same, found-range}
 use Rattle.vr_keyed.specs.Setting.{items_set}
 use Rattle.vr_keyed.specs.Ready.{IsReady, MaySet, IsSetNow, refreshed}

@@ -1,9 +1,8 @@
-use Rattle.std.proofs.Common.{◌≡◌, ◌≤◌, ◌<◌, ◌+◌, ◌-◌, ℕ, ◌++◌, ◌∷◌, [], List, IsTrue, true, false, length}
-use Rattle.std.proofs.Common.{refl, sym, ap, subst, ◌∙◌, rules, arith}
+use Rattle.std.proofs.Common.{◌≡◌, ◌≤◌, ◌+◌, ℕ, ◌++◌, ◌∷◌, [], List, IsTrue, true, false, length}
+use Rattle.std.proofs.Common.{refl, sym, ap, subst, ◌∙◌, arith}
 use Rattle.std.specs.Prelude.{IsErr}
 use Rattle.vr_ci.specs.Interval as ci
 use Rattle.vr_ci.specs.Writer.{Holds, written}
-use Rattle.vr_space.specs.Keyed.{key_of}
 use Rattle.vr_keyed.specs.Setting.{items_in}
 use Rattle.vr_keyed.proofs.Adding.{is_one, one_of, test-false, in-wanted, holds-other, written-is}
 use Rattle.vr_keyed.proofs.Adding.{not-err, on-ok}

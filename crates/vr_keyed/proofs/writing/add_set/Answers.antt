@@ -1,11 +1,10 @@
-use Rattle.std.proofs.Common.{◌≡◌, ◌+◌, ◌-◌, ◌≤◌, ◌++◌, ℕ, List, [], Option, Some, true, false, true≢false}
-use Rattle.std.proofs.Common.{refl, sym, ap, subst, ◌∙◌, arith, append_assoc}
+use Rattle.std.proofs.Common.{◌≡◌, ◌-◌, ◌++◌, ℕ, List, [], Option, Some, true, false, true≢false}
+use Rattle.std.proofs.Common.{sym, ap, subst, ◌∙◌, arith, append_assoc}
 use Rattle.std.specs.Borrow.{Bor}
 use Rattle.std.specs.Option.{option_map}
 use Rattle.vr_ci.specs.Interval as ci
 use Rattle.vr_ci.specs.Writer.{Holds, size_of}
 use Rattle.vr_ci.proofs.CallerLemmas.{room-append}
-use Rattle.vr_space.specs.Room.{Range}
 use Rattle.vr_space.specs.Part.{given}
 use Rattle.vr_keyed.specs.Setting.{items_between, items_given}
 use Rattle.vr_keyed.specs.Slots.{met_in}

@@ -1,10 +1,10 @@
-use Rattle.std.proofs.Common.{◌≡◌, ◌-◌, ◌≤◌, ℕ, List, All, false, true≢false, length, refl, sym, ap}
+use Rattle.std.proofs.Common.{◌≡◌, ℕ, List, All, false, true≢false, refl, sym, ap}
 use Rattle.std.proofs.Common.{subst, ◌∙◌, arith, rules}
 use Rattle.vr_ci_match.specs.declared.form.Form.TheVariants.{Plain}
 use Rattle.vr_ci_match.specs.declared.form.Shape.TheVariants as shapes
 use Rattle.vr_ci_match.specs.Fault.{is_busy}
 use Rattle.vr_ci.specs.Interval as ci
-use Rattle.vr_ci.specs.Writer.{Holds, form_of, size_of}
+use Rattle.vr_ci.specs.Writer.{Holds, form_of}
 use Rattle.vr_space.specs.Keyed.{IsKept, items_of}
 use Rattle.vr_space.specs.Part.{given}
 use Rattle.vr_space.proofs.CallerLemmas.{items-read}
