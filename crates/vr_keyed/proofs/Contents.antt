@@ -78,9 +78,10 @@ passing-none test (entry ∷ xs) place is = by (test entry.0) refl (passing-none
   where
     by : (b : Bool) → test entry.0 ≡ b → NoneAt place (passing test xs)
         → NoneAt place (cond b (entry ∷ passing test xs) (passing test xs))
-    by true inside more =
-        (λ same. true≢false (sym inside ∙ sym (ap test (same_place place entry.0 same)) ∙ is),
-        more)
+    by true inside more = (
+      λ same. true≢false (sym inside ∙ sym (ap test (same_place place entry.0 same)) ∙ is),
+      more,
+    )
     by false outside more = more
 
 passing-above : (low : Option (List ℕ)) (test : List ℕ → Bool) (xs : Content) → AllAbove low xs

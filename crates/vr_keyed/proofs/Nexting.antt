@@ -384,8 +384,12 @@ module _ (part : Keyed) (image : Image) (from : Whence)
       ∙ none-passes (is_sought (nth-range n None nth) from)
       (records_of part (nth-block n None nth)) q (nth-first n None nth)
       (nth-sought n None nth q allowed at_n))
-      (λ past. absurd (omega (arith, past, position-below q all-entries 0 n
-      (sym (position_from-zero (reaches q) all-entries) ∙ at_n))))
+      (λ past. absurd (omega (
+        arith,
+        past,
+        position-below q all-entries 0 n
+            (sym (position_from-zero (reaches q) all-entries) ∙ at_n),
+      )))
       has)
       (cases_lt i n)
 
@@ -398,9 +402,12 @@ module _ (part : Keyed) (image : Image) (from : Whence)
           → item_of (KeyedShape part) image q ≡ None
       by None is = ap (λ (o : Option (Range × Entry)). found_on image (way_in part q o))
           (found-none q all-entries is)
-      by (Some i) is = none q i allowed is (omega (arith, all,
-          position-below q all-entries 0 i
-          (sym (position_from-zero (reaches q) all-entries) ∙ is)))
+      by (Some i) is = none q i allowed is (omega (
+        arith,
+        all,
+        position-below q all-entries 0 i
+            (sym (position_from-zero (reaches q) all-entries) ∙ is),
+      ))
 
   -- the first of the entry of this number
   pub next-is : (n : ℕ) (place : List ℕ) → HasNth part image n from (Some place) → NoneBefore n

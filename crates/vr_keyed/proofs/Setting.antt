@@ -68,52 +68,52 @@ each-found part now Q low (entry ∷ entries) place at each is =
 -- ---- an interval with a record set
 
 module _ (part : Keyed) (range : Range) (place : List ℕ) (item : Option (List ℕ)) (old bytes : Block)
-    where
-  -- what is written
-  abbrev pub IsWritten : Type 0
-  IsWritten = ci.IsInterval Plain bytes (record {
-    shape = shapes.Records;
-    items = items_set part range place item (items_of old);
-    busy = false;
-  })
+  where
+    -- what is written
+    abbrev pub IsWritten : Type 0
+    IsWritten = ci.IsInterval Plain bytes (record {
+      shape = shapes.Records;
+      items = items_set part range place item (items_of old);
+      busy = false;
+    })
 
-  pub written-items : IsWritten
-      → items_of bytes ≡ items_set part range place item (items_of old)
-  written-items written = sym (interval_says Plain bytes _ written refl).0
+    pub written-items : IsWritten
+        → items_of bytes ≡ items_set part range place item (items_of old)
+    written-items written = sym (interval_says Plain bytes _ written refl).0
 
-  pub written-holds : IsWritten → length bytes ≡ part.size → HoldsRange part range old
-      → IfSome item (IsRecordOf (KeyedShape part) place) → is_in range place ≡ true
-      → HoldsRange part range bytes
-  written-holds written long holds valid here =
-      let items = written-items written in
-      let idle : is_busy bytes ≡ false = sym (interval_says Plain bytes _ written refl).1 in
-      record {
-        spelled = subst (λ (xs : List ci.Item). ci.IsInterval Plain bytes (record {
-          shape = shapes.Records;
-          items = xs;
-          busy = is_busy bytes;
-        })) (sym items)
-            (subst (λ (b : Bool). ci.IsInterval Plain bytes (record {
-          shape = shapes.Records;
-          items = items_set part range place item (items_of old);
-          busy = b;
-        })) (sym idle) written);
-        size = long;
-        kept = subst (All (IsKept part)) (sym items)
-            (set-kept part range place item (items_of old) valid holds.kept);
-        ascends = subst (λ (xs : List ci.Item). IsStrictlySortedBy place_cmp
-            (map (λ (x : ci.Item). key_of part x.bytes) xs)) (sym items)
-            (set-ascends part range place item (items_of old) valid holds.ascends);
-        within = λ not_busy. subst
-            (All (λ (x : ci.Item). IsTrue (is_in range (key_of part x.bytes)))) (sym items)
-            (set-within part range place item (items_of old) valid here);
-      }
+    pub written-holds : IsWritten → length bytes ≡ part.size → HoldsRange part range old
+        → IfSome item (IsRecordOf (KeyedShape part) place) → is_in range place ≡ true
+        → HoldsRange part range bytes
+    written-holds written long holds valid here =
+        let items = written-items written in
+        let idle : is_busy bytes ≡ false = sym (interval_says Plain bytes _ written refl).1 in
+        record {
+          spelled = subst (λ (xs : List ci.Item). ci.IsInterval Plain bytes (record {
+            shape = shapes.Records;
+            items = xs;
+            busy = is_busy bytes;
+          })) (sym items)
+              (subst (λ (b : Bool). ci.IsInterval Plain bytes (record {
+                shape = shapes.Records;
+                items = items_set part range place item (items_of old);
+                busy = b;
+              })) (sym idle) written);
+          size = long;
+          kept = subst (All (IsKept part)) (sym items)
+              (set-kept part range place item (items_of old) valid holds.kept);
+          ascends = subst (λ (xs : List ci.Item). IsStrictlySortedBy place_cmp
+              (map (λ (x : ci.Item). key_of part x.bytes) xs)) (sym items)
+              (set-ascends part range place item (items_of old) valid holds.ascends);
+          within = λ not_busy. subst
+              (All (λ (x : ci.Item). IsTrue (is_in range (key_of part x.bytes)))) (sym items)
+              (set-within part range place item (items_of old) valid here);
+        }
 
-  pub written-records : IsWritten → IfSome item (IsRecordOf (KeyedShape part) place)
-      → records_of part bytes ≡ content_set range place item (records_of part old)
-  written-records written valid =
-      ap (map (Rattle.vr_space.specs.Keyed.placed part)) (written-items written)
-      ∙ records-set part range place item (items_of old) valid
+    pub written-records : IsWritten → IfSome item (IsRecordOf (KeyedShape part) place)
+        → records_of part bytes ≡ content_set range place item (records_of part old)
+    written-records written valid =
+        ap (map (Rattle.vr_space.specs.Keyed.placed part)) (written-items written)
+        ∙ records-set part range place item (items_of old) valid
 
 -- ---- the put
 
@@ -189,7 +189,7 @@ module _ (part : Keyed) (kept : Lengths) (split : Option SplitNow) (place : List
       by (Some record_given) same room = inr (
         length record_given,
         subst (λ (o : Option (List ℕ)).
-        Rattle.vr_keyed.proofs.Lengths.NoMore (length_in o) (Some (length record_given)))
+            Rattle.vr_keyed.proofs.Lengths.NoMore (length_in o) (Some (length record_given)))
             (sym same) (omega arith),
         ⊎_elim
             (λ fits. inl (subst (λ (block : Block).

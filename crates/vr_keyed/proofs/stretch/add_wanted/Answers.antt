@@ -31,7 +31,9 @@ returns-clause-added c items item holds same lives kept fits =
     λ err. omega (arith, (c.add.ensures.full items holds).0 err, fits, ap ci.room alone, long) in
     let ok : IsTrue c.is_ok.result = c.is_ok.ensures.value ∙ not-err c.add.result none in
     let added : Holds c.add.new.self (items ++ written c.args.bytes.now c.args.live ∷ []) =
-    on-ok c.add.result _ (not-err c.add.result none) (c.add.ensures.ok items holds) in
-    (ok, subst (λ (xs : List ci.Item). Holds c.add.new.self (items ++ xs))
-    (ap (λ (x : ci.Item). x ∷ [])
-    (written-is item c.args.bytes.now c.args.live same lives kept.live) ∙ sym alone) added)
+    on-ok c.add.result _ (not-err c.add.result none) (c.add.ensures.ok items holds) in (
+      ok,
+      subst (λ (xs : List ci.Item). Holds c.add.new.self (items ++ xs))
+          (ap (λ (x : ci.Item). x ∷ [])
+          (written-is item c.args.bytes.now c.args.live same lives kept.live) ∙ sym alone) added,
+    )

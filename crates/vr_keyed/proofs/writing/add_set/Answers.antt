@@ -63,8 +63,15 @@ returns-clause-added c holds kept some fits =
     let second = c.add_given.ensures.added low first.1 some
     (omega (arith, less, rooms, c.add_stretch.ensures.size)) in
     let third = c.add_stretch-2.ensures.added (low ++ items_given new) second.1 kept
-    (omega (arith, less, more, rooms, c.add_stretch.ensures.size, c.add_given.ensures.size,
-    room-append low (items_given new))) in
+    (omega (
+      arith,
+      less,
+      more,
+      rooms,
+      c.add_stretch.ensures.size,
+      c.add_given.ensures.size,
+      room-append low (items_given new),
+    )) in
     let whole : (low ++ items_given new) ++ high
     ≡ items_between part range.low place false items
     ++ (items_given new ++ items_between part (Some place) range.high true items) =

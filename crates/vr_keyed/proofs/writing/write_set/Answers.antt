@@ -65,11 +65,13 @@ returns c = record {
       let items : List ci.Item = items_set part range place new (items_of slot.bytes.items) in
       let held : Holds c.add_set.new.writer items =
       subst (λ (xs : List ci.Item). Holds c.add_set.new.writer (items_set part range place new xs))
-      same added.1 in
-      (refl, subst (λ (block : List ℕ). ci.IsInterval Plain block (record {
-        shape = shapes.Records;
-        items = items;
-        busy = false;
-      })) (search rules) (of-form (form_of c.add_set.new.writer) items false
-      (c.add_set.ensures.form ∙ c.begin-writer.ensures.form) (c.end.ensures.interval items held)));
+      same added.1 in (
+        refl,
+        subst (λ (block : List ℕ). ci.IsInterval Plain block (record {
+          shape = shapes.Records;
+          items = items;
+          busy = false;
+        })) (search rules) (of-form (form_of c.add_set.new.writer) items false
+            (c.add_set.ensures.form ∙ c.begin-writer.ensures.form) (c.end.ensures.interval items held)),
+      );
 }
