@@ -93,7 +93,8 @@ module _ (part : Keyed) (stretch : Stretch) (items all old left : List ci.Item) 
       (ap (items_in part stretch) cut ∙ in-more part stretch item left)) ∙ whole
 
   -- the next record has room beside what was added
-  pub adding-room : (size : ℕ) → old ≡ item ∷ left → (adding : IsAdding part stretch items all old w)
+  pub adding-room : (size : ℕ) → old ≡ item ∷ left
+      → (adding : IsAdding part stretch items all old w)
       → ci.room items + ci.room (items_in part stretch all) ≤ size
       → ci.room (items ++ adding.done) + ci.room (items_in part stretch (item ∷ [])) ≤ size
   adding-room size cut adding fits =

@@ -1,6 +1,7 @@
 -- Searching for the next place with a record.
 use Rattle.std.proofs.Common.{◌≡◌, ◌≢◌, ◌⊎◌, ⊎_elim, ◌<◌, ◌≤◌, ◌+◌, ℕ, zero, suc}
-use Rattle.std.proofs.Common.{Bool, IsTrue, true, false, ◌&&◌, List, [], ◌∷◌, Option, Some, None, All}
+use Rattle.std.proofs.Common.{Bool, IsTrue, true, false, ◌&&◌, List, [], ◌∷◌, Option, Some, None}
+use Rattle.std.proofs.Common.{All}
 use Rattle.std.proofs.Common.{refl, sym, ap, subst, ◌∙◌, arith, true≢false, length, map}
 use Rattle.std.specs.Prelude.{cond, filter, is_some, unwrap_or, slice_get}
 use Rattle.std.specs.List.{position, position_from}

@@ -115,7 +115,8 @@ under-more one (entry ∷ more) rise =
     (record {
       each = λ q. at-by one entry.0 entry.1 q rise (NoMore (length_at one q))
           (λ equal. subst
-          (λ (p : List ℕ). NoMore (length_at one p) (Some (most_of entry.1 (length_at one entry.0))))
+          (λ (p : List ℕ). NoMore (length_at one p)
+          (Some (most_of entry.1 (length_at one entry.0))))
           (sym (same_place q entry.0 equal)) (longer (length_at one entry.0)))
           (λ apart. no-more-same (length_at one q) (length_at one q) refl);
     })
@@ -142,7 +143,8 @@ module _ (part : Keyed) (range : Range) (place : List ℕ) (new : Option (List �
   stand-before = stand-filter range (records_of part old) (stand-placed part (items_of old))
 
   rise-before : Rise (lengths before)
-  rise-before = rise-lengths before stand-before (rising-filtered range (records_of part old) rising)
+  rise-before = rise-lengths before stand-before
+      (rising-filtered range (records_of part old) rising)
 
   at-before : (q : List ℕ) → is_in range q ≡ true
       → length_at (lengths before) q ≡ length_in (record_at (records_of part old) q)
@@ -184,7 +186,8 @@ module _ (part : Keyed) (range : Range) (place : List ℕ) (new : Option (List �
     pub after-longer : (n : ℕ) → NoMore (length_in new) (Some n)
         → IsUnder (lengths after) (with_length (lengths before) place n)
     after-longer n most = record {
-      each = λ q. at-by (lengths before) place n q rise-before (NoMore (length_at (lengths after) q))
+      each = λ q. at-by (lengths before) place n q rise-before
+          (NoMore (length_at (lengths after) q))
           (λ equal. subst (λ (p : List ℕ). NoMore (length_at (lengths after) p)
           (Some (most_of n (length_at (lengths before) place))))
           (sym (same_place q place equal))
@@ -299,7 +302,8 @@ module _ (part : Keyed) (range : Range) (place : List ℕ) (new : Option (List �
       → ci.room (items_set part range place new (items_of old)) ≤ part.size - 4
   set-room-of kept is has fits =
       let items : List ci.Item = items_set part range place new (items_of old) in
-      let same : map (placed part) items ≡ after = records-set part range place new (items_of old) is
+      let same : map (placed part) items
+      ≡ after = records-set part range place new (items_of old) is
       in
       let stand : AllStand after = subst AllStand same (stand-placed part items) in
       omega (

@@ -23,7 +23,8 @@ use Rattle.vr_seqset.specs.Entry.{Entry}
 use Rattle.vr_space.specs.Way.{found_on}
 use Rattle.vr_space.specs.Room.{Lengths, Range, HaveRoom, is_in, weight, with_length}
 use Rattle.vr_space.specs.Keyed.{Keyed, IsHead, IsKept, HoldsRange, EachMayLeave, items_of, key_of}
-use Rattle.vr_space.specs.Keyed.{records_of, lengths_of, entries_of, entry_block, entry_for, range_of}
+use Rattle.vr_space.specs.Keyed.{records_of, lengths_of, entries_of, entry_block, entry_for}
+use Rattle.vr_space.specs.Keyed.{range_of}
 use Rattle.vr_space.specs.Keyed.{way_in}
 use Rattle.vr_space.specs.Split.{SplitNow, stage_at, stage_in}
 use Rattle.vr_space.specs.Met.{Met, IsMet}
@@ -67,7 +68,8 @@ each-found part now Q low (entry ∷ entries) place at each is =
 
 -- ---- an interval with a record set
 
-module _ (part : Keyed) (range : Range) (place : List ℕ) (item : Option (List ℕ)) (old bytes : Block)
+module _ (part : Keyed) (range : Range) (place : List ℕ) (item : Option (List ℕ))
+    (old bytes : Block)
   where
     -- what is written
     abbrev pub IsWritten : Type 0

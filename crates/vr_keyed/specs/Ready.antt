@@ -8,7 +8,8 @@ use Rattle.vr_space.specs.Keyed.{Keyed, IsKeyedAtRest, KeepsRoom}
 use Rattle.vr_space.specs.Split.{SplitNow}
 use Rattle.vr_space.specs.UnderWay.{KeyedUnderWay}
 use Rattle.vr_space.specs.Met.{Met}
-use Rattle.vr_space.specs.Part.{KeyedShape, InPart, IsRecordOf, CanSet, AddsTo, Just, SetsOne, DueMore}
+use Rattle.vr_space.specs.Part.{KeyedShape, InPart, IsRecordOf, CanSet, AddsTo, Just, SetsOne}
+use Rattle.vr_space.specs.Part.{DueMore}
 use Rattle.vr_space.specs.Part.{HasRoom}
 
 -- At rest, with room for what is kept, and this may be set at the place.
@@ -28,7 +29,8 @@ pub record MaySet (part : Keyed) (kept : Lengths) (place : List ℕ) (item : Opt
   pub room : KeepsRoom part kept new
   pub rooms : Touches (InPart (KeyedShape part)) (HasRoom (KeyedShape part) kept) old new
 
--- It is set: these blocks have to be forced for it, and the part is at rest, with the split that was
+-- It is set: these blocks have to be forced for it, and the part is at rest, with the split that
+-- was
 -- under way.
 pub record IsSetNow (part : Keyed) (split : Option SplitNow) (put place : List ℕ)
     (item : Option (List ℕ)) (old new : Seen) : Type 0 where

@@ -1,5 +1,6 @@
 //! Searching for the next place with a record.
-ghost use Rattle.std.specs.Prelude.{◌≡◌, ◌≤◌, ◌+◌, ◌↔◌, ℕ, List, Some, true, IsTrue, All, length, map};
+ghost use Rattle.std.specs.Prelude.{◌≡◌, ◌≤◌, ◌+◌, ◌↔◌, ℕ, List, Some, true, IsTrue, All, length};
+ghost use Rattle.std.specs.Prelude.{map};
 ghost use Rattle.std.specs.Prelude.{IfOk, IfSome};
 ghost use Rattle.std.specs.Borrow.{Bor};
 ghost use Rattle.std.specs.List.{position};

@@ -26,4 +26,5 @@ pub use Rattle.vr_space.proofs.Rooms.{room-image, keeps-rooms}
 pub use Rattle.vr_space.proofs.Keeping.{keep-room}
 pub use Rattle.vr_space.proofs.Framing.{StaysPart, rest-stays, room-stays, knows-stays, can-stays}
 pub use Rattle.vr_space.proofs.Framing.{same-stays}
-pub use Rattle.vr_space.proofs.Fewer.{Rise, Under, fewer-room, rise-with, under-both, under-more, under-self}
+pub use Rattle.vr_space.proofs.Fewer.{Rise, Under, fewer-room, rise-with, under-both, under-more}
+pub use Rattle.vr_space.proofs.Fewer.{under-self}

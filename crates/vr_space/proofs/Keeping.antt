@@ -61,7 +61,7 @@ absorbs (entry ∷ lengths) place n more holds =
         → (Holds lengths place n
         → with_length lengths place (max n more) ≡ with_length lengths place more)
         → lengthen_by order place (max n more) entry lengths
-            (with_length lengths place (max n more))
+        (with_length lengths place (max n more))
         ≡ lengthen_by order place more entry lengths (with_length lengths place more)
     by_order Less here further = absurd here
     by_order Equal here further =
@@ -158,7 +158,7 @@ kept-stands range lengths (entry ∷ kept) place n holds =
         (lengths_in range kept))
     same-in true at = ap (λ (l : Lengths). with_lengths l (lengths_in range kept))
         (subst (λ (q : List ℕ). with_length lengths q (max n entry.1)
-            ≡ with_length lengths q entry.1)
+        ≡ with_length lengths q entry.1)
         at (absorbs lengths place n entry.1 holds))
     same-in false at = refl
 
@@ -427,9 +427,12 @@ keep-room (KeyedShape part) kept place n now long sound room stands = record {
       (recursion_from_All (λ (entry : List ℕ × ℕ). length entry.0 ≡ part.key) kept room.places));
   each = λ top may. each-kept part kept place n now None (entries_of top)
       (head-ascends part top (sound.heads top may))
-      (λ at leads block block-may. stands (record_at (records_of part block) place)
-      (top, may, subst (λ (found : Option (Range × Entry)). MayFind now.may
-      (record_at (records_of part block) place) (way_in part place found)) (sym leads)
-      (block, block-may, refl)))
+      (λ at leads block block-may. stands (record_at (records_of part block) place) (
+        top,
+        may,
+        subst (λ (found : Option (Range × Entry)). MayFind now.may
+            (record_at (records_of part block) place) (way_in part place found)) (sym leads)
+            (block, block-may, refl),
+      ))
       (sound.intervals top may) (room.each top may);
 }

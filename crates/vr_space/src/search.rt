@@ -13,7 +13,8 @@ ghost use Rattle.vr_space.specs.Room.{Range};
 ghost use Rattle.vr_space.specs.Keyed.{IsHead, HoldsRange, IsKept, entries_of, entry_for};
 ghost use Rattle.vr_space.specs.Keyed.{records_of};
 ghost use Rattle.vr_space.specs.Keyed.{placed, key_of};
-ghost use Rattle.vr_space.specs.Search.{IsEntryFor, IsEntryAt, HasPlaces, AreUpTo, keys_of, low_before};
+ghost use Rattle.vr_space.specs.Search.{IsEntryFor, IsEntryAt, HasPlaces, AreUpTo, keys_of};
+ghost use Rattle.vr_space.specs.Search.{low_before};
 
 use crate::layout::Layout;
 use vr_ci::{CiView, Form};

@@ -315,7 +315,7 @@ pub free-safe : (geometry : Geometry) (log : LogNow)
     → AddsSafe geometry log committed part shape (Just at new)
 free-safe geometry log committed part shape at new free content is place found here none =
     absurd (free content is (subst (λ (p : List ℕ). oldest (images_of content.records) part p
-        ≡ None)
+    ≡ None)
     here.0 none))
 
 -- ---- a part while the log is put

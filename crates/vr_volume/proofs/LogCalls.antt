@@ -217,7 +217,7 @@ module _ (log : LogNow) (most : log.forced ≤ length log.records) where
       (λ same. has (sym (ap (λ (records : List LogRecord). oldest (images_of records) part place)
       same) ∙ none))
       (λ empty. has
-          (ap (λ (records : List LogRecord). oldest (images_of records) part place) empty))
+      (ap (λ (records : List LogRecord). oldest (images_of records) part place) empty))
       (forced-all behind content is)
 
 -- forcing leaves the shape

@@ -35,7 +35,7 @@ abbrev pub is_over_by : EntryKind → CatEntry → Option CatEntry → Bool
 is_over_by Cluster entry base = is_none entry.related
 is_over_by Alternate entry base =
     option_map_or (λ (other : CatEntry). is_cluster other.entry_kind
-        && not (is_relative other.kind))
+    && not (is_relative other.kind))
     base false
 is_over_by Path entry base =
     option_map_or (λ (other : CatEntry). not (is_path_kind other.entry_kind)) base false

@@ -72,6 +72,7 @@ returns c = record {
           items = items;
           busy = false;
         })) (search rules) (of-form (form_of c.add_set.new.writer) items false
-            (c.add_set.ensures.form ∙ c.begin-writer.ensures.form) (c.end.ensures.interval items held)),
+            (c.add_set.ensures.form
+            ∙ c.begin-writer.ensures.form) (c.end.ensures.interval items held)),
       );
 }
