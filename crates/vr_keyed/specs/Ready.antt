@@ -30,8 +30,7 @@ pub record MaySet (part : Keyed) (kept : Lengths) (place : List ℕ) (item : Opt
   pub rooms : Touches (InPart (KeyedShape part)) (HasRoom (KeyedShape part) kept) old new
 
 -- It is set: these blocks have to be forced for it, and the part is at rest, with the split that
--- was
--- under way.
+-- was under way.
 pub record IsSetNow (part : Keyed) (split : Option SplitNow) (put place : List ℕ)
     (item : Option (List ℕ)) (old new : Seen) : Type 0 where
   pub set : SetsOne (KeyedShape part) place item old.cur new.cur
