@@ -7,12 +7,16 @@ use std::mem::replace;
 use vr_catalog::{
     CatEntry, EntryKind, FreeSpace, RECORD_LENGTH, ShareOptions, SpaceUnit, write_entry,
 };
+use vr_history::Entry;
 use vr_model::{FileState, OwnedArea, PartContent, PlacedItem, Stored};
 use vr_types::{AreaNo, Bytes, Geometry, Kind, NAME_LIMIT, NameFault, PartNo, Place, dataset_name};
 
-/// A volume as it stands, and what the next volume is opened with.
+/// A volume as it was opened, the entries that were taken since, as it stands, and what the next
+/// volume is opened with.
 #[derive(Drop)]
 pub struct Desk {
+    pub opening: FileState,
+    pub entries: Vec<Entry>,
     pub state: FileState,
     pub stamp: u64,
     pub geometry: Geometry,
@@ -30,6 +34,8 @@ impl Desk {
             area: 7,
         };
         Desk {
+            opening: FileState::opening(alloc, geometry, Vec::new(alloc), Vec::new(alloc)),
+            entries: Vec::new(alloc),
             state: FileState::opening(alloc, geometry, Vec::new(alloc), Vec::new(alloc)),
             stamp: 1,
             geometry,
@@ -64,7 +70,9 @@ impl Desk {
         }
         let contents = replace(&mut self.contents, Vec::new(alloc));
         let owned = replace(&mut self.owned, Vec::new(alloc));
-        self.state = FileState::opening(alloc, geometry, contents, owned);
+        self.opening = FileState::opening(alloc, geometry, contents, owned);
+        self.entries.clear();
+        self.state = self.opening.copy(alloc)?;
         self.stamp = 1;
         say(out, "ok")
     }

@@ -3,6 +3,7 @@
 use crate::answers::{Answer, Stop, say};
 use crate::desk::Desk;
 use crate::entries::entry_of;
+use crate::histories;
 use crate::views;
 use crate::words::parted;
 use std::alloc::Global;
@@ -19,6 +20,7 @@ pub fn answer(alloc: Global, desk: &mut Desk, line: &str, out: &mut String) -> A
         "area" => desk.area(rest, out),
         "open" => desk.open(alloc, out),
         "show" => views::show(alloc, &desk.state, rest, out),
+        "history" => histories::judge(alloc, &desk.opening, &desk.entries, rest, out),
         _ => enter(alloc, desk, line, out),
     }
 }
@@ -29,6 +31,7 @@ fn enter(alloc: Global, desk: &mut Desk, line: &str, out: &mut String) -> Answer
     let taken = apply(alloc, &mut desk.state, &entry)?;
     if taken {
         desk.stamp = desk.stamp.saturating_add(1);
+        desk.entries.push(entry)?;
         say(out, "step")
     } else {
         say(out, "no step")
