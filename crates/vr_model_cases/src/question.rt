@@ -3,9 +3,8 @@
 use crate::answers::{Answer, Stop, say};
 use crate::desk::Desk;
 use crate::entries::entry_of;
-use crate::histories;
-use crate::views;
 use crate::words::parted;
+use crate::{histories, views};
 use std::alloc::Global;
 use vr_model::apply;
 
