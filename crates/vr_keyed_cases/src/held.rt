@@ -1,0 +1,103 @@
+//! The part that lines speak of.
+ghost use Rattle.std.specs.Prelude.{◌≡◌, ◌≤◌, length};
+ghost use Rattle.vr_space.specs.Part.{IsRecordOf};
+ghost use Rattle.vr_keyed_cases.specs.TheLayout.{the_shape};
+
+use crate::answers::Stop;
+use crate::format::{empty_interval, head, layout};
+use crate::one_kept::OneKept;
+use crate::traced::Traced;
+use std::alloc::Global;
+use vr_device::{MemoryDevice, memory_device};
+use vr_keyed::{Keyed, keyed_part};
+use vr_space::{Part, Room, Whence};
+use vr_types::{Blocks, DeviceFault, Place, PlaceBuffer, Space, StageKind, space};
+
+/// The part on its blocks, what is kept, and the records that were noted.
+#[derive(Drop)]
+pub struct Held {
+    pub blocks: Traced,
+    pub part: Keyed,
+    pub space: Space,
+    pub kept: OneKept,
+    pub mark: String,
+    ghost shape: { ⟦<Keyed as Part>⟧.shape part ≡ the_shape },
+}
+
+impl Held {
+    /// The part on a device as it is, with no split under way.
+    pub fn over(alloc: Global, device: MemoryDevice) -> Result<Held, Stop> {
+        let blocks = Traced::over(alloc, device)?;
+        let part = keyed_part(alloc, layout())?;
+        let space = space(alloc, 1)?;
+        Ok(Held {
+            blocks,
+            part,
+            space,
+            kept: OneKept::Nothing,
+            mark: String::new(alloc),
+        })
+    }
+
+    /// A new part, on a device whose calls of these numbers fail. The first three calls make it.
+    pub fn format(alloc: Global, fails: &[u64]) -> Result<Held, Stop> {
+        let head = head(alloc)?;
+        let interval = empty_interval(alloc)?;
+        let device = memory_device(alloc, 512, 4, fails)?;
+        let mut held = Held::over(alloc, device)?;
+        let _ = held.blocks.put(0, head.as_slice());
+        let _ = held.blocks.put(1, interval.as_slice());
+        let _ = held.blocks.force(&[]);
+        held.blocks.clear_notes();
+        Ok(held)
+    }
+
+    /// Whether a record of this length has room.
+    pub fn room(&mut self, place: &Place, length: u32) -> Result<Room, DeviceFault>
+        requires place { length place.now ≡ 8 }
+        requires least { 8 ≤ length }
+        requires most { length ≤ 505 }
+    {
+        self.part
+            .room(&mut self.blocks, &self.space, &self.kept, place, length)
+    }
+
+    /// Does the stage that comes before a record of this length.
+    pub fn advance(&mut self, place: &Place, length: u32) -> Result<StageKind, DeviceFault>
+        requires place { length place.now ≡ 8 }
+        requires least { 8 ≤ length }
+        requires most { length ≤ 505 }
+    {
+        self.part.advance(&mut self.blocks, &mut self.space, &self.kept, place, length)
+    }
+
+    /// Sets a record.
+    pub fn set(&mut self, place: &Place, bytes: &[u8]) -> Result<(), DeviceFault>
+        requires place { length place.now ≡ 8 }
+        requires record { IsRecordOf the_shape place.now bytes.now }
+    {
+        self.part
+            .set(&mut self.blocks, &self.kept, place, Some(bytes))
+    }
+
+    /// Takes a record away.
+    pub fn erase(&mut self, place: &Place) -> Result<(), DeviceFault>
+        requires place { length place.now ≡ 8 }
+    {
+        self.part.set(&mut self.blocks, &self.kept, place, None)
+    }
+
+    /// Lends the record at a place.
+    pub fn look(&mut self, place: &Place) -> Result<Option<&[u8]>, DeviceFault>
+        requires place { length place.now ≡ 8 }
+    {
+        Keyed::look(&mut self.blocks, &mut self.part, place)
+    }
+
+    /// Gives the next place with a record.
+    pub fn next(&mut self, from: Whence<'_>, into: &mut PlaceBuffer) -> Result<bool, DeviceFault>
+        requires { 8 ≤ into.old.room }
+    {
+        self.part.next(&mut self.blocks, from, into)
+    }
+}
