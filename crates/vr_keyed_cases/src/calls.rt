@@ -154,7 +154,7 @@ pub fn erase(alloc: Global, held: &mut Held, rest: &str, out: &mut String) -> An
 /// How long the record of a key is: `KEY`.
 pub fn get(alloc: Global, held: &mut Held, rest: &str, out: &mut String) -> Answer {
     let place = place_of(alloc, number(rest)?)?;
-    let found = found(held, &place);
+    let found = what_stands(held, &place);
     say_found(out, found)?;
     say_notes(held, out)
 }
@@ -168,7 +168,7 @@ enum Found {
     Fault(DeviceFault),
 }
 
-fn found(held: &mut Held, place: &Place) -> Found
+fn what_stands(held: &mut Held, place: &Place) -> Found
     requires { length place.now ≡ 8 }
 {
     match held.look(place) {

@@ -167,7 +167,7 @@ impl Tally {
 pub fn images(alloc: Global, held: &Held, out: &mut String) -> Answer {
     let mut last = String::new(alloc);
     list(alloc, held, &mut last)?;
-    let tally = tally(
+    let tally = tally_all(
         alloc,
         held.blocks.device(),
         held.mark.as_str(),
@@ -182,7 +182,7 @@ pub fn images(alloc: Global, held: &Held, out: &mut String) -> Answer {
 }
 
 /// Counts the images of all choices, the content of block 0 first.
-fn tally(alloc: Global, device: &MemoryDevice, noted: &str, last: &str) -> Result<Tally, Stop> {
+fn tally_all(alloc: Global, device: &MemoryDevice, noted: &str, last: &str) -> Result<Tally, Stop> {
     let mut tally = Tally {
         noted: 0,
         last: 0,
