@@ -16,3 +16,4 @@ pub mod Planning
 pub mod PlanLemmas
 pub mod Advancing
 pub mod StageKinds
+pub mod Keeping
