@@ -12,4 +12,4 @@ lengths_kept (One place length) = (place, length) ∷ []
 pub one_ascends : (kept : OneKept) → AscendLengths (lengths_kept kept)
 unfolding IsStrictlySortedBy
 one_ascends Nothing = tt
-one_ascends (One place length) = tt
+one_ascends (One place length) = (tt, tt)

@@ -5,8 +5,8 @@ ghost use Rattle.vr_keyed_cases.specs.TheLayout.{the_shape};
 
 use crate::answers::{Answer, Stop, say, say_fault, say_number, say_room, say_stage};
 use crate::format::layout;
-use crate::held::Held;
-use crate::record::{is_whole, key, record};
+use crate::held::{Held, Stand};
+use crate::record::{key, record};
 use crate::words::{number, parted};
 use std::alloc::Global;
 use vr_space::{Room, Whence};
@@ -35,26 +35,56 @@ pub fn record_call(
     rest: &str,
     out: &mut String,
 ) -> Answer {
-    let (key, length) = parted(rest);
-    let place = place_of(alloc, number(key)?)?;
-    let length = number(length)?;
-    if length < 8 || length > 505 {
+    let (key, size) = parted(rest);
+    numbered_call(alloc, held, verb, number(key)?, number(size)?, out)
+}
+
+fn numbered_call(
+    alloc: Global,
+    held: &mut Held,
+    verb: &str,
+    key: u32,
+    size: u32,
+    out: &mut String,
+) -> Answer {
+    let place = place_of(alloc, key)?;
+    if size < 8 || size > 505 {
         return Err(Stop::Line);
     }
     match verb {
-        "room" => room(held, &place, length, out),
-        "set" => set(alloc, held, &place, length, true, out),
-        _ => set(alloc, held, &place, length, false, out),
+        "room" => room(held, &place, size, out),
+        "set" => set(alloc, held, &place, size, true, out),
+        _ => set(alloc, held, &place, size, false, out),
     }
 }
 
+/// Sets a record of each key from one to another: `fill KEY KEY LENGTH`.
+pub fn fill(alloc: Global, held: &mut Held, rest: &str, out: &mut String) -> Answer {
+    let (first, rest) = parted(rest);
+    let (last, size) = parted(rest);
+    fill_each(alloc, held, number(first)?, number(last)?, number(size)?)?;
+    say(out, "ok")
+}
+
+fn fill_each(alloc: Global, held: &mut Held, first: u32, last: u32, size: u32) -> Answer {
+    for key in first..=last {
+        fill_one(alloc, held, key, size)?;
+    }
+    Ok(())
+}
+
+fn fill_one(alloc: Global, held: &mut Held, key: u32, size: u32) -> Answer {
+    let mut said = String::new(alloc);
+    numbered_call(alloc, held, "set", key, size, &mut said)
+}
+
 /// Whether a record of that length has room.
-fn room(held: &mut Held, place: &Place, length: u32, out: &mut String) -> Answer
+fn room(held: &mut Held, place: &Place, size: u32, out: &mut String) -> Answer
     requires place { length place.now ≡ 8 }
-    requires least { 8 ≤ length }
-    requires most { length ≤ 505 }
+    requires least { 8 ≤ size }
+    requires most { size ≤ 505 }
 {
-    let room = held.room(place, length);
+    let room = held.room(place, size);
     say_room(out, room)?;
     say_notes(held, out)
 }
@@ -64,13 +94,13 @@ fn set(
     alloc: Global,
     held: &mut Held,
     place: &Place,
-    length: u32,
+    size: u32,
     to_the_end: bool,
     out: &mut String,
 ) -> Answer
     requires place { length place.now ≡ 8 }
 {
-    let bytes = record(alloc, place.as_slice(), length)?;
+    let bytes = record(alloc, place.as_slice(), size)?;
     set_bytes(held, place, bytes.as_slice(), to_the_end, out)
 }
 
@@ -131,12 +161,12 @@ fn put(held: &mut Held, place: &Place, bytes: &[u8], out: &mut String) -> Result
 }
 
 /// Does the stage, and more is to be done unless it failed.
-fn advance(held: &mut Held, place: &Place, length: u32, out: &mut String) -> Result<bool, Stop>
+fn advance(held: &mut Held, place: &Place, size: u32, out: &mut String) -> Result<bool, Stop>
     requires place { length place.now ≡ 8 }
-    requires least { 8 ≤ length }
-    requires most { length ≤ 505 }
+    requires least { 8 ≤ size }
+    requires most { size ≤ 505 }
 {
-    let done = held.advance(place, length);
+    let done = held.advance(place, size);
     say(out, "; ")?;
     say_stage(out, done)?;
     say_notes(held, out)?;
@@ -154,42 +184,17 @@ pub fn erase(alloc: Global, held: &mut Held, rest: &str, out: &mut String) -> An
 /// How long the record of a key is: `KEY`.
 pub fn get(alloc: Global, held: &mut Held, rest: &str, out: &mut String) -> Answer {
     let place = place_of(alloc, number(rest)?)?;
-    let found = what_stands(held, &place);
-    say_found(out, found)?;
+    let stand = held.stand(&place);
+    say_stand(out, stand)?;
     say_notes(held, out)
 }
 
-/// What stands at a place.
-#[derive(Clone, Copy)]
-enum Found {
-    Nothing,
-    Whole(usize),
-    Other,
-    Fault(DeviceFault),
-}
-
-fn what_stands(held: &mut Held, place: &Place) -> Found
-    requires { length place.now ≡ 8 }
-{
-    match held.look(place) {
-        Ok(Some(bytes)) => {
-            if bytes.starts_with(place.as_slice()) && is_whole(bytes) {
-                Found::Whole(bytes.len())
-            } else {
-                Found::Other
-            }
-        }
-        Ok(None) => Found::Nothing,
-        Err(fault) => Found::Fault(fault),
-    }
-}
-
-fn say_found(out: &mut String, found: Found) -> Answer {
-    match found {
-        Found::Nothing => say(out, "none"),
-        Found::Whole(length) => say_number(out, length as u64),
-        Found::Other => say(out, "another record"),
-        Found::Fault(fault) => say_fault(out, Err(fault)),
+fn say_stand(out: &mut String, stand: Stand) -> Answer {
+    match stand {
+        Stand::Nothing => say(out, "none"),
+        Stand::Whole(length) => say_number(out, length as u64),
+        Stand::Other => say(out, "another record"),
+        Stand::Fault(fault) => say_fault(out, Err(fault)),
     }
 }
 

@@ -6,6 +6,7 @@ ghost use Rattle.vr_keyed_cases.specs.TheLayout.{the_shape};
 use crate::answers::Stop;
 use crate::format::{empty_interval, head, layout};
 use crate::one_kept::OneKept;
+use crate::record::is_whole;
 use crate::traced::Traced;
 use std::alloc::Global;
 use vr_device::{MemoryDevice, memory_device};
@@ -53,22 +54,23 @@ impl Held {
     }
 
     /// Whether a record of this length has room.
-    pub fn room(&mut self, place: &Place, length: u32) -> Result<Room, DeviceFault>
+    pub fn room(&mut self, place: &Place, size: u32) -> Result<Room, DeviceFault>
         requires place { length place.now ≡ 8 }
-        requires least { 8 ≤ length }
-        requires most { length ≤ 505 }
+        requires least { 8 ≤ size }
+        requires most { size ≤ 505 }
     {
         self.part
-            .room(&mut self.blocks, &self.space, &self.kept, place, length)
+            .room(&mut self.blocks, &self.space, &self.kept, place, size)
     }
 
     /// Does the stage that comes before a record of this length.
-    pub fn advance(&mut self, place: &Place, length: u32) -> Result<StageKind, DeviceFault>
+    pub fn advance(&mut self, place: &Place, size: u32) -> Result<StageKind, DeviceFault>
         requires place { length place.now ≡ 8 }
-        requires least { 8 ≤ length }
-        requires most { length ≤ 505 }
+        requires least { 8 ≤ size }
+        requires most { size ≤ 505 }
     {
-        self.part.advance(&mut self.blocks, &mut self.space, &self.kept, place, length)
+        self.part
+            .advance(&mut self.blocks, &mut self.space, &self.kept, place, size)
     }
 
     /// Sets a record.
@@ -87,11 +89,11 @@ impl Held {
         self.part.set(&mut self.blocks, &self.kept, place, None)
     }
 
-    /// Lends the record at a place.
-    pub fn look(&mut self, place: &Place) -> Result<Option<&[u8]>, DeviceFault>
-        requires place { length place.now ≡ 8 }
+    /// What stands at a place.
+    pub fn stand(&mut self, place: &Place) -> Stand
+        requires { length place.now ≡ 8 }
     {
-        Keyed::look(&mut self.blocks, &mut self.part, place)
+        stand_at(&mut self.blocks, &mut self.part, place)
     }
 
     /// Gives the next place with a record.
@@ -99,5 +101,38 @@ impl Held {
         requires { 8 ≤ into.old.room }
     {
         self.part.next(&mut self.blocks, from, into)
+    }
+}
+
+/// What stands at a place.
+#[derive(Clone, Copy)]
+pub enum Stand {
+    Nothing,
+    /// The whole record of this length.
+    Whole(usize),
+    /// Other bytes than those of its length and key.
+    Other,
+    Fault(DeviceFault),
+}
+
+/// Looks at a place, and compares what stands there with the record of its length and key.
+fn stand_at(blocks: &mut Traced, part: &mut Keyed, place: &Place) -> Stand
+    requires shape { ⟦<Keyed as Part>⟧.shape part.old ≡ the_shape }
+    requires place { length place.now ≡ 8 }
+    ensures { ⟦<Keyed as Part>⟧.shape part.new ≡ the_shape }
+{
+    match Keyed::look(blocks, part, place) {
+        Ok(Some(bytes)) => judged(bytes, place.as_slice()),
+        Ok(None) => Stand::Nothing,
+        Err(fault) => Stand::Fault(fault),
+    }
+}
+
+/// Whether these bytes are the whole record of their length and this key.
+fn judged(bytes: &[u8], key: &[u8]) -> Stand {
+    if bytes.starts_with(key) && is_whole(bytes) {
+        Stand::Whole(bytes.len())
+    } else {
+        Stand::Other
     }
 }

@@ -7,8 +7,69 @@ use crate::words::numbers;
 use std::alloc::Global;
 use vr_device::{BlockDevice, ImageNo, MemoryDevice};
 
-/// Which block of the device's past a choice takes, by the number of the block.
-type Choice = [u32; 4];
+/// Which content of its past each block takes, by its number.
+#[derive(Clone, Copy)]
+struct Choice {
+    head: u32,
+    first: u32,
+    second: u32,
+    third: u32,
+}
+
+impl Choice {
+    /// The first content of each block, which no crash can undo.
+    fn first() -> Choice {
+        Choice {
+            head: 0,
+            first: 0,
+            second: 0,
+            third: 0,
+        }
+    }
+
+    /// The numbers, block by block.
+    fn numbers(self) -> [u32; 4] {
+        [self.head, self.first, self.second, self.third]
+    }
+
+    /// With the next content of a block.
+    fn raised(self, block: u32) -> Choice {
+        let mut next = self;
+        match block {
+            0 => next.head = self.head.saturating_add(1),
+            1 => next.first = self.first.saturating_add(1),
+            2 => next.second = self.second.saturating_add(1),
+            _ => next.third = self.third.saturating_add(1),
+        }
+        next
+    }
+
+    /// With the content before it.
+    fn lowered(self, block: u32) -> Choice {
+        let mut back = self;
+        match block {
+            0 => back.head = self.head.saturating_sub(1),
+            1 => back.first = self.first.saturating_sub(1),
+            2 => back.second = self.second.saturating_sub(1),
+            _ => back.third = self.third.saturating_sub(1),
+        }
+        back
+    }
+
+    /// After one that misfits a block: the next content of the block after it, and the first of
+    /// each before that.
+    fn carried(self, block: u32) -> Choice {
+        let mut next = self.raised(block.saturating_add(1));
+        next.head = 0;
+        if block >= 1 {
+            next.first = 0;
+        }
+        if block >= 2 {
+            next.second = 0;
+        }
+        next
+    }
+}
 
 /// The blocks of an image, or the block that the choice misfits.
 #[derive(Drop)]
@@ -18,8 +79,8 @@ enum Image {
 }
 
 /// The blocks of the image of a choice, one after the other.
-fn image_of(alloc: Global, device: &MemoryDevice, choice: &[u32]) -> Result<Image, Stop> {
-    match device.image(alloc, choice) {
+fn image_of(alloc: Global, device: &MemoryDevice, choice: Choice) -> Result<Image, Stop> {
+    match device.image(alloc, &choice.numbers()) {
         Ok(mut image) => all_blocks(alloc, &mut image),
         Err(ImageNo::Choice { block }) => Ok(Image::Misfit(block)),
         Err(ImageNo::Memory) => Err(Stop::Memory),
@@ -45,7 +106,7 @@ fn add_blocks(image: &mut MemoryDevice, block: &mut [u8], blocks: &mut Vec<u8>) 
 
 /// The block that the choice misfits.
 fn misfit(alloc: Global, device: &MemoryDevice, choice: Choice) -> Result<Option<u32>, Stop> {
-    match device.image(alloc, &choice) {
+    match device.image(alloc, &choice.numbers()) {
         Ok(_) => Ok(None),
         Err(ImageNo::Choice { block }) => Ok(Some(block)),
         Err(ImageNo::Memory) => Err(Stop::Memory),
@@ -54,52 +115,19 @@ fn misfit(alloc: Global, device: &MemoryDevice, choice: Choice) -> Result<Option
 
 /// The choice that takes what was written last to each block.
 fn last_choice(alloc: Global, device: &MemoryDevice) -> Result<Choice, Stop> {
-    let mut choice = [0; 4];
+    let mut choice = Choice::first();
     let mut block = 0;
     for _try in 0..1000u32 {
         if block >= 4 {
             break;
         }
-        choice = raised(choice, block);
+        choice = choice.raised(block);
         if misfit(alloc, device, choice)?.is_some() {
-            choice = lowered(choice, block);
+            choice = choice.lowered(block);
             block += 1;
         }
     }
     Ok(choice)
-}
-
-/// The choice with the next content of a block.
-fn raised(choice: Choice, block: usize) -> Choice {
-    let mut raised = choice;
-    for (at, content) in raised.iter_mut().enumerate() {
-        if at == block {
-            *content = content.saturating_add(1);
-        }
-    }
-    raised
-}
-
-/// The choice with the content before it.
-fn lowered(choice: Choice, block: usize) -> Choice {
-    let mut lowered = choice;
-    for (at, content) in lowered.iter_mut().enumerate() {
-        if at == block {
-            *content = content.saturating_sub(1);
-        }
-    }
-    lowered
-}
-
-/// The choice with the first content of each block up to this one.
-fn cleared(choice: Choice, block: usize) -> Choice {
-    let mut cleared = choice;
-    for (at, content) in cleared.iter_mut().enumerate() {
-        if at <= block {
-            *content = 0;
-        }
-    }
-    cleared
 }
 
 /// Writes the records of the image of a choice. Answers the block that it misfits.
@@ -109,7 +137,7 @@ fn say_image(
     choice: Choice,
     out: &mut String,
 ) -> Result<Option<u32>, Stop> {
-    match image_of(alloc, device, &choice)? {
+    match image_of(alloc, device, choice)? {
         Image::Blocks(blocks) => {
             say_records(blocks.as_slice(), out)?;
             Ok(None)
@@ -128,7 +156,7 @@ pub fn list(alloc: Global, held: &Held, out: &mut String) -> Answer {
 /// The entries of the head that was written last: `entries`.
 pub fn entries(alloc: Global, held: &Held, out: &mut String) -> Answer {
     let choice = last_choice(alloc, held.blocks.device())?;
-    match image_of(alloc, held.blocks.device(), &choice)? {
+    match image_of(alloc, held.blocks.device(), choice)? {
         Image::Blocks(blocks) => say_entries(blocks.as_slice(), out),
         Image::Misfit(_) => say(out, "none"),
     }
@@ -188,21 +216,15 @@ fn tally_all(alloc: Global, device: &MemoryDevice, noted: &str, last: &str) -> R
         last: 0,
         others: 0,
     };
-    let mut choice = [0; 4];
+    let mut choice = Choice::first();
     for _image in 0..4000u32 {
         match count_image(alloc, device, choice, noted, last, &mut tally)? {
-            None => choice = raised(choice, 0),
+            None => choice = choice.raised(0),
             Some(3) => break,
-            Some(block) => choice = carried(choice, block),
+            Some(block) => choice = choice.carried(block),
         }
     }
     Ok(tally)
-}
-
-/// The choice after one that misfits a block: the next content of the block after that.
-fn carried(choice: Choice, block: u32) -> Choice {
-    let block = block as usize;
-    raised(cleared(choice, block), block.saturating_add(1))
 }
 
 fn count_image(
@@ -225,7 +247,7 @@ fn count_image(
 pub fn crash(alloc: Global, held: &mut Held, rest: &str, out: &mut String) -> Answer {
     let new = if rest.is_empty() {
         let choice = last_choice(alloc, held.blocks.device())?;
-        restarted(alloc, held.blocks.device(), &choice)?
+        restarted(alloc, held.blocks.device(), &choice.numbers())?
     } else {
         let choice = numbers(alloc, rest)?;
         restarted(alloc, held.blocks.device(), choice.as_slice())?

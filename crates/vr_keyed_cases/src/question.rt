@@ -1,7 +1,7 @@
 //! Which call a question asks.
 
 use crate::answers::{Answer, Stop, say, say_fault};
-use crate::calls::{erase, get, next, place_of, record_call};
+use crate::calls::{erase, fill, get, next, place_of, record_call};
 use crate::held::Held;
 use crate::images::{crash, entries, images, list, mark};
 use crate::one_kept::OneKept;
@@ -32,6 +32,7 @@ fn make(alloc: Global, held: &mut Option<Held>, rest: &str, out: &mut String) ->
 fn ask(alloc: Global, held: &mut Held, verb: &str, rest: &str, out: &mut String) -> Answer {
     match verb {
         "set" | "step" | "room" => record_call(alloc, held, verb, rest, out),
+        "fill" => fill(alloc, held, rest, out),
         "get" => get(alloc, held, rest, out),
         "erase" => erase(alloc, held, rest, out),
         "next" => next(alloc, held, rest, out),
