@@ -1,4 +1,5 @@
 //! What four blocks hold, read byte by byte, plainly and slowly. It shares no code with the part.
+ghost use Rattle.std.specs.Prelude.{◌<◌, ◌≤◌};
 
 use crate::answers::{Answer, say, say_digits, say_number};
 use crate::record::is_whole;
@@ -12,13 +13,16 @@ struct Range {
 }
 
 /// The byte at that place; a zero past the end.
-fn byte(blocks: &[u8], at: usize) -> usize {
-    blocks.get(at).copied().unwrap_or(0) as usize
+fn byte(blocks: &[u8], at: usize) -> u8 {
+    blocks.get(at).copied().unwrap_or(0)
 }
 
 /// The number of two bytes, the high one first.
-fn two(blocks: &[u8], at: usize) -> usize {
-    byte(blocks, at) * 256 + byte(blocks, at.saturating_add(1))
+fn two(blocks: &[u8], at: usize) -> usize
+    ensures { result < 65536 }
+{
+    let low = byte(blocks, at.saturating_add(1));
+    byte(blocks, at) as usize * 256 + low as usize
 }
 
 /// So many bytes; none where they pass the end.
@@ -78,7 +82,7 @@ fn say_interval(blocks: &[u8], base: usize, range: Range, out: &mut String) -> A
         }
         let run = run_at(blocks, control);
         say_run(blocks, start, run, range, out)?;
-        start = start.saturating_add(run.count * run.length);
+        start = start.saturating_add(run.count.saturating_mul(run.length));
         control = control.saturating_sub(run.control);
     }
     if start != base.saturating_add(used) || control != least {
