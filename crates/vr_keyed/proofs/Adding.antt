@@ -1,5 +1,5 @@
 -- Adding the records of a stretch to what is written.
-use Rattle.std.proofs.Common.{◌≡◌, ◌+◌, ◌-◌, ◌<◌, ◌≤◌, ℕ, Bool, IsTrue, true, false, List, [], ◌∷◌}
+use Rattle.std.proofs.Common.{◌≡◌, ◌+◌, ◌≤◌, ℕ, Bool, IsTrue, true, false, List, [], ◌∷◌}
 use Rattle.std.proofs.Common.{◌++◌, length, All, refl, sym, ap, subst, ◌∙◌, arith, true≢false}
 use Rattle.std.proofs.Common.{append_assoc, ◌↔◌}
 use Rattle.std.proofs.lemmas.List.{append-nil}

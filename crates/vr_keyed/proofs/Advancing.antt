@@ -1,5 +1,5 @@
 -- Where a stage is due and no split is under way, the interval that was met lacks room.
-use Rattle.std.proofs.Common.{◌≡◌, ℕ, ◌+◌, ◌<◌, ◌≤◌, Bool, true, false, List, length, refl, sym, ap}
+use Rattle.std.proofs.Common.{◌≡◌, ℕ, ◌+◌, ◌≤◌, Bool, true, false, List, length, refl, sym, ap}
 use Rattle.std.proofs.Common.{subst, ◌∙◌, arith, Option, Some, None, unwrap_or}
 use Rattle.std.proofs.Common.{IsTrue, [], ◌||◌, is_some}
 use Rattle.std.specs.Prelude.{slice_index, cond, nat_eq}
@@ -9,7 +9,6 @@ use Rattle.vr_types.specs.Blocks.{Keeps}
 use Rattle.vr_types.proofs.CallerLemmas.{touches-then}
 use Rattle.vr_types.specs.declared.unit.StageKind.{StageKind}
 use Rattle.vr_types.specs.declared.unit.StageKind.TheVariants.{CiCopy}
-use Rattle.vr_space.specs.declared.room.Room as answer
 use Rattle.vr_space.specs.declared.room.Room.TheVariants.{Stage, Ready, NoSpace}
 use Rattle.vr_seqset.specs.Entry.{Entry}
 use Rattle.vr_space.specs.Room.{Lengths, Range, HaveRoom, have_room, with_length}

@@ -1,7 +1,7 @@
 -- The records of an interval in which one is set: which there are, and that they ascend.
-use Rattle.std.proofs.Common.{◌≡◌, ◌≢◌, ◌<◌, ◌≤◌, ◌+◌, ℕ, Bool, IsTrue, true, false, List, [], ◌∷◌}
+use Rattle.std.proofs.Common.{◌≡◌, ℕ, Bool, IsTrue, true, false, List, [], ◌∷◌}
 use Rattle.std.proofs.Common.{◌++◌, ◌&&◌, Option, Some, None, All, refl, sym, ap, subst, ◌∙◌, map}
-use Rattle.std.proofs.Common.{true≢false, inl, inr, ⊎_elim, arith}
+use Rattle.std.proofs.Common.{true≢false}
 use Rattle.std.specs.Prelude.{filter, cond, IfSome}
 use Rattle.std.specs.List.Sorted.{IsStrictlySortedBy}
 use Rattle.std.specs.Ordering.{is_le, is_lt, ordering_reverse}
@@ -9,7 +9,7 @@ use Rattle.std.specs.declared.cmp.Ordering.{Ordering}
 use Rattle.std.specs.declared.cmp.Ordering.TheVariants.{Less, Equal, Greater}
 use Rattle.std.proofs.lemmas.Cmp.{nat_list_cmp_total}
 use Rattle.std.proofs.lemmas.List.Elements.{All-head, All-tail, All-nil, All-cons, All-append}
-use Rattle.vr_types.specs.Content.{Content, Placed, place_cmp, places_of, record_at, record_of}
+use Rattle.vr_types.specs.Content.{Content, Placed, place_cmp, record_at, record_of}
 use Rattle.vr_types.specs.Content.{found_by}
 use Rattle.vr_types.specs.Content.Item.{Standing}
 use Rattle.vr_types.proofs.CallerLemmas.{same_place}
@@ -78,9 +78,10 @@ passing-none test (entry ∷ xs) place is = by (test entry.0) refl (passing-none
   where
     by : (b : Bool) → test entry.0 ≡ b → NoneAt place (passing test xs)
         → NoneAt place (cond b (entry ∷ passing test xs) (passing test xs))
-    by true inside more =
-        (λ same. true≢false (sym inside ∙ sym (ap test (same_place place entry.0 same)) ∙ is),
-        more)
+    by true inside more = (
+      λ same. true≢false (sym inside ∙ sym (ap test (same_place place entry.0 same)) ∙ is),
+      more,
+    )
     by false outside more = more
 
 passing-above : (low : Option (List ℕ)) (test : List ℕ → Bool) (xs : Content) → AllAbove low xs

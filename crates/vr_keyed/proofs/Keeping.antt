@@ -1,7 +1,6 @@
 -- A split under way after a call that puts nothing, where the blocks stand for a content.
-use Rattle.std.proofs.Common.{◌≡◌, ◌<◌, ◌+◌, ℕ, Bool, IsTrue, Option, Some, None, refl, sym, ap, subst}
+use Rattle.std.proofs.Common.{◌≡◌, ◌<◌, ◌+◌, ℕ, Bool, IsTrue, Option, Some, None, sym, ap, subst}
 use Rattle.std.proofs.Common.{◌∙◌, arith}
-use Rattle.std.specs.Prelude.{slice_index}
 use Rattle.vr_types.specs.Image.{Block, Image, block_at}
 use Rattle.vr_types.specs.Seen.{Seen}
 use Rattle.vr_types.specs.Blocks.{Keeps}
@@ -11,7 +10,7 @@ use Rattle.vr_ci_match.specs.Fault.{is_busy}
 use Rattle.vr_space.specs.Room.{Range}
 use Rattle.vr_space.specs.Keyed.{Keyed, IsHead, HoldsRange, entries_of, entry_for, records_in}
 use Rattle.vr_space.specs.Split.{SplitNow}
-use Rattle.vr_space.specs.UnderWay.{IsStable, IsCopied, IsReadyFor, KeyedUnderWay, interval_block}
+use Rattle.vr_space.specs.UnderWay.{IsStable, IsReadyFor, KeyedUnderWay, interval_block}
 use Rattle.vr_space.specs.UnderWay.{above_cut}
 use Rattle.vr_space.proofs.CallerLemmas.{found-in, free-in, begun-stays}
 

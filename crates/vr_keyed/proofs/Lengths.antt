@@ -1,9 +1,9 @@
 -- Lengths at places: which lists need no more room than others.
-use Rattle.std.proofs.Common.{◌≡◌, ◌≢◌, ◌<◌, ◌≤◌, ◌+◌, ℕ, Bool, true, false, List, [], ◌∷◌, Option}
+use Rattle.std.proofs.Common.{◌≡◌, ◌≤◌, ℕ, Bool, true, false, List, [], ◌∷◌, Option}
 use Rattle.std.proofs.Common.{Some, None, refl, sym, ap, subst, ◌∙◌, arith, max, ◌⊎◌, inl, inr}
 use Rattle.std.proofs.Common.{⊎_elim, true≢false}
-use Rattle.std.specs.Prelude.{filter, cond, unwrap_or}
-use Rattle.std.specs.Ordering.{is_lt, ordering_reverse}
+use Rattle.std.specs.Prelude.{cond, unwrap_or}
+use Rattle.std.specs.Ordering.{ordering_reverse}
 use Rattle.std.specs.declared.cmp.Ordering.{Ordering}
 use Rattle.std.specs.declared.cmp.Ordering.TheVariants.{Less, Equal, Greater}
 use Rattle.std.proofs.lemmas.Cmp.{nat_list_cmp_total}
@@ -394,32 +394,39 @@ under-weight (entry ∷ one) (there ∷ other) rise rises under =
         (ap (λ (o : Ordering). length_by o there.1 (length_at other entry.0)) is)
         (subst (λ (o : Option ℕ). NoMore o (length_at (there ∷ other) entry.0)) here-is
         (under.each entry.0)) in
-        omega (arith, most, tails (record {
-          each = λ q. ⊎_elim
-              (λ equal. subst (λ (o : Option ℕ). NoMore o (length_at other q))
-              (sym (none-past q one (subst (λ (p : List ℕ). ArePast p one)
-              (sym (same_place q entry.0 equal)) rise.0))) tt)
-              (λ apart. subst (λ (o : Option ℕ). NoMore o (length_at other q))
-              (by-less (place_cmp q entry.0) entry.1 (length_at one q) apart)
-              (subst (λ (o : Option ℕ). NoMore (length_at (entry ∷ one) q) o)
-              (by-less (place_cmp q there.0) there.1 (length_at other q)
-              (λ equal. apart (ap (place_cmp q) same ∙ equal)))
-              (under.each q)))
-              (equal_or (place_cmp q entry.0));
-        }))
+        omega (
+          arith,
+          most,
+          tails (record {
+            each = λ q. ⊎_elim
+                (λ equal. subst (λ (o : Option ℕ). NoMore o (length_at other q))
+                (sym (none-past q one (subst (λ (p : List ℕ). ArePast p one)
+                (sym (same_place q entry.0 equal)) rise.0))) tt)
+                (λ apart. subst (λ (o : Option ℕ). NoMore o (length_at other q))
+                (by-less (place_cmp q entry.0) entry.1 (length_at one q) apart)
+                (subst (λ (o : Option ℕ). NoMore (length_at (entry ∷ one) q) o)
+                (by-less (place_cmp q there.0) there.1 (length_at other q)
+                (λ equal. apart (ap (place_cmp q) same ∙ equal)))
+                (under.each q)))
+                (equal_or (place_cmp q entry.0));
+          }),
+        )
     by Greater is tails later =
         let less : place_cmp there.0 entry.0 ≡ Less =
         nat_list_cmp_total.antisymm there.0 entry.0 ∙ after (place_cmp entry.0 there.0) is in
-        omega (arith, later (record {
-          each = λ q. ⊎_elim
-              (λ equal. subst (λ (o : Option ℕ). NoMore o (length_at other q))
-              (sym (none-before q entry one
-              (ap (λ (p : List ℕ). place_cmp p entry.0) (same_place q there.0 equal) ∙ less)
-              rise.0)) tt)
-              (λ apart. subst (λ (o : Option ℕ). NoMore (length_at (entry ∷ one) q) o)
-              (by-less (place_cmp q there.0) there.1 (length_at other q) apart) (under.each q))
-              (equal_or (place_cmp q there.0));
-        }))
+        omega (
+          arith,
+          later (record {
+            each = λ q. ⊎_elim
+                (λ equal. subst (λ (o : Option ℕ). NoMore o (length_at other q))
+                (sym (none-before q entry one
+                (ap (λ (p : List ℕ). place_cmp p entry.0) (same_place q there.0 equal) ∙ less)
+                rise.0)) tt)
+                (λ apart. subst (λ (o : Option ℕ). NoMore (length_at (entry ∷ one) q) o)
+                (by-less (place_cmp q there.0) there.1 (length_at other q) apart) (under.each q))
+                (equal_or (place_cmp q there.0));
+          }),
+        )
 
 -- ---- those of a range
 

@@ -1,10 +1,10 @@
 -- What the blocks of a keyed part have at a place.
-use Rattle.std.proofs.Common.{◌≡◌, ℕ, Bool, true, false, List, [], ◌∷◌, Option, Some, None, refl, sym}
+use Rattle.std.proofs.Common.{◌≡◌, ℕ, Bool, true, false, List, [], ◌∷◌, Option, Some, None}
 use Rattle.std.proofs.Common.{ap, subst, ◌∙◌}
 use Rattle.std.specs.Prelude.{cond, unwrap_or}
 use Rattle.std.specs.Ordering.{is_le}
 use Rattle.vr_types.specs.Content.{place_cmp, record_at}
-use Rattle.vr_types.specs.Image.{Block, Image, block_at}
+use Rattle.vr_types.specs.Image.{Image, block_at}
 use Rattle.vr_seqset.specs.Entry.{Entry}
 use Rattle.vr_space.specs.Way.{found_on}
 use Rattle.vr_space.specs.Room.{Range}

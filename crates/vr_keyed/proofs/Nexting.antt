@@ -1,5 +1,5 @@
 -- Searching for the next place with a record.
-use Rattle.std.proofs.Common.{◌≡◌, ◌≢◌, ◌⊎◌, inl, inr, ⊎_elim, ◌<◌, ◌≤◌, ◌+◌, ◌-◌, ℕ, zero, suc}
+use Rattle.std.proofs.Common.{◌≡◌, ◌≢◌, ◌⊎◌, ⊎_elim, ◌<◌, ◌≤◌, ◌+◌, ℕ, zero, suc}
 use Rattle.std.proofs.Common.{Bool, IsTrue, true, false, ◌&&◌, List, [], ◌∷◌, Option, Some, None, All}
 use Rattle.std.proofs.Common.{refl, sym, ap, subst, ◌∙◌, arith, true≢false, length, map}
 use Rattle.std.specs.Prelude.{cond, filter, is_some, unwrap_or, slice_get}
@@ -10,7 +10,7 @@ use Rattle.std.specs.declared.cmp.Ordering.TheVariants.{Less, Equal, Greater}
 use Rattle.std.proofs.lemmas.Cmp.{nat_list_cmp_total}
 use Rattle.std.proofs.lemmas.Iterator.Adapters.{position_from-zero}
 use Rattle.std.proofs.lemmas.List.Elements.{All-head, All-tail}
-use Rattle.vr_types.specs.Content.{Content, Placed, place_cmp, places_of, record_at, record_of}
+use Rattle.vr_types.specs.Content.{Content, place_cmp, places_of, record_at, record_of}
 use Rattle.vr_types.specs.Content.{found_by}
 use Rattle.vr_types.specs.Image.{Block, Image, block_at}
 use Rattle.vr_types.proofs.CallerLemmas.{same_place}
@@ -24,7 +24,7 @@ use Rattle.vr_space.specs.Keyed.{Keyed, IsKept, HoldsRange, entries_of, entry_fo
 use Rattle.vr_space.specs.Keyed.{records_of, range_of, HoldRanges, entry_block, way_in}
 use Rattle.vr_space.specs.Way.{found_on}
 use Rattle.vr_space.specs.Part.{KeyedShape, Stands, IsNextPlace, HasNoNext, item_of}
-use Rattle.vr_space.specs.Search.{low_before, keys_of}
+use Rattle.vr_space.specs.Search.{low_before}
 use Rattle.vr_space.proofs.CallerLemmas.{AllAbove, Rising, by_other, same_is_equal, lt_from_test}
 use Rattle.vr_space.proofs.CallerLemmas.{AscendFrom, head-ascends, in-most, in-above, above-more}
 use Rattle.vr_space.proofs.CallerLemmas.{found-entry, found-none, places-placed, rising-sorted}
@@ -384,8 +384,12 @@ module _ (part : Keyed) (image : Image) (from : Whence)
       ∙ none-passes (is_sought (nth-range n None nth) from)
       (records_of part (nth-block n None nth)) q (nth-first n None nth)
       (nth-sought n None nth q allowed at_n))
-      (λ past. absurd (omega (arith, past, position-below q all-entries 0 n
-      (sym (position_from-zero (reaches q) all-entries) ∙ at_n))))
+      (λ past. absurd (omega (
+        arith,
+        past,
+        position-below q all-entries 0 n
+            (sym (position_from-zero (reaches q) all-entries) ∙ at_n),
+      )))
       has)
       (cases_lt i n)
 
@@ -398,9 +402,12 @@ module _ (part : Keyed) (image : Image) (from : Whence)
           → item_of (KeyedShape part) image q ≡ None
       by None is = ap (λ (o : Option (Range × Entry)). found_on image (way_in part q o))
           (found-none q all-entries is)
-      by (Some i) is = none q i allowed is (omega (arith, all,
-          position-below q all-entries 0 i
-          (sym (position_from-zero (reaches q) all-entries) ∙ is)))
+      by (Some i) is = none q i allowed is (omega (
+        arith,
+        all,
+        position-below q all-entries 0 i
+            (sym (position_from-zero (reaches q) all-entries) ∙ is),
+      ))
 
   -- the first of the entry of this number
   pub next-is : (n : ℕ) (place : List ℕ) → HasNth part image n from (Some place) → NoneBefore n

@@ -1,9 +1,9 @@
 -- What was met, once a block has other bytes.
-use Rattle.std.proofs.Common.{◌≡◌, ◌<◌, ◌≤◌, ◌+◌, ℕ, zero, suc, List, [], ◌∷◌, Option, Some, None, take}
-use Rattle.std.proofs.Common.{All, refl, sym, ap, subst, ◌∙◌, arith, length, map}
+use Rattle.std.proofs.Common.{◌≡◌, ◌<◌, ℕ, zero, suc, List, [], ◌∷◌, Option, Some, None, take}
+use Rattle.std.proofs.Common.{All, refl, ap, ◌∙◌, arith, length, map}
 use Rattle.std.specs.Prelude.{IfSome}
-use Rattle.std.proofs.lemmas.List.Elements.{All-head, All-map, All-weaker}
-use Rattle.vr_types.specs.Image.{Block, Image}
+use Rattle.std.proofs.lemmas.List.Elements.{All-head}
+use Rattle.vr_types.specs.Image.{Block}
 use Rattle.vr_space.specs.Keyed.{Keyed, IsHead}
 use Rattle.vr_space.specs.Met.{Met, places_met}
 use Rattle.vr_space.specs.Part.{KeyedShape, IsRecordOf}

@@ -1,20 +1,20 @@
 -- Room for an interval in which a record is set.
-use Rattle.std.proofs.Common.{◌≡◌, ◌<◌, ◌≤◌, ◌+◌, ◌-◌, ℕ, Bool, IsTrue, true, false, List, [], ◌∷◌}
+use Rattle.std.proofs.Common.{◌≡◌, ◌≤◌, ◌-◌, ℕ, Bool, true, false, List, [], ◌∷◌}
 use Rattle.std.proofs.Common.{◌⊎◌, inl, inr, ⊎_elim, Option, Some, None, refl, sym, ap, subst, ◌∙◌}
-use Rattle.std.proofs.Common.{arith, true≢false, length, map, leb-true}
+use Rattle.std.proofs.Common.{arith, true≢false, length, map}
 use Rattle.std.specs.Prelude.{filter, cond, IfSome}
 use Rattle.std.specs.Option.{option_map}
 use Rattle.std.specs.Ordering.{is_lt}
 use Rattle.std.specs.declared.cmp.Ordering.{Ordering}
 use Rattle.std.specs.declared.cmp.Ordering.TheVariants.{Less, Equal, Greater}
-use Rattle.vr_types.specs.Content.{Content, Placed, place_cmp, record_at, record_of, found_by}
+use Rattle.vr_types.specs.Content.{Content, Placed, place_cmp, record_at, found_by}
 use Rattle.vr_types.specs.Content.Item.{Standing, Withdrawn}
 use Rattle.vr_types.specs.Image.{Block}
 use Rattle.vr_types.proofs.CallerLemmas.{same_place}
 use Rattle.vr_ci.specs.Interval as ci
 use Rattle.vr_space.specs.Room.{Lengths, Range, HaveRoom, is_in, length_at, length_by, lengths_in}
-use Rattle.vr_space.specs.Room.{with_length, with_lengths, weight, have_room}
-use Rattle.vr_space.specs.Keyed.{Keyed, HoldsRange, items_of, key_of, placed, records_of, records_in}
+use Rattle.vr_space.specs.Room.{with_length, with_lengths, weight}
+use Rattle.vr_space.specs.Keyed.{Keyed, HoldsRange, items_of, placed, records_of, records_in}
 use Rattle.vr_space.specs.Keyed.{length_of, lengths_of}
 use Rattle.vr_space.specs.Part.{KeyedShape, IsRecordOf}
 use Rattle.vr_space.proofs.CallerLemmas.{NoneAt, AllAbove, Rising, rising-sorted, rising-filtered}
@@ -25,7 +25,7 @@ use Rattle.vr_keyed.proofs.Lengths.{ArePast, Rise, IsUnder, NoMore, most_of, no-
 use Rattle.vr_keyed.proofs.Lengths.{under-then, under-withs, with-last, with-covered, under-weight}
 use Rattle.vr_keyed.proofs.Lengths.{rise-with, rise-withs, at-by, at-range}
 use Rattle.vr_keyed.proofs.Contents.{content_set, set-here, set-other, set-beyond, set-rises}
-use Rattle.vr_keyed.proofs.Contents.{records-set, not-true}
+use Rattle.vr_keyed.proofs.Contents.{records-set}
 
 -- ---- lengths of a content
 

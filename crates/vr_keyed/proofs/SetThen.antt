@@ -1,6 +1,6 @@
 -- A `set` after a call that puts nothing, and the order of what was met.
-use Rattle.std.proofs.Common.{◌≡◌, ◌<◌, ◌≤◌, ◌+◌, ℕ, zero, suc, Bool, IsTrue, List, [], ◌∷◌, Option}
-use Rattle.std.proofs.Common.{Some, None, take, All, refl, sym, ap, subst, ◌∙◌, arith}
+use Rattle.std.proofs.Common.{◌≡◌, ◌<◌, ◌≤◌, ℕ, zero, suc, Bool, IsTrue, List, [], ◌∷◌, Option}
+use Rattle.std.proofs.Common.{take, All, refl, sym, ap, subst, ◌∙◌, arith}
 use Rattle.std.proofs.lemmas.List.Elements.{All-head, All-tail, All-cons, All-nil}
 use Rattle.vr_types.specs.Image.{Image}
 use Rattle.vr_types.specs.Seen.{Seen, Left}
@@ -18,50 +18,50 @@ use Rattle.vr_keyed.specs.Ready.{IsReady, MaySet, IsSetNow}
 module _ (part : Keyed) (kept : Lengths) (split : Option SplitNow) (place : List ℕ)
     (item : Option (List ℕ)) (tells : Bool) (told : IsTrue tells) (a m : Seen)
     (call : Keeps tells a m) (left : Left a a.cur) (ready : IsReady part kept split place item a)
-    where
-      pub ready-keeps : IsReady part kept split place item m
-      ready-keeps = record {
-        rests = rest-keeps tells told (KeyedShape part) a m call ready.rests;
-        room = room-keeps tells told (KeyedShape part) kept a m call ready.rests.sound ready.room;
-        way = way-keeps tells told (KeyedShape part) split a m call ready.rests.sound left
-            ready.way;
-        can = subst (λ (image : Image). CanSet (KeyedShape part) split image kept place item)
-            (sym (call.content told)) ready.can;
-        valid = ready.valid;
-      }
+  where
+    pub ready-keeps : IsReady part kept split place item m
+    ready-keeps = record {
+      rests = rest-keeps tells told (KeyedShape part) a m call ready.rests;
+      room = room-keeps tells told (KeyedShape part) kept a m call ready.rests.sound ready.room;
+      way = way-keeps tells told (KeyedShape part) split a m call ready.rests.sound left
+          ready.way;
+      can = subst (λ (image : Image). CanSet (KeyedShape part) split image kept place item)
+          (sym (call.content told)) ready.can;
+      valid = ready.valid;
+    }
 
-      -- where nothing more is done
-      pub may-keeps : MaySet part kept place item a m
-      may-keeps = record {
-        adds = Rattle.vr_space.proofs.CallerLemmas.adds-weaken (KeyedShape part)
-            Rattle.vr_space.specs.Part.Nothing (Just place item) a m
-            (keeps-adds tells told (KeyedShape part) a m call ready.rests.sound)
-            (λ p i none. absurd none);
-        room = room-keeps tells told (KeyedShape part) kept a m call ready.rests.sound ready.room;
-        rooms = keeps-rooms tells told (KeyedShape part) kept a m call ready.rests.sound
-            ready.room;
-      }
+    -- where nothing more is done
+    pub may-keeps : MaySet part kept place item a m
+    may-keeps = record {
+      adds = Rattle.vr_space.proofs.CallerLemmas.adds-weaken (KeyedShape part)
+          Rattle.vr_space.specs.Part.Nothing (Just place item) a m
+          (keeps-adds tells told (KeyedShape part) a m call ready.rests.sound)
+          (λ p i none. absurd none);
+      room = room-keeps tells told (KeyedShape part) kept a m call ready.rests.sound ready.room;
+      rooms = keeps-rooms tells told (KeyedShape part) kept a m call ready.rests.sound
+          ready.room;
+    }
 
-      pub may-then : (b : Seen) → MaySet part kept place item m b → MaySet part kept place item a b
-      may-then b may = record {
-        adds = nothing-then (KeyedShape part) (Just place item) a m b
-            (keeps-adds tells told (KeyedShape part) a m call ready.rests.sound) may.adds;
-        room = may.room;
-        rooms = touches-then (InPart (KeyedShape part)) (HasRoom (KeyedShape part) kept) a m b
-            (keeps-rooms tells told (KeyedShape part) kept a m call ready.rests.sound ready.room)
-            may.rooms;
-      }
+    pub may-then : (b : Seen) → MaySet part kept place item m b → MaySet part kept place item a b
+    may-then b may = record {
+      adds = nothing-then (KeyedShape part) (Just place item) a m b
+          (keeps-adds tells told (KeyedShape part) a m call ready.rests.sound) may.adds;
+      room = may.room;
+      rooms = touches-then (InPart (KeyedShape part)) (HasRoom (KeyedShape part) kept) a m b
+          (keeps-rooms tells told (KeyedShape part) kept a m call ready.rests.sound ready.room)
+          may.rooms;
+    }
 
-      pub done-then : (b : Seen) (put : List ℕ) → IsSetNow part split put place item m b
-          → IsSetNow part split put place item a b
-      done-then b put done = record {
-        set = subst (λ (image : Image). SetsOne (KeyedShape part) place item image b.cur)
-            (call.content told) done.set;
-        due = due-then (KeyedShape part) put a m b
-            (due-keeps tells told (KeyedShape part) a m call ready.rests.sound) done.due;
-        rests = done.rests;
-        way = done.way;
-      }
+    pub done-then : (b : Seen) (put : List ℕ) → IsSetNow part split put place item m b
+        → IsSetNow part split put place item a b
+    done-then b put done = record {
+      set = subst (λ (image : Image). SetsOne (KeyedShape part) place item image b.cur)
+          (call.content told) done.set;
+      due = due-then (KeyedShape part) put a m b
+          (due-keeps tells told (KeyedShape part) a m call ready.rests.sound) done.due;
+      rests = done.rests;
+      way = done.way;
+    }
 
 -- ---- the order
 

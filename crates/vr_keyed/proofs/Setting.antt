@@ -2,14 +2,14 @@
 use Rattle.std.proofs.Common.{◌≡◌, ◌≢◌, ◌⊎◌, inl, inr, ⊎_elim, ◌<◌, ◌≤◌, ◌+◌, ◌-◌, ℕ, Bool, IsTrue}
 use Rattle.std.proofs.Common.{true, false, List, [], ◌∷◌, Option, Some, None, All, refl, sym, ap}
 use Rattle.std.proofs.Common.{subst, ◌∙◌, arith, true≢false, length, map, ◌||◌, eq-eqb}
-use Rattle.std.proofs.lemmas.List.Elements.{All-map, All-weaker, Contains-push}
+use Rattle.std.proofs.lemmas.List.Elements.{Contains-push}
 use Rattle.std.specs.Prelude.{cond, IfSome, slice_index, nat_eq, nat_le, is_some, Contains}
 use Rattle.std.specs.List.Sorted.{IsStrictlySortedBy}
 use Rattle.std.specs.Ordering.{is_le, is_eq}
 use Rattle.std.specs.declared.cmp.Ordering.{Ordering}
 use Rattle.std.specs.declared.cmp.Ordering.TheVariants.{Less, Equal, Greater}
 use Rattle.vr_types.specs.Content.{Content, place_cmp, record_at}
-use Rattle.vr_types.specs.Image.{Block, Image, block_at}
+use Rattle.vr_types.specs.Image.{Block, block_at}
 use Rattle.vr_types.specs.Seen.{Seen, Left, Only}
 use Rattle.vr_types.specs.Blocks.{Puts}
 use Rattle.vr_types.specs.declared.unit.StageKind.{StageKind}
@@ -20,19 +20,18 @@ use Rattle.vr_ci_match.specs.Fault.{is_busy}
 use Rattle.vr_ci.specs.Interval as ci
 use Rattle.vr_ci.proofs.CallerLemmas.{interval_says}
 use Rattle.vr_seqset.specs.Entry.{Entry}
-use Rattle.vr_space.specs.Way.{MayOnceForced, found_on}
+use Rattle.vr_space.specs.Way.{found_on}
 use Rattle.vr_space.specs.Room.{Lengths, Range, HaveRoom, is_in, weight, with_length}
 use Rattle.vr_space.specs.Keyed.{Keyed, IsHead, IsKept, HoldsRange, EachMayLeave, items_of, key_of}
 use Rattle.vr_space.specs.Keyed.{records_of, lengths_of, entries_of, entry_block, entry_for, range_of}
 use Rattle.vr_space.specs.Keyed.{way_in}
 use Rattle.vr_space.specs.Split.{SplitNow, stage_at, stage_in}
-use Rattle.vr_space.specs.UnderWay.{interval_block}
 use Rattle.vr_space.specs.Met.{Met, IsMet}
-use Rattle.vr_space.specs.Part.{KeyedShape, InPart, IsRecordOf, HasRoomFor, item_of, SetsOne}
-use Rattle.vr_space.proofs.CallerLemmas.{found-in, IsSplitBlock, way-puts, met-stays, same_is_equal}
+use Rattle.vr_space.specs.Part.{KeyedShape, InPart, IsRecordOf, HasRoomFor, item_of}
+use Rattle.vr_space.proofs.CallerLemmas.{found-in, IsSplitBlock, way-puts, same_is_equal}
 use Rattle.vr_split.specs.Switching.{OfBlock}
 use Rattle.vr_split.proofs.CallerLemmas.{now-entries, KeepsOthers, of-found, set-adds, head-still}
-use Rattle.vr_split.proofs.CallerLemmas.{led-is, equal_or, rest-after, room-after, rooms-after}
+use Rattle.vr_split.proofs.CallerLemmas.{led-is, rest-after, room-after, rooms-after}
 use Rattle.vr_split.proofs.CallerLemmas.{sets-one, due-put, head-apart, of-same, found-range}
 use Rattle.vr_keyed.specs.Setting.{items_set}
 use Rattle.vr_keyed.specs.Ready.{IsReady, MaySet, IsSetNow, refreshed}
@@ -69,52 +68,52 @@ each-found part now Q low (entry ∷ entries) place at each is =
 -- ---- an interval with a record set
 
 module _ (part : Keyed) (range : Range) (place : List ℕ) (item : Option (List ℕ)) (old bytes : Block)
-    where
-  -- what is written
-  abbrev pub IsWritten : Type 0
-  IsWritten = ci.IsInterval Plain bytes (record {
-    shape = shapes.Records;
-    items = items_set part range place item (items_of old);
-    busy = false;
-  })
+  where
+    -- what is written
+    abbrev pub IsWritten : Type 0
+    IsWritten = ci.IsInterval Plain bytes (record {
+      shape = shapes.Records;
+      items = items_set part range place item (items_of old);
+      busy = false;
+    })
 
-  pub written-items : IsWritten
-      → items_of bytes ≡ items_set part range place item (items_of old)
-  written-items written = sym (interval_says Plain bytes _ written refl).0
+    pub written-items : IsWritten
+        → items_of bytes ≡ items_set part range place item (items_of old)
+    written-items written = sym (interval_says Plain bytes _ written refl).0
 
-  pub written-holds : IsWritten → length bytes ≡ part.size → HoldsRange part range old
-      → IfSome item (IsRecordOf (KeyedShape part) place) → is_in range place ≡ true
-      → HoldsRange part range bytes
-  written-holds written long holds valid here =
-      let items = written-items written in
-      let idle : is_busy bytes ≡ false = sym (interval_says Plain bytes _ written refl).1 in
-      record {
-        spelled = subst (λ (xs : List ci.Item). ci.IsInterval Plain bytes (record {
-          shape = shapes.Records;
-          items = xs;
-          busy = is_busy bytes;
-        })) (sym items)
-            (subst (λ (b : Bool). ci.IsInterval Plain bytes (record {
-          shape = shapes.Records;
-          items = items_set part range place item (items_of old);
-          busy = b;
-        })) (sym idle) written);
-        size = long;
-        kept = subst (All (IsKept part)) (sym items)
-            (set-kept part range place item (items_of old) valid holds.kept);
-        ascends = subst (λ (xs : List ci.Item). IsStrictlySortedBy place_cmp
-            (map (λ (x : ci.Item). key_of part x.bytes) xs)) (sym items)
-            (set-ascends part range place item (items_of old) valid holds.ascends);
-        within = λ not_busy. subst
-            (All (λ (x : ci.Item). IsTrue (is_in range (key_of part x.bytes)))) (sym items)
-            (set-within part range place item (items_of old) valid here);
-      }
+    pub written-holds : IsWritten → length bytes ≡ part.size → HoldsRange part range old
+        → IfSome item (IsRecordOf (KeyedShape part) place) → is_in range place ≡ true
+        → HoldsRange part range bytes
+    written-holds written long holds valid here =
+        let items = written-items written in
+        let idle : is_busy bytes ≡ false = sym (interval_says Plain bytes _ written refl).1 in
+        record {
+          spelled = subst (λ (xs : List ci.Item). ci.IsInterval Plain bytes (record {
+            shape = shapes.Records;
+            items = xs;
+            busy = is_busy bytes;
+          })) (sym items)
+              (subst (λ (b : Bool). ci.IsInterval Plain bytes (record {
+                shape = shapes.Records;
+                items = items_set part range place item (items_of old);
+                busy = b;
+              })) (sym idle) written);
+          size = long;
+          kept = subst (All (IsKept part)) (sym items)
+              (set-kept part range place item (items_of old) valid holds.kept);
+          ascends = subst (λ (xs : List ci.Item). IsStrictlySortedBy place_cmp
+              (map (λ (x : ci.Item). key_of part x.bytes) xs)) (sym items)
+              (set-ascends part range place item (items_of old) valid holds.ascends);
+          within = λ not_busy. subst
+              (All (λ (x : ci.Item). IsTrue (is_in range (key_of part x.bytes)))) (sym items)
+              (set-within part range place item (items_of old) valid here);
+        }
 
-  pub written-records : IsWritten → IfSome item (IsRecordOf (KeyedShape part) place)
-      → records_of part bytes ≡ content_set range place item (records_of part old)
-  written-records written valid =
-      ap (map (Rattle.vr_space.specs.Keyed.placed part)) (written-items written)
-      ∙ records-set part range place item (items_of old) valid
+    pub written-records : IsWritten → IfSome item (IsRecordOf (KeyedShape part) place)
+        → records_of part bytes ≡ content_set range place item (records_of part old)
+    written-records written valid =
+        ap (map (Rattle.vr_space.specs.Keyed.placed part)) (written-items written)
+        ∙ records-set part range place item (items_of old) valid
 
 -- ---- the put
 
@@ -190,7 +189,7 @@ module _ (part : Keyed) (kept : Lengths) (split : Option SplitNow) (place : List
       by (Some record_given) same room = inr (
         length record_given,
         subst (λ (o : Option (List ℕ)).
-        Rattle.vr_keyed.proofs.Lengths.NoMore (length_in o) (Some (length record_given)))
+            Rattle.vr_keyed.proofs.Lengths.NoMore (length_in o) (Some (length record_given)))
             (sym same) (omega arith),
         ⊎_elim
             (λ fits. inl (subst (λ (block : Block).

@@ -3,8 +3,6 @@ use Rattle.std.proofs.Common.{◌≡◌, Option, Some, None, refl, sym, ap, subs
 use Rattle.std.specs.Prelude.{unwrap_or, IfSome}
 use Rattle.vr_types.specs.declared.unit.StageKind.{StageKind}
 use Rattle.vr_types.specs.declared.unit.StageKind.TheVariants.{CiCopy, CiSwitch, CiClean}
-use Rattle.vr_types.specs.declared.unit.StageKind.TheVariants.{CaClaim, CaCopy, CaLink, CaSwitch}
-use Rattle.vr_types.specs.declared.unit.StageKind.TheVariants.{Post, Extend, Undo, Force}
 use Rattle.vr_types.specs.declared.unit.PartNo.{PartNo}
 use Rattle.vr_space.specs.Split.{SplitNow}
 use Rattle.vr_space.specs.Part.{OwnersAfter}

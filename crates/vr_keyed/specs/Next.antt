@@ -1,5 +1,5 @@
 -- Searching for the next place with a record. The rules are this project's own.
-use Rattle.std.specs.Prelude.{◌≡◌, ◌⊎◌, ◌≤◌, ℕ, Bool, IsTrue, true, false, ◌&&◌, List, [], ◌∷◌}
+use Rattle.std.specs.Prelude.{◌≡◌, ◌⊎◌, ◌≤◌, ℕ, Bool, IsTrue, true, false, ◌&&◌, List}
 use Rattle.std.specs.Prelude.{Option, Some, None, filter, length, slice_get}
 use Rattle.std.specs.List.{position}
 use Rattle.vr_types.specs.Image.{Block, Image, block_at}

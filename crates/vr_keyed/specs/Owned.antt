@@ -1,5 +1,5 @@
 -- What is seen of a keyed part on blocks.
-use Rattle.std.specs.Prelude.{ℕ, Bool, true, false, List, [], ◌∷◌, Option}
+use Rattle.std.specs.Prelude.{ℕ, List, Option}
 use Rattle.vr_space.specs.Keyed.{Keyed}
 use Rattle.vr_space.specs.Split.{SplitNow}
 use Rattle.vr_space.specs.Met.{Met}

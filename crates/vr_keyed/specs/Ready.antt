@@ -1,5 +1,5 @@
 -- What a `set` finds of a keyed part, and what it leaves. The rules are this project's own.
-use Rattle.std.specs.Prelude.{ℕ, Bool, List, [], ◌∷◌, Option, Some, None, IfSome, cond, nat_eq}
+use Rattle.std.specs.Prelude.{ℕ, List, [], ◌∷◌, Option, Some, None, IfSome, cond, nat_eq}
 use Rattle.vr_types.specs.Image.{Block}
 use Rattle.vr_types.specs.Regions.{Touches}
 use Rattle.vr_types.specs.Seen.{Seen}

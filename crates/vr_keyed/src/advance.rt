@@ -126,7 +126,11 @@ fn begin_split<B: Blocks, K: Kept>(
     let Some(plan) = plan_at(layout, slots, blocks, kept, place, longest, weights)? else {
         return Ok(false);
     };
-    split.begin(plan.target.old, plan.target.into, weights.place(plan.number));
+    split.begin(
+        plan.target.old,
+        plan.target.into,
+        weights.place(plan.number),
+    );
     Ok(true)
 }
 

@@ -14,9 +14,7 @@ use std::alloc::Global;
 use std::marker::Model;
 use vr_space::{Kept, Layout, Part, Room, Whence};
 use vr_split::{CiSplit, Weights, ci_split, empty_weights};
-use vr_types::{
-    Blocks, DeviceFault, OutOfMemory, Place, PlaceBuffer, Space, StageKind,
-};
+use vr_types::{Blocks, DeviceFault, OutOfMemory, Place, PlaceBuffer, Space, StageKind};
 
 /// A key-sequenced part of one area on blocks (DFSMS Using Data Sets, key-sequenced data sets): its
 /// head is a sequence-set record, and its records stand in control intervals. It has the buffers

@@ -2,23 +2,23 @@
 //! `vr_types`, `vr_ci`, `vr_seqset`, `vr_space` and `vr_split`.
 #![tactic(auto)]
 
+mod advance;
+mod gather;
 mod keyed;
 mod look;
 mod meet;
 mod next;
+mod plan;
+mod range;
+mod room;
 mod set;
 mod slot;
 mod slots;
 mod stretch;
 mod writing;
-mod advance;
-mod gather;
-mod plan;
-mod range;
-mod room;
 
-pub use keyed::{Keyed, keyed_part};
 pub use gather::{fits, gather_lengths};
+pub use keyed::{Keyed, keyed_part};
 pub use plan::{Target, cut_at, target_in};
 pub use range::{LentRange, is_in};
 pub use room::{UnderWay, least_free};

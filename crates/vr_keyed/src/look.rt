@@ -13,11 +13,7 @@ use vr_space::{Layout, entry_for, record_at};
 use vr_types::{Blocks, DeviceFault};
 
 /// The block of the interval that the head leads to from a place.
-fn block_for<B: Blocks>(
-    blocks: &mut B,
-    layout: &Layout,
-    place: &[u8],
-) -> Result<u32, DeviceFault>
+fn block_for<B: Blocks>(blocks: &mut B, layout: &Layout, place: &[u8]) -> Result<u32, DeviceFault>
     requires on { IsOn (KeyedShape layout.now) (B.seen blocks.old) }
     requires place { length place.now ≡ layout.now.key }
     requires head { IsTrue B.tells

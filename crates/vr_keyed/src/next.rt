@@ -125,8 +125,8 @@ fn find_nth<B: Blocks>(
     Ok(true)
 }
 
-/// The number of the entry of a place, or how many entries there are: those before hold no place
-/// from it on.
+/// The number of the entry of a place, or 0 where there is none: those before hold no place from it
+/// on.
 fn start_at(layout: &Layout, top: &[u8], place: &[u8]) -> usize
     ensures { IsHead layout.now top.now → (other : List ℕ) (i : ℕ)
         → is_le (place_cmp place.now other) ≡ true

@@ -43,7 +43,11 @@ impl Slot {
         ensures { option_map (λ (low : Bor (List ℕ)). low.now) result
             ≡ low_of self.now.from_start self.now.low.place }
     {
-        if self.from_start { None } else { Some(self.low.as_slice()) }
+        if self.from_start {
+            None
+        } else {
+            Some(self.low.as_slice())
+        }
     }
 
     /// Makes the range and the block those of an entry.

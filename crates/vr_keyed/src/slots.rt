@@ -15,8 +15,7 @@ pub(crate) struct Slots {
     pub(crate) second: Slot,
     pub(crate) filled: u8,
     ghost few: { filled ≤ 2 },
-    ghost apart: { filled ≡ 2 → first.place.place ≡ second.place.place → ⊥ }
-        by { Prim.hlevel props },
+    ghost apart: { filled ≡ 2 → first.place.place ≡ second.place.place → ⊥ } by { Prim.hlevel props },
 }
 
 impl Slots {

@@ -39,7 +39,11 @@ impl Stretch<'_> {
             self.now.high.now self.now.most place.now }
     {
         let order = place.cmp(self.high);
-        let most = if self.most { order.is_le() } else { order.is_lt() };
+        let most = if self.most {
+            order.is_le()
+        } else {
+            order.is_lt()
+        };
         is_past(self.low, place) && most
     }
 }

@@ -1,8 +1,6 @@
-use Rattle.std.proofs.Common.{◌≡◌, ℕ, ◌+◌, Option, Some, None, sym, ap, subst, ◌∙◌, arith, true≢false}
+use Rattle.std.proofs.Common.{◌≡◌, ℕ, ◌+◌, None, sym, ap, subst, ◌∙◌, arith, true≢false}
 use Rattle.std.specs.Prelude.{is_some}
 use Rattle.vr_types.specs.Image.{Block, block_at}
-use Rattle.vr_seqset.specs.Entry.{Entry}
-use Rattle.vr_space.specs.Room.{Range}
 use Rattle.vr_space.specs.Keyed.{Keyed, IsHead, entry_for, entries_of}
 use Rattle.vr_space.specs.Search.{range_found}
 use Rattle.vr_split.proofs.CallerLemmas.{found-some}

@@ -14,13 +14,15 @@ returns g c =
     let a = B.seen c.args.blocks.now in
     let m = B.seen c.block_for.new.blocks in
     let part = c.args.layout.now in
-    let place = c.args.place.now in
-    (
+    let place = c.args.place.now in (
       (
         refl,
         λ x. tt,
-        (keeps-then B.tells a m (B.seen c.get.follows.lender-at-none)
-            c.block_for.ensures.keeps c.get.follows.holds-at-none.0, search rules),
+        (
+          keeps-then B.tells a m (B.seen c.get.follows.lender-at-none)
+              c.block_for.ensures.keeps c.get.follows.holds-at-none.0,
+          search rules,
+        ),
       ),
       record {
         item = λ told.

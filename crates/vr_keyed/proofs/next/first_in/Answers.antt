@@ -1,4 +1,4 @@
-use Rattle.std.proofs.Common.{◌≡◌, Some, None, List, map, All, subst, sym, ap, ◌∙◌, Option, ℕ}
+use Rattle.std.proofs.Common.{◌≡◌, Some, List, map, All, subst, sym, ap, ◌∙◌}
 use Rattle.vr_ci.specs.Interval as ci
 use Rattle.vr_types.specs.PlaceBuffer.{PlaceRoom}
 use Rattle.vr_space.specs.Keyed.{IsKept, items_of}

@@ -1,4 +1,4 @@
-use Rattle.std.proofs.Common.{◌≡◌, ℕ, Bool, true, false, List, Option, Some, None, inl, sym, ap, subst}
+use Rattle.std.proofs.Common.{◌≡◌, ℕ, Bool, true, false, List, Option, None, inl, sym, ap, subst}
 use Rattle.std.proofs.Common.{◌∙◌}
 use Rattle.vr_types.specs.Image.{Block, Image, block_at}
 use Rattle.vr_types.proofs.CallerLemmas.{keeps-then}

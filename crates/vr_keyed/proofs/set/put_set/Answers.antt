@@ -1,14 +1,11 @@
-use Rattle.std.proofs.Common.{◌≡◌, ◌<◌, ◌≤◌, ◌-◌, ℕ, List, All, map, true, true≢false, length, refl, sym, ap}
+use Rattle.std.proofs.Common.{◌≡◌, ◌<◌, All, true≢false, sym, ap}
 use Rattle.std.proofs.Common.{subst, ◌∙◌, arith, rules}
 use Rattle.std.proofs.lemmas.List.Elements.{All-map, All-weaker}
-use Rattle.vr_types.specs.Image.{Block, block_at}
+use Rattle.vr_types.specs.Image.{block_at}
 use Rattle.vr_types.specs.Seen.{Left}
 use Rattle.vr_types.proofs.CallerLemmas.{cur-put}
-use Rattle.vr_ci.specs.Interval as ci
-use Rattle.vr_space.specs.Keyed.{items_of}
 use Rattle.vr_space.specs.Met.{Met, IsMet, places_met}
 use Rattle.vr_space.specs.Part.{given}
-use Rattle.vr_keyed.specs.Setting.{items_set}
 use Rattle.vr_keyed.specs.Slots.{met_in, mets}
 use Rattle.vr_keyed.specs.Ready.{refreshed}
 use Rattle.vr_keyed.proofs.Setting.{now-head, old-holds, room-to-write, may-set, done-set}

@@ -1,4 +1,4 @@
-use Rattle.std.proofs.Common.{◌≡◌, sym, ◌∙◌, Option, ℕ}
+use Rattle.std.proofs.Common.{sym, ◌∙◌}
 use Rattle.vr_types.specs.Seen.{Left}
 use Rattle.vr_space.specs.Part.{given}
 use Rattle.vr_keyed.specs.Slots.{met_in}

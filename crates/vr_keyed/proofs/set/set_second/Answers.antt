@@ -1,4 +1,4 @@
-use Rattle.std.proofs.Common.{◌≡◌, ℕ, List, [], ◌∷◌, All, take, sym, ap, subst, ◌∙◌}
+use Rattle.std.proofs.Common.{◌≡◌, ℕ, [], ◌∷◌, All, take, sym, ap, subst, ◌∙◌}
 use Rattle.vr_space.specs.Met.{Met, IsMet, places_met}
 use Rattle.vr_keyed.specs.declared.slot.Slot.{Slot}
 use Rattle.vr_keyed.specs.Slots.{met_in, mets}

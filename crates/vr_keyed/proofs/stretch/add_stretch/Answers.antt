@@ -1,9 +1,8 @@
-use Rattle.std.proofs.Common.{◌≡◌, ◌≤◌, ◌-◌, ◌∷◌, ◌++◌, [], List, false, refl, sym, ap, subst, ◌∙◌}
-use Rattle.std.proofs.Common.{rules, arith, length, true≢false, ◌+◌}
+use Rattle.std.proofs.Common.{◌≡◌, ◌-◌, ◌∷◌, ◌++◌, refl, sym, ap, subst, ◌∙◌}
+use Rattle.std.proofs.Common.{rules, arith, length, true≢false}
 use Rattle.std.specs.List.{AllByRecursion}
 use Rattle.vr_ci.specs.Interval as ci
 use Rattle.vr_ci.specs.Writer.{size_of}
-use Rattle.vr_keyed.specs.Setting.{items_in}
 use Rattle.vr_keyed.proofs.Adding.{adding-room, adding-kept, adding-more}
 use Rattle.vr_keyed.proofs.stretch.add_stretch.Goals as goal
 

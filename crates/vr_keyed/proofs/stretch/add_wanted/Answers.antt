@@ -1,9 +1,8 @@
-use Rattle.std.proofs.Common.{◌≡◌, ◌≤◌, ◌<◌, ◌+◌, ◌-◌, ℕ, ◌++◌, ◌∷◌, [], List, IsTrue, true, false, length}
-use Rattle.std.proofs.Common.{refl, sym, ap, subst, ◌∙◌, rules, arith}
+use Rattle.std.proofs.Common.{◌≡◌, ◌≤◌, ◌+◌, ℕ, ◌++◌, ◌∷◌, [], List, IsTrue, true, false, length}
+use Rattle.std.proofs.Common.{refl, sym, ap, subst, ◌∙◌, arith}
 use Rattle.std.specs.Prelude.{IsErr}
 use Rattle.vr_ci.specs.Interval as ci
 use Rattle.vr_ci.specs.Writer.{Holds, written}
-use Rattle.vr_space.specs.Keyed.{key_of}
 use Rattle.vr_keyed.specs.Setting.{items_in}
 use Rattle.vr_keyed.proofs.Adding.{is_one, one_of, test-false, in-wanted, holds-other, written-is}
 use Rattle.vr_keyed.proofs.Adding.{not-err, on-ok}
@@ -32,7 +31,9 @@ returns-clause-added c items item holds same lives kept fits =
     λ err. omega (arith, (c.add.ensures.full items holds).0 err, fits, ap ci.room alone, long) in
     let ok : IsTrue c.is_ok.result = c.is_ok.ensures.value ∙ not-err c.add.result none in
     let added : Holds c.add.new.self (items ++ written c.args.bytes.now c.args.live ∷ []) =
-    on-ok c.add.result _ (not-err c.add.result none) (c.add.ensures.ok items holds) in
-    (ok, subst (λ (xs : List ci.Item). Holds c.add.new.self (items ++ xs))
-    (ap (λ (x : ci.Item). x ∷ [])
-    (written-is item c.args.bytes.now c.args.live same lives kept.live) ∙ sym alone) added)
+    on-ok c.add.result _ (not-err c.add.result none) (c.add.ensures.ok items holds) in (
+      ok,
+      subst (λ (xs : List ci.Item). Holds c.add.new.self (items ++ xs))
+          (ap (λ (x : ci.Item). x ∷ [])
+          (written-is item c.args.bytes.now c.args.live same lives kept.live) ∙ sym alone) added,
+    )

@@ -1,11 +1,10 @@
-use Rattle.std.proofs.Common.{◌≡◌, ◌+◌, ◌-◌, ◌≤◌, ◌++◌, ℕ, List, [], Option, Some, true, false, true≢false}
-use Rattle.std.proofs.Common.{refl, sym, ap, subst, ◌∙◌, arith, append_assoc}
+use Rattle.std.proofs.Common.{◌≡◌, ◌-◌, ◌++◌, ℕ, List, [], Option, Some, true, false, true≢false}
+use Rattle.std.proofs.Common.{sym, ap, subst, ◌∙◌, arith, append_assoc}
 use Rattle.std.specs.Borrow.{Bor}
 use Rattle.std.specs.Option.{option_map}
 use Rattle.vr_ci.specs.Interval as ci
 use Rattle.vr_ci.specs.Writer.{Holds, size_of}
 use Rattle.vr_ci.proofs.CallerLemmas.{room-append}
-use Rattle.vr_space.specs.Room.{Range}
 use Rattle.vr_space.specs.Part.{given}
 use Rattle.vr_keyed.specs.Setting.{items_between, items_given}
 use Rattle.vr_keyed.specs.Slots.{met_in}
@@ -64,8 +63,15 @@ returns-clause-added c holds kept some fits =
     let second = c.add_given.ensures.added low first.1 some
     (omega (arith, less, rooms, c.add_stretch.ensures.size)) in
     let third = c.add_stretch-2.ensures.added (low ++ items_given new) second.1 kept
-    (omega (arith, less, more, rooms, c.add_stretch.ensures.size, c.add_given.ensures.size,
-    room-append low (items_given new))) in
+    (omega (
+      arith,
+      less,
+      more,
+      rooms,
+      c.add_stretch.ensures.size,
+      c.add_given.ensures.size,
+      room-append low (items_given new),
+    )) in
     let whole : (low ++ items_given new) ++ high
     ≡ items_between part range.low place false items
     ++ (items_given new ++ items_between part (Some place) range.high true items) =

@@ -1,10 +1,10 @@
-use Rattle.std.proofs.Common.{◌≡◌, ◌-◌, ◌≤◌, ℕ, List, All, false, true≢false, length, refl, sym, ap}
+use Rattle.std.proofs.Common.{◌≡◌, ℕ, List, All, false, true≢false, refl, sym, ap}
 use Rattle.std.proofs.Common.{subst, ◌∙◌, arith, rules}
 use Rattle.vr_ci_match.specs.declared.form.Form.TheVariants.{Plain}
 use Rattle.vr_ci_match.specs.declared.form.Shape.TheVariants as shapes
 use Rattle.vr_ci_match.specs.Fault.{is_busy}
 use Rattle.vr_ci.specs.Interval as ci
-use Rattle.vr_ci.specs.Writer.{Holds, form_of, size_of}
+use Rattle.vr_ci.specs.Writer.{Holds, form_of}
 use Rattle.vr_space.specs.Keyed.{IsKept, items_of}
 use Rattle.vr_space.specs.Part.{given}
 use Rattle.vr_space.proofs.CallerLemmas.{items-read}
@@ -65,11 +65,13 @@ returns c = record {
       let items : List ci.Item = items_set part range place new (items_of slot.bytes.items) in
       let held : Holds c.add_set.new.writer items =
       subst (λ (xs : List ci.Item). Holds c.add_set.new.writer (items_set part range place new xs))
-      same added.1 in
-      (refl, subst (λ (block : List ℕ). ci.IsInterval Plain block (record {
-        shape = shapes.Records;
-        items = items;
-        busy = false;
-      })) (search rules) (of-form (form_of c.add_set.new.writer) items false
-      (c.add_set.ensures.form ∙ c.begin-writer.ensures.form) (c.end.ensures.interval items held)));
+      same added.1 in (
+        refl,
+        subst (λ (block : List ℕ). ci.IsInterval Plain block (record {
+          shape = shapes.Records;
+          items = items;
+          busy = false;
+        })) (search rules) (of-form (form_of c.add_set.new.writer) items false
+            (c.add_set.ensures.form ∙ c.begin-writer.ensures.form) (c.end.ensures.interval items held)),
+      );
 }

@@ -1,6 +1,5 @@
 use Rattle.std.proofs.Common.{◌≡◌, [], All, ap, subst}
 use Rattle.std.proofs.lemmas.Result.{IfErr-weaker}
-use Rattle.vr_types.specs.Seen.{Left}
 use Rattle.vr_space.specs.Keyed.{Keyed as Layouts}
 use Rattle.vr_space.specs.Met.{IsMet}
 use Rattle.vr_space.specs.Part.{KeyedShape, DueMore}
