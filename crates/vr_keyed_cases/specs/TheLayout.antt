@@ -1,5 +1,5 @@
--- The one layout of the cases: part 1 on four blocks of 512 bytes, its head in block 0, with keys of
--- 8 bytes at the start of a record.
+-- The one layout of the cases: part 1 on four blocks of 512 bytes, its head in block 0, with keys
+-- of 8 bytes at the start of a record.
 use Rattle.vr_space.specs.Keyed.{Keyed}
 use Rattle.vr_space.specs.Part.{Shape, KeyedShape}
 
