@@ -1,0 +1,2 @@
+pub mod OneKept
+pub mod TheLayout

@@ -1,0 +1,236 @@
+//! Calls of the part that lines speak of. Each answer ends with the calls of the device.
+ghost use Rattle.std.specs.Prelude.{◌≡◌, ◌≤◌, length, IfOk};
+ghost use Rattle.vr_space.specs.Part.{IsRecordOf};
+ghost use Rattle.vr_keyed_cases.specs.TheLayout.{the_shape};
+
+use crate::answers::{Answer, Stop, say, say_fault, say_number, say_room, say_stage};
+use crate::format::layout;
+use crate::held::{Held, Stand};
+use crate::record::{key, record};
+use crate::words::{number, parted};
+use std::alloc::Global;
+use vr_space::{Room, Whence};
+use vr_types::{DeviceFault, Place, PlaceBuffer, empty_place};
+
+/// The place of a number.
+pub fn place_of(alloc: Global, number: u32) -> Result<Place, Stop>
+    ensures { IfOk result (λ place. length place ≡ 8) }
+{
+    let key = key(alloc, number)?;
+    Ok(Place::from_vec(key))
+}
+
+/// Writes the calls of the device since the last answer.
+fn say_notes(held: &mut Held, out: &mut String) -> Answer {
+    out.push_str(held.blocks.notes())?;
+    held.blocks.clear_notes();
+    Ok(())
+}
+
+/// A call for a record of a key and a length: `set`, `step` and `room`.
+pub fn record_call(
+    alloc: Global,
+    held: &mut Held,
+    verb: &str,
+    rest: &str,
+    out: &mut String,
+) -> Answer {
+    let (key, size) = parted(rest);
+    numbered_call(alloc, held, verb, number(key)?, number(size)?, out)
+}
+
+fn numbered_call(
+    alloc: Global,
+    held: &mut Held,
+    verb: &str,
+    key: u32,
+    size: u32,
+    out: &mut String,
+) -> Answer {
+    let place = place_of(alloc, key)?;
+    if size < 8 || size > 505 {
+        return Err(Stop::Line);
+    }
+    match verb {
+        "room" => room(held, &place, size, out),
+        "set" => set(alloc, held, &place, size, true, out),
+        _ => set(alloc, held, &place, size, false, out),
+    }
+}
+
+/// Sets a record of each key from one to another: `fill KEY KEY LENGTH`.
+pub fn fill(alloc: Global, held: &mut Held, rest: &str, out: &mut String) -> Answer {
+    let (first, rest) = parted(rest);
+    let (last, size) = parted(rest);
+    fill_each(alloc, held, number(first)?, number(last)?, number(size)?)?;
+    say(out, "ok")
+}
+
+fn fill_each(alloc: Global, held: &mut Held, first: u32, last: u32, size: u32) -> Answer {
+    for key in first..=last {
+        fill_one(alloc, held, key, size)?;
+    }
+    Ok(())
+}
+
+fn fill_one(alloc: Global, held: &mut Held, key: u32, size: u32) -> Answer {
+    let mut said = String::new(alloc);
+    numbered_call(alloc, held, "set", key, size, &mut said)
+}
+
+/// Whether a record of that length has room.
+fn room(held: &mut Held, place: &Place, size: u32, out: &mut String) -> Answer
+    requires place { length place.now ≡ 8 }
+    requires least { 8 ≤ size }
+    requires most { size ≤ 505 }
+{
+    let room = held.room(place, size);
+    say_room(out, room)?;
+    say_notes(held, out)
+}
+
+/// Sets a record, after all stages that come before it, or only after the first one.
+fn set(
+    alloc: Global,
+    held: &mut Held,
+    place: &Place,
+    size: u32,
+    to_the_end: bool,
+    out: &mut String,
+) -> Answer
+    requires place { length place.now ≡ 8 }
+{
+    let bytes = record(alloc, place.as_slice(), size)?;
+    set_bytes(held, place, bytes.as_slice(), to_the_end, out)
+}
+
+fn set_bytes(
+    held: &mut Held,
+    place: &Place,
+    bytes: &[u8],
+    to_the_end: bool,
+    out: &mut String,
+) -> Answer
+    requires place { length place.now ≡ 8 }
+{
+    if !layout().is_at(bytes, place.as_slice()) || bytes.len() > 505 {
+        return Err(Stop::Line);
+    }
+    steps(held, place, bytes, to_the_end, out)
+}
+
+/// Asks for room, and does what the answer says, until the record is set.
+fn steps(held: &mut Held, place: &Place, bytes: &[u8], to_the_end: bool, out: &mut String) -> Answer
+    requires place { length place.now ≡ 8 }
+    requires record { IsRecordOf the_shape place.now bytes.now }
+{
+    for _turn in 0..8u32 {
+        if !step(held, place, bytes, out)? || !to_the_end {
+            return Ok(());
+        }
+        say(out, "; ")?;
+    }
+    say(out, "no end")
+}
+
+/// Asks for room, and does what the answer says. Answers whether more is to be done.
+fn step(held: &mut Held, place: &Place, bytes: &[u8], out: &mut String) -> Result<bool, Stop>
+    requires place { length place.now ≡ 8 }
+    requires record { IsRecordOf the_shape place.now bytes.now }
+{
+    let room = held.room(place, bytes.len() as u32);
+    say_room(out, room)?;
+    say_notes(held, out)?;
+    match room {
+        Ok(Room::Ready) => put(held, place, bytes, out),
+        Ok(Room::Stage(_)) => advance(held, place, bytes.len() as u32, out),
+        _ => Ok(false),
+    }
+}
+
+/// Sets the record, and nothing more is to be done.
+fn put(held: &mut Held, place: &Place, bytes: &[u8], out: &mut String) -> Result<bool, Stop>
+    requires place { length place.now ≡ 8 }
+    requires record { IsRecordOf the_shape place.now bytes.now }
+{
+    let done = held.set(place, bytes);
+    say(out, "; set ")?;
+    say_fault(out, done)?;
+    say_notes(held, out)?;
+    Ok(false)
+}
+
+/// Does the stage, and more is to be done unless it failed.
+fn advance(held: &mut Held, place: &Place, size: u32, out: &mut String) -> Result<bool, Stop>
+    requires place { length place.now ≡ 8 }
+    requires least { 8 ≤ size }
+    requires most { size ≤ 505 }
+{
+    let done = held.advance(place, size);
+    say(out, "; ")?;
+    say_stage(out, done)?;
+    say_notes(held, out)?;
+    Ok(done.is_ok())
+}
+
+/// Takes the record of a key away: `KEY`.
+pub fn erase(alloc: Global, held: &mut Held, rest: &str, out: &mut String) -> Answer {
+    let place = place_of(alloc, number(rest)?)?;
+    let done = held.erase(&place);
+    say_fault(out, done)?;
+    say_notes(held, out)
+}
+
+/// How long the record of a key is: `KEY`.
+pub fn get(alloc: Global, held: &mut Held, rest: &str, out: &mut String) -> Answer {
+    let place = place_of(alloc, number(rest)?)?;
+    let stand = held.stand(&place);
+    say_stand(out, stand)?;
+    say_notes(held, out)
+}
+
+fn say_stand(out: &mut String, stand: Stand) -> Answer {
+    match stand {
+        Stand::Nothing => say(out, "none"),
+        Stand::Whole(length) => say_number(out, length as u64),
+        Stand::Other => say(out, "another record"),
+        Stand::Fault(fault) => say_fault(out, Err(fault)),
+    }
+}
+
+/// The least place with a record: of all, or `at KEY`, or `after KEY`.
+pub fn next(alloc: Global, held: &mut Held, rest: &str, out: &mut String) -> Answer {
+    let mut into = empty_place(alloc, 8)?;
+    let found = if rest.is_empty() {
+        held.next(Whence::Start, &mut into)
+    } else {
+        next_from(alloc, held, rest, &mut into)?
+    };
+    say_next(out, found, into.as_slice())?;
+    say_notes(held, out)
+}
+
+fn next_from(
+    alloc: Global,
+    held: &mut Held,
+    rest: &str,
+    into: &mut PlaceBuffer,
+) -> Result<Result<bool, DeviceFault>, Stop>
+    requires { 8 ≤ into.old.room }
+{
+    let (how, key) = parted(rest);
+    let place = place_of(alloc, number(key)?)?;
+    match how {
+        "at" => Ok(held.next(Whence::At(&place), into)),
+        "after" => Ok(held.next(Whence::After(&place), into)),
+        _ => Err(Stop::Line),
+    }
+}
+
+fn say_next(out: &mut String, found: Result<bool, DeviceFault>, place: &[u8]) -> Answer {
+    match found {
+        Ok(true) => crate::answers::say_digits(out, place),
+        Ok(false) => say(out, "none"),
+        Err(fault) => say_fault(out, Err(fault)),
+    }
+}

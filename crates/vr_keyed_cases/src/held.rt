@@ -1,0 +1,138 @@
+//! The part that lines speak of.
+ghost use Rattle.std.specs.Prelude.{◌≡◌, ◌≤◌, length};
+ghost use Rattle.vr_space.specs.Part.{IsRecordOf};
+ghost use Rattle.vr_keyed_cases.specs.TheLayout.{the_shape};
+
+use crate::answers::Stop;
+use crate::format::{empty_interval, head, layout};
+use crate::one_kept::OneKept;
+use crate::record::is_whole;
+use crate::traced::Traced;
+use std::alloc::Global;
+use vr_device::{MemoryDevice, memory_device};
+use vr_keyed::{Keyed, keyed_part};
+use vr_space::{Part, Room, Whence};
+use vr_types::{Blocks, DeviceFault, Place, PlaceBuffer, Space, StageKind, space};
+
+/// The part on its blocks, what is kept, and the records that were noted.
+#[derive(Drop)]
+pub struct Held {
+    pub blocks: Traced,
+    pub part: Keyed,
+    pub space: Space,
+    pub kept: OneKept,
+    pub mark: String,
+    ghost shape: { ⟦<Keyed as Part>⟧.shape part ≡ the_shape },
+}
+
+impl Held {
+    /// The part on a device as it is, with no split under way.
+    pub fn over(alloc: Global, device: MemoryDevice) -> Result<Held, Stop> {
+        let blocks = Traced::over(alloc, device)?;
+        let part = keyed_part(alloc, layout())?;
+        let space = space(alloc, 1)?;
+        Ok(Held {
+            blocks,
+            part,
+            space,
+            kept: OneKept::Nothing,
+            mark: String::new(alloc),
+        })
+    }
+
+    /// A new part, on a device whose calls of these numbers fail. The first three calls make it.
+    pub fn format(alloc: Global, fails: &[u64]) -> Result<Held, Stop> {
+        let head = head(alloc)?;
+        let interval = empty_interval(alloc)?;
+        let device = memory_device(alloc, 512, 4, fails)?;
+        let mut held = Held::over(alloc, device)?;
+        let _ = held.blocks.put(0, head.as_slice());
+        let _ = held.blocks.put(1, interval.as_slice());
+        let _ = held.blocks.force(&[]);
+        held.blocks.clear_notes();
+        Ok(held)
+    }
+
+    /// Whether a record of this length has room.
+    pub fn room(&mut self, place: &Place, size: u32) -> Result<Room, DeviceFault>
+        requires place { length place.now ≡ 8 }
+        requires least { 8 ≤ size }
+        requires most { size ≤ 505 }
+    {
+        self.part
+            .room(&mut self.blocks, &self.space, &self.kept, place, size)
+    }
+
+    /// Does the stage that comes before a record of this length.
+    pub fn advance(&mut self, place: &Place, size: u32) -> Result<StageKind, DeviceFault>
+        requires place { length place.now ≡ 8 }
+        requires least { 8 ≤ size }
+        requires most { size ≤ 505 }
+    {
+        self.part
+            .advance(&mut self.blocks, &mut self.space, &self.kept, place, size)
+    }
+
+    /// Sets a record.
+    pub fn set(&mut self, place: &Place, bytes: &[u8]) -> Result<(), DeviceFault>
+        requires place { length place.now ≡ 8 }
+        requires record { IsRecordOf the_shape place.now bytes.now }
+    {
+        self.part
+            .set(&mut self.blocks, &self.kept, place, Some(bytes))
+    }
+
+    /// Takes a record away.
+    pub fn erase(&mut self, place: &Place) -> Result<(), DeviceFault>
+        requires place { length place.now ≡ 8 }
+    {
+        self.part.set(&mut self.blocks, &self.kept, place, None)
+    }
+
+    /// What stands at a place.
+    pub fn stand(&mut self, place: &Place) -> Stand
+        requires { length place.now ≡ 8 }
+    {
+        stand_at(&mut self.blocks, &mut self.part, place)
+    }
+
+    /// Gives the next place with a record.
+    pub fn next(&mut self, from: Whence<'_>, into: &mut PlaceBuffer) -> Result<bool, DeviceFault>
+        requires { 8 ≤ into.old.room }
+    {
+        self.part.next(&mut self.blocks, from, into)
+    }
+}
+
+/// What stands at a place.
+#[derive(Clone, Copy)]
+pub enum Stand {
+    Nothing,
+    /// The whole record of this length.
+    Whole(usize),
+    /// Other bytes than those of its length and key.
+    Other,
+    Fault(DeviceFault),
+}
+
+/// Looks at a place, and compares what stands there with the record of its length and key.
+fn stand_at(blocks: &mut Traced, part: &mut Keyed, place: &Place) -> Stand
+    requires shape { ⟦<Keyed as Part>⟧.shape part.old ≡ the_shape }
+    requires place { length place.now ≡ 8 }
+    ensures { ⟦<Keyed as Part>⟧.shape part.new ≡ the_shape }
+{
+    match Keyed::look(blocks, part, place) {
+        Ok(Some(bytes)) => judged(bytes, place.as_slice()),
+        Ok(None) => Stand::Nothing,
+        Err(fault) => Stand::Fault(fault),
+    }
+}
+
+/// Whether these bytes are the whole record of their length and this key.
+fn judged(bytes: &[u8], key: &[u8]) -> Stand {
+    if bytes.starts_with(key) && is_whole(bytes) {
+        Stand::Whole(bytes.len())
+    } else {
+        Stand::Other
+    }
+}

@@ -1,0 +1,265 @@
+//! The images that a crash leaves, each read by the plain program.
+
+use crate::answers::{Answer, Stop, say, say_number};
+use crate::held::Held;
+use crate::plain::{say_entries, say_records};
+use crate::words::numbers;
+use std::alloc::Global;
+use vr_device::{BlockDevice, ImageNo, MemoryDevice};
+
+/// Which content of its past each block takes, by its number.
+#[derive(Clone, Copy)]
+struct Choice {
+    head: u32,
+    first: u32,
+    second: u32,
+    third: u32,
+}
+
+impl Choice {
+    /// The first content of each block, which no crash can undo.
+    fn first() -> Choice {
+        Choice {
+            head: 0,
+            first: 0,
+            second: 0,
+            third: 0,
+        }
+    }
+
+    /// The numbers, block by block.
+    fn numbers(self) -> [u32; 4] {
+        [self.head, self.first, self.second, self.third]
+    }
+
+    /// With the next content of a block.
+    fn raised(self, block: u32) -> Choice {
+        let mut next = self;
+        match block {
+            0 => next.head = self.head.saturating_add(1),
+            1 => next.first = self.first.saturating_add(1),
+            2 => next.second = self.second.saturating_add(1),
+            _ => next.third = self.third.saturating_add(1),
+        }
+        next
+    }
+
+    /// With the content before it.
+    fn lowered(self, block: u32) -> Choice {
+        let mut back = self;
+        match block {
+            0 => back.head = self.head.saturating_sub(1),
+            1 => back.first = self.first.saturating_sub(1),
+            2 => back.second = self.second.saturating_sub(1),
+            _ => back.third = self.third.saturating_sub(1),
+        }
+        back
+    }
+
+    /// After one that misfits a block: the next content of the block after it, and the first of
+    /// each before that.
+    fn carried(self, block: u32) -> Choice {
+        let mut next = self.raised(block.saturating_add(1));
+        next.head = 0;
+        if block >= 1 {
+            next.first = 0;
+        }
+        if block >= 2 {
+            next.second = 0;
+        }
+        next
+    }
+}
+
+/// The blocks of an image, or the block that the choice misfits.
+#[derive(Drop)]
+enum Image {
+    Blocks(Vec<u8>),
+    Misfit(u32),
+}
+
+/// The blocks of the image of a choice, one after the other.
+fn image_of(alloc: Global, device: &MemoryDevice, choice: Choice) -> Result<Image, Stop> {
+    match device.image(alloc, &choice.numbers()) {
+        Ok(mut image) => all_blocks(alloc, &mut image),
+        Err(ImageNo::Choice { block }) => Ok(Image::Misfit(block)),
+        Err(ImageNo::Memory) => Err(Stop::Memory),
+    }
+}
+
+fn all_blocks(alloc: Global, image: &mut MemoryDevice) -> Result<Image, Stop> {
+    let mut block = vec![in alloc; 0; 512]?;
+    let mut blocks = Vec::new(alloc);
+    add_blocks(image, block.as_mut_slice(), &mut blocks)?;
+    Ok(Image::Blocks(blocks))
+}
+
+fn add_blocks(image: &mut MemoryDevice, block: &mut [u8], blocks: &mut Vec<u8>) -> Answer {
+    for n in 0..4u32 {
+        if n < image.blocks() && image.size() as usize == block.len() {
+            let _ = image.read(n, block);
+        }
+        blocks.extend_from_slice(block)?;
+    }
+    Ok(())
+}
+
+/// The block that the choice misfits.
+fn misfit(alloc: Global, device: &MemoryDevice, choice: Choice) -> Result<Option<u32>, Stop> {
+    match device.image(alloc, &choice.numbers()) {
+        Ok(_) => Ok(None),
+        Err(ImageNo::Choice { block }) => Ok(Some(block)),
+        Err(ImageNo::Memory) => Err(Stop::Memory),
+    }
+}
+
+/// The choice that takes what was written last to each block.
+fn last_choice(alloc: Global, device: &MemoryDevice) -> Result<Choice, Stop> {
+    let mut choice = Choice::first();
+    let mut block = 0;
+    for _try in 0..1000u32 {
+        if block >= 4 {
+            break;
+        }
+        choice = choice.raised(block);
+        if misfit(alloc, device, choice)?.is_some() {
+            choice = choice.lowered(block);
+            block += 1;
+        }
+    }
+    Ok(choice)
+}
+
+/// Writes the records of the image of a choice. Answers the block that it misfits.
+fn say_image(
+    alloc: Global,
+    device: &MemoryDevice,
+    choice: Choice,
+    out: &mut String,
+) -> Result<Option<u32>, Stop> {
+    match image_of(alloc, device, choice)? {
+        Image::Blocks(blocks) => {
+            say_records(blocks.as_slice(), out)?;
+            Ok(None)
+        }
+        Image::Misfit(block) => Ok(Some(block)),
+    }
+}
+
+/// The records that were written last: `list`.
+pub fn list(alloc: Global, held: &Held, out: &mut String) -> Answer {
+    let choice = last_choice(alloc, held.blocks.device())?;
+    say_image(alloc, held.blocks.device(), choice, out)?;
+    Ok(())
+}
+
+/// The entries of the head that was written last: `entries`.
+pub fn entries(alloc: Global, held: &Held, out: &mut String) -> Answer {
+    let choice = last_choice(alloc, held.blocks.device())?;
+    match image_of(alloc, held.blocks.device(), choice)? {
+        Image::Blocks(blocks) => say_entries(blocks.as_slice(), out),
+        Image::Misfit(_) => say(out, "none"),
+    }
+}
+
+/// Notes the records as they are: `mark`.
+pub fn mark(alloc: Global, held: &mut Held, out: &mut String) -> Answer {
+    let mut mark = String::new(alloc);
+    list(alloc, held, &mut mark)?;
+    held.mark = mark;
+    say(out, "ok")
+}
+
+/// How many images have the records that were noted, how many those that were written last, and how
+/// many others.
+#[derive(Clone, Copy)]
+struct Tally {
+    noted: u64,
+    last: u64,
+    others: u64,
+}
+
+impl Tally {
+    fn count(&mut self, records: &str, noted: &str, last: &str) {
+        if records == noted {
+            self.noted = self.noted.saturating_add(1);
+        } else if records == last {
+            self.last = self.last.saturating_add(1);
+        } else {
+            self.others = self.others.saturating_add(1);
+        }
+    }
+}
+
+/// Reads each image that a crash may leave now: `images`.
+pub fn images(alloc: Global, held: &Held, out: &mut String) -> Answer {
+    let mut last = String::new(alloc);
+    list(alloc, held, &mut last)?;
+    let tally = tally_all(
+        alloc,
+        held.blocks.device(),
+        held.mark.as_str(),
+        last.as_str(),
+    )?;
+    say_number(out, tally.noted)?;
+    say(out, " noted, ")?;
+    say_number(out, tally.last)?;
+    say(out, " new, ")?;
+    say_number(out, tally.others)?;
+    say(out, " others")
+}
+
+/// Counts the images of all choices, the content of block 0 first.
+fn tally_all(alloc: Global, device: &MemoryDevice, noted: &str, last: &str) -> Result<Tally, Stop> {
+    let mut tally = Tally {
+        noted: 0,
+        last: 0,
+        others: 0,
+    };
+    let mut choice = Choice::first();
+    for _image in 0..4000u32 {
+        match count_image(alloc, device, choice, noted, last, &mut tally)? {
+            None => choice = choice.raised(0),
+            Some(3) => break,
+            Some(block) => choice = choice.carried(block),
+        }
+    }
+    Ok(tally)
+}
+
+fn count_image(
+    alloc: Global,
+    device: &MemoryDevice,
+    choice: Choice,
+    noted: &str,
+    last: &str,
+    tally: &mut Tally,
+) -> Result<Option<u32>, Stop> {
+    let mut records = String::new(alloc);
+    let misfit = say_image(alloc, device, choice, &mut records)?;
+    if misfit.is_none() {
+        tally.count(records.as_str(), noted, last);
+    }
+    Ok(misfit)
+}
+
+/// The part on the image of a choice, as after a restart: `crash NUMBER..`, or the last contents.
+pub fn crash(alloc: Global, held: &mut Held, rest: &str, out: &mut String) -> Answer {
+    let new = if rest.is_empty() {
+        let choice = last_choice(alloc, held.blocks.device())?;
+        restarted(alloc, held.blocks.device(), &choice.numbers())?
+    } else {
+        let choice = numbers(alloc, rest)?;
+        restarted(alloc, held.blocks.device(), choice.as_slice())?
+    };
+    *held = new;
+    say(out, "ok")
+}
+
+fn restarted(alloc: Global, device: &MemoryDevice, choice: &[u32]) -> Result<Held, Stop> {
+    match device.image(alloc, choice) {
+        Ok(image) => Held::over(alloc, image),
+        Err(ImageNo::Choice { .. }) => Err(Stop::Line),
+        Err(ImageNo::Memory) => Err(Stop::Memory),
+    }
+}

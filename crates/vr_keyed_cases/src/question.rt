@@ -1,0 +1,81 @@
+//! Which call a question asks.
+
+use crate::answers::{Answer, Stop, say, say_fault};
+use crate::calls::{erase, fill, get, next, place_of, record_call};
+use crate::held::Held;
+use crate::images::{crash, entries, images, list, mark};
+use crate::one_kept::OneKept;
+use crate::words::{long_number, long_numbers, number, parted};
+use std::alloc::Global;
+use vr_types::Blocks;
+
+/// Writes the answer to a line. `held` is the part that the lines before it left.
+pub fn answer(alloc: Global, held: &mut Option<Held>, line: &str, out: &mut String) -> Answer {
+    let (verb, rest) = parted(line);
+    if verb == "new" {
+        return make(alloc, held, rest, out);
+    }
+    match held {
+        Some(held) => ask(alloc, held, verb, rest, out),
+        None => Err(Stop::Line),
+    }
+}
+
+/// Makes the part anew, on a device whose calls of these numbers fail: `new NUMBER..`.
+fn make(alloc: Global, held: &mut Option<Held>, rest: &str, out: &mut String) -> Answer {
+    let fails = long_numbers(alloc, rest)?;
+    let new = Held::format(alloc, fails.as_slice())?;
+    *held = Some(new);
+    say(out, "ok")
+}
+
+fn ask(alloc: Global, held: &mut Held, verb: &str, rest: &str, out: &mut String) -> Answer {
+    match verb {
+        "set" | "step" | "room" => record_call(alloc, held, verb, rest, out),
+        "fill" => fill(alloc, held, rest, out),
+        "get" => get(alloc, held, rest, out),
+        "erase" => erase(alloc, held, rest, out),
+        "next" => next(alloc, held, rest, out),
+        "keep" => keep(alloc, held, rest, out),
+        _ => look(alloc, held, verb, rest, out),
+    }
+}
+
+fn look(alloc: Global, held: &mut Held, verb: &str, rest: &str, out: &mut String) -> Answer {
+    match verb {
+        "list" => list(alloc, held, out),
+        "entries" => entries(alloc, held, out),
+        "mark" => mark(alloc, held, out),
+        "images" => images(alloc, held, out),
+        "crash" => crash(alloc, held, rest, out),
+        _ => device_call(held, verb, rest, out),
+    }
+}
+
+/// A call of the device: `force`, or `stop NUMBER` after so many calls.
+fn device_call(held: &mut Held, verb: &str, rest: &str, out: &mut String) -> Answer {
+    match verb {
+        "force" => {
+            let done = held.blocks.force(&[]);
+            held.blocks.clear_notes();
+            say_fault(out, done)
+        }
+        "stop" => {
+            held.blocks.stop_after(long_number(rest)?);
+            say(out, "ok")
+        }
+        _ => Err(Stop::Line),
+    }
+}
+
+/// Keeps a record's length at a place: `keep KEY LENGTH`; or nothing: `keep`.
+fn keep(alloc: Global, held: &mut Held, rest: &str, out: &mut String) -> Answer {
+    if rest.is_empty() {
+        held.kept = OneKept::Nothing;
+        return say(out, "ok");
+    }
+    let (key, length) = parted(rest);
+    let place = place_of(alloc, number(key)?)?;
+    held.kept = OneKept::One(place, number(length)?);
+    say(out, "ok")
+}
