@@ -41,7 +41,7 @@ in-append unit other (first ∷ live) apart =
     ap (λ (b : Bool). Rattle.std.specs.Prelude.◌||◌ (same_unit unit first) b)
     (in-append unit other live apart)
 
-in-last : (unit : UnitOfRecovery) (live : List UnitOfRecovery) → same_unit unit unit ≡ true
+pub in-last : (unit : UnitOfRecovery) (live : List UnitOfRecovery) → same_unit unit unit ≡ true
     → is_in unit (live ++ unit ∷ []) ≡ true
 in-last unit [] same = ap (λ (b : Bool). Rattle.std.specs.Prelude.◌||◌ b false) same
 in-last unit (first ∷ live) same = by_first (same_unit unit first) (in-last unit live same)

@@ -9,3 +9,6 @@ pub mod LogCalls
 pub mod Endings
 pub mod Restarting
 pub mod Unique
+pub mod Living
+pub mod Committing
+pub mod Meeting

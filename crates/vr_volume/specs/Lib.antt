@@ -7,3 +7,4 @@ pub mod Safe
 pub mod Laying
 pub mod Logged
 pub mod Ended
+pub mod Committed
