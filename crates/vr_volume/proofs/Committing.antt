@@ -142,7 +142,7 @@ kept-some records P befores all =
     Rattle.std.proofs.lemmas.List.Elements.All-filter
     (λ (image : BeforeImage). not (has_commit records image.unit)) P befores all
 
-all-map : (P Q : BeforeImage → Type 0) → ((image : BeforeImage) → P image → Q image)
+pub all-map : (P Q : BeforeImage → Type 0) → ((image : BeforeImage) → P image → Q image)
     → (images : List BeforeImage) → All P images → All Q images
 all-map P Q more [] all = All-nil Q
 all-map P Q more (image ∷ images) all = All-cons Q image images

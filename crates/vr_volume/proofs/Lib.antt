@@ -12,3 +12,4 @@ pub mod Unique
 pub mod Living
 pub mod Committing
 pub mod Meeting
+pub mod Moving

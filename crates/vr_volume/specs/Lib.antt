@@ -8,3 +8,4 @@ pub mod Laying
 pub mod Logged
 pub mod Ended
 pub mod Committed
+pub mod Steps

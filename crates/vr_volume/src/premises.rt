@@ -9,7 +9,9 @@ ghost use Rattle.vr_types.specs.declared.unit.Unit.{Unit as UnitOfRecovery};
 ghost use Rattle.vr_space.specs.Part.{IsPlaceOf, Shape};
 ghost use Rattle.vr_log.specs.LogNow.{IsForced, LogNow};
 ghost use Rattle.vr_history.specs.State.{State};
-ghost use Rattle.vr_volume.specs.Committed.{HasLogged, IsCurrent, IsLaidState, committed_by};
+ghost use Rattle.vr_volume.specs.Committed.{HasLogged, IsCurrent, IsKeptIn, IsLaidState, committed_by};
+ghost use Rattle.vr_volume.specs.Steps.{Changing, IsChangeOf, IsPutIn};
+ghost use Rattle.std.specs.Prelude.{All};
 ghost use Rattle.vr_volume.specs.Laid.{shape_by};
 ghost use Rattle.vr_volume.specs.Logged.{IsFirstBefore};
 ghost use Rattle.vr_volume.specs.PutBack.{images_of, oldest};
@@ -24,4 +26,11 @@ pub fn first_change()
         → oldest (images_of log.records) part.0 place ≡ None
         → option_map Standing old ≡ item_at (state.contents part.0) place
         → IsFirstBefore geometry log (committed_by state) unit part place old }
+{}
+
+/// x
+pub fn changed_scratch()
+    ensures { (geometry : Geometry) (old new : State) (change : Changing)
+        → IsLaidState geometry old → IsChangeOf geometry old change → IsPutIn change old new
+        → All (IsKeptIn geometry old) new.befores → IsLaidState geometry new }
 {}

@@ -1,0 +1,5 @@
+use Rattle.vr_volume.proofs.Moving.{laid-stays}
+use Rattle.vr_volume.proofs.premises.changed_scratch.Goals as goal
+
+pub returns : goal.returns
+returns c geometry old new change laid of put kept = laid-stays geometry old new change laid of put kept
