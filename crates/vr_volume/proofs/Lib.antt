@@ -13,3 +13,4 @@ pub mod Living
 pub mod Committing
 pub mod Meeting
 pub mod Moving
+pub mod Undoing

@@ -1,4 +1,5 @@
 use Rattle.vr_volume.proofs.Moving.{laid-stays}
+use Rattle.vr_volume.proofs.Undoing.{last-oldest}
 use Rattle.vr_volume.proofs.premises.changed_scratch.Goals as goal
 
 pub returns : goal.returns
