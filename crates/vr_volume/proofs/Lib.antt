@@ -14,3 +14,4 @@ pub mod Committing
 pub mod Meeting
 pub mod Moving
 pub mod Undoing
+pub mod Ending

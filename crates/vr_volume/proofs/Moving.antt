@@ -172,7 +172,7 @@ module _ (geometry : Geometry) (old new : State) (change : Changing)
 
 -- ---- the first change of a place
 
-bytes-more : (records : List LogRecord) (rec : LogRecord)
+pub bytes-more : (records : List LogRecord) (rec : LogRecord)
     → length (bytes_of (records ++ rec ∷ []))
     ≡ length (bytes_of records) + length (record_bytes rec)
 bytes-more [] rec = length-append (record_bytes rec) [] ∙ omega arith
