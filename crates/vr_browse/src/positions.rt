@@ -1,8 +1,8 @@
 //! Where the files of decks are, and what they hold for update.
 ghost use Rattle.std.specs.Prelude.{◌≡◌, ◌<◌, ◌≤◌, ◌+◌, ◌⊎◌, [], None, IsSome, OnOk, MatchResult};
 ghost use Rattle.std.specs.Prelude.{option_copied, map, true};
-ghost use Rattle.vr_job.specs.Positions.{position_at, SetsOnly, AreInOrder, IsAt, IsGapFor};
-ghost use Rattle.vr_job.specs.Positions.{dropped_by, without_held, without_deck};
+ghost use Rattle.vr_browse.specs.Positions.{position_at, SetsOnly, AreInOrder, IsAt, IsGapFor};
+ghost use Rattle.vr_browse.specs.Positions.{dropped_by, without_held, without_deck};
 
 use std::alloc::Global;
 use std::marker::Model;
@@ -24,7 +24,7 @@ pub struct Positions {
 }
 
 impl Model for Positions {
-    ghost use Rattle.vr_job.specs.Positions.{KeptPositions, kept_positions, AreInOrder};
+    ghost use Rattle.vr_browse.specs.Positions.{KeptPositions, kept_positions, AreInOrder};
 
     ghost Value = { KeptPositions };
 

@@ -1,9 +1,9 @@
 use Rattle.std.proofs.Common.{List, get_or, ◌∙◌, ap, subst}
-use Rattle.vr_job.specs.declared.positions.FilePosition.{FilePosition}
-use Rattle.vr_job.specs.Positions.{AreInOrder, KeptPositions, no_file}
+use Rattle.vr_browse.specs.declared.positions.FilePosition.{FilePosition}
+use Rattle.vr_browse.specs.Positions.{AreInOrder, KeptPositions, no_file}
 use Rattle.std.proofs.lemmas.List.{get_or_default}
-use Rattle.vr_job.proofs.PositionLemmas.{without_gap, without_there}
-use Rattle.vr_job.proofs.positions.Positions.drop_held.Goals as goal
+use Rattle.vr_browse.proofs.PositionLemmas.{without_gap, without_there}
+use Rattle.vr_browse.proofs.positions.Positions.drop_held.Goals as goal
 
 -- the file holds nothing any more
 pub returns-in-Ok-clause-files : goal.returns-in-Ok-clause-files

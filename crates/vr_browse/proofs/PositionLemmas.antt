@@ -23,10 +23,10 @@ use denote.Param.Members.{Mut}
 use denote.Ref.{Bor}
 use borrow.Rule.Slice.PartMut.{put_mid, mid_of}
 use Rattle.vr_types.specs.declared.position.Position.{Position}
-use Rattle.vr_job.specs.declared.positions.FilePosition.{FilePosition}
-use Rattle.vr_job.specs.Positions.{no_file, is_file, position_at, SetsOnly, dropped_by}
-use Rattle.vr_job.specs.Positions.{without_held, without_deck, deck_at, slot_at, IsBelow}
-use Rattle.vr_job.specs.Positions.{AreInOrder, IsAt, IsGapFor}
+use Rattle.vr_browse.specs.declared.positions.FilePosition.{FilePosition}
+use Rattle.vr_browse.specs.Positions.{no_file, is_file, position_at, SetsOnly, dropped_by}
+use Rattle.vr_browse.specs.Positions.{without_held, without_deck, deck_at, slot_at, IsBelow}
+use Rattle.vr_browse.specs.Positions.{AreInOrder, IsAt, IsGapFor}
 
 -- the file at a place
 abbrev file_at : List FilePosition → ℕ → FilePosition

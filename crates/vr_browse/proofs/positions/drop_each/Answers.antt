@@ -1,7 +1,7 @@
 use Rattle.std.proofs.Common.{true}
 use Rattle.std.proofs.lemmas.List.Edits.{map_over_more}
-use Rattle.vr_job.specs.Positions.{dropped_by}
-use Rattle.vr_job.proofs.positions.drop_each.Goals as goal
+use Rattle.vr_browse.specs.Positions.{dropped_by}
+use Rattle.vr_browse.proofs.positions.drop_each.Goals as goal
 
 pub loop-file-preserved : goal.loop-file-preserved
 loop-file-preserved c =

@@ -1,6 +1,6 @@
 use Rattle.std.proofs.Common.{rules}
-use Rattle.vr_job.proofs.PositionLemmas.{below_point, upto_point, first_le_end, without_part}
-use Rattle.vr_job.proofs.positions.drop_part.Goals as goal
+use Rattle.vr_browse.proofs.PositionLemmas.{below_point, upto_point, first_le_end, without_part}
+use Rattle.vr_browse.proofs.positions.drop_part.Goals as goal
 
 pub slice_bounds-drop_each-count : goal.slice_bounds-drop_each-count
 slice_bounds-drop_each-count c =

@@ -6,7 +6,7 @@ use Rattle.std.specs.Prelude.{vec_len, vec_capacity}
 use Rattle.std.specs.Global.{Vec}
 use Rattle.vr_types.specs.Position.{first_position, unheld}
 use Rattle.vr_types.specs.declared.position.Position.{Position}
-use Rattle.vr_job.specs.declared.positions.FilePosition.{FilePosition}
+use Rattle.vr_browse.specs.declared.positions.FilePosition.{FilePosition}
 
 -- the file is the deck's, of this slot
 abbrev pub is_file : ℕ → ℕ → FilePosition → Bool

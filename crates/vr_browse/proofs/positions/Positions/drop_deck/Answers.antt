@@ -1,7 +1,7 @@
 use Rattle.std.proofs.Common.{length, drop, arith}
 use Rattle.std.proofs.lemmas.List.{take_at}
-use Rattle.vr_job.proofs.PositionLemmas.{ordered_deck}
-use Rattle.vr_job.proofs.positions.Positions.drop_deck.Goals as goal
+use Rattle.vr_browse.proofs.PositionLemmas.{ordered_deck}
+use Rattle.vr_browse.proofs.positions.Positions.drop_deck.Goals as goal
 
 -- the decks and the slots stay
 pub invariant_of-self : goal.invariant_of-self

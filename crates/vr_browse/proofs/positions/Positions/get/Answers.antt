@@ -1,8 +1,8 @@
 use Rattle.std.proofs.Common.{sym, ap, subst, arith}
 use Rattle.std.proofs.lemmas.List.{get_or_default}
-use Rattle.vr_job.specs.Positions.{AreInOrder, KeptPositions, no_file}
-use Rattle.vr_job.proofs.PositionLemmas.{found_at, absent_in_gap}
-use Rattle.vr_job.proofs.positions.Positions.get.Goals as goal
+use Rattle.vr_browse.specs.Positions.{AreInOrder, KeptPositions, no_file}
+use Rattle.vr_browse.proofs.PositionLemmas.{found_at, absent_in_gap}
+use Rattle.vr_browse.proofs.positions.Positions.get.Goals as goal
 
 -- the file is at its place, and the one there is what was read
 pub returns-in-Ok : goal.returns-in-Ok

@@ -1,10 +1,10 @@
 use Rattle.std.proofs.Common.{◌≡◌, true, List, sym, ap, subst, arith}
 use Rattle.std.specs.Result.{is_ok}
-use Rattle.vr_job.specs.declared.positions.FilePosition.{FilePosition}
-use Rattle.vr_job.specs.Positions.{AreInOrder, IsAt, IsGapFor, KeptPositions}
-use Rattle.vr_job.proofs.PositionLemmas.{found_at, absent_in_gap, sets_only_there, ordered_set}
-use Rattle.vr_job.proofs.PositionLemmas.{sets_only_insert, ordered_insert}
-use Rattle.vr_job.proofs.positions.Positions.set.Goals as goal
+use Rattle.vr_browse.specs.declared.positions.FilePosition.{FilePosition}
+use Rattle.vr_browse.specs.Positions.{AreInOrder, IsAt, IsGapFor, KeptPositions}
+use Rattle.vr_browse.proofs.PositionLemmas.{found_at, absent_in_gap, sets_only_there, ordered_set}
+use Rattle.vr_browse.proofs.PositionLemmas.{sets_only_insert, ordered_insert}
+use Rattle.vr_browse.proofs.positions.Positions.set.Goals as goal
 
 -- the file was set before, and its position is written over
 pub invariant_of-self : goal.invariant_of-self

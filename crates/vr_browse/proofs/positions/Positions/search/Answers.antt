@@ -1,9 +1,9 @@
 use Rattle.std.proofs.Common.{MatchResult, List, ◌∙◌, sym, ap, subst, rules}
 use Rattle.std.proofs.lemmas.List.Sorted.{answers_always}
-use Rattle.vr_job.specs.declared.positions.FilePosition.{FilePosition}
-use Rattle.vr_job.specs.Positions.{AreInOrder, IsAt, IsGapFor, KeptPositions}
-use Rattle.vr_job.proofs.PositionLemmas.{searched}
-use Rattle.vr_job.proofs.positions.Positions.search.Goals as goal
+use Rattle.vr_browse.specs.declared.positions.FilePosition.{FilePosition}
+use Rattle.vr_browse.specs.Positions.{AreInOrder, IsAt, IsGapFor, KeptPositions}
+use Rattle.vr_browse.proofs.PositionLemmas.{searched}
+use Rattle.vr_browse.proofs.positions.Positions.search.Goals as goal
 
 -- the closure gives a file's deck and slot, and the slice is the files
 pub returns : goal.returns
