@@ -3,4 +3,5 @@ pub mod Longest
 pub mod Least
 pub mod Recording
 pub mod Leaving
+pub mod Stating
 pub mod CallerLemmas

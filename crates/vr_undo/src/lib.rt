@@ -8,8 +8,10 @@
 
 mod before;
 mod kept;
+mod laws;
 mod record;
 mod undo;
 
 pub use before::Before;
+pub use laws::{kept_as_in_the_state, unkept_is_as_before};
 pub use undo::Undo;
