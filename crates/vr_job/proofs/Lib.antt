@@ -13,4 +13,3 @@ pub mod Severities
 pub mod Ends
 pub mod Printing
 pub mod Completes
-pub mod PositionLemmas

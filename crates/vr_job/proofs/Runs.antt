@@ -22,8 +22,8 @@ use Rattle.vr_history.specs.Merged.{last_stamp}
 use Rattle.vr_history.specs.State.{Owned, State, opening_state}
 use Rattle.vr_history.specs.Step.{after_asked, case_of}
 use Rattle.vr_history.proofs.CallerLemmas.{last_stamp-append, state_of-append, steps-append}
-use Rattle.vr_job.specs.declared.positions.FilePosition.{FilePosition}
-use Rattle.vr_job.specs.Positions.{position_of, without_held, without_deck}
+use Rattle.vr_browse.specs.declared.positions.FilePosition.{FilePosition}
+use Rattle.vr_browse.specs.Positions.{position_of, without_held, without_deck}
 use Rattle.vr_job.specs.Parts.{of_deck}
 use Rattle.vr_job.specs.Stage.{HasFirst, IsOffered, IsReplyTo, most_logged}
 use Rattle.vr_job.specs.Ends.{IsJobHistory}

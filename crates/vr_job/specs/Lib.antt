@@ -1,4 +1,3 @@
-pub mod Positions
 pub mod Stage
 pub mod FirstVolume
 pub mod Parts

@@ -16,8 +16,8 @@ use Rattle.vr_history.specs.Case.{file_of}
 use Rattle.vr_history.specs.Legal.{AreSteps, state_of}
 use Rattle.vr_history.specs.Merged.{last_stamp}
 use Rattle.vr_history.specs.State.{Owned, State, opening_state}
-use Rattle.vr_job.specs.declared.positions.FilePosition.{FilePosition}
-use Rattle.vr_job.specs.Positions.{position_of, without_held, without_deck}
+use Rattle.vr_browse.specs.declared.positions.FilePosition.{FilePosition}
+use Rattle.vr_browse.specs.Positions.{position_of, without_held, without_deck}
 use Rattle.vr_job.specs.JobEnd.{Coded}
 use Rattle.vr_job.specs.Parts.{AreParts}
 use Rattle.vr_job.specs.Serve.{IsStage, LogsFew, Serves, own_unit}

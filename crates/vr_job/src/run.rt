@@ -8,9 +8,9 @@ ghost use Rattle.vr_job.specs.Run.{IsHere, Enters, next_number, slot_of};
 ghost use Rattle.vr_job.specs.Run.{files_begun, files_ended};
 
 use crate::answer::answer;
-use crate::positions::Positions;
 use crate::record_file::RecordFile;
 use std::alloc::Global;
+use vr_browse::Positions;
 use vr_deck::DeckRequests;
 use vr_history::{Entry, History, What};
 use vr_types::{Bound, OutOfMemory, Reply, Request, Unit};

@@ -3,8 +3,8 @@
 use crate::answers::{Answer, Stop, say};
 use std::alloc::Global;
 use std::fmt::Write;
+use vr_browse::Positions;
 use vr_history::{Entry, What};
-use vr_job::Positions;
 use vr_types::{PartNo, Place, Position, Stand, Unit, place};
 
 /// Runs steps over an empty table and shows the files asked for: `positions STEP..`. A step is

@@ -3,22 +3,22 @@ use Rattle.std.proofs.Common.{◌≡◌, ◌⊎◌, ⊎_elim, ℕ, Bool, true, f
 use Rattle.std.proofs.Common.{Option}
 use Rattle.std.proofs.Common.{Some, None, refl, sym, ap, ◌∙◌}
 use Rattle.std.specs.List.{filter_map, list_any}
-use Rattle.std.specs.Option.{option_and_then, option_map, option_or}
+use Rattle.std.specs.Option.{option_map}
 use Rattle.std.proofs.lemmas.Bool.{true≢false}
 use Rattle.std.proofs.lemmas.List.Elements.{filter_map-append}
-use Rattle.std.proofs.lemmas.List.Folds.{find-append}
 use Rattle.vr_types.specs.Content.{Standing}
 use Rattle.vr_types.specs.Locks.{same_unit}
 use Rattle.vr_types.specs.declared.unit.PartNo.{PartNo}
 use Rattle.vr_types.specs.declared.unit.Unit.{Unit as UnitOfRecovery}
-use Rattle.vr_space.specs.Room.{Lengths, with_length, with_lengths}
 use Rattle.vr_history.specs.State.{BeforeImage}
 use Rattle.vr_log.specs.Live.{is_in, live_after, live_from, live_in}
 use Rattle.vr_log.specs.declared.record.LogRecord.{LogRecord}
 use Rattle.vr_log.specs.declared.record.LogRecord.TheVariants.{Before, End}
 use Rattle.vr_volume.specs.Logged.{HasNoneOf}
-use Rattle.vr_volume.specs.PutBack.{image_in, images_of, is_image_of, length_in, lengths_kept}
-use Rattle.vr_volume.specs.PutBack.{oldest}
+use Rattle.vr_volume.specs.PutBack.{image_in, images_of}
+
+-- one image more: the oldest of a place, and the lengths that are kept
+pub use Rattle.vr_undo.proofs.CallerLemmas.{kept-append, kept_more, oldest-append}
 
 -- the image that a before record is
 abbrev pub image_of : UnitOfRecovery → PartNo → List ℕ → Option (List ℕ) → BeforeImage
@@ -108,37 +108,3 @@ images-append records unit part place old same live =
         (in-last unit (live_in records) same)
         (images-still (live_in records) unit records
         (⊎_elim (λ there. absurd (true≢false (sym there ∙ is))) (λ none. none) live))
-
--- ---- what there is for a place, and how much room it takes
-
-pub oldest-append : (images : List BeforeImage) (image : BeforeImage) (part : ℕ) (place : List ℕ)
-    → oldest (images ++ image ∷ []) part place ≡ option_or (oldest images part place)
-    (cond (is_image_of part place image) (Some image) None)
-oldest-append images image part place =
-    find-append (is_image_of part place) images (image ∷ [])
-
-lengths-more : (lengths more : Lengths) (entry : List ℕ × ℕ)
-    → with_lengths lengths (more ++ entry ∷ []) ≡ with_length (with_lengths lengths more) entry.0
-    entry.1
-lengths-more lengths [] entry = refl
-lengths-more lengths (first ∷ more) entry =
-    lengths-more (with_length lengths first.0 first.1) more entry
-
-abbrev pub kept_more : Lengths → Option (List ℕ × ℕ) → Lengths
-kept_more kept None = kept
-kept_more kept (Some entry) = with_length kept entry.0 entry.1
-
-pub kept-append : (images : List BeforeImage) (image : BeforeImage) (part : ℕ)
-    → lengths_kept (images ++ image ∷ []) part ≡ kept_more (lengths_kept images part)
-    (length_in part image)
-kept-append images image part =
-    ap (with_lengths []) (filter_map-append (length_in part) images (image ∷ []))
-    ∙ by_length (length_in part image)
-  where
-    by_length : (found : Option (List ℕ × ℕ))
-        → with_lengths [] (filter_map (length_in part) images
-        ++ Rattle.std.specs.List.cons_option found [])
-        ≡ kept_more (lengths_kept images part) found
-    by_length None = ap (with_lengths [])
-        (Rattle.std.proofs.lemmas.List.append-nil (filter_map (length_in part) images))
-    by_length (Some entry) = lengths-more [] (filter_map (length_in part) images) entry

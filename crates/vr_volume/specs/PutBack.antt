@@ -1,18 +1,17 @@
--- The before-images of units that haven't ended, put back into a content: what backout is in the
--- DFSMStvs Planning and Operating Guide, for units of recovery that a crash leaves. That the oldest
--- one of a place counts is this project's own.
-use Rattle.std.specs.Prelude.{ℕ, Bool, List, [], ◌∷◌, length, Option, Some, None, find}
-use Rattle.std.specs.Prelude.{◌==◌, ◌&&◌, if◌then◌else◌, bytes_eq}
+-- The before-images that a log has of units that haven't ended, which are put back: what backout is
+-- in the DFSMStvs Planning and Operating Guide, for units of recovery that a crash leaves.
+use Rattle.std.specs.Prelude.{List, [], Option, Some, None, if◌then◌else◌}
 use Rattle.std.specs.List.{filter_map}
-use Rattle.std.specs.Option.{option_map, option_and_then}
-use Rattle.vr_types.specs.Content.{Content, Standing, record_of}
+use Rattle.std.specs.Option.{option_map}
+use Rattle.vr_types.specs.Content.{Standing}
 use Rattle.vr_types.specs.declared.unit.Unit.{Unit as UnitOfRecovery}
 use Rattle.vr_log.specs.declared.record.LogRecord.{LogRecord}
 use Rattle.vr_log.specs.declared.record.LogRecord.TheVariants.{Before, End}
 use Rattle.vr_log.specs.Live.{live_in, is_in}
-use Rattle.vr_altkey.specs.Placing.{placed_in}
 use Rattle.vr_history.specs.State.{BeforeImage}
-use Rattle.vr_space.specs.Room.{Lengths, with_lengths}
+-- putting before-images back, and the room that is kept for them
+pub use Rattle.vr_undo.specs.PutBack.{is_image_of, length_in, length_of, lengths_kept, oldest}
+pub use Rattle.vr_undo.specs.PutBack.{put_back}
 
 -- the before-image that a record of the log is, where its unit is one of these
 abbrev pub image_in : List UnitOfRecovery → LogRecord → Option BeforeImage
@@ -28,32 +27,3 @@ image_in units (Before unit part place old) =
 -- the before-images that the log has of units without an end, the oldest first
 abbrev pub images_of : List LogRecord → List BeforeImage
 images_of records = filter_map (image_in (live_in records)) records
-
-abbrev pub is_image_of : ℕ → List ℕ → BeforeImage → Bool
-is_image_of part place image = image.part == part && bytes_eq place image.place
-
--- The oldest one of a place. The place is free while it has one: a crash may leave there what its
--- unit made of it.
-abbrev pub oldest : List BeforeImage → ℕ → List ℕ → Option BeforeImage
-oldest images part place = find (is_image_of part place) images
-
--- those of a part are put back into its content, the oldest last
-abbrev pub put_back : ℕ → List BeforeImage → Content → Content
-put_back part [] content = content
-put_back part (image ∷ images) content =
-    if image.part == part then placed_in image.place image.old (put_back part images content)
-    else put_back part images content
-
--- the lengths of the records that are put back into a part, for which there has to be room
-abbrev pub length_of : List ℕ → Option (List ℕ) → Option (List ℕ × ℕ)
-length_of place None = None
-length_of place (Some bytes) = Some (place, length bytes)
-
-abbrev pub length_in : ℕ → BeforeImage → Option (List ℕ × ℕ)
-length_in part image =
-    if image.part == part then length_of image.place (option_and_then record_of image.old)
-    else None
-
--- the longest of each place, in the order of places
-abbrev pub lengths_kept : List BeforeImage → ℕ → Lengths
-lengths_kept images part = with_lengths [] (filter_map (length_in part) images)

@@ -1,6 +1,6 @@
 //! A volume, whole: what its blocks stand for, what they recover to after a crash, and what makes
-//! that the committed contents. It stands on the parts (vr_space), the log (vr_log), the catalog
-//! (vr_catalog) and the record file (vr_history).
+//! that the committed contents. It stands on the parts (vr_space), before-images (vr_undo), the log
+//! (vr_log), the catalog (vr_catalog) and the record file (vr_history).
 //!
 //! There are definitions and laws alone yet: the value that one event changes will stand on them.
 #![tactic(auto)]

@@ -1,0 +1,7 @@
+pub mod Images
+pub mod Longest
+pub mod Least
+pub mod Recording
+pub mod Leaving
+pub mod Stating
+pub mod CallerLemmas

@@ -1,0 +1,34 @@
+use Rattle.std.proofs.Common.{◌≡◌, rules, subst, sym, ap, ◌∙◌}
+use Rattle.std.proofs.lemmas.Fn.{filter_same}
+use Rattle.std.proofs.lemmas.List.Elements.{All-filter}
+use Rattle.vr_history.specs.Effects.{is_other}
+use Rattle.vr_undo.specs.Lengths.{AreShort, IsShort}
+use Rattle.vr_undo.specs.Records.{befores_of, images_in, logged_of, without_unit}
+use Rattle.vr_undo.specs.declared.record.KeptRecord.{KeptRecord}
+use Rattle.vr_undo.proofs.Leaving.{befores-forgotten, images-forgotten, logged-forgotten}
+use Rattle.vr_undo.proofs.undo.Undo.forget.Goals as goal
+
+left : (c : goal.After-retain)
+    → c.retain.new.self.items ≡ without_unit c.args.unit c.self.inside.records.items
+left c = filter_same _ (λ (kept : KeptRecord). is_other c.args.unit kept.unit) _
+    (λ n kept next_test called. search rules) _ _ c.retain.ensures.filtered
+
+pub invariant_of-self : goal.invariant_of-self
+invariant_of-self c =
+    subst AreShort (sym (left c)) (All-filter (λ (kept : KeptRecord).
+    is_other c.args.unit kept.unit) IsShort c.self.inside.records.items c.self.invariant)
+
+pub returns-clause-without : goal.returns-clause-without
+returns-clause-without c = left c ∙ ap (without_unit c.args.unit) c.self.view_is
+
+pub returns-clause-befores : goal.returns-clause-befores
+returns-clause-befores c =
+    ap befores_of (returns-clause-without c) ∙ befores-forgotten c.args.unit c.args.self.now
+
+pub returns-clause-images : goal.returns-clause-images
+returns-clause-images c =
+    ap images_in (returns-clause-without c) ∙ images-forgotten c.args.unit c.args.self.now
+
+pub returns-clause-logged : goal.returns-clause-logged
+returns-clause-logged c =
+    ap logged_of (returns-clause-without c) ∙ logged-forgotten c.args.unit c.args.self.now

@@ -1,0 +1,5 @@
+pub mod PutBack
+pub mod Records
+pub mod Found
+pub mod Lengths
+pub mod Ascending
