@@ -29,6 +29,7 @@ use Rattle.vr_space.specs.Search.{low_before}
 use Rattle.vr_space.proofs.CallerLemmas.{AllAbove, Rising, by_other, same_is_equal, lt_from_test}
 use Rattle.vr_space.proofs.CallerLemmas.{AscendFrom, head-ascends, in-most, in-above, above-more}
 use Rattle.vr_space.proofs.CallerLemmas.{found-entry, found-none, places-placed, rising-sorted}
+use Rattle.vr_space.proofs.CallerLemmas.{holds-nth}
 use Rattle.vr_split.proofs.CallerLemmas.{found-range}
 use Rattle.vr_keyed.specs.Next.{is_sought, first_sought, HasNth}
 use Rattle.std.proofs.lemmas.Bool.{cases_lt}
@@ -307,18 +308,6 @@ position-below place (entry ∷ entries) k i is =
     by true same more =
         let here : k ≡ i = ap (λ (o : Option ℕ). unwrap_or o k) same in omega (arith, here)
     by false same more = omega (arith, more same)
-
-pub holds-nth : (part : Keyed) (image : Image) (low : Option (List ℕ)) (entries : List Entry)
-    (n : ℕ) (entry : Entry) → HoldRanges part image low entries → slice_get entries n ≡ Some entry
-    → HoldsRange part (range_of (low_before low entries n) entry)
-    (block_at image (entry_block part entry))
-holds-nth part image low [] n entry hold is = absurd cc
-holds-nth part image low (first_entry ∷ entries) zero entry hold is =
-    let here : first_entry ≡ entry = ap (λ (o : Option Entry). unwrap_or o first_entry) is in
-    subst (λ (e : Entry). HoldsRange part (range_of low e) (block_at image (entry_block part e)))
-    here hold.0
-holds-nth part image low (first_entry ∷ entries) (suc n) entry hold is =
-    holds-nth part image (Some first_entry.high) entries n entry hold.1 is
 
 -- ---- entry after entry
 

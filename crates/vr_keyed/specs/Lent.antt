@@ -1,4 +1,4 @@
--- Ranges of places that are lent, and lengths that are gathered.
+-- Lengths that are gathered.
 use Rattle.std.specs.Prelude.{◌≡◌, ◌<◌, ◌≤◌, ◌-◌, ◌/◌, ℕ, List, Option, All, length, map, filter}
 use Rattle.std.specs.Prelude.{if◌then◌else◌}
 use Rattle.std.specs.Borrow.{Bor}
@@ -8,14 +8,6 @@ use Rattle.vr_space.specs.Room.{Lengths, Range, is_in, with_length}
 use Rattle.vr_space.specs.Keyed.{Keyed, key_of, placed, length_of}
 use Rattle.vr_types.specs.Content.{Placed}
 use Rattle.vr_split.specs.Weights.{LengthsRoom}
-use Rattle.vr_keyed.specs.declared.range.LentRange.{LentRange}
-
--- the range
-abbrev pub range_lent : LentRange → Range
-range_lent range = record {
-  low = option_map (λ (low : Bor (List ℕ)). low.now) range.low;
-  high = range.high.now;
-}
 
 -- the lengths of those of these records that are in the range
 abbrev pub lengths_among : Keyed → Range → List ci.Item → Lengths

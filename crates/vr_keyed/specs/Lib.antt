@@ -8,3 +8,4 @@ pub mod Splits
 pub mod Planned
 pub mod Advance
 pub mod Owned
+pub mod Attached

@@ -22,12 +22,12 @@ ghost use Rattle.vr_space.specs.Room as ranges;
 ghost use Rattle.vr_space.specs.Keyed.{Keyed, HoldsRange, IsKept, IsValid, key_of, lengths_of};
 ghost use Rattle.vr_space.specs.Part.{KeyedShape, part_no};
 ghost use Rattle.vr_split.specs.Weights.{HasNoRoom};
-ghost use Rattle.vr_keyed.specs.Lent.{range_lent, lengths_among, with_record, with_kept};
+ghost use Rattle.vr_space.specs.Lent.{range_lent};
+ghost use Rattle.vr_keyed.specs.Lent.{lengths_among, with_record, with_kept};
 ghost use Rattle.vr_keyed.specs.Lent.{ArePlaces, HasRoomFor, last_lent};
 
-use crate::range::{LentRange, is_in};
 use vr_ci::{CiView, Form};
-use vr_space::{Kept, Layout, Whence};
+use vr_space::{Kept, Layout, LentRange, Whence, is_in};
 use vr_split::Weights;
 use vr_types::{PartNo, Place};
 

@@ -1,5 +1,10 @@
 //! A keyed part of one area.
-ghost use Rattle.std.specs.Prelude.{◌≡◌, ◌≤◌, [], Some, None, IfOk, vec_capacity};
+ghost use Rattle.std.specs.Prelude.{◌≡◌, ◌≤◌, [], Some, None, IfOk, IsTrue, MatchOption};
+ghost use Rattle.std.specs.Prelude.{vec_capacity};
+ghost use Rattle.vr_types.specs.Blocks.{Keeps};
+ghost use Rattle.vr_types.specs.Faults.{HasCause};
+ghost use Rattle.vr_space.specs.Part.{KeyedShape, IsOn, Stands};
+ghost use Rattle.vr_attach.specs.Damage.{IsDamagedAt};
 ghost use Rattle.vr_keyed.specs.Ready.{put_of};
 ghost use Rattle.vr_keyed.specs.Splits.{IsSplit};
 
@@ -12,6 +17,7 @@ use crate::slot::{Slot, empty_slot};
 use crate::slots::Slots;
 use std::alloc::Global;
 use std::marker::Model;
+use vr_attach::{Damage, first_damage};
 use vr_space::{Kept, Layout, Part, Room, Whence};
 use vr_split::{CiSplit, Weights, ci_split, empty_weights};
 use vr_types::{Blocks, DeviceFault, OutOfMemory, Place, PlaceBuffer, Space, StageKind};
@@ -99,6 +105,34 @@ pub fn keyed_part(alloc: Global, layout: Layout) -> Result<Keyed, OutOfMemory>
         out,
         put,
     })
+}
+
+impl Keyed {
+    /// The first damage of the part's blocks, if there is one. The part's area is the one of this
+    /// number, of so many of the volume.
+    pub(crate) fn first_damage<B: Blocks>(
+        &mut self,
+        blocks: &mut B,
+        area: u32,
+        areas: u32,
+    ) -> Result<Option<Damage>, DeviceFault>
+        requires on { IsOn (KeyedShape self.old.part) (B.seen blocks.old) }
+        ensures same { self.new ≡ self.old }
+        ensures found { IsTrue B.tells → IfOk result (λ found. MatchOption found
+            (Stands (KeyedShape self.old.part) (B.seen blocks.old).cur)
+            (λ damage. IsDamagedAt self.old.part area areas (B.seen blocks.old).cur
+            damage.block damage.rule)) }
+        ensures keeps { Keeps B.tells (B.seen blocks.old) (B.seen blocks.new) }
+        ensures cause { HasCause (B.faults blocks.old) (B.faults blocks.new) result }
+    {
+        first_damage(
+            blocks,
+            &self.layout,
+            area,
+            areas,
+            self.out.as_mut_slice(),
+        )
+    }
 }
 
 impl Part for Keyed {

@@ -1,15 +1,15 @@
 //! A key-sequenced part of one area, on blocks: its head and its control intervals. It stands on
-//! `vr_types`, `vr_ci`, `vr_seqset`, `vr_space` and `vr_split`.
+//! `vr_types`, `vr_ci`, `vr_seqset`, `vr_space`, `vr_split`, `vr_catalog` and `vr_attach`.
 #![tactic(auto)]
 
 mod advance;
+mod attach;
 mod gather;
 mod keyed;
 mod look;
 mod meet;
 mod next;
 mod plan;
-mod range;
 mod room;
 mod set;
 mod slot;
@@ -20,5 +20,4 @@ mod writing;
 pub use gather::{fits, gather_lengths};
 pub use keyed::{Keyed, keyed_part};
 pub use plan::{Target, cut_at, target_in};
-pub use range::{LentRange, is_in};
 pub use room::{UnderWay, least_free};

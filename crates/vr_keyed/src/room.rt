@@ -13,16 +13,16 @@ ghost use Rattle.vr_space.specs.Split.{stage_at};
 ghost use Rattle.vr_space.specs.Met.{IsMet, places_met, met_next};
 ghost use Rattle.vr_space.specs.Part.{KeyedShape, IsOn, Stands, part_no};
 ghost use Rattle.vr_keyed.specs.Slots.{AreSlotsOf, met_in, mets};
-ghost use Rattle.vr_keyed.specs.Lent.{ArePlaces, HasRoomFor, range_lent};
+ghost use Rattle.vr_space.specs.Lent.{range_lent};
+ghost use Rattle.vr_keyed.specs.Lent.{ArePlaces, HasRoomFor};
 ghost use Rattle.vr_keyed.specs.Splits.{IsSplit};
 
 use crate::gather::fits;
 use crate::meet::meet;
-use crate::range::LentRange;
 use crate::slot::Slot;
 use crate::slots::Slots;
 use vr_seqset::{SeqEntry, SeqView, interval_limit};
-use vr_space::{Kept, Layout, Room};
+use vr_space::{Kept, Layout, LentRange, Room};
 use vr_split::Weights;
 use vr_types::{Blocks, DeviceFault, Place, StageKind};
 

@@ -1,5 +1,6 @@
 -- The one layout of the cases: part 1 on four blocks of 512 bytes, its head in block 0, with keys
 -- of 8 bytes at the start of a record.
+use Rattle.vr_types.specs.declared.geometry.Geometry.{Geometry}
 use Rattle.vr_space.specs.Keyed.{Keyed}
 use Rattle.vr_space.specs.Part.{Shape, KeyedShape}
 
@@ -16,3 +17,7 @@ the_layout = record {
 
 abbrev pub the_shape : Shape
 the_shape = KeyedShape the_layout
+
+-- the volume that the part is attached on
+abbrev pub the_geometry : Geometry
+the_geometry = record { size = 512; blocks = 10; log = 1; area = 3 }

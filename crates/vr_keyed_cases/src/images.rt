@@ -162,6 +162,15 @@ pub fn entries(alloc: Global, held: &Held, out: &mut String) -> Answer {
     }
 }
 
+/// The blocks that were written last, one after the other.
+pub fn last_blocks(alloc: Global, device: &MemoryDevice) -> Result<Vec<u8>, Stop> {
+    let choice = last_choice(alloc, device)?;
+    match image_of(alloc, device, choice)? {
+        Image::Blocks(blocks) => Ok(blocks),
+        Image::Misfit(_) => Err(Stop::Line),
+    }
+}
+
 /// Notes the records as they are: `mark`.
 pub fn mark(alloc: Global, held: &mut Held, out: &mut String) -> Answer {
     let mut mark = String::new(alloc);

@@ -7,12 +7,14 @@
 #![tactic(auto)]
 
 mod answers;
+mod attach;
 mod calls;
 mod format;
 mod held;
 mod images;
 mod one_kept;
 mod plain;
+mod plain_damage;
 mod question;
 mod record;
 mod traced;

@@ -13,12 +13,12 @@ struct Range {
 }
 
 /// The byte at that place; a zero past the end.
-fn byte(blocks: &[u8], at: usize) -> u8 {
+pub fn byte(blocks: &[u8], at: usize) -> u8 {
     blocks.get(at).copied().unwrap_or(0)
 }
 
 /// The number of two bytes, the high one first.
-fn two(blocks: &[u8], at: usize) -> usize
+pub fn two(blocks: &[u8], at: usize) -> usize
     ensures { result < 65536 }
 {
     let low = byte(blocks, at.saturating_add(1));
@@ -26,7 +26,7 @@ fn two(blocks: &[u8], at: usize) -> usize
 }
 
 /// So many bytes; none where they pass the end.
-fn part(blocks: &[u8], at: usize, count: usize) -> &[u8] {
+pub fn part(blocks: &[u8], at: usize, count: usize) -> &[u8] {
     blocks.get(at..at.saturating_add(count)).unwrap_or(&[])
 }
 
@@ -93,14 +93,14 @@ fn say_interval(blocks: &[u8], base: usize, range: Range, out: &mut String) -> A
 
 /// So many neighbouring records of one length, and how long what describes them is.
 #[derive(Clone, Copy)]
-struct Run {
-    count: usize,
-    length: usize,
-    control: usize,
+pub struct Run {
+    pub count: usize,
+    pub length: usize,
+    pub control: usize,
 }
 
 /// The run that the bytes before this place describe.
-fn run_at(blocks: &[u8], control: usize) -> Run {
+pub fn run_at(blocks: &[u8], control: usize) -> Run {
     let at = control.saturating_sub(3);
     let length = two(blocks, at.saturating_add(1));
     if byte(blocks, at) == 64 {

@@ -16,6 +16,7 @@ pub use Rattle.vr_space.proofs.Rising.{stands_content, one_content, Rising, risi
 pub use Rattle.vr_space.proofs.Rising.{rising-filtered, places-placed, sorted-rising}
 pub use Rattle.vr_space.proofs.Rising.{rising-append}
 pub use Rattle.vr_space.proofs.Searching.{low_at, found-entry, found-none, got-whole, items-read}
+pub use Rattle.vr_space.proofs.Searching.{holds-nth}
 pub use Rattle.vr_space.proofs.Adding.{only-weaken, adds-weaken, adds-then, nothing-then}
 pub use Rattle.vr_space.proofs.Adding.{then-nothing, rest-sound, sound-image, rest-stands}
 pub use Rattle.vr_space.proofs.Adding.{content_item, sound-keeps, rest-keeps, room-keeps}

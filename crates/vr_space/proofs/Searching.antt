@@ -17,7 +17,7 @@ use Rattle.std.proofs.lemmas.Map.Keys.{sorted_head, sorted_tail}
 use Rattle.vr_types.specs.Content.{place_cmp, record_at, found_by}
 use Rattle.vr_types.proofs.CallerLemmas.{same_place}
 use Rattle.vr_ci_match.specs.declared.form.Form.TheVariants.{Plain}
-use Rattle.vr_types.specs.Image.{Block}
+use Rattle.vr_types.specs.Image.{Block, Image, block_at}
 use Rattle.vr_ci.specs.Interval as ci
 use Rattle.vr_ci.proofs.CallerLemmas.{one_value}
 use Rattle.vr_seqset.specs.Entry.{Entry, IsWhole}
@@ -28,7 +28,7 @@ use Rattle.std.proofs.lemmas.Option.{slice_get_within, get_or_from_slice_get}
 use Rattle.vr_seqset.specs.Search.{reaches}
 use Rattle.vr_space.specs.Room.{Range}
 use Rattle.vr_space.specs.Keyed.{Keyed, IsKept, HoldsRange, range_of, entry_for, key_of, placed}
-use Rattle.vr_space.specs.Keyed.{items_of}
+use Rattle.vr_space.specs.Keyed.{items_of, HoldRanges, entry_block}
 use Rattle.vr_space.specs.Search.{AreUpTo, low_before}
 use Rattle.vr_space.proofs.Places.{by_other, same_is_equal, is_past}
 
@@ -328,3 +328,16 @@ count-ends part place all left i none counting =
           (sym (drop_at counting.before [] i counting.count))
           (All-nil (λ (k : List ℕ). place_cmp place k ≡ Less));
     })
+
+-- the interval of the entry of a number is one of its range
+pub holds-nth : (part : Keyed) (image : Image) (low : Option (List ℕ)) (entries : List Entry)
+    (n : ℕ) (entry : Entry) → HoldRanges part image low entries → slice_get entries n ≡ Some entry
+    → HoldsRange part (range_of (low_before low entries n) entry)
+    (block_at image (entry_block part entry))
+holds-nth part image low [] n entry hold is = absurd cc
+holds-nth part image low (first_entry ∷ entries) zero entry hold is =
+    let here : first_entry ≡ entry = ap (λ (o : Option Entry). unwrap_or o first_entry) is in
+    subst (λ (e : Entry). HoldsRange part (range_of low e) (block_at image (entry_block part e)))
+    here hold.0
+holds-nth part image low (first_entry ∷ entries) (suc n) entry hold is =
+    holds-nth part image (Some first_entry.high) entries n entry hold.1 is

@@ -139,6 +139,7 @@ module _ (part : Keyed) (split : SplitNow) (a b : Seen) where
         found = ap (λ (top : Block). entry_for None (entries_of top) split.cut)
             (head-stays sound stay).cur ∙ is.found;
         interval = is.interval;
+        high = is.high;
         old = λ block may. is.old block (old.less block may) ∙ sym old.cur;
       }
 

@@ -1,5 +1,6 @@
 pub mod Way
 pub mod Room
+pub mod Lent
 pub mod Whence
 pub mod Keyed
 pub mod Split

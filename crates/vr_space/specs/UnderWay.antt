@@ -50,11 +50,12 @@ pub record IsCopied (part : Keyed) (split : SplitNow) (now : Seen) : Type 0 wher
       ≡ records_in part (above_cut begun.at.0 split.cut)
       (block_at now.cur (interval_block part split.old))
 
--- The head has both entries, and the old interval is stable.
+-- The head has both entries, the old interval's up to the cut, and the old interval is stable.
 pub record IsSwitched (part : Keyed) (split : SplitNow) (now : Seen) : Type 0 where
   pub at : Range × Entry
   pub found : entry_for None (entries_of (block_at now.cur part.head)) split.cut ≡ Some at
   pub interval : slice_index at.1.intervals 0 ≡ split.old
+  pub high : at.0.high ≡ split.cut
   pub old : IsStable now (interval_block part split.old)
 
 -- what the stages before this one left

@@ -369,6 +369,7 @@ module _ (part : Keyed) (split : SplitNow) (a b : Seen) where
         found = ap (λ (block : Block). entry_for None (entries_of block) split.cut) now
             ∙ ap (λ (es : List Entry). entry_for None es split.cut) entries ∙ to.1;
         interval = to.2;
+        high = to.3;
         old = λ block may. only-elsewhere tells a b n part.head top
             (λ (x : Block). x ≡ block_at a.cur n) told below other call copied.old block may
             ∙ sym (cur-elsewhere tells a b n part.head top told other call);

@@ -143,6 +143,7 @@ switched-at part split now stage switched = record {
   at = switched.at;
   found = switched.found;
   interval = switched.interval;
+  high = switched.high;
   old = switched.old;
 }
 

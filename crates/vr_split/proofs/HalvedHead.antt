@@ -189,11 +189,11 @@ module _ (part : Keyed) (old into : ℕ) (cut : List ℕ) where
           }))
           more
 
-  -- the cut is found in the old interval
+  -- the cut is found in the old interval, whose range ends there
   pub cut-halves : (low : Option (List ℕ)) (entries : List Entry) (at : Range × Entry)
       → AreApart entries → entry_for low entries cut ≡ Some at → slot at.1 ≡ old
       → (to : Range × Entry) × (entry_for low (halves old into cut entries) cut ≡ Some to)
-      × (slot to.1 ≡ old)
+      × (slot to.1 ≡ old) × (to.0.high ≡ cut)
   cut-halves low [] at once leads is = absurd (none-some cut low at leads)
   cut-halves low (entry ∷ entries) at once leads is = ⊎_elim
       (λ here. (
@@ -202,6 +202,7 @@ module _ (part : Keyed) (old into : ℕ) (cut : List ℕ) where
             (halves-both old into cut entry entries (ap slot (sym here.is_it) ∙ is))
             ∙ leads-here low (one_entry old cut)
             (one_entry into entry.high ∷ halves old into cut entries) cut (le-itself cut),
+        refl,
         refl,
       ))
       (λ on.
@@ -214,6 +215,7 @@ module _ (part : Keyed) (old into : ℕ) (cut : List ℕ) where
             (halves-one old into cut entry entries other)
             ∙ leads-on low entry (halves old into cut entries) cut on.past ∙ more.1,
         more.2,
+        more.3,
       ))
       (led low entry entries cut at leads)
 

@@ -10,22 +10,6 @@ use crate::head::write_head;
 use vr_space::{Layout, entry_for};
 use vr_types::{Blocks, DeviceFault};
 
-/// Copies a block.
-pub(crate) fn read_block<B: Blocks>(
-    blocks: &mut B,
-    n: u32,
-    out: &mut [u8],
-) -> Result<(), DeviceFault>
-    requires below { n < (B.seen blocks.old).count }
-    requires whole { length out.old ≡ (B.seen blocks.old).size }
-    ensures content { IsTrue B.tells → OnOk result (out.new ≡ block_at (B.seen blocks.old).cur n) }
-    ensures keeps { Keeps B.tells (B.seen blocks.old) (B.seen blocks.new) }
-    ensures cause { HasCause (B.faults blocks.old) (B.faults blocks.new) result }
-{
-    out.copy_from_slice(blocks.get(n)?);
-    Ok(())
-}
-
 /// Writes the records of the interval of a cut that are above it.
 fn write_upper(layout: &Layout, top: &[u8], cut: &[u8], block: &[u8], out: &mut [u8])
     requires { length out.old ≡ length block.now }

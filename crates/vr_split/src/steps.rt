@@ -15,9 +15,9 @@ ghost use Rattle.vr_split.specs.Halves.{MakesUpper, MakesLower, IsBusyCopy};
 ghost use Rattle.vr_split.specs.Splits.{split_of, after_stage, AreInArea, HasDoneStage};
 
 use crate::halves::write_busy;
-use crate::making::{make_head, make_lower, make_upper, read_block};
+use crate::making::{make_head, make_lower, make_upper};
 use crate::stages::{clean_interval, copy_interval, switch_head};
-use vr_space::Layout;
+use vr_space::{Layout, read_block};
 use vr_types::{Blocks, DeviceFault, StageKind};
 
 /// The interval that is split, the free one that gets the upper records, and the greatest place

@@ -1,6 +1,7 @@
 use Rattle.std.proofs.Common.{length, refl, ap, ◌∙◌, arith}
 use Rattle.vr_space.specs.Room.{lengths_in, with_lengths}
-use Rattle.vr_keyed.specs.Lent.{range_lent, last_lent}
+use Rattle.vr_space.specs.Lent.{range_lent}
+use Rattle.vr_keyed.specs.Lent.{last_lent}
 use Rattle.vr_keyed.proofs.Gathering.{adding-starts, adding-more, adding-ends, adding-full}
 use Rattle.vr_keyed.proofs.Gathering.{next-kept, none-kept}
 use Rattle.vr_keyed.proofs.gather.add_kept.Goals as goal

@@ -1,6 +1,7 @@
 use Rattle.std.proofs.Common.{◌≡◌, length}
 use Rattle.vr_space.specs.Room.{lengths_in, with_lengths}
-use Rattle.vr_keyed.specs.Lent.{range_lent, last_lent}
+use Rattle.vr_space.specs.Lent.{range_lent}
+use Rattle.vr_keyed.specs.Lent.{last_lent}
 use Rattle.vr_keyed.proofs.Gathering.{IsAdding, kept_after}
 use Rattle.vr_keyed.proofs.gather.add_kept.Given as goal
 

@@ -1,6 +1,6 @@
 use Rattle.std.proofs.Common.{◌≡◌, ◌∷◌, rules, ◌∙◌}
 use Rattle.vr_ci.specs.Interval as ci
-use Rattle.vr_keyed.specs.Lent.{range_lent}
+use Rattle.vr_space.specs.Lent.{range_lent}
 use Rattle.vr_keyed.proofs.Gathering.{gather-full, gather-more, among-ascend}
 use Rattle.vr_keyed.proofs.gather.add_records.Goals as goal
 

@@ -2,7 +2,7 @@ use Rattle.std.proofs.Common.{◌≡◌, All, map}
 use Rattle.std.specs.List.Sorted.{IsStrictlySortedBy}
 use Rattle.vr_types.specs.Content.{place_cmp}
 use Rattle.vr_space.specs.Keyed.{IsKept}
-use Rattle.vr_keyed.specs.Lent.{range_lent}
+use Rattle.vr_space.specs.Lent.{range_lent}
 use Rattle.vr_keyed.proofs.Gathering.{IsGathering, key_in}
 use Rattle.vr_keyed.proofs.gather.add_records.Given as goal
 

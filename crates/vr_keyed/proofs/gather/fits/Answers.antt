@@ -1,7 +1,7 @@
 use Rattle.std.proofs.Common.{sym}
 use Rattle.vr_space.specs.Keyed.{lengths_of}
 use Rattle.vr_space.specs.Part.{KeyedShape, part_no}
-use Rattle.vr_keyed.specs.Lent.{range_lent}
+use Rattle.vr_space.specs.Lent.{range_lent}
 use Rattle.vr_keyed.proofs.Gathering.{not-fits}
 use Rattle.vr_keyed.proofs.gather.fits.Goals as goal
 

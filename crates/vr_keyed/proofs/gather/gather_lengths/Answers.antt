@@ -7,7 +7,8 @@ use Rattle.vr_space.specs.Room.{with_lengths}
 use Rattle.vr_space.specs.Keyed.{lengths_of, items_of}
 use Rattle.vr_space.specs.Part.{KeyedShape, part_no}
 use Rattle.vr_space.proofs.CallerLemmas.{items-read}
-use Rattle.vr_keyed.specs.Lent.{range_lent, lengths_among, ArePlaces}
+use Rattle.vr_space.specs.Lent.{range_lent}
+use Rattle.vr_keyed.specs.Lent.{lengths_among, ArePlaces}
 use Rattle.vr_keyed.proofs.Gathering.{items-ready, room-cleared, room-kept, add-last}
 use Rattle.vr_keyed.proofs.gather.gather_lengths.Goals as goal
 

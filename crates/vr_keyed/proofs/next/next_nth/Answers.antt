@@ -7,7 +7,7 @@ use Rattle.vr_space.specs.Keyed.{HoldsRange, entries_of, entry_block, range_of}
 use Rattle.vr_space.specs.Search.{keys_of, low_before}
 use Rattle.vr_keyed.specs.Slots.{met_in}
 use Rattle.vr_keyed.specs.Next.{IsNth, NthIs, NextNth, FoundIs, first_sought}
-use Rattle.vr_keyed.proofs.Nexting.{holds-nth}
+use Rattle.vr_space.proofs.CallerLemmas.{holds-nth}
 use Rattle.vr_keyed.proofs.next.next_nth.Goals as goal
 
 pub returns-clause-nth : goal.returns-clause-nth

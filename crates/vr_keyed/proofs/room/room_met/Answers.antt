@@ -3,7 +3,7 @@ use Rattle.std.proofs.lemmas.Result.{IfOk-weaker}
 use Rattle.vr_types.proofs.CallerLemmas.{keeps-none}
 use Rattle.vr_space.specs.Part.{KeyedShape, part_no}
 use Rattle.vr_keyed.specs.Slots.{met_in}
-use Rattle.vr_keyed.specs.Lent.{range_lent}
+use Rattle.vr_space.specs.Lent.{range_lent}
 use Rattle.vr_keyed.proofs.MetRoom.{met-holds, answer-met, fits-met}
 use Rattle.vr_keyed.proofs.room.room_met.Goals as goal
 

@@ -2,8 +2,8 @@
 ghost use Rattle.std.specs.Prelude.{◌≡◌, ℕ, List};
 ghost use Rattle.std.specs.Borrow.{Bor};
 ghost use Rattle.std.specs.Option.{option_map};
+ghost use Rattle.vr_space.specs.Lent.{range_lent};
 ghost use Rattle.vr_space.specs.Room as room;
-ghost use Rattle.vr_keyed.specs.Lent.{range_lent};
 
 /// A range of places: above the low one, where there is one, and up to the high one.
 #[derive(Clone, Copy, Debug)]

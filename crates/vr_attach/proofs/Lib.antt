@@ -1,0 +1,5 @@
+pub mod Rules
+pub mod Heads
+pub mod Intervals
+pub mod Walks
+pub mod Passing

@@ -1,0 +1,50 @@
+-- Where the keyed parts of a volume are on its blocks: the catalog, which is part 0, in area 0, and
+-- each key-sequenced cluster in the area that its entry names. There are clusters of one area yet.
+-- The rules are this project's own.
+use Rattle.std.specs.Prelude.{◌≡◌, ◌+◌, ◌≤◌, ◌<◌, ℕ, Option, Some, None, false}
+use Rattle.std.specs.Option.{option_and_then}
+use Rattle.vr_types.specs.Geometry.{head_block, area_count}
+use Rattle.vr_types.specs.declared.geometry.Geometry.{Geometry}
+use Rattle.vr_types.specs.declared.unit.AreaNo.{AreaNo}
+use Rattle.vr_types.specs.declared.unit.Kind.{Kind}
+use Rattle.vr_types.specs.declared.unit.Kind.TheVariants as kinds
+use Rattle.vr_catalog.specs.Catalog.{cluster_definition}
+use Rattle.vr_catalog.specs.Definition.{catalog_definition}
+use Rattle.vr_catalog.specs.declared.definition.Definition.{Definition}
+use Rattle.vr_catalog.specs.declared.entry.CatEntry.{CatEntry}
+use Rattle.vr_space.specs.Keyed.{Keyed}
+use Rattle.vr_space.specs.Part.{Shape, KeyedShape}
+
+-- a keyed part of this definition, whose first area is this one
+abbrev pub keyed_part : Geometry → ℕ → ℕ → Definition → Keyed
+keyed_part geometry part area definition = record {
+  part = part;
+  head = head_block geometry area;
+  area = geometry.area;
+  size = geometry.size;
+  key = definition.key_length;
+  offset = definition.key_offset;
+  most = definition.maximum;
+}
+
+abbrev pub keyed_shape : Geometry → ℕ → ℕ → Definition → Shape
+keyed_shape geometry part area definition = KeyedShape (keyed_part geometry part area definition)
+
+abbrev pub catalog_shape : Geometry → Shape
+catalog_shape geometry = keyed_shape geometry 0 0 catalog_definition
+
+abbrev pub shape_by_kind : Geometry → ℕ → ℕ → Definition → Kind → Option Shape
+shape_by_kind geometry part area definition kinds.Keyed =
+    Some (keyed_shape geometry part area definition)
+shape_by_kind geometry part area definition kinds.Entry = None
+shape_by_kind geometry part area definition kinds.Relative = None
+
+abbrev pub shape_from : Geometry → ℕ → Option AreaNo → Definition → Option Shape
+shape_from geometry part None definition = None
+shape_from geometry part (Some area) definition =
+    shape_by_kind geometry part area.0 definition definition.kind
+
+-- the shape of a cluster that has an area
+abbrev pub shape_of : Geometry → CatEntry → Option Shape
+shape_of geometry entry = option_and_then (shape_from geometry entry.part.0 entry.first_area)
+    (cluster_definition entry.entry_kind entry)

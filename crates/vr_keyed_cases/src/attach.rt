@@ -1,0 +1,200 @@
+//! Attaching the part to blocks that are changed: what it answers, beside the plain program.
+ghost use Rattle.std.specs.Prelude.{◌≡◌, ◌<◌, ◌≤◌, ◌+◌, IfOk};
+ghost use Rattle.vr_types.specs.Geometry.{area_count};
+ghost use Rattle.vr_attach.specs.Attached.{IsOfKeyed};
+ghost use Rattle.vr_keyed_cases.specs.TheLayout.{the_geometry};
+
+use crate::answers::{Answer, Stop, say, say_fault, say_number};
+use crate::held::Held;
+use crate::images::last_blocks;
+use crate::plain_damage::{Found, plain_damage};
+use crate::traced::Traced;
+use crate::words::{long_number, number, parted};
+use std::alloc::Global;
+use vr_attach::PartNo2;
+use vr_catalog::{CatEntry, EntryKind, FreeSpace, ShareOptions, SpaceUnit};
+use vr_device::memory_device;
+use vr_keyed::Keyed;
+use vr_types::{AreaNo, Blocks, Geometry, Kind, NameFault, PartNo, dataset_name};
+
+/// The longest record of the entry. The part itself takes longer ones.
+const LONGEST: u32 = 300;
+
+/// A volume of a header, a log block, and two areas.
+fn geometry() -> Geometry
+    ensures { result ≡ the_geometry }
+{
+    Geometry {
+        size: 512,
+        blocks: 10,
+        log: 1,
+        area: 3,
+    }
+}
+
+/// The entry of the part: in area 1, with keys of 8 bytes at the start of a record.
+fn entry(alloc: Global) -> Result<CatEntry, Stop>
+    requires { 1 < area_count the_geometry }
+    ensures { IfOk result (λ entry. IsOfKeyed the_geometry entry 8) }
+{
+    let name = match dataset_name(alloc, "PART.ONE") {
+        Ok(name) => name,
+        Err(NameFault::Memory) => return Err(Stop::Memory),
+        Err(_) => return Err(Stop::Line),
+    };
+    Ok(CatEntry {
+        name,
+        entry_kind: EntryKind::Cluster,
+        kind: Some(Kind::Keyed),
+        spanned: false,
+        unique: false,
+        built: false,
+        part: PartNo(1),
+        related: None,
+        key_length: 8,
+        key_offset: 0,
+        average: 80,
+        maximum: LONGEST,
+        first_area: Some(AreaNo(1)),
+        free_space: FreeSpace {
+            interval: 0,
+            area: 0,
+        },
+        share_options: ShareOptions {
+            regions: 1,
+            systems: 3,
+        },
+        space: SpaceUnit::Unstated,
+        primary: 0,
+        secondary: 0,
+        interval_size: 0,
+        data_name: None,
+        index_name: None,
+        storage_class: None,
+        data_class: None,
+        management_class: None,
+    })
+}
+
+/// Attaches the part to what was written last, with changes: `attach CHANGE; CHANGE..`, each
+/// `BLOCK AT BYTE..`, or `BLOCK zero`, which makes all its bytes zero.
+pub fn attach(alloc: Global, held: &Held, rest: &str, out: &mut String) -> Answer {
+    let mut blocks = last_blocks(alloc, held.blocks.device())?;
+    change_all(blocks.as_mut_slice(), rest)?;
+    attach_to(alloc, blocks.as_slice(), &[], out)
+}
+
+/// Attaches the part to what was written last, on a device whose call of a number fails. The first
+/// four calls write the blocks: `attach_fails NUMBER`.
+pub fn attach_fails(alloc: Global, held: &Held, rest: &str, out: &mut String) -> Answer {
+    let blocks = last_blocks(alloc, held.blocks.device())?;
+    attach_to(alloc, blocks.as_slice(), &[long_number(rest)?], out)
+}
+
+fn change_all(blocks: &mut [u8], rest: &str) -> Answer {
+    for change in rest.split("; ") {
+        if !change.is_empty() {
+            change_one(blocks, change)?;
+        }
+    }
+    Ok(())
+}
+
+fn change_one(blocks: &mut [u8], change: &str) -> Answer {
+    let (block, rest) = parted(change);
+    let from = number(block)?.min(3) as usize * 512;
+    if rest == "zero" {
+        return fill_zeros(blocks, from);
+    }
+    let (at, bytes) = parted(rest);
+    let mut place = from + number(at)?.min(511) as usize;
+    for word in bytes.split_whitespace() {
+        put_byte(blocks, place, number(word)?)?;
+        place = place.saturating_add(1);
+    }
+    Ok(())
+}
+
+fn fill_zeros(blocks: &mut [u8], from: usize) -> Answer {
+    for i in 0..512usize {
+        put_byte(blocks, from.saturating_add(i), 0)?;
+    }
+    Ok(())
+}
+
+fn put_byte(blocks: &mut [u8], place: usize, byte: u32) -> Answer {
+    match blocks.get_mut(place) {
+        Some(old) if byte < 256 => {
+            *old = byte as u8;
+            Ok(())
+        }
+        _ => Err(Stop::Line),
+    }
+}
+
+/// The part's four blocks on blocks 6 to 9 of a volume.
+fn volume(alloc: Global, blocks: &[u8], fails: &[u64]) -> Result<Traced, Stop> {
+    let device = memory_device(alloc, 512, 10, fails)?;
+    let mut traced = Traced::over(alloc, device)?;
+    for n in 0..4u32 {
+        let from = n as usize * 512;
+        if let Some(block) = blocks.get(from..from + 512) {
+            let _ = traced.put(6 + n, block);
+        }
+    }
+    traced.clear_notes();
+    Ok(traced)
+}
+
+/// Writes what attaching answers, with the calls of the device, and what the plain program says
+/// where that is something else.
+fn attach_to(alloc: Global, blocks: &[u8], fails: &[u64], out: &mut String) -> Answer {
+    let mut traced = volume(alloc, blocks, fails)?;
+    let found = attached(alloc, &mut traced, out)?;
+    say(out, traced.notes())?;
+    if fails.is_empty() && found != plain_damage(blocks, LONGEST as usize) {
+        say(out, ", but the plain program says ")?;
+        say_found(out, plain_damage(blocks, LONGEST as usize))?;
+    }
+    Ok(())
+}
+
+/// Attaches the part: what is found damaged, if something is.
+fn attached(alloc: Global, traced: &mut Traced, out: &mut String) -> Result<Option<Found>, Stop> {
+    let geometry = geometry();
+    if !geometry.is_allowed() || geometry.areas() < 2 {
+        return Err(Stop::Line);
+    }
+    let entry = entry(alloc)?;
+    match Keyed::attach(alloc, traced, &geometry, &entry, 8) {
+        Ok(_) => {
+            say(out, "ok")?;
+            Ok(None)
+        }
+        Err(PartNo2::Damaged { block, rule }) => {
+            let found = Some(Found {
+                block: (block as usize).saturating_sub(6),
+                rule,
+            });
+            say_found(out, found)?;
+            Ok(found)
+        }
+        Err(PartNo2::Fault(fault)) => {
+            say_fault(out, Err(fault))?;
+            Ok(None)
+        }
+        Err(PartNo2::Memory) => Err(Stop::Memory),
+    }
+}
+
+fn say_found(out: &mut String, found: Option<Found>) -> Answer {
+    match found {
+        None => say(out, "ok"),
+        Some(found) => {
+            say(out, "damaged ")?;
+            say_number(out, found.block as u64)?;
+            say(out, " ")?;
+            say_number(out, found.rule as u64)
+        }
+    }
+}

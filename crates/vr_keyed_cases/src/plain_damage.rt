@@ -1,0 +1,357 @@
+//! The damage of the part's blocks, found byte by byte, plainly and slowly. It shares no code with
+//! the part.
+use crate::plain::{Run, byte, part, run_at, two};
+
+/// The block that is shown, of the part's four, and the rule.
+#[derive(Clone, Copy, PartialEq, Eq)]
+pub struct Found {
+    pub block: usize,
+    pub rule: u8,
+}
+
+/// The number of four bytes, the high one first; at most 65,535.
+fn four(blocks: &[u8], at: usize) -> usize {
+    if two(blocks, at) > 0 {
+        return 65_535;
+    }
+    two(blocks, at.saturating_add(2))
+}
+
+/// Whether so many bytes are all this one.
+fn are_all(blocks: &[u8], at: usize, count: usize, wanted: u8) -> bool {
+    part(blocks, at, count).iter().all(|byte| *byte == wanted)
+}
+
+/// What is found of four blocks of a part whose records have at most so many bytes.
+pub fn plain_damage(blocks: &[u8], most: usize) -> Option<Found> {
+    let rule = head_rule(blocks);
+    if rule != 0 {
+        return Some(Found { block: 0, rule });
+    }
+    for entry in 0..two(blocks, 2).min(39) {
+        let at = 40 + entry * 12;
+        let rule = interval_rule(blocks, at, entry == 0, most);
+        if rule != 0 {
+            let block = two(blocks, at + 2) + 1;
+            return Some(Found { block, rule });
+        }
+    }
+    None
+}
+
+/// The least rule that the head breaks, or 0. The volume has areas 0 and 1, and the part is in 1.
+fn head_rule(blocks: &[u8]) -> u8 {
+    let spelled = is_spelled(blocks);
+    let next = four(blocks, 12);
+    let index = four(blocks, 20);
+    if spelled && (next > 2 || index > 2) {
+        return 3;
+    }
+    if spelled && next == 2 {
+        return 4;
+    }
+    if !spelled || byte(blocks, 1) != 1 || !is_plain_head(blocks) {
+        return 5;
+    }
+    if four(blocks, 8) != 1 || two(blocks, 6) != 8 {
+        return 6;
+    }
+    let high = two(blocks, 2).min(39).saturating_mul(12).saturating_add(32);
+    if next != 0 || !are_all(blocks, high, 8, 255) {
+        return 7;
+    }
+    0
+}
+
+/// Whether the head names no index, and each entry has one interval.
+fn is_plain_head(blocks: &[u8]) -> bool {
+    let place = two(blocks, 6);
+    let mut at = place.saturating_add(32);
+    for _entry in 0..two(blocks, 2) {
+        if two(blocks, at) != 1 {
+            return false;
+        }
+        at = at.saturating_add(place).saturating_add(4);
+    }
+    four(blocks, 16) == 0 && four(blocks, 20) == 0
+}
+
+/// Whether the head is a sequence-set record.
+fn is_spelled(blocks: &[u8]) -> bool {
+    let place = two(blocks, 6);
+    let first = byte(blocks, 1) == 1;
+    byte(blocks, 0) == 83
+        && byte(blocks, 1) < 2
+        && two(blocks, 4) == 0
+        && are_all(blocks, 24, 8, 0)
+        && place > 0
+        && place <= 480
+        && two(blocks, 2) > 0
+        && is_chained(blocks, first, place)
+        && are_entries(blocks, first, place)
+}
+
+/// What only the first of a chain may have.
+fn is_chained(blocks: &[u8], first: bool, place: usize) -> bool {
+    if first {
+        are_all(blocks, 32, place, 0)
+    } else {
+        four(blocks, 16) == 0 && four(blocks, 20) == 0
+    }
+}
+
+/// Whether the entries are whole, their intervals below the limit and each once, their high places
+/// ascend, and zeros come after them.
+fn are_entries(blocks: &[u8], first: bool, place: usize) -> bool {
+    let limit = 480usize.saturating_sub(place) / place.saturating_add(4);
+    let mut seen = [limit < 1, limit < 2, limit < 3];
+    let mut below = if first { 0 } else { 32 };
+    let mut at = place.saturating_add(32);
+    for _entry in 0..two(blocks, 2) {
+        let count = two(blocks, at);
+        let high = at.saturating_add(2).saturating_add(count.saturating_mul(2));
+        if count == 0 || high.saturating_add(place) > 512 {
+            return false;
+        }
+        if !take_all(blocks, at.saturating_add(2), count, &mut seen) {
+            return false;
+        }
+        if below != 0 && part(blocks, below, place) >= part(blocks, high, place) {
+            return false;
+        }
+        below = high;
+        at = high.saturating_add(place);
+    }
+    are_all(blocks, at, 512usize.saturating_sub(at), 0)
+}
+
+/// Takes intervals that none took before.
+fn take_all(blocks: &[u8], at: usize, count: usize, seen: &mut [bool; 3]) -> bool {
+    for i in 0..count {
+        if !take(two(blocks, at.saturating_add(i.saturating_mul(2))), seen) {
+            return false;
+        }
+    }
+    true
+}
+
+fn take(number: usize, seen: &mut [bool; 3]) -> bool {
+    if number >= 3 || seen[number] {
+        return false;
+    }
+    seen[number] = true;
+    true
+}
+
+/// What an interval is.
+#[derive(Clone, Copy, PartialEq, Eq)]
+enum Kind {
+    Bad,
+    End,
+    Segment,
+    Records,
+}
+
+/// The least rule that the interval of the entry at that place breaks, or 0.
+fn interval_rule(blocks: &[u8], at: usize, first: bool, most: usize) -> u8 {
+    let number = two(blocks, at.saturating_add(2));
+    let block = part(blocks, number.saturating_add(1).saturating_mul(512), 512);
+    match kind_of(block) {
+        Kind::Bad => 8,
+        Kind::End => 9,
+        Kind::Segment => 10,
+        Kind::Records => {
+            if !are_valid(block, most) {
+                return 10;
+            }
+            let low: &[u8] = if first {
+                &[]
+            } else {
+                part(blocks, at.saturating_sub(8), 8)
+            };
+            let high = part(blocks, at.saturating_add(4), 8);
+            if are_ordered(block, low, high) { 0 } else { 11 }
+        }
+    }
+}
+
+/// Where the records of a block end, and where what describes them begins.
+fn bounds(block: &[u8]) -> (usize, usize) {
+    let used = two(block, 508);
+    (used, used.saturating_add(two(block, 510) % 32_768))
+}
+
+/// What the block is, by its bytes.
+fn kind_of(block: &[u8]) -> Kind {
+    let (used, end) = bounds(block);
+    if used == 0 && two(block, 510) == 0 {
+        return if are_all(block, 0, 512, 0) {
+            Kind::End
+        } else {
+            Kind::Bad
+        };
+    }
+    if end > 508 || !are_all(block, used, end.saturating_sub(used), 0) {
+        return Kind::Bad;
+    }
+    if byte(block, 505) & 48 != 0 {
+        return segment_kind(block, used, end);
+    }
+    runs_kind(block, used, end)
+}
+
+/// A segment stands alone, and one that isn't the last fills its block.
+fn segment_kind(block: &[u8], used: usize, end: usize) -> Kind {
+    let right = byte(block, 505);
+    let left = byte(block, 502);
+    let live = right & 4 == 0;
+    let whole = right & 251 == 80 || right & 251 == 112;
+    let last = right & 251 == 96;
+    let length = two(block, 506);
+    let pair = left == right & 52 | 8;
+    if (whole && length == 502 || last && length >= 1 && length <= 502)
+        && pair
+        && two(block, 503) >= 1
+        && end == 502
+        && used == length
+        && (live || are_all(block, 0, used, 0))
+    {
+        Kind::Segment
+    } else {
+        Kind::Bad
+    }
+}
+
+/// What is left of a block to be read: where the next record begins, where what describes it ends,
+/// the room that was needed, and the length of the live run before it, or 0.
+#[derive(Clone, Copy)]
+struct Left {
+    start: usize,
+    control: usize,
+    room: usize,
+    last: usize,
+}
+
+/// The runs of a block, from the first on, each as long as it can be.
+fn runs_kind(block: &[u8], used: usize, end: usize) -> Kind {
+    let mut left = Left {
+        start: 0,
+        control: 508,
+        room: 0,
+        last: 0,
+    };
+    for _run in 0..170u32 {
+        if left.control == end {
+            break;
+        }
+        let run = run_at(block, left.control);
+        if left.control < end.saturating_add(run.control) || !is_run(block, left, run) {
+            return Kind::Bad;
+        }
+        left = after(block, left, run);
+    }
+    if left.control == end && left.start == used && left.room <= 508 {
+        Kind::Records
+    } else {
+        Kind::Bad
+    }
+}
+
+/// Whether a record is withdrawn.
+fn is_withdrawn(block: &[u8], control: usize) -> bool {
+    byte(block, control.saturating_sub(3)) == 4
+}
+
+/// Whether a run may stand after what was read.
+fn is_run(block: &[u8], left: Left, run: Run) -> bool {
+    let right = byte(block, left.control.saturating_sub(3));
+    if run.length == 0 {
+        return false;
+    }
+    match right {
+        0 => run.length != left.last,
+        4 => are_all(block, left.start, run.length, 0),
+        64 => {
+            run.length != left.last
+                && run.count >= 2
+                && byte(block, left.control.saturating_sub(6)) == 8
+        }
+        _ => false,
+    }
+}
+
+/// What is left after a run.
+fn after(block: &[u8], left: Left, run: Run) -> Left {
+    let withdrawn = is_withdrawn(block, left.control);
+    let room = run.length.saturating_add(3).saturating_mul(run.count);
+    Left {
+        start: left.start.saturating_add(run.length.saturating_mul(run.count)),
+        control: left.control.saturating_sub(run.control),
+        room: left.room.saturating_add(room),
+        last: if withdrawn { 0 } else { run.length },
+    }
+}
+
+/// A record: where it begins, how long it is, and whether it is there.
+#[derive(Clone, Copy)]
+struct Record {
+    at: usize,
+    length: usize,
+    live: bool,
+}
+
+/// The record of a number, from 0 on.
+fn nth(block: &[u8], number: usize) -> Option<Record> {
+    let (_, end) = bounds(block);
+    let mut before = 0usize;
+    let mut start = 0usize;
+    let mut control = 508usize;
+    for _run in 0..170u32 {
+        if control <= end {
+            return None;
+        }
+        let run = run_at(block, control);
+        if number < before.saturating_add(run.count) {
+            let skipped = number.saturating_sub(before).saturating_mul(run.length);
+            return Some(Record {
+                at: start.saturating_add(skipped),
+                length: run.length,
+                live: !is_withdrawn(block, control),
+            });
+        }
+        before = before.saturating_add(run.count);
+        start = start.saturating_add(run.count.saturating_mul(run.length));
+        control = control.saturating_sub(run.control);
+    }
+    None
+}
+
+/// Whether each record is there, has its whole key, and isn't too long.
+fn are_valid(block: &[u8], most: usize) -> bool {
+    for i in 0..170usize {
+        if let Some(record) = nth(block, i)
+            && (!record.live || record.length < 8 || record.length > most)
+        {
+            return false;
+        }
+    }
+    true
+}
+
+/// Whether the keys ascend, and none is outside the range unless the block is busy. A low place of
+/// no bytes is none.
+fn are_ordered(block: &[u8], low: &[u8], high: &[u8]) -> bool {
+    let busy = two(block, 510) >= 32_768;
+    let mut last: &[u8] = &[];
+    for i in 0..170usize {
+        if let Some(record) = nth(block, i) {
+            let key = part(block, record.at, 8);
+            let outside = key <= low || key > high;
+            if key <= last || !busy && outside {
+                return false;
+            }
+            last = key;
+        }
+    }
+    true
+}
