@@ -1,0 +1,6 @@
+pub mod Here
+pub mod InHand
+pub mod Looked
+pub mod Opening
+pub mod Scope
+pub mod Tried
