@@ -1,3 +1,4 @@
+mod AfterLemmas
 mod AnswerLemmas
 pub mod CallerLemmas
 mod FileLemmas
@@ -7,3 +8,4 @@ mod OpeningLemmas
 mod Outcomes
 mod PlaceLemmas
 mod RecordLemmas
+mod StayLemmas

@@ -66,7 +66,7 @@ reads_alone (EndReq file) direct reads definition held = refl
 reads_alone Commit direct reads definition held = refl
 reads_alone Backout direct reads definition held = refl
 
-append_none : {A : Type 0} (l : List A) → l ++ [] ≡ l
+pub append_none : {A : Type 0} (l : List A) → l ++ [] ≡ l
 append_none [] = refl
 append_none (x ∷ l) = ap (λ (rest : List _). x ∷ rest) (append_none l)
 

@@ -1,3 +1,4 @@
+pub mod After
 pub mod Here
 pub mod InHand
 pub mod Looked

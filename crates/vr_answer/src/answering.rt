@@ -90,7 +90,6 @@ fn done_here(
 /// The reply to a request that nothing refuses: with the place that it looked at, and a GET with
 /// the record that was read. It fails only if memory runs out, and not for a request that is on no
 /// file.
-#[tactic(auto, using(crate::proofs::AnswerLemmas::done_is))]
 pub fn done(
     alloc: Global,
     case: &Case,

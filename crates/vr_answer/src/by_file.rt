@@ -1,11 +1,13 @@
 //! Refusals by what is in memory: the file, the volume, what the request names, and what its file
 //! holds for update.
-ghost use Rattle.std.specs.Prelude.{◌≡◌, ◌-◌, ◌^◌, length, min, not};
+ghost use Rattle.std.specs.Prelude.{◌≡◌, ◌-◌, ◌^◌, length, min, not, None, option_and_then};
 ghost use Rattle.vr_history.specs.RefusedFile as refusals;
 ghost use Rattle.vr_history.specs.Replies as replies;
 ghost use Rattle.vr_answer.specs.Here as here;
 ghost use Rattle.vr_answer.specs.InHand.{InEach};
 ghost use Rattle.vr_answer.specs.Opening.{as_opened};
+ghost use Rattle.vr_history.specs.Step.{stand_refused};
+ghost use Rattle.vr_answer.specs.Scope.{IsDirect};
 ghost use Rattle.vr_answer.specs.Tried as tried;
 
 use crate::case::{Case, definition, file_of};
@@ -228,10 +230,13 @@ pub fn refused_before_all(case: &Case) -> Option<Refusal>
 }
 
 /// The first refusal by what is in memory: those of `refused_before_all`, `NotAllowed`,
-/// `BadLength`, and `NoGet` where an update or an erase finds nothing held. It takes no memory.
-#[tactic(auto, using(crate::proofs::FileLemmas::file_is))]
+/// `BadLength`, and `NoGet` where an update or an erase finds nothing held. It takes no memory, and
+/// moves no file.
 pub fn refused_by_file(case: &Case) -> Option<Refusal>
-    ensures { InEach case.now (λ whole. result ≡ replies.first_of (tried.file_refusals whole)) }
+    ensures value { InEach case.now (λ whole.
+        result ≡ replies.first_of (tried.file_refusals whole)) }
+    ensures stays { IsDirect case.now.request.now
+        → option_and_then (stand_refused case.now.request.now) result ≡ None }
 {
     file_here(case)
 }

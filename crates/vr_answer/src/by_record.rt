@@ -1,10 +1,12 @@
 //! Refusals by the record that was read, and by the locks of others.
-ghost use Rattle.std.specs.Prelude.{◌≡◌, IfOk, IsTrue, OnErr, is_some};
+ghost use Rattle.std.specs.Prelude.{◌≡◌, IfOk, IsTrue, None, OnErr, is_some, option_and_then};
 ghost use Rattle.std.specs.Option.{option_copied};
 ghost use Rattle.vr_history.specs.Replies.{first_of, may_want};
+ghost use Rattle.vr_history.specs.Step.{stand_refused};
 ghost use Rattle.vr_answer.specs.Here as here;
 ghost use Rattle.vr_answer.specs.InHand.{InEachWith};
 ghost use Rattle.vr_answer.specs.Opening.{definition_here};
+ghost use Rattle.vr_answer.specs.Scope.{IsDirect};
 ghost use Rattle.vr_answer.specs.Tried.{record_refusals};
 
 use crate::by_file::refused_if;
@@ -112,7 +114,6 @@ pub(crate) fn record_here(
 /// none does, and by the locks of others: `NotFound` of an update or an erase, `KeyChanged`,
 /// `Held`, `NotFound` of a read, and `Duplicate` of an add. Memory is taken for the name of the
 /// lock alone. It fails only if memory runs out, and not for a request that is on no file.
-#[tactic(auto, using(crate::proofs::RecordLemmas::record_is))]
 pub fn refused_by_record(
     alloc: Global,
     case: &Case,
@@ -120,6 +121,8 @@ pub fn refused_by_record(
 ) -> Result<Option<Refusal>, OutOfMemory>
     ensures value { IfOk result (λ refusal. InEachWith case.now (option_copied present.entry)
         (λ whole. refusal ≡ first_of (record_refusals whole))) }
+    ensures stays { IfOk result (λ refusal. IsDirect case.now.request.now
+        → option_and_then (stand_refused case.now.request.now) refusal ≡ None) }
     ensures memory { OnErr result (IsTrue (may_want case.now.request.now)) }
 {
     record_here(alloc, case, present.is_some())

@@ -68,7 +68,6 @@ fn name_here(alloc: Global, case: &Case) -> Result<Option<LockName>, OutOfMemory
 
 /// The names that a request locks, for the lock table's `ask`. It fails only if memory runs out,
 /// and not for a request that is on no file.
-#[tactic(auto, using(crate::proofs::PlaceLemmas::names_are))]
 pub fn lock_names(alloc: Global, case: &Case) -> Result<LockNames, OutOfMemory>
     ensures value { IfOk result (λ asked. InEach case.now (λ whole.
         asked ≡ names.lock_names whole whole.request)) }

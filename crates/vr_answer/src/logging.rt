@@ -1,11 +1,13 @@
 //! The space of the log that a request needs.
-ghost use Rattle.std.specs.Prelude.{◌≡◌, ◌<◌, ◌^◌, ◌+◌, length, nat_lt};
+ghost use Rattle.std.specs.Prelude.{◌≡◌, ◌<◌, ◌^◌, ◌+◌, None, length, nat_lt, option_and_then};
 ghost use Rattle.std.specs.Option.{ForSome, option_copied};
 ghost use Rattle.vr_types.specs.LogSpace as space;
 ghost use Rattle.vr_history.specs.LogSpace as logs;
 ghost use Rattle.vr_history.specs.RefusedRoom as rooms;
+ghost use Rattle.vr_history.specs.Step.{stand_refused};
 ghost use Rattle.vr_answer.specs.Here as here;
 ghost use Rattle.vr_answer.specs.InHand.{InEachLogged};
+ghost use Rattle.vr_answer.specs.Scope.{IsDirect};
 
 use crate::by_file::refused_if;
 use crate::case::Case;
@@ -54,7 +56,6 @@ fn bytes_for(place: Option<&[u8]>, old: Option<&[u8]>, logged: bool) -> u64
 
 /// The bytes of the log that a request needs: a before record where the place that it changes has
 /// none of its unit yet (`logged`), and the end record of a unit that begins with it (not `live`).
-#[tactic(auto, using(crate::proofs::LogLemmas::need_is))]
 pub fn log_need(case: &Case, present: Option<&[u8]>, logged: bool, live: bool) -> u64
     requires { ForSome (option_copied present) (λ bytes. length bytes < 2 ^ 32) }
     ensures { InEachLogged case.now (option_copied present.entry) logged live
@@ -105,11 +106,12 @@ pub(crate) fn full_here(
 
 /// `LogFull` where the log has no room for what a change logs, the last of the refusals. It takes
 /// no memory.
-#[tactic(auto, using(crate::proofs::LogLemmas::full_is))]
 pub fn log_full(case: &Case, present: Option<&[u8]>, logged: bool, live: bool) -> Option<Refusal>
     requires { ForSome (option_copied present) (λ bytes. length bytes < 2 ^ 32) }
-    ensures { InEachLogged case.now (option_copied present.entry) logged live
+    ensures value { InEachLogged case.now (option_copied present.entry) logged live
         (λ whole. result ≡ rooms.log_full whole) }
+    ensures stays { IsDirect case.now.request.now
+        → option_and_then (stand_refused case.now.request.now) result ≡ None }
 {
     full_here(case, present, logged, live)
 }
