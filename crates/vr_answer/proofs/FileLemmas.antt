@@ -1,0 +1,195 @@
+-- The refusals by what is in memory are those of the record file.
+use Rattle.std.proofs.Common.{◌≡◌, ℕ, Bool, true, false, not, ◌&&◌, ◌||◌, List, [], ◌∷◌, Option}
+use Rattle.std.proofs.Common.{Some, None, refl, sym, ap, ◌∙◌, subst}
+use Rattle.std.specs.Option.{is_none, option_and_then, option_copied, option_map, option_map_or}
+use Rattle.std.specs.Option.{option_or}
+use Rattle.vr_catalog.specs.declared.definition.Definition.{Definition}
+use Rattle.vr_types.specs.declared.reply.Refusal.{Refusal}
+use Rattle.vr_types.specs.declared.reply.Refusal.TheVariants.{BadSlot, NoFile, NoGet, NotAllowed}
+use Rattle.vr_types.specs.declared.reply.Refusal.TheVariants.{NoPosition, Stopped}
+use Rattle.vr_types.specs.declared.request.FileRef.{FileRef}
+use Rattle.vr_types.specs.declared.request.Find.TheVariants.{Next, Equal, AtLeast}
+use Rattle.vr_types.specs.declared.request.Request.{Request}
+use Rattle.vr_types.specs.declared.request.Request.TheVariants.{Get, Point, Add, Update, Erase}
+use Rattle.vr_types.specs.declared.request.Request.TheVariants.{EndReq, Commit, Backout}
+use Rattle.vr_types.specs.declared.unit.Kind.{Kind}
+use Rattle.vr_types.specs.declared.unit.Kind.TheVariants.{Keyed, Entry, Relative}
+use Rattle.vr_history.specs.Case.{Case, acts_on_held, dropped, file_of}
+use Rattle.vr_history.specs.Found.{stand_of}
+use Rattle.vr_history.specs.Opened.{Opened, Unknown, Cluster, opened}
+use Rattle.vr_history.specs.RefusedFile.{bad_length, bad_slot, goes_with_kind, is_catalog_changing}
+use Rattle.vr_history.specs.RefusedFile.{is_slot_zero, is_unknown, length_wrong, no_file}
+use Rattle.vr_history.specs.RefusedFile.{not_allowed, refused_if, slot_named, stopped}
+use Rattle.vr_history.specs.RefusedRecord.{is_nowhere, is_sequential, no_get, no_position}
+use Rattle.vr_history.specs.Replies.{before_all, first_of}
+use Rattle.vr_history.specs.State.{State}
+use Rattle.vr_answer.specs.declared.case.Case.{Case as CaseInHand}
+use Rattle.vr_answer.specs.Here.{asked_here, before_here, file_here, form_by, form_here, no_file_here}
+use Rattle.vr_answer.specs.Here.{no_get_here, stopped_here}
+use Rattle.vr_answer.specs.InHand.{IsCaseOf, whole}
+use Rattle.vr_answer.specs.Opening.{as_opened, definition_here}
+use Rattle.vr_answer.specs.Scope.{IsDirect}
+use Rattle.vr_answer.specs.Tried.{file_refusals}
+use Rattle.vr_answer.proofs.OpeningLemmas.{IsKeyed, keyed_here, opened_is}
+
+-- the first of some refusals that are others
+pub first_of-two : (a b x y : Option Refusal) → a ≡ x → b ≡ y
+    → first_of (a ∷ b ∷ []) ≡ option_or x y
+first_of-two a b (Some r) y is_a is_b = ap (λ (o : Option Refusal). first_of (o ∷ b ∷ [])) is_a
+first_of-two a b None (Some r) is_a is_b =
+    ap (λ (o : Option Refusal). first_of (o ∷ b ∷ [])) is_a
+    ∙ ap (λ (o : Option Refusal). first_of (o ∷ [])) is_b
+first_of-two a b None None is_a is_b =
+    ap (λ (o : Option Refusal). first_of (o ∷ b ∷ [])) is_a
+    ∙ ap (λ (o : Option Refusal). first_of (o ∷ [])) is_b
+
+pub first_of-cons : (a : Option Refusal) (rest : List (Option Refusal))
+    → first_of (a ∷ rest) ≡ option_or a (first_of rest)
+first_of-cons None rest = refl
+first_of-cons (Some refusal) rest = refl
+
+-- a refusal takes its place in the list
+pub placed_first : (a x : Option Refusal) (rest : List (Option Refusal)) (others : Option Refusal)
+    → a ≡ x → first_of rest ≡ others → first_of (a ∷ rest) ≡ option_or x others
+placed_first a x rest others is_a are =
+    ap (λ (o : Option Refusal). first_of (o ∷ rest)) is_a ∙ first_of-cons x rest
+    ∙ ap (λ (o : Option Refusal). option_or x o) are
+
+-- or has none
+pub passed_over : (a : Option Refusal) (rest : List (Option Refusal)) (others : Option Refusal)
+    → a ≡ None → first_of rest ≡ others → first_of (a ∷ rest) ≡ others
+passed_over a rest others is_a are = ap (λ (o : Option Refusal). first_of (o ∷ rest)) is_a ∙ are
+
+pub option_or-none : {A : Type 0} (o : Option A) → option_or o None ≡ o
+option_or-none None = refl
+option_or-none (Some x) = refl
+
+pub option_or-assoc : {A : Type 0} (a b c : Option A)
+    → option_or a (option_or b c) ≡ option_or (option_or a b) c
+option_or-assoc None b c = refl
+option_or-assoc (Some x) b c = refl
+
+-- what is a function of a key-sequenced definition
+pub at_keyed : {A : Type 0} (definition : Definition) → definition.kind ≡ Keyed
+    → (f : Definition → A) → f definition ≡ f (record definition { kind = Keyed })
+at_keyed definition keyed f = ap (λ (kind : Kind). f (record definition { kind = kind })) keyed
+
+-- nothing is asked of the form of a direct request where no file can be opened
+unknown_form : (request : Request) → IsDirect request → form_by None request ≡ None
+unknown_form (Get file Next update integrity) direct = absurd direct
+unknown_form (Get file (Equal place) update integrity) direct = refl
+unknown_form (Get file (AtLeast place) update integrity) direct = absurd direct
+unknown_form (Point file find) direct = absurd direct
+unknown_form (Add file place bytes) direct = refl
+unknown_form (Update file bytes) direct = refl
+unknown_form (Erase file) direct = refl
+unknown_form (EndReq file) direct = refl
+unknown_form Commit direct = refl
+unknown_form Backout direct = refl
+
+by_definition : (definition : Option Definition) (request : Request) → IsDirect request
+    → form_by definition request ≡ option_and_then (λ known. form_by (Some known) request) definition
+by_definition None request direct = unknown_form request direct
+by_definition (Some definition) request direct = refl
+
+module _ (case : CaseInHand) (state : State) (is : IsCaseOf case state) where
+  abbrev w : Case
+  w = whole case state
+
+  abbrev request : Request
+  request = case.request.now
+
+  -- what is a function of the opened file
+  known : {A : Type 0} (f : Opened → A) → f (opened w) ≡ f (as_opened (definition_here case))
+  known f = ap f (opened_is case state is)
+
+  no_file_is : no_file w ≡ no_file_here case
+  no_file_is =
+      known (λ o. option_and_then (λ file. refused_if (is_unknown o || is_catalog_changing w) NoFile)
+      (file_of request))
+      ∙ ap
+      (λ (b : Bool). option_and_then
+      (λ file. refused_if (is_unknown (as_opened (definition_here case)) || b) NoFile)
+      (file_of request)) (sym is.changing)
+
+  stopped_is : stopped w ≡ stopped_here case
+  stopped_is = ap (λ (s : Option ℕ). option_map Stopped s) (sym is.stopped)
+
+  pub before_is : before_here case ≡ first_of (before_all w)
+  before_is = sym
+      (placed_first (no_file w) (no_file_here case) (stopped w ∷ []) (stopped_here case) no_file_is
+      (first_of-cons (stopped w) [] ∙ option_or-none (stopped w) ∙ stopped_is))
+
+  no_slot : (definition : Option Definition) → IsKeyed definition → (o : Option (List ℕ))
+      → option_and_then (λ place. refused_if (is_slot_zero (as_opened definition) place) BadSlot) o
+      ≡ None
+  no_slot definition keyed None = refl
+  no_slot None keyed (Some place) = refl
+  no_slot (Some definition) keyed (Some place) =
+      at_keyed definition keyed (λ d. refused_if (is_slot_zero (Cluster d) place) BadSlot)
+
+  slot_right : bad_slot w ≡ None
+  slot_right =
+      known (λ o. option_and_then (λ place. refused_if (is_slot_zero o place) BadSlot)
+      (slot_named request))
+      ∙ no_slot (definition_here case) (keyed_here case state is) (slot_named request)
+
+  -- a direct request isn't sequential
+  not_sequential : (request : Request) → IsDirect request → is_sequential request ≡ false
+  not_sequential (Get file Next update integrity) direct = absurd direct
+  not_sequential (Get file (Equal place) update integrity) direct = refl
+  not_sequential (Get file (AtLeast place) update integrity) direct = absurd direct
+  not_sequential (Point file find) direct = refl
+  not_sequential (Add file place bytes) direct = refl
+  not_sequential (Update file bytes) direct = refl
+  not_sequential (Erase file) direct = refl
+  not_sequential (EndReq file) direct = refl
+  not_sequential Commit direct = refl
+  not_sequential Backout direct = refl
+
+  goes_on : no_position w ≡ None
+  goes_on = ap
+      (λ (b : Bool). refused_if (b && option_map_or is_nowhere (stand_of w) false) NoPosition)
+      (not_sequential request is.direct)
+
+  no_get_is : no_get w ≡ no_get_here case
+  no_get_is = ap
+      (λ (o : Option (List ℕ)). refused_if (acts_on_held request && is_none o) NoGet)
+      (sym is.held)
+
+  abbrev allowed : Option Refusal
+  allowed =
+      refused_if (not (goes_with_kind (as_opened (definition_here case)) request)) NotAllowed
+
+  abbrev long : Option Refusal
+  long = length_wrong (as_opened (definition_here case)) request
+
+  allowed_is : not_allowed w ≡ allowed
+  allowed_is = known (λ o. refused_if (not (goes_with_kind o request)) NotAllowed)
+
+  long_is : bad_length w ≡ long
+  long_is = known (λ o. length_wrong o request)
+
+  tried_is : first_of (file_refusals w)
+      ≡ option_or (no_file_here case) (option_or (stopped_here case)
+      (option_or allowed (option_or long (no_get_here case))))
+  tried_is =
+      let last = first_of-cons (no_get w) [] ∙ option_or-none (no_get w) ∙ no_get_is in
+      placed_first (no_file w) _ _ _ no_file_is
+      (placed_first (stopped w) _ _ _ stopped_is
+      (placed_first (not_allowed w) _ _ _ allowed_is
+      (passed_over (bad_slot w) _ _ slot_right
+      (placed_first (bad_length w) _ _ _ long_is
+      (passed_over (no_position w) _ _ goes_on last)))))
+
+  form_is : option_or allowed long ≡ form_here case
+  form_is = by_definition (definition_here case) request is.direct
+
+  pub file_is : file_here case ≡ first_of (file_refusals w)
+  file_is = sym
+      (tried_is
+      ∙ option_or-assoc (no_file_here case) (stopped_here case)
+      (option_or allowed (option_or long (no_get_here case)))
+      ∙ ap (λ (o : Option Refusal). option_or (before_here case) o)
+      (option_or-assoc allowed long (no_get_here case)
+      ∙ ap (λ (o : Option Refusal). option_or o (no_get_here case)) form_is))

@@ -1,0 +1,11 @@
+mod AfterLemmas
+mod AnswerLemmas
+pub mod CallerLemmas
+mod FileLemmas
+mod HeldLemmas
+mod LogLemmas
+mod OpeningLemmas
+mod Outcomes
+mod PlaceLemmas
+mod RecordLemmas
+mod StayLemmas

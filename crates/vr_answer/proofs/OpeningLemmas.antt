@@ -1,0 +1,178 @@
+-- What a file is on where the catalog has key-sequenced clusters alone.
+use Rattle.std.proofs.Common.{◌≡◌, ℕ, Bool, true, false, cond, ◌==◌, List, [], ◌∷◌, Option, Some}
+use Rattle.std.proofs.Common.{None, refl, sym, ap, ◌∙◌, subst, filter, find, map, ◌&&◌}
+use Rattle.std.proofs.lemmas.Option.{none-some, same_Some}
+use Rattle.std.specs.List.{filter_map}
+use Rattle.std.specs.Option.{option_and_then, option_map_or, is_none}
+use Rattle.vr_catalog.specs.Catalog.{Alternate, alternate_from, alternate_in, alternates_over}
+use Rattle.vr_catalog.specs.Catalog.{by_part, cluster_definition, definition_in, definition_of}
+use Rattle.vr_catalog.specs.Catalog.{entry_with_part, is_over}
+use Rattle.vr_catalog.specs.Definition.{catalog_definition}
+use Rattle.vr_catalog.specs.declared.definition.Definition.{Definition}
+use Rattle.vr_catalog.specs.declared.entry.CatEntry.{CatEntry}
+use Rattle.vr_catalog.specs.declared.entry.EntryKind.{EntryKind}
+use Rattle.vr_catalog.specs.declared.entry.EntryKind.TheVariants as EntryKinds
+use Rattle.vr_types.specs.declared.request.FileRef.{FileRef}
+use Rattle.vr_types.specs.declared.unit.Kind.TheVariants.{Keyed}
+use Rattle.vr_types.specs.declared.unit.PartNo.{PartNo}
+use Rattle.vr_history.specs.Case.{Case, file_of}
+use Rattle.vr_history.specs.Opened.{Opened, Unknown, Cluster, built_over, by_name, by_path}
+use Rattle.vr_history.specs.Change.{move_of, moves_at, moves_key, pair_moves, place_changed}
+use Rattle.vr_history.specs.Opened.{base_of, catalog_of, opened, opened_base, opened_file}
+use Rattle.vr_history.specs.State.{State}
+use Rattle.vr_answer.specs.declared.case.Case.{Case as CaseInHand}
+use Rattle.vr_answer.specs.InHand.{IsCaseOf, whole}
+use Rattle.vr_answer.specs.Opening.{as_opened, definition_here, reached}
+use Rattle.vr_answer.specs.Scope.{AreKeyedClusters, IsKeyedCluster, HasClustersAlone}
+
+-- an entry of a cluster is no alternate index
+if_same : {A : Type 0} (b : Bool) (x : A) → cond b x x ≡ x
+if_same true x = refl
+if_same false x = refl
+
+no_alternate : (base : ℕ) (entry : CatEntry) → IsKeyedCluster entry
+    → alternate_in base entry ≡ None
+no_alternate base entry is =
+    ap (λ (kind : EntryKind). cond (is_over entry.related base) (alternate_from kind entry) None)
+    is.0
+    ∙ if_same (is_over entry.related base) None
+
+none_listed : (base : ℕ) (entries : List CatEntry) → AreKeyedClusters entries
+    → filter_map (alternate_in base) entries ≡ []
+none_listed base [] are = refl
+none_listed base (entry ∷ entries) are =
+    rw (no_alternate base entry are.0) (none_listed base entries are.1)
+
+-- no alternate index stands over any part
+pub alternates_none : (entries : List CatEntry) (base : ℕ) → AreKeyedClusters entries
+    → alternates_over entries base ≡ []
+alternates_none entries base are =
+    ap (λ (l : List Alternate). map (λ (pair : ℕ × Alternate). pair.1) (by_part l))
+    (none_listed base entries are)
+
+pub built_none : (state : State) (base : ℕ) → HasClustersAlone state → built_over state base ≡ []
+built_none state base alone =
+    ap (λ (l : List Alternate). filter (λ alternate. alternate.built) l)
+    (alternates_none (catalog_of state) base alone)
+
+-- each cluster is key-sequenced
+keyed_entry : (entry : CatEntry) (kind : EntryKind) (definition : Definition)
+    → IsKeyedCluster entry → cluster_definition kind entry ≡ Some definition
+    → definition.kind ≡ Keyed
+keyed_entry entry EntryKinds.Cluster definition is there =
+    ap (λ (d : Definition). d.kind) (sym (same_Some (definition_in entry) definition there)) ∙ is.1
+keyed_entry entry EntryKinds.Alternate definition is there = absurd (none-some definition there)
+keyed_entry entry EntryKinds.Path definition is there = absurd (none-some definition there)
+
+first_or : (first : CatEntry) (others : Option CatEntry) (entry : CatEntry) → IsKeyedCluster first
+    → (others ≡ Some entry → IsKeyedCluster entry) → (b : Bool)
+    → cond b (Some first) others ≡ Some entry → IsKeyedCluster entry
+first_or first others entry is further true there = subst IsKeyedCluster (same_Some first entry there)
+    is
+first_or first others entry is further false there = further there
+
+keyed_found : (test : CatEntry → Bool) (entries : List CatEntry) → AreKeyedClusters entries
+    → (entry : CatEntry) → find test entries ≡ Some entry → IsKeyedCluster entry
+keyed_found test [] are entry there = absurd (none-some entry there)
+keyed_found test (first ∷ entries) are entry there =
+    first_or first (find test entries) entry are.0 (keyed_found test entries are.1 entry)
+    (test first) there
+
+keyed_through : (o : Option CatEntry) → ((entry : CatEntry) → o ≡ Some entry → IsKeyedCluster entry)
+    → (definition : Definition)
+    → option_and_then (λ entry. cluster_definition entry.entry_kind entry) o ≡ Some definition
+    → definition.kind ≡ Keyed
+keyed_through None each definition there = absurd (none-some definition there)
+keyed_through (Some entry) each definition there =
+    keyed_entry entry entry.entry_kind definition (each entry refl) there
+
+definition_keyed : (entries : List CatEntry) (part : ℕ) (definition : Definition)
+    → AreKeyedClusters entries → definition_of entries part ≡ Some definition
+    → definition.kind ≡ Keyed
+definition_keyed entries part definition are there = by_zero (part == 0) there
+  where
+    by_zero : (b : Bool) → cond b (Some catalog_definition)
+        (option_and_then (λ entry. cluster_definition entry.entry_kind entry)
+        (entry_with_part entries part)) ≡ Some definition
+        → definition.kind ≡ Keyed
+    by_zero true there = ap (λ (d : Definition). d.kind)
+        (sym (same_Some catalog_definition definition there))
+    by_zero false there = keyed_through (entry_with_part entries part)
+        (λ entry found. keyed_found (λ entry. entry.part.0 == part) entries are entry found)
+        definition there
+
+-- a file reaches what the record file says that it is on
+module _ (state : State) (alone : HasClustersAlone state) (file : FileRef) where
+  by_no_path : (path : Option PartNo) (definition : Definition)
+      → by_name state file.base.0 path definition ≡ as_opened (cond (is_none path) (Some definition)
+      None)
+  by_no_path None definition = refl
+  by_no_path (Some path) definition = ap
+      (λ (l : List Alternate). by_path definition (find
+      (λ alternate. alternate.part == path.0) l)) (built_none state file.base.0 alone)
+
+  on_base : (o : Option Definition)
+      → opened_base state file o ≡ as_opened (cond (is_none file.path) o None)
+  on_base None = sym (ap as_opened (if_same (is_none file.path) None))
+  on_base (Some definition) = by_no_path file.path definition
+
+  by_known : (known : Bool) (o : Option Definition)
+      → cond known (opened_base state file o) Unknown
+      ≡ as_opened (cond (known && is_none file.path) o None)
+  by_known true o = on_base o
+  by_known false o = refl
+
+  file_reached : opened_file state file ≡ as_opened (reached (catalog_of state) file)
+  file_reached = by_known file.known (definition_of (catalog_of state) file.base.0)
+
+by_file : (state : State) → HasClustersAlone state → (o : Option FileRef)
+    → option_map_or (opened_file state) o Unknown
+    ≡ as_opened (option_and_then (reached (catalog_of state)) o)
+by_file state alone None = refl
+by_file state alone (Some file) = file_reached state alone file
+
+pub opened_is : (case : CaseInHand) (state : State) → IsCaseOf case state
+    → opened (whole case state) ≡ as_opened (definition_here case)
+opened_is case state is =
+    by_file state is.alone (file_of case.request.now)
+    ∙ ap
+    (λ (entries : List CatEntry). as_opened (option_and_then (reached entries)
+    (file_of case.request.now))) (sym is.catalog)
+
+-- what it reaches is key-sequenced
+abbrev pub IsKeyed : Option Definition → Type 0
+IsKeyed None = Unit {0}
+IsKeyed (Some definition) = definition.kind ≡ Keyed
+
+keyed_if : (o : Option Definition)
+    → ((definition : Definition) → o ≡ Some definition → definition.kind ≡ Keyed) → IsKeyed o
+keyed_if None each = tt
+keyed_if (Some definition) each = each definition refl
+
+keyed_cond : (b : Bool) (o : Option Definition) → IsKeyed o → IsKeyed (cond b o None)
+keyed_cond true o is = is
+keyed_cond false o is = tt
+
+keyed_by_file : (entries : List CatEntry) → AreKeyedClusters entries → (o : Option FileRef)
+    → IsKeyed (option_and_then (reached entries) o)
+keyed_by_file entries are None = tt
+keyed_by_file entries are (Some file) =
+    keyed_cond (file.known && is_none file.path) (definition_of entries file.base.0)
+    (keyed_if (definition_of entries file.base.0)
+    (λ definition there. definition_keyed entries file.base.0 definition are there))
+
+pub keyed_here : (case : CaseInHand) (state : State) → IsCaseOf case state
+    → IsKeyed (definition_here case)
+keyed_here case state is =
+    keyed_by_file case.catalog.now (subst AreKeyedClusters (sym is.catalog) is.alone)
+    (file_of case.request.now)
+
+-- no pair of an alternate index moves
+pub moves_none : (case : Case) → HasClustersAlone case.state → pair_moves case ≡ []
+moves_none case alone = by_place (place_changed case)
+  where
+    by_place : (o : Option (List ℕ)) → option_map_or (moves_at case) o [] ≡ []
+    by_place None = refl
+    by_place (Some place) =
+        ap (λ (l : List Alternate). filter moves_key (map (move_of case place) l))
+        (built_none case.state (base_of case) alone)

@@ -1,0 +1,168 @@
+-- The refusals of a direct request move no file.
+use Rattle.std.proofs.Common.{◌≡◌, ℕ, Bool, true, false, not, ◌&&◌, ◌||◌, List, Option, Some, None}
+use Rattle.std.proofs.Common.{refl, sym, ap, ◌∙◌, nat_eq, length}
+use Rattle.std.specs.Option.{is_none, is_some, option_and_then, option_copied, option_map, option_or}
+use Rattle.vr_catalog.specs.Definition.{is_valid_record}
+use Rattle.vr_catalog.specs.declared.definition.Definition.{Definition}
+use Rattle.vr_types.specs.Locks.{Lock, first_conflict}
+use Rattle.vr_types.specs.declared.lock_name.LockName.{LockName}
+use Rattle.vr_types.specs.declared.position.Stand.{Stand}
+use Rattle.vr_types.specs.declared.reply.Refusal.{Refusal}
+use Rattle.vr_types.specs.declared.reply.Refusal.TheVariants.{BadLength, Duplicate, KeyChanged}
+use Rattle.vr_types.specs.declared.reply.Refusal.TheVariants.{LogFull, NoFile, NoGet, NotAllowed}
+use Rattle.vr_types.specs.declared.reply.Refusal.TheVariants.{NotFound, Stopped}
+use Rattle.vr_types.specs.declared.request.FileRef.{FileRef}
+use Rattle.vr_types.specs.declared.request.Find.{Find}
+use Rattle.vr_types.specs.declared.request.Find.TheVariants.{Next, Equal, AtLeast}
+use Rattle.vr_types.specs.declared.request.Request.{Request}
+use Rattle.vr_types.specs.declared.request.Request.TheVariants.{Get, Point, Add, Update, Erase}
+use Rattle.vr_types.specs.declared.request.Request.TheVariants.{EndReq, Commit, Backout}
+use Rattle.vr_history.specs.Case.{file_of, find_of, is_add}
+use Rattle.vr_history.specs.Names.{mode_asked}
+use Rattle.vr_history.specs.RefusedFile.{goes_with_kind, is_unknown, length_wrong, refused_if}
+use Rattle.vr_history.specs.RefusedFile.{find_length_wrong, key_length_wrong, record_wrong, shown_length}
+use Rattle.vr_history.specs.RefusedRecord.{held_by}
+use Rattle.vr_history.specs.RefusedRoom.{log_full}
+use Rattle.vr_history.specs.Replies.{first_of}
+use Rattle.vr_history.specs.State.{State, is_live}
+use Rattle.vr_history.specs.Step.{stand_lost, stand_refused}
+use Rattle.vr_answer.specs.declared.case.Case.{Case as CaseInHand}
+use Rattle.vr_answer.specs.Here.{asked_here, before_here, file_here, form_by, form_here, full_here}
+use Rattle.vr_answer.specs.Here.{held_here, held_on, locked_here, name_here, no_file_here}
+use Rattle.vr_answer.specs.Here.{no_get_here, presence_here, record_here, stopped_here}
+use Rattle.vr_answer.specs.Here.{base_here, gone_here, key_changed_here, need_here, unlocked_here}
+use Rattle.vr_types.specs.LogSpace.{log_size}
+use Rattle.vr_history.specs.Opened.{Cluster}
+use Rattle.vr_answer.specs.Opening.{as_opened, definition_here}
+use Rattle.vr_answer.specs.Scope.{IsDirect}
+use Rattle.vr_types.specs.declared.unit.Kind.{Kind}
+use Rattle.vr_types.specs.declared.unit.Kind.TheVariants.{Keyed, Entry, Relative}
+
+-- a direct request isn't a POINT
+lost_none : (request : Request) → IsDirect request → stand_lost request ≡ None
+lost_none (Get on find update integrity) direct = refl
+lost_none (Point on find) direct = absurd direct
+lost_none (Add on place bytes) direct = refl
+lost_none (Update on bytes) direct = refl
+lost_none (Erase on) direct = refl
+lost_none (EndReq on) direct = refl
+lost_none Commit direct = refl
+lost_none Backout direct = refl
+
+module _ (request : Request) (direct : IsDirect request) where
+  -- the refusal, if there is one, moves no file
+  abbrev Stays : Option Refusal → Type 0
+  Stays o = option_and_then (stand_refused request) o ≡ None
+
+  stays_or : (a b : Option Refusal) → Stays a → Stays b → Stays (option_or a b)
+  stays_or None b is_a is_b = is_b
+  stays_or (Some refusal) b is_a is_b = is_a
+
+  stays_if : (b : Bool) (refusal : Refusal) → stand_refused request refusal ≡ None
+      → Stays (refused_if b refusal)
+  stays_if true refusal is = is
+  stays_if false refusal is = refl
+
+  lost : stand_lost request ≡ None
+  lost = lost_none request direct
+
+  no_file_stays : (o : Option FileRef) (b : Bool)
+      → Stays (option_and_then (λ file. refused_if b NoFile) o)
+  no_file_stays None b = refl
+  no_file_stays (Some file) b = stays_if b NoFile refl
+
+  stopped_stays : (o : Option ℕ) → Stays (option_map Stopped o)
+  stopped_stays None = refl
+  stopped_stays (Some stamp) = refl
+
+  key_stays : (kind : Kind) (definition : Definition) (place : List ℕ)
+      → Stays (key_length_wrong (Cluster (record definition { kind = kind })) place)
+  key_stays Keyed definition place =
+      stays_if (not (nat_eq (length place) definition.key_length)) (BadLength (shown_length place))
+      refl
+  key_stays Entry definition place = refl
+  key_stays Relative definition place = refl
+
+  record_stays : (definition : Definition) (bytes : List ℕ)
+      → Stays (record_wrong (Cluster definition) bytes)
+  record_stays definition bytes =
+      stays_if (not (is_valid_record definition bytes)) (BadLength (shown_length bytes)) refl
+
+  find_stays : (definition : Definition) (find : Find)
+      → Stays (find_length_wrong (Cluster definition) find)
+  find_stays definition Next = refl
+  find_stays definition (Equal place) = key_stays definition.kind definition place
+  find_stays definition (AtLeast place) = key_stays definition.kind definition place
+
+  length_stays : (definition : Definition) (r : Request)
+      → Stays (length_wrong (Cluster definition) r)
+  length_stays definition (Get on find update integrity) = find_stays definition find
+  length_stays definition (Point on find) = find_stays definition find
+  length_stays definition (Add on place bytes) = record_stays definition bytes
+  length_stays definition (Update on bytes) = record_stays definition bytes
+  length_stays definition (Erase on) = refl
+  length_stays definition (EndReq on) = refl
+  length_stays definition Commit = refl
+  length_stays definition Backout = refl
+
+  form_stays : (o : Option Definition) (r : Request)
+      → Stays (option_and_then (λ known. form_by (Some known) r) o)
+  form_stays None r = refl
+  form_stays (Some definition) r =
+      stays_or (refused_if (not (goes_with_kind (Cluster definition) r)) NotAllowed)
+      (length_wrong (Cluster definition) r)
+      (stays_if (not (goes_with_kind (Cluster definition) r)) NotAllowed refl)
+      (length_stays definition r)
+
+  held_stays : (o : Option Lock) → Stays (option_map held_by o)
+  held_stays None = refl
+  held_stays (Some lock) = refl
+
+  held_at_stays : (case : CaseInHand) (o : Option LockName)
+      → Stays (option_and_then (held_on case) o)
+  held_at_stays case None = refl
+  held_at_stays case (Some name) =
+      held_stays
+      (first_conflict case.locks.now case.unit (mode_asked case.request.now) name)
+
+module _ (case : CaseInHand) (direct : IsDirect case.request.now) where
+  abbrev request : Request
+  request = case.request.now
+
+  abbrev StaysHere : Option Refusal → Type 0
+  StaysHere o = option_and_then (stand_refused request) o ≡ None
+
+  either : (a b : Option Refusal) → StaysHere a → StaysHere b → StaysHere (option_or a b)
+  either = stays_or request direct
+
+  pub file_stays : StaysHere (file_here case)
+  file_stays =
+      either (before_here case) (asked_here case)
+      (either (no_file_here case) (stopped_here case)
+      (no_file_stays request direct (file_of request)
+      (is_unknown (as_opened (definition_here case)) || case.catalog_changing))
+      (stopped_stays request direct case.stopped))
+      (either (form_here case) (no_get_here case)
+      (form_stays request direct (definition_here case) request)
+      (stays_if request direct _ NoGet refl))
+
+  pub record_stays_here : (there : Bool) → StaysHere (record_here case there)
+  record_stays_here there =
+      either (unlocked_here case there) (locked_here case there)
+      (either (gone_here case there) (key_changed_here case)
+      (stays_if request direct _ NotFound (lost_none request direct))
+      (stays_if request direct _ KeyChanged refl))
+      (either (held_here case) (presence_here case there)
+      (held_at_stays request direct case (name_here case))
+      (either (refused_if (is_some (find_of request) && not there) NotFound)
+      (refused_if (is_add request && there) (Duplicate (record { 0 = base_here request })))
+      (stays_if request direct (is_some (find_of request) && not there) NotFound
+      (lost_none request direct))
+      (stays_if request direct (is_add request && there)
+      (Duplicate (record { 0 = base_here request })) refl)))
+
+  pub full_stays : (present : Option (List ℕ)) (logged live : Bool)
+      → StaysHere (full_here case present logged live)
+  full_stays present logged live =
+      stays_if request direct _
+      (LogFull case.used (need_here case present logged live) (log_size case.geometry)) refl

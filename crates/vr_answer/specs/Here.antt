@@ -1,0 +1,203 @@
+-- What is computed of a request in memory. That it is what the record file says is proved of each
+-- public function.
+use Rattle.std.specs.Prelude.{ℕ, ◌+◌, Bool, true, false, not, cond, List, [], ◌∷◌, Option, Some}
+use Rattle.std.specs.Prelude.{None, ◌&&◌, ◌||◌, bytes_eq, is_none, is_some, nat_lt, option_map}
+use Rattle.std.specs.Prelude.{option_and_then}
+use Rattle.std.specs.Option.{option_copied, option_map_or, option_or}
+use Rattle.vr_catalog.specs.Definition.{key_of}
+use Rattle.vr_catalog.specs.declared.definition.Definition.{Definition}
+use Rattle.vr_types.specs.Locks.{first_conflict}
+use Rattle.vr_types.specs.LogSpace.{before_length, end_length, log_size}
+use Rattle.vr_types.specs.declared.lock_name.LockName.{LockName}
+use Rattle.vr_types.specs.declared.lock_name.LockName.TheVariants.{Record}
+use Rattle.vr_types.specs.declared.reply.Refusal.{Refusal}
+use Rattle.vr_types.specs.declared.reply.Refusal.TheVariants.{Duplicate, KeyChanged, NoFile, NoGet}
+use Rattle.vr_types.specs.declared.reply.Refusal.TheVariants.{LogFull, NotAllowed, NotFound, Stopped}
+use Rattle.vr_types.specs.declared.reply.Reply.{Reply}
+use Rattle.vr_types.specs.declared.reply.Reply.TheVariants.{Done}
+use Rattle.vr_types.specs.declared.request.Find.{Find}
+use Rattle.vr_types.specs.declared.request.Find.TheVariants.{Next, Equal, AtLeast}
+use Rattle.vr_types.specs.declared.request.Request.{Request}
+use Rattle.vr_types.specs.declared.request.Request.TheVariants.{Get, Point, Add, Update, Erase}
+use Rattle.vr_types.specs.declared.request.Request.TheVariants.{EndReq, Commit, Backout}
+use Rattle.vr_types.specs.declared.unit.PartNo.{PartNo}
+use Rattle.vr_history.specs.Case.{acts_on_held, file_of, find_of, is_add}
+use Rattle.vr_history.specs.Names.{mode_asked, read_mode}
+use Rattle.vr_history.specs.RefusedFile.{goes_with_kind, is_unknown, length_wrong, refused_if}
+use Rattle.vr_history.specs.RefusedRecord.{held_by}
+use Rattle.vr_history.specs.Replies.{refused_or}
+use Rattle.vr_answer.specs.declared.case.Case.{Case as CaseInHand}
+use Rattle.vr_answer.specs.Opening.{as_opened, definition_here}
+
+-- the place that a read names, where its file can be opened
+abbrev pub named_by : Find → Option Definition → Option (List ℕ)
+named_by Next definition = None
+named_by (Equal place) definition = option_map (λ known. place) definition
+named_by (AtLeast place) definition = None
+
+abbrev pub read_by : Request → Option Definition → Option (List ℕ)
+read_by (Get file find update integrity) definition = named_by find definition
+read_by (Point file find) definition = None
+read_by (Add file place bytes) definition = None
+read_by (Update file bytes) definition = None
+read_by (Erase file) definition = None
+read_by (EndReq file) definition = None
+read_by Commit definition = None
+read_by Backout definition = None
+
+-- the place that a change names
+abbrev pub changed_by : Request → Option Definition → Option (List ℕ) → Option (List ℕ)
+changed_by (Add file place bytes) definition held = option_map (λ known. key_of known bytes) definition
+changed_by (Update file bytes) definition held = held
+changed_by (Erase file) definition held = held
+changed_by (Get file find update integrity) definition held = None
+changed_by (Point file find) definition held = None
+changed_by (EndReq file) definition held = None
+changed_by Commit definition held = None
+changed_by Backout definition held = None
+
+abbrev pub read_here : CaseInHand → Option (List ℕ)
+read_here case = read_by case.request.now (definition_here case)
+
+abbrev pub changed_here : CaseInHand → Option (List ℕ)
+changed_here case =
+    changed_by case.request.now (definition_here case) (option_copied case.held)
+
+abbrev pub looked_here : CaseInHand → Option (List ℕ)
+looked_here case = option_or (read_here case) (changed_here case)
+
+abbrev pub base_here : Request → ℕ
+base_here request = option_map_or (λ file. file.base.0) (file_of request) 0
+
+-- refusals by what is in memory
+abbrev pub no_file_here : CaseInHand → Option Refusal
+no_file_here case =
+    option_and_then (λ file. refused_if (is_unknown (as_opened (definition_here case))
+    || case.catalog_changing) NoFile) (file_of case.request.now)
+
+abbrev pub stopped_here : CaseInHand → Option Refusal
+stopped_here case = option_map Stopped case.stopped
+
+abbrev pub before_here : CaseInHand → Option Refusal
+before_here case = option_or (no_file_here case) (stopped_here case)
+
+abbrev pub form_by : Option Definition → Request → Option Refusal
+form_by definition request =
+    option_or (refused_if (not (goes_with_kind (as_opened definition) request)) NotAllowed)
+    (length_wrong (as_opened definition) request)
+
+abbrev pub no_get_here : CaseInHand → Option Refusal
+no_get_here case =
+    refused_if (acts_on_held case.request.now && is_none (option_copied case.held)) NoGet
+
+abbrev pub form_here : CaseInHand → Option Refusal
+form_here case =
+    option_and_then (λ known. form_by (Some known) case.request.now) (definition_here case)
+
+abbrev pub asked_here : CaseInHand → Option Refusal
+asked_here case = option_or (form_here case) (no_get_here case)
+
+abbrev pub file_here : CaseInHand → Option Refusal
+file_here case = option_or (before_here case) (asked_here case)
+
+-- refusals by the record that is there, before the locks are asked for
+abbrev pub is_other_key : Option Definition → List ℕ → List ℕ → Bool
+is_other_key definition bytes place =
+    option_map_or (λ known. not (bytes_eq (key_of known bytes) place)) definition false
+
+abbrev pub key_changes_by : Request → Option Definition → Option (List ℕ) → Bool
+key_changes_by (Update file bytes) definition held =
+    option_map_or (is_other_key definition bytes) held false
+key_changes_by (Get file find update integrity) definition held = false
+key_changes_by (Point file find) definition held = false
+key_changes_by (Add file place bytes) definition held = false
+key_changes_by (Erase file) definition held = false
+key_changes_by (EndReq file) definition held = false
+key_changes_by Commit definition held = false
+key_changes_by Backout definition held = false
+
+abbrev pub gone_here : CaseInHand → Bool → Option Refusal
+gone_here case there = refused_if (acts_on_held case.request.now && not there) NotFound
+
+abbrev pub key_changed_here : CaseInHand → Option Refusal
+key_changed_here case =
+    refused_if
+    (key_changes_by case.request.now (definition_here case) (option_copied case.held)) KeyChanged
+
+abbrev pub unlocked_here : CaseInHand → Bool → Option Refusal
+unlocked_here case there = option_or (gone_here case there) (key_changed_here case)
+
+-- the name that a request locks
+abbrev pub asks_lock : Request → Bool
+asks_lock (Get file find update integrity) = is_some (read_mode update integrity)
+asks_lock (Point file find) = false
+asks_lock (Add file place bytes) = true
+asks_lock (Update file bytes) = true
+asks_lock (Erase file) = true
+asks_lock (EndReq file) = false
+asks_lock Commit = false
+asks_lock Backout = false
+
+abbrev pub name_of : CaseInHand → List ℕ → LockName
+name_of case place = Record (record { 0 = base_here case.request.now }) place
+
+abbrev pub name_here : CaseInHand → Option LockName
+name_here case =
+    cond (asks_lock case.request.now) (option_map (name_of case) (looked_here case)) None
+
+abbrev pub names_in : Option LockName → List LockName
+names_in None = []
+names_in (Some name) = name ∷ []
+
+abbrev pub held_on : CaseInHand → LockName → Option Refusal
+held_on case name =
+    option_map held_by
+    (first_conflict case.locks.now case.unit (mode_asked case.request.now) name)
+
+abbrev pub held_here : CaseInHand → Option Refusal
+held_here case = option_and_then (held_on case) (name_here case)
+
+-- refusals by whether a record is there, once the locks are free
+abbrev pub presence_here : CaseInHand → Bool → Option Refusal
+presence_here case there =
+    option_or (refused_if (is_some (find_of case.request.now) && not there) NotFound)
+    (refused_if (is_add case.request.now && there)
+    (Duplicate (record { 0 = base_here case.request.now })))
+
+abbrev pub locked_here : CaseInHand → Bool → Option Refusal
+locked_here case there = option_or (held_here case) (presence_here case there)
+
+abbrev pub record_here : CaseInHand → Bool → Option Refusal
+record_here case there = option_or (unlocked_here case there) (locked_here case there)
+
+-- the bytes of the log for the place that is changed, and for the end of the unit
+abbrev pub bytes_for : Option (List ℕ) → Option (List ℕ) → Bool → ℕ
+bytes_for None old logged = 0
+bytes_for (Some place) old logged = cond logged 0 (before_length place old)
+
+abbrev pub old_here : CaseInHand → Option (List ℕ) → Option (List ℕ)
+old_here case present = cond (is_add case.request.now) None present
+
+abbrev pub need_here : CaseInHand → Option (List ℕ) → Bool → Bool → ℕ
+need_here case present logged live =
+    bytes_for (changed_here case) (old_here case present) logged + cond live 0 end_length
+
+-- the reply to a request that is done
+abbrev pub done_here : CaseInHand → Option (List ℕ) → Reply
+done_here case present =
+    Done 0 (looked_here case) (cond (is_some (find_of case.request.now)) present None)
+
+-- the log has no room
+abbrev pub full_here : CaseInHand → Option (List ℕ) → Bool → Bool → Option Refusal
+full_here case present logged live =
+    let need = need_here case present logged live in
+    refused_if (is_some (changed_here case) && nat_lt (log_size case.geometry) (case.used + need))
+    (LogFull case.used need (log_size case.geometry))
+
+-- the answer, in the order in which refusals are tried
+abbrev pub answer_here : CaseInHand → Option (List ℕ) → Bool → Bool → Reply
+answer_here case present logged live =
+    refused_or
+    (option_or (file_here case)
+    (option_or (record_here case (is_some present)) (full_here case present logged live)))
+    (done_here case present)

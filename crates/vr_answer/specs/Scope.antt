@@ -1,0 +1,43 @@
+-- Which requests on which volumes are answered here. The limits are this project's own, and each is
+-- one line: a further request in `IsDirect`, a further kind of data set in `IsKeyedCluster`.
+use Rattle.std.specs.Prelude.{◌≡◌, ℕ, List}
+use Rattle.std.specs.List.{AllByRecursion}
+use Rattle.vr_catalog.specs.Catalog.{definition_in}
+use Rattle.vr_catalog.specs.declared.entry.CatEntry.{CatEntry}
+use Rattle.vr_catalog.specs.declared.entry.EntryKind.TheVariants.{Cluster}
+use Rattle.vr_types.specs.declared.request.Find.{Find}
+use Rattle.vr_types.specs.declared.request.Find.TheVariants.{Next, Equal, AtLeast}
+use Rattle.vr_types.specs.declared.request.Request.{Request}
+use Rattle.vr_types.specs.declared.request.Request.TheVariants.{Get, Point, Add, Update, Erase}
+use Rattle.vr_types.specs.declared.request.Request.TheVariants.{EndReq, Commit, Backout}
+use Rattle.vr_types.specs.declared.unit.Kind.TheVariants.{Keyed}
+use Rattle.vr_history.specs.Opened.{catalog_of}
+use Rattle.vr_history.specs.State.{State}
+
+-- a read that names the place of its record
+abbrev pub NamesPlace : Find → Type 0
+NamesPlace Next = ⊥
+NamesPlace (Equal place) = Unit {0}
+NamesPlace (AtLeast place) = ⊥
+
+-- a request that is direct: all but POINT and the reads that search
+abbrev pub IsDirect : Request → Type 0
+IsDirect (Get file find update integrity) = NamesPlace find
+IsDirect (Point file find) = ⊥
+IsDirect (Add file place bytes) = Unit {0}
+IsDirect (Update file bytes) = Unit {0}
+IsDirect (Erase file) = Unit {0}
+IsDirect (EndReq file) = Unit {0}
+IsDirect Commit = Unit {0}
+IsDirect Backout = Unit {0}
+
+-- an entry of a key-sequenced cluster
+abbrev pub IsKeyedCluster : CatEntry → Type 0
+IsKeyedCluster entry = (entry.entry_kind ≡ Cluster) × ((definition_in entry).kind ≡ Keyed)
+
+-- the catalog has key-sequenced clusters alone: no other kind, no alternate index and no path
+abbrev pub AreKeyedClusters : List CatEntry → Type 0
+AreKeyedClusters entries = AllByRecursion IsKeyedCluster entries
+
+abbrev pub HasClustersAlone : State → Type 0
+HasClustersAlone state = AreKeyedClusters (catalog_of state)

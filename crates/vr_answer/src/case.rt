@@ -1,0 +1,77 @@
+//! What a volume has in memory of a request that it meets.
+ghost use Rattle.std.specs.Prelude.{◌≡◌};
+ghost use Rattle.std.specs.Option.{option_map_or};
+ghost use Rattle.vr_history.specs.Case as cases;
+ghost use Rattle.vr_history.specs.Opened as files;
+ghost use Rattle.vr_answer.specs.Here as here;
+ghost use Rattle.vr_answer.specs.InHand.{InEach};
+ghost use Rattle.vr_answer.specs.Opening.{as_opened, definition_here};
+
+use vr_catalog::{Catalog, Definition};
+use vr_locks::LockTable;
+use vr_types::{FileRef, Geometry, PartNo, Place, Request, Unit};
+
+/// A request with what a volume has in memory when it meets it: its shape, its catalog and its
+/// locks; the place that the request's file holds for update; the stamp of the write fault that
+/// stopped the volume; the number of free areas and the bytes of the log in use; the unit of
+/// recovery that asks; and whether a live unit of the utilities changed the catalog.
+#[derive(Clone, Copy)]
+pub struct Case<'a> {
+    pub geometry: Geometry,
+    pub catalog: &'a Catalog,
+    pub locks: &'a LockTable,
+    pub held: Option<&'a Place>,
+    pub stopped: Option<u64>,
+    pub free: u32,
+    pub used: u64,
+    pub unit: Unit,
+    pub request: &'a Request,
+    pub catalog_changing: bool,
+}
+
+/// The file that a request is on.
+pub(crate) fn file_of(request: &Request) -> Option<FileRef>
+    ensures { result ≡ cases.file_of request.now }
+{
+    match request {
+        Request::Get { file, .. } | Request::Point { file, .. } => Some(*file),
+        Request::Add { file, .. } | Request::Update { file, .. } => Some(*file),
+        Request::Erase { file } | Request::EndReq { file } => Some(*file),
+        Request::Commit | Request::Backout => None,
+    }
+}
+
+/// The part of the base cluster of the request's file, 0 where there is no file.
+pub(crate) fn base_of(request: &Request) -> PartNo
+    ensures { result.0 ≡ here.base_here request.now }
+{
+    match file_of(request) {
+        None => PartNo(0),
+        Some(file) => file.base,
+    }
+}
+
+/// The definition of the cluster that the request's file is on.
+pub(crate) fn definition(case: &Case) -> Option<Definition>
+    ensures { result ≡ definition_here case.now }
+{
+    match file_of(case.request) {
+        None => None,
+        Some(file) => {
+            if file.known && file.path.is_none() {
+                case.catalog.definition_of(file.base)
+            } else {
+                None
+            }
+        }
+    }
+}
+
+/// The definition of the cluster that the request's file is on; None where there is no file, or
+/// nothing that can be opened by its name.
+#[tactic(auto, using(crate::proofs::OpeningLemmas::opened_is))]
+pub fn opened(case: &Case) -> Option<Definition>
+    ensures { InEach case.now (λ whole. files.opened whole ≡ as_opened result) }
+{
+    definition(case)
+}

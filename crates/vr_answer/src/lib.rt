@@ -1,0 +1,29 @@
+//! Which answer a request gets, decided over what a volume has in memory and the one record that it
+//! read. It stands on `vr_types`, `vr_catalog`, `vr_history` and `vr_locks`, and on no device. It
+//! promises that each refusal, each name that is locked, the space of the log that is needed and
+//! the reply to a request that is done are those of the record file (`vr_history`), for each state
+//! of a volume that what is in memory agrees with. Direct requests on key-sequenced clusters are
+//! answered, in a catalog that has nothing else.
+#![tactic(auto)]
+
+mod answering;
+mod by_file;
+mod by_record;
+mod case;
+mod effects;
+mod laws;
+mod locking;
+mod logging;
+mod places;
+mod scope;
+
+pub use answering::{answer, done};
+pub use by_file::{refused_before_all, refused_by_file};
+pub use by_record::refused_by_record;
+pub use case::{Case, opened};
+pub use effects::{change_leaves, end_leaves, read_leaves, refusal_leaves};
+pub use laws::{answer_comes_in_order, refusals_come_in_order};
+pub use locking::{lock_names, mode_asked};
+pub use logging::{log_full, log_need};
+pub use places::{place_changed, place_looked_at, place_read};
+pub use scope::{has_clusters_alone, is_direct};
