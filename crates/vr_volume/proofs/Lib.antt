@@ -15,3 +15,4 @@ pub mod Meeting
 pub mod Moving
 pub mod Undoing
 pub mod Ending
+pub mod Resting

@@ -9,3 +9,4 @@ pub mod Logged
 pub mod Ended
 pub mod Committed
 pub mod Steps
+pub mod Rests
