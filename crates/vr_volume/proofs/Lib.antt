@@ -16,3 +16,4 @@ pub mod Moving
 pub mod Undoing
 pub mod Ending
 pub mod Resting
+pub mod Rested

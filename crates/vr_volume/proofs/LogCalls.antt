@@ -230,6 +230,33 @@ forced-geometry log = by_test (nat_eq log.forced (length log.records))
     by_test true = refl
     by_test false = refl
 
+-- its records, and whether it is broken, and all is forced
+module _ (log : LogNow) where
+  abbrev whole : LogNow
+  whole = record log { forced = length log.records; behind = None }
+
+  pub forced-records : (forced_now log).records ≡ log.records
+  forced-records = by_test (nat_eq log.forced (length log.records))
+    where
+      by_test : (same : Bool) → (cond same log whole).records ≡ log.records
+      by_test true = refl
+      by_test false = refl
+
+  pub forced-sound : (forced_now log).broken ≡ log.broken
+  forced-sound = by_test (nat_eq log.forced (length log.records))
+    where
+      by_test : (same : Bool) → (cond same log whole).broken ≡ log.broken
+      by_test true = refl
+      by_test false = refl
+
+  pub forced-is : (forced_now log).forced ≡ length log.records
+  forced-is = by_test (nat_eq log.forced (length log.records)) refl
+    where
+      by_test : (same : Bool) → nat_eq log.forced (length log.records) ≡ same
+          → (cond same log whole).forced ≡ length log.records
+      by_test true is = (Decides-eqb log.forced (length log.records)).0 is
+      by_test false is = refl
+
 -- ---- a before-image that was appended
 
 -- its place has one
@@ -279,6 +306,10 @@ module _ (log : LogNow) (rec : LogRecord) (mid new : LogNow)
   pub is-logged : IsLogged log rec new
   is-logged = record {
     geometry = ap (λ (l : LogNow). l.geometry) forced ∙ forced-geometry mid ∙ appended.geometry;
+    records = ap (λ (l : LogNow). l.records) forced ∙ forced-records mid ∙ appended.records;
+    forced = ap (λ (l : LogNow). l.forced) forced ∙ forced-is mid
+        ∙ sym (ap length (ap (λ (l : LogNow). l.records) forced ∙ forced-records mid));
+    sound = ap (λ (l : LogNow). l.broken) forced ∙ forced-sound mid ∙ appended.sound;
     less = λ content is. appended-less log rec mid appended content
         (forced-less mid within content (subst (λ (l : LogNow). IsLogOf l content) forced is));
     all = λ content is. ⊎_elim (λ all. all ∙ appended.records)

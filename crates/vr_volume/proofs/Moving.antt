@@ -305,7 +305,7 @@ module _ (geometry : Geometry) (log more : LogNow) (old new : State) (change : C
       ∙ ap (λ (p : ℕ). is_image_of p change.place image) (sym same)
       ∙ ap (λ (q : List ℕ). is_image_of part q image) (sym at) ∙ is)
 
-  images-now : images_of more.records ≡ images_of log.records ++ image ∷ []
+  pub images-now : images_of more.records ≡ images_of log.records ++ image ∷ []
   images-now = ap images_of grown
       ∙ images-append log.records change.unit change.part change.place change.old
       (unit_self change.unit)

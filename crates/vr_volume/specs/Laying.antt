@@ -1,12 +1,12 @@
 -- How a part that a call changes goes with the logs that an image may have. The rules are this
 -- project's own.
-use Rattle.std.specs.Prelude.{◌≡◌, ◌≢◌, ◌∷◌, ◌++◌, [], ℕ, List, Some, None}
+use Rattle.std.specs.Prelude.{◌≡◌, ◌≢◌, ◌∷◌, ◌++◌, [], ℕ, List, Some, None, false}
 use Rattle.vr_types.specs.Content.{Content}
 use Rattle.vr_types.specs.declared.geometry.Geometry.{Geometry}
 use Rattle.vr_space.specs.Part.{Shape}
 use Rattle.vr_space.specs.Room.{Lengths}
 use Rattle.vr_log.specs.Content.{Content as LogContent}
-use Rattle.vr_log.specs.LogNow.{IsLogOf, LogNow, with_record}
+use Rattle.vr_log.specs.LogNow.{IsForced, IsLogOf, LogNow, with_record}
 use Rattle.vr_log.specs.declared.record.LogRecord.{LogRecord}
 use Rattle.vr_volume.specs.Laid.{shape_by}
 use Rattle.vr_volume.specs.PutBack.{images_of, lengths_kept, oldest}
@@ -32,5 +32,8 @@ IsFreeIn log part place = (content : LogContent) → IsLogOf log content
 -- With the record the log was forced: each image has them all.
 pub record IsLogged (old : LogNow) (rec : LogRecord) (new : LogNow) : Type 0 where
   pub geometry : new.geometry ≡ old.geometry
+  pub records : new.records ≡ old.records ++ rec ∷ []
+  pub forced : IsForced new
+  pub sound : new.broken ≡ false
   pub less : (content : LogContent) → IsLogOf new content → IsLogOf (with_record old rec) content
   pub all : (content : LogContent) → IsLogOf new content → content.records ≡ old.records ++ rec ∷ []

@@ -24,7 +24,7 @@ pub record IsVolumeAtRest (geometry : Geometry) (number : ℕ) (log : LogNow)
   pub forced : IsForced log
   pub laid : IsLaidState geometry state
   pub logged : HasLogged log state
-  pub images : images ≡ images_of log.records
+  pub kept : images ≡ images_of log.records
 
 -- One part of it: it is laid so, reads as the state has it, and has room for what is kept.
 pub record IsPartAtRest (geometry : Geometry) (images : List BeforeImage) (state : State)

@@ -5,6 +5,7 @@ ghost use Rattle.vr_types.specs.Blocks.{Forced, Keeps};
 ghost use Rattle.vr_types.specs.Content.{Content};
 ghost use Rattle.vr_types.specs.Faults.{HasCause, HasWriteCause};
 ghost use Rattle.vr_types.specs.Moments.{Guards};
+ghost use Rattle.vr_types.specs.Regions.{Touches};
 ghost use Rattle.vr_types.specs.Space.{free_count};
 ghost use Rattle.vr_types.specs.declared.fault.DeviceFault.TheVariants.{Read, Write};
 ghost use Rattle.vr_types.specs.declared.geometry.Geometry.{Geometry};
@@ -14,6 +15,7 @@ ghost use Rattle.vr_space.specs.Part.{
   CanSet,
   DueMore,
   HasKeptRoom,
+  HasRoom,
   InPart,
   IsAtRest,
   IsGiven,
@@ -85,6 +87,11 @@ pub fn set_free<B: Blocks, P: Part, K: Kept>(
         × (IsTrue B.tells → Knows (P.shape part.old) (P.split part.old) (P.met part.new)
         (B.seen blocks.new))) }
     ensures reads { HasMet (P.met part.old) place.now → IfErr result (λ fault. fault ≡ Write) }
+    ensures touches { IsTrue B.tells → Touches (InPart (P.shape part.old))
+        (HasRoom (P.shape part.old) (K.kept kept.now (part_no (P.shape part.old))))
+        (B.seen blocks.old) (B.seen blocks.new) }
+    ensures count { (B.seen blocks.new).count ≡ (B.seen blocks.old).count }
+    ensures size { (B.seen blocks.new).size ≡ (B.seen blocks.old).size }
     ensures cause { HasCause (B.faults blocks.old) (B.faults blocks.new) result }
     ensures shape { P.shape part.new ≡ P.shape part.old }
     ensures split { P.split part.new ≡ P.split part.old }
