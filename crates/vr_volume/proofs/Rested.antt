@@ -102,6 +102,28 @@ stands-part log shape Q a b forced stands past call = stands-still log forced a 
 
 -- ---- a part that a call leaves as it is
 
+-- a call of another part leaves it as it is,
+pub stays-apart : (shape other : Shape) (Q : Image → Type 0) (a b : Seen)
+    → ((n : ℕ) → InPart other n → InPart shape n → ⊥) → Touches (InPart shape) Q a b
+    → StaysPart other a b
+stays-apart shape other Q a b apart call = record {
+  count = call.count_same;
+  size = call.size_same;
+  same = λ n inside. call.content n (apart n inside);
+  fewer = λ n block below inside may. call.adds_none n block below (apart n inside) may;
+}
+
+-- and so do two calls
+pub stays-then : (shape : Shape) (a b c : Seen) → StaysPart shape a b → StaysPart shape b c
+    → StaysPart shape a c
+stays-then shape a b c first second = record {
+  count = second.count ∙ first.count;
+  size = second.size ∙ first.size;
+  same = λ n inside. second.same n inside ∙ first.same n inside;
+  fewer = λ n block below inside may. first.fewer n block below inside
+      (second.fewer n block (omega (arith, below, first.count)) inside may);
+}
+
 -- what has to be forced for its places stays
 pub due-stays : (shape : Shape) (a b : Seen) → StaysPart shape a b → IsSound shape a → Left a a.cur
     → DueMore shape [] a b
@@ -157,6 +179,23 @@ other-kept images image part apart = kept-append images image part
     none true is = absurd (apart ((Decides-eqb image.part part).0 is))
     none false is = refl
 
+-- each other part stays at rest
+module _ (geometry : Geometry) (number : ℕ) (log : LogNow) (images after : List BeforeImage)
+    (old new : State) (change : Changing) (a d : Seen)
+    (rest : IsVolumeAtRest geometry number log images old a)
+    (of : IsChangeOf geometry old change) (put : IsPutIn change old new)
+    (kept : after ≡ images ++ image_by change ∷ []) where
+  pub other-first-change : (shape : Shape) (split : Option SplitNow) (met : List Met)
+      → IsPartAtRest geometry images old shape split met a
+      → ((part_no shape).0 ≡ change.part.0 → ⊥) → StaysPart shape a d → Left a a.cur
+      → IsPartAtRest geometry after new shape split met d
+  other-first-change shape split met part apart stays left =
+      part-stays geometry images after old new shape split met a d stays left part
+      (catalog-stays geometry old new change rest.laid of put)
+      (other-part geometry old new change rest.laid of put (part_no shape).0 apart)
+      (ap (λ (found : List BeforeImage). lengths_kept found (part_no shape).0) kept
+      ∙ other-kept images (image_by change) (part_no shape).0 (λ same. apart (sym same)))
+
 module _ (geometry : Geometry) (number : ℕ) (log more : LogNow) (images after : List BeforeImage)
     (old new : State) (change : Changing) (a d : Seen)
     (rest : IsVolumeAtRest geometry number log images old a)
@@ -181,7 +220,7 @@ module _ (geometry : Geometry) (number : ℕ) (log more : LogNow) (images after 
         logged.records);
   }
 
-  -- and so are the part that is changed
+  -- and so is the part that is changed.
   pub part-first-change : (shape : Shape) (split after-split : Option SplitNow)
       (met now : List Met)
       (found : Option (List ℕ)) → IsPartAtRest geometry images old shape split met a
@@ -220,18 +259,6 @@ module _ (geometry : Geometry) (number : ℕ) (log more : LogNow) (images after 
           ap (item_held shape) (set.others place apart) ∙ part.reads place
           ∙ sym (item-else geometry old new change rest.laid of made.contents (part_no shape).0
           place (λ same there. apart there))
-
-  -- and each other part, which stays.
-  pub other-first-change : (shape : Shape) (split : Option SplitNow) (met : List Met)
-      → IsPartAtRest geometry images old shape split met a
-      → ((part_no shape).0 ≡ change.part.0 → ⊥) → StaysPart shape a d → Left a a.cur
-      → IsPartAtRest geometry after new shape split met d
-  other-first-change shape split met part apart stays left =
-      part-stays geometry images after old new shape split met a d stays left part
-      (catalog-stays geometry old new change rest.laid of made.contents)
-      (other-part geometry old new change rest.laid of made.contents (part_no shape).0 apart)
-      (ap (λ (found : List BeforeImage). lengths_kept found (part_no shape).0) kept
-      ∙ other-kept images (image_by change) (part_no shape).0 (λ same. apart (sym same)))
 
 -- ---- what a first change asks for
 

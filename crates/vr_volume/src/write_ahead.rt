@@ -1,11 +1,13 @@
 //! A change of a record under a unit of recovery: its before-image is logged and forced before the
 //! first block of the part is put.
-ghost use Rattle.std.specs.Prelude.{◌≡◌, ◌<◌, ◌∷◌, ◌++◌, [], ℕ, List, Option, IsTrue, OnOk, false};
+ghost use Rattle.std.specs.Prelude.{◌≡◌, ◌≢◌, ◌<◌, ◌∷◌, ◌++◌, [], ℕ, List, Option, IsTrue, OnOk, false};
 ghost use Rattle.std.specs.Prelude.{All};
 ghost use Rattle.vr_types.specs.Content.{Content};
 ghost use Rattle.vr_types.specs.Moments.{Guards};
 ghost use Rattle.vr_types.specs.Regions.{Touches};
 ghost use Rattle.vr_types.specs.declared.unit.Unit.{Unit as UnitOfRecovery};
+ghost use Rattle.vr_space.specs.Met.{Met};
+ghost use Rattle.vr_space.specs.Split.{SplitNow};
 ghost use Rattle.vr_space.specs.Part.{
   CanSet,
   DueMore,
@@ -17,6 +19,7 @@ ghost use Rattle.vr_space.specs.Part.{
   IsPlaceOf,
   Knows,
   SetsOne,
+  Shape,
   given,
   part_no,
 };
@@ -137,6 +140,18 @@ pub fn change<B: Blocks, P: Part, K: Kept>(
         → IsVolumeAtRest log.old.geometry number log.new after new (B.seen blocks.new)
         × IsPartAtRest log.old.geometry after new (P.shape part.old) (P.split part.new)
         (P.met part.new) (B.seen blocks.new)) }
+    // And so is each other part.
+    ensures others { IsTrue B.tells → OnOk result ((number : ℕ) (old new : State)
+        (change : Changing) (images after : List BeforeImage) (other : Shape)
+        (split : Option SplitNow) (met : List Met)
+        → IsVolumeAtRest log.old.geometry number log.old images old (B.seen blocks.old)
+        → IsPartAtRest log.old.geometry images old (P.shape part.old) (P.split part.old)
+        (P.met part.old) (B.seen blocks.old)
+        → IsChangeOf log.old.geometry old change → IsFirstChange log.old change old new
+        → part_no (P.shape part.old) ≡ change.part
+        → after ≡ images ++ image_by change ∷ [] → (part_no other).0 ≢ change.part.0
+        → IsPartAtRest log.old.geometry images old other split met (B.seen blocks.old)
+        → IsPartAtRest log.old.geometry after new other split met (B.seen blocks.new)) }
     ensures set { IsTrue B.tells → OnOk result (SetsOne (P.shape part.old) place.now
         (given bytes.entry) (B.seen blocks.old).cur (B.seen blocks.new).cur) }
 {
