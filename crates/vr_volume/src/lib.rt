@@ -5,12 +5,14 @@
 //! There are definitions and laws alone yet: the value that one event changes will stand on them.
 #![tactic(auto)]
 
+mod again;
 mod changing;
 mod laws;
 mod logging;
 mod premises;
 mod write_ahead;
 
+pub use again::set_again;
 pub use changing::{do_stage, force_blocks, set_free};
 pub use laws::{each_image_is_safe, image_recovers, one_recovery, one_volume};
 pub use premises::first_change;
