@@ -1,7 +1,8 @@
 -- What calls leave of a volume at rest.
 use Rattle.std.proofs.Common.{◌≡◌, ◌≢◌, ◌⊎◌, inl, inr, ⊎_elim, ◌<◌, ◌≤◌, ◌*◌, ◌+◌, ℕ, Bool, true}
 use Rattle.std.proofs.Common.{false, cond, List, [], ◌∷◌, ◌++◌, Option, Some, None, refl, sym, ap}
-use Rattle.std.proofs.Common.{subst, ◌∙◌, arith, length, ◌==◌}
+use Rattle.std.proofs.Common.{subst, ◌∙◌, arith, length, ◌==◌, IsTrue}
+use Rattle.std.specs.List.{filter_map}
 use Rattle.std.specs.Option.{option_and_then, option_map}
 use Rattle.std.proofs.lemmas.Bool.{true≢false}
 use Rattle.std.proofs.lemmas.List.{length-append, take_all}
@@ -13,10 +14,12 @@ use Rattle.vr_types.specs.Image.{Block, Image, block_at}
 use Rattle.vr_types.specs.Regions.{IsImageOn, Outside, Touches}
 use Rattle.vr_types.specs.Seen.{Left, Seen}
 use Rattle.vr_types.specs.declared.geometry.Geometry.{Geometry}
+use Rattle.vr_types.specs.Blocks.{Keeps}
 use Rattle.vr_types.specs.declared.unit.PartNo.{PartNo}
+use Rattle.vr_types.specs.declared.unit.Unit.{Unit as UnitOfRecovery}
 use Rattle.vr_space.specs.Met.{Met}
 use Rattle.vr_space.specs.Part.{DueMore, HasKeptRoom, HasRoom, InPart, IsAtRest, IsOn, KeyedShape}
-use Rattle.vr_space.specs.Part.{Knows}
+use Rattle.vr_space.specs.Part.{Knows, SameRecords}
 use Rattle.vr_space.specs.Part.{IsPlaceOf, IsSound, SetsOne, Shape, item_of, part_no}
 use Rattle.vr_space.specs.Room.{Lengths}
 use Rattle.vr_space.specs.Split.{SplitNow}
@@ -27,22 +30,25 @@ use Rattle.vr_space.specs.Keyed.{keyed_way}
 use Rattle.vr_space.specs.Way.{MayOnceForced}
 use Rattle.vr_log.specs.Content.{Content as LogContent}
 use Rattle.vr_log.specs.LogBlock.{room_of}
-use Rattle.vr_log.specs.LogNow.{IsForced, IsLogOf, LogNow}
+use Rattle.vr_log.specs.Live.{live_in}
+use Rattle.vr_log.specs.LogNow.{IsForced, IsLogOf, IsPrefixOf, LogNow}
 use Rattle.vr_log.specs.Records.{bytes_of}
 use Rattle.vr_log.specs.Standing.{InLog, IsExact, LogStands}
 use Rattle.vr_log.specs.declared.record.LogRecord.{LogRecord}
-use Rattle.vr_log.specs.declared.record.LogRecord.TheVariants.{Before}
+use Rattle.vr_log.specs.declared.record.LogRecord.TheVariants.{Before, End}
 use Rattle.vr_history.specs.State.{BeforeImage, State}
 use Rattle.vr_volume.specs.Committed.{HasLogged, IsLaidState, committed_by}
 use Rattle.vr_volume.specs.Laid.{shape_by}
 use Rattle.vr_volume.specs.Laying.{IsFreeIn, IsLaidBy, IsLaidSo, IsLogged}
 use Rattle.vr_volume.specs.Logged.{IsFirstBefore}
-use Rattle.vr_volume.specs.PutBack.{images_of, length_in, length_of, lengths_kept, oldest}
+use Rattle.vr_volume.specs.PutBack.{image_in, images_of, length_in, length_of, lengths_kept}
+use Rattle.vr_volume.specs.PutBack.{oldest}
 use Rattle.vr_volume.specs.Rests.{IsGivenFor, IsPartAtRest, IsVolumeAtRest}
 use Rattle.vr_volume.specs.Safe.{IsSafe, item_held}
 use Rattle.vr_volume.specs.Steps.{Changing, IsChangeOf, IsFirstChange, IsNextChange, IsPutBack}
 use Rattle.vr_volume.specs.Steps.{IsPutIn, image_by}
 use Rattle.vr_volume.proofs.Befores.{safe-more}
+use Rattle.vr_volume.proofs.Calls.{safe-keeps}
 use Rattle.vr_volume.proofs.Committing.{catalog-same}
 use Rattle.vr_volume.proofs.Images.{kept-append, kept_more}
 use Rattle.vr_volume.proofs.Meeting.{first-before}
@@ -476,3 +482,113 @@ module _ (geometry : Geometry) (number : ℕ) (log : LogNow) (images : List Befo
         set = part-set geometry old new change a d rest.laid of put shape split after-split met now
         found images images part given.part count size rests room knows
         (subst (λ (q : List ℕ). SetsOne shape q found a.cur d.cur) given.place_is set) given.item
+
+-- ---- calls that leave the records as they are
+
+-- no image is of a unit where none is live
+pub none-images : (records : List LogRecord) → live_in records ≡ [] → images_of records ≡ []
+none-images records none = ap (λ (units : List UnitOfRecovery). filter_map (image_in units) records)
+    none ∙ empty records
+  where
+    empty : (rs : List LogRecord) → filter_map (image_in []) rs ≡ []
+    empty [] = refl
+    empty (Before unit part place old ∷ rs) = empty rs
+    empty (End unit kind ∷ rs) = empty rs
+
+module _ (geometry : Geometry) (number : ℕ) (log : LogNow) (images : List BeforeImage)
+    (state : State) (a : Seen) (rest : IsVolumeAtRest geometry number log images state a) where
+  -- the images of each log that an image may have
+  images-rest : (content : LogContent) → IsLogOf log content → images ≡ images_of content.records
+  images-rest content (inl prefix) = rest.kept ∙ ap images_of (sym (⊎_elim (λ all. all)
+      (λ none. of-none prefix none) (rest-records log rest.forced rest.stands.behind content
+      (inl prefix))))
+    where
+      of-none : IsPrefixOf log content → log.records ≡ [] → content.records ≡ log.records
+      of-none has none = ap (λ (c : LogContent). c.records) has.is
+          ∙ take_all has.count log.records (omega (arith, rest.forced, has.forced))
+  images-rest content (inr older) = ⊎_elim
+      (λ own. rest.kept ∙ ap images_of (sym (ap (λ (c : LogContent). c.records) own
+      ∙ take_all log.forced log.records (omega (arith, rest.forced)))))
+      (λ begun. rest.kept
+      ∙ ap images_of (no-length log.records (omega (arith, rest.forced, begun.0)))
+      ∙ sym (none-images content.records begun.1)) (rest.stands.behind content older)
+    where
+      no-length : (records : List LogRecord) → length records ≡ 0 → records ≡ []
+      no-length [] none = refl
+      no-length (rec ∷ records) none = absurd (omega (arith, none))
+
+  -- the part is laid by each log
+  pub laid-rest : (shape : Shape) (split : Option SplitNow) (met : List Met)
+      → IsPartAtRest geometry images state shape split met a → (kept : Lengths)
+      → kept ≡ lengths_kept images (part_no shape).0
+      → IsLaidSo geometry log (committed_by state) (part_no shape).0 shape kept
+  laid-rest shape split met part kept room content is = record {
+    laid = ap (λ (c : Content). shape_by geometry c (part_no shape).0)
+        (catalog-same geometry state rest.laid content.records) ∙ part.laid;
+    kept_is = room ∙ ap (λ (found : List BeforeImage). lengths_kept found (part_no shape).0)
+        (images-rest content is);
+  }
+
+  -- The volume stays at rest where its blocks are safe and its log stands.
+  pub volume-same : (d : Seen) → IsSafe geometry number log (committed_by state) d
+      → LogStands log d → IsVolumeAtRest geometry number log images state d
+  volume-same d safe stands = record {
+    safe = safe;
+    stands = stands;
+    sound = rest.sound;
+    forced = rest.forced;
+    laid = rest.laid;
+    logged = rest.logged;
+    kept = rest.kept;
+  }
+
+-- The part stays at rest where each place has the record that it had.
+pub part-same-records : (geometry : Geometry) (images : List BeforeImage) (state : State)
+    (shape : Shape) (split after : Option SplitNow) (met now : List Met) (a d : Seen)
+    → IsPartAtRest geometry images state shape split met a → d.count ≡ a.count → d.size ≡ a.size
+    → IsAtRest shape d → HasKeptRoom shape (lengths_kept images (part_no shape).0) d
+    → Knows shape after now d → SameRecords shape a.cur d.cur
+    → IsPartAtRest geometry images state shape after now d
+part-same-records geometry images state shape split after met now a d part count size rests room
+    knows same = record {
+      laid = part.laid;
+      on = on-still shape a d part.on count size;
+      rests = rests;
+      room = room;
+      knows = knows;
+      reads = λ place. ap (item_held shape) (same place) ∙ part.reads place;
+    }
+
+-- ---- calls that put nothing
+
+-- the log and each part stay
+module _ (tells : Bool) (told : IsTrue tells) (a b : Seen) (call : Keeps tells a b) where
+  pub stays-keeps : (shape : Shape) → StaysPart shape a b
+  stays-keeps shape = record {
+    count = call.count_same;
+    size = call.size_same;
+    same = λ n inside. ap (λ (image : Image). block_at image n) (call.content told);
+    fewer = λ n block below inside may. call.adds_none told n block below may;
+  }
+
+  pub stands-keeps : (log : LogNow) → IsForced log → LogStands log a → LogStands log b
+  stands-keeps log forced stands = stands-still log forced a b stands call.count_same call.size_same
+      (λ n block below inside may. call.adds_none told n block below may)
+
+  -- A volume at rest stays so.
+  pub volume-keeps : (geometry : Geometry) (number : ℕ) (log : LogNow)
+      (images : List BeforeImage) (state : State)
+      → IsVolumeAtRest geometry number log images state a
+      → IsVolumeAtRest geometry number log images state b
+  volume-keeps geometry number log images state rest =
+      volume-same geometry number log images state a rest b
+      (safe-keeps tells told geometry number log (committed_by state) a b call rest.safe)
+      (stands-keeps log rest.forced rest.stands)
+
+  pub part-keeps : (geometry : Geometry) (images : List BeforeImage) (state : State)
+      (shape : Shape) (split : Option SplitNow) (met : List Met) → Left a a.cur
+      → IsPartAtRest geometry images state shape split met a
+      → IsPartAtRest geometry images state shape split met b
+  part-keeps geometry images state shape split met left part =
+      part-stays geometry images images state state shape split met a b (stays-keeps shape) left part
+      refl refl refl
