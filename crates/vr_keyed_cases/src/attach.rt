@@ -7,7 +7,7 @@ ghost use Rattle.vr_keyed_cases.specs.TheLayout.{the_geometry};
 use crate::answers::{Answer, Stop, say, say_fault, say_number};
 use crate::held::Held;
 use crate::images::last_blocks;
-use crate::plain_damage::{Found, plain_damage};
+use crate::plain_damage::{Found, damage_in};
 use crate::traced::Traced;
 use crate::words::{long_number, number, parted};
 use std::alloc::Global;
@@ -152,9 +152,9 @@ fn attach_to(alloc: Global, blocks: &[u8], fails: &[u64], out: &mut String) -> A
     let mut traced = volume(alloc, blocks, fails)?;
     let found = attached(alloc, &mut traced, out)?;
     say(out, traced.notes())?;
-    if fails.is_empty() && found != plain_damage(blocks, LONGEST as usize) {
+    if fails.is_empty() && found != damage_in(blocks, LONGEST as usize) {
         say(out, ", but the plain program says ")?;
-        say_found(out, plain_damage(blocks, LONGEST as usize))?;
+        say_found(out, damage_in(blocks, LONGEST as usize))?;
     }
     Ok(())
 }
