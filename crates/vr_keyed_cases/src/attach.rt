@@ -84,8 +84,8 @@ pub fn attach(alloc: Global, held: &Held, rest: &str, out: &mut String) -> Answe
     attach_to(alloc, blocks.as_slice(), &[], out)
 }
 
-/// Attaches the part to what was written last, on a device whose call of a number fails. The first
-/// four calls write the blocks: `attach_fails NUMBER`.
+/// Attaches the part to what was written last, on a device whose call of a number fails: calls 0 to
+/// 3 write the blocks: `attach_fails NUMBER`.
 pub fn attach_fails(alloc: Global, held: &Held, rest: &str, out: &mut String) -> Answer {
     let blocks = last_blocks(alloc, held.blocks.device())?;
     attach_to(alloc, blocks.as_slice(), &[long_number(rest)?], out)
