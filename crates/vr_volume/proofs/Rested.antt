@@ -4,6 +4,7 @@ use Rattle.std.proofs.Common.{false, cond, List, [], ◌∷◌, ◌++◌, Option
 use Rattle.std.proofs.Common.{subst, ◌∙◌, arith, length, ◌==◌}
 use Rattle.std.specs.Option.{option_and_then, option_map}
 use Rattle.std.proofs.lemmas.Bool.{true≢false}
+use Rattle.std.proofs.lemmas.List.{length-append, take_all}
 use Rattle.std.proofs.lemmas.Bool.Decides.{Decides-eqb}
 use Rattle.std.proofs.lemmas.Slice.Eq.{bytes_eq-Decides}
 use Rattle.std.specs.Prelude.{bytes_eq}
@@ -14,12 +15,16 @@ use Rattle.vr_types.specs.Seen.{Left, Seen}
 use Rattle.vr_types.specs.declared.geometry.Geometry.{Geometry}
 use Rattle.vr_types.specs.declared.unit.PartNo.{PartNo}
 use Rattle.vr_space.specs.Met.{Met}
-use Rattle.vr_space.specs.Part.{HasKeptRoom, HasRoom, InPart, IsAtRest, IsOn, KeyedShape, Knows}
-use Rattle.vr_space.specs.Part.{IsSound, SetsOne, Shape, item_of, part_no}
+use Rattle.vr_space.specs.Part.{DueMore, HasKeptRoom, HasRoom, InPart, IsAtRest, IsOn, KeyedShape}
+use Rattle.vr_space.specs.Part.{Knows}
+use Rattle.vr_space.specs.Part.{IsPlaceOf, IsSound, SetsOne, Shape, item_of, part_no}
 use Rattle.vr_space.specs.Room.{Lengths}
 use Rattle.vr_space.specs.Split.{SplitNow}
 use Rattle.vr_space.proofs.CallerLemmas.{StaysPart, knows-stays, rest-sound, rest-stays, room-stays}
-use Rattle.vr_space.proofs.CallerLemmas.{on-still, same-stays}
+use Rattle.vr_space.proofs.CallerLemmas.{IsBlock, find-more, keyed-within, on-still, same-stays}
+use Rattle.vr_space.proofs.CallerLemmas.{within-less}
+use Rattle.vr_space.specs.Keyed.{keyed_way}
+use Rattle.vr_space.specs.Way.{MayOnceForced}
 use Rattle.vr_log.specs.Content.{Content as LogContent}
 use Rattle.vr_log.specs.LogBlock.{room_of}
 use Rattle.vr_log.specs.LogNow.{IsForced, IsLogOf, LogNow}
@@ -30,12 +35,16 @@ use Rattle.vr_log.specs.declared.record.LogRecord.TheVariants.{Before}
 use Rattle.vr_history.specs.State.{BeforeImage, State}
 use Rattle.vr_volume.specs.Committed.{HasLogged, IsLaidState, committed_by}
 use Rattle.vr_volume.specs.Laid.{shape_by}
-use Rattle.vr_volume.specs.Laying.{IsLogged}
-use Rattle.vr_volume.specs.PutBack.{images_of, length_in, length_of, lengths_kept}
-use Rattle.vr_volume.specs.Rests.{IsPartAtRest, IsVolumeAtRest}
+use Rattle.vr_volume.specs.Laying.{IsLaidBy, IsLogged}
+use Rattle.vr_volume.specs.Logged.{IsFirstBefore}
+use Rattle.vr_volume.specs.PutBack.{images_of, length_in, length_of, lengths_kept, oldest}
+use Rattle.vr_volume.specs.Rests.{IsGivenFor, IsPartAtRest, IsVolumeAtRest}
 use Rattle.vr_volume.specs.Safe.{IsSafe, item_held}
 use Rattle.vr_volume.specs.Steps.{Changing, IsChangeOf, IsFirstChange, IsPutIn, image_by}
+use Rattle.vr_volume.proofs.Befores.{safe-more}
+use Rattle.vr_volume.proofs.Committing.{catalog-same}
 use Rattle.vr_volume.proofs.Images.{kept-append, kept_more}
+use Rattle.vr_volume.proofs.Meeting.{first-before}
 use Rattle.vr_volume.proofs.Moving.{catalog-stays, images-now, item-else, item-here}
 use Rattle.vr_volume.proofs.Moving.{laid-first-change, logged-first-change, other-part}
 use Rattle.vr_volume.proofs.Resting.{safe-first-change}
@@ -92,6 +101,23 @@ stands-part log shape Q a b forced stands past call = stands-still log forced a 
     (λ there. omega (arith, past n there, inside.1)) may)
 
 -- ---- a part that a call leaves as it is
+
+-- what has to be forced for its places stays
+pub due-stays : (shape : Shape) (a b : Seen) → StaysPart shape a b → IsSound shape a → Left a a.cur
+    → DueMore shape [] a b
+due-stays (KeyedShape part) a b stays sound left listed place due within item holds =
+    let less : (n : ℕ) (block : Block) → IsBlock part a n → MayOnceForced listed b n block
+    → MayOnceForced listed a n block =
+    λ n block is may. (
+      stays.fewer n block is.0 is.1 may.0,
+      λ there. may.1 there ∙ stays.same n is.1,
+    ) in
+    due item (find-more (IsBlock part a) (MayOnceForced listed b) (MayOnceForced listed a) item less
+    (keyed_way part place)
+    (within-less (IsBlock part a) (MayOnceForced listed b) a.may
+    (λ n block is may. stays.fewer n block is.0 is.1 may.0) (keyed_way part place)
+    (keyed-within part a sound place)) holds)
+    ∙ sym (same-stays a b (KeyedShape part) stays sound left place)
 
 pub part-stays : (geometry : Geometry) (images more : List BeforeImage) (old new : State)
     (shape : Shape) (split : Option SplitNow) (met : List Met) (a b : Seen)
@@ -156,14 +182,15 @@ module _ (geometry : Geometry) (number : ℕ) (log more : LogNow) (images after 
   }
 
   -- and so are the part that is changed
-  pub part-first-change : (shape : Shape) (split : Option SplitNow) (met now : List Met)
+  pub part-first-change : (shape : Shape) (split after-split : Option SplitNow)
+      (met now : List Met)
       (found : Option (List ℕ)) → IsPartAtRest geometry images old shape split met a
       → part_no shape ≡ change.part → d.count ≡ a.count → d.size ≡ a.size
       → IsAtRest shape d → HasKeptRoom shape (lengths_kept after (part_no shape).0) d
-      → Knows shape split now d → SetsOne shape change.place found a.cur d.cur
+      → Knows shape after-split now d → SetsOne shape change.place found a.cur d.cur
       → change.new ≡ item_held shape found
-      → IsPartAtRest geometry after new shape split now d
-  part-first-change shape split met now found part at count size rests room knows set given =
+      → IsPartAtRest geometry after new shape after-split now d
+  part-first-change shape split after-split met now found part at count size rests room knows set given =
       record {
         laid = ap (λ (c : Content). shape_by geometry c (part_no shape).0)
             (catalog-stays geometry old new change rest.laid of made.contents) ∙ part.laid;
@@ -205,3 +232,80 @@ module _ (geometry : Geometry) (number : ℕ) (log more : LogNow) (images after 
       (other-part geometry old new change rest.laid of made.contents (part_no shape).0 apart)
       (ap (λ (found : List BeforeImage). lengths_kept found (part_no shape).0) kept
       ∙ other-kept images (image_by change) (part_no shape).0 (λ same. apart (sym same)))
+
+-- ---- what a first change asks for
+
+module _ (geometry : Geometry) (number : ℕ) (log : LogNow) (images after : List BeforeImage)
+    (old new : State) (change : Changing) (a : Seen) (shape : Shape) (split : Option SplitNow)
+    (met : List Met) (place : List ℕ) (found : Option (List ℕ))
+    (rest : IsVolumeAtRest geometry number log images old a)
+    (part : IsPartAtRest geometry images old shape split met a)
+    (of : IsChangeOf geometry old change) (made : IsFirstChange log change old new)
+    (given : IsGivenFor change shape place found)
+    (kept : after ≡ images ++ image_by change ∷ []) where
+  part-same : (part_no shape).0 ≡ change.part.0
+  part-same = ap (λ (p : PartNo). p.0) given.part
+
+  free-here : oldest (images_of log.records) (part_no shape).0 place ≡ None
+  free-here = ap (λ (p : ℕ). oldest (images_of log.records) p place) part-same
+      ∙ ap (oldest (images_of log.records) change.part.0) given.place_is ∙ made.free
+
+  pub rec-is : Before change.unit change.part change.place change.old
+      ≡ Before change.unit (part_no shape) place change.old
+  rec-is = ap (λ (p : PartNo). Before change.unit p change.place change.old) (sym given.part)
+      ∙ ap (λ (q : List ℕ). Before change.unit (part_no shape) q change.old) (sym given.place_is)
+
+  -- The before-image is the committed item of its place,
+  pub first-of : IsPlaceOf shape place
+      → IsFirstBefore geometry log (committed_by old) change.unit (part_no shape) place change.old
+  first-of at = first-before geometry old rest.laid log rest.logged rest.forced change.unit
+      (part_no shape) place change.old shape of.current part.laid at free-here
+      (made.item
+      ∙ sym (ap (λ (p : ℕ). item_at (old.contents p) place) part-same
+      ∙ ap (item_at (old.contents change.part.0)) given.place_is))
+
+  images-with : images_of (log.records
+      ++ Before change.unit (part_no shape) place change.old ∷ []) ≡ after
+  images-with = ap (λ (rec : LogRecord). images_of (log.records ++ rec ∷ [])) (sym rec-is)
+      ∙ images-now geometry log
+      (record log { records = log.records
+      ++ Before change.unit change.part change.place change.old ∷ [] }) old new change rest.laid
+      rest.logged of made refl
+      ∙ ap (λ (found : List BeforeImage). found ++ image_by change ∷ []) (sym rest.kept)
+      ∙ sym kept
+
+  -- and the part is laid by a log with it.
+  pub laid-by-more : IsLaidBy geometry
+      (log.records ++ Before change.unit (part_no shape) place change.old ∷ []) (committed_by old)
+      (part_no shape).0 shape (lengths_kept after (part_no shape).0)
+  laid-by-more = record {
+    laid = ap (λ (c : Content). shape_by geometry c (part_no shape).0)
+        (catalog-same geometry old rest.laid (log.records
+        ++ Before change.unit (part_no shape) place change.old ∷ [])) ∙ part.laid;
+    kept_is = ap (λ (found : List BeforeImage). lengths_kept found (part_no shape).0)
+        (sym images-with);
+  }
+
+  -- What is kept then has room.
+  pub room-more : IsPlaceOf shape place
+      → HasKeptRoom shape (lengths_kept after (part_no shape).0) a
+  room-more at = subst (λ (lengths : Lengths). HasKeptRoom shape lengths a)
+      (ap (λ (found : List BeforeImage). lengths_kept found (part_no shape).0) images-with)
+      (((safe-more geometry number log (committed_by old) a change.unit (part_no shape) place
+      change.old rest.safe (first-of at)).by_log
+      (record { generation = log.generation;
+      records = log.records ++ Before change.unit (part_no shape) place change.old ∷ [] })
+      (inl (record {
+        count = length (log.records
+            ++ Before change.unit (part_no shape) place change.old ∷ []);
+        forced = omega (arith, rest.forced, length-append log.records
+            (Before change.unit (part_no shape) place change.old ∷ []));
+        all = omega arith;
+        is = ap (λ (records : List LogRecord). let c : LogContent = record {
+          generation = log.generation;
+          records = records;
+        } in c) (sym (take_all (length (log.records
+            ++ Before change.unit (part_no shape) place change.old ∷ []))
+            (log.records ++ Before change.unit (part_no shape) place change.old ∷ [])
+            (omega arith)));
+      }))).parts (part_no shape).0 shape laid-by-more.laid).room

@@ -14,6 +14,7 @@ use Rattle.vr_volume.specs.Committed.{HasLogged, IsLaidState, committed_by}
 use Rattle.vr_volume.specs.Laid.{shape_by}
 use Rattle.vr_volume.specs.PutBack.{images_of, lengths_kept}
 use Rattle.vr_volume.specs.Safe.{IsSafe, item_held}
+use Rattle.vr_volume.specs.Steps.{Changing}
 
 -- The volume, its log and what is kept of units. Every record of the log is forced.
 pub record IsVolumeAtRest (geometry : Geometry) (number : ℕ) (log : LogNow)
@@ -36,3 +37,10 @@ pub record IsPartAtRest (geometry : Geometry) (images : List BeforeImage) (state
   pub knows : Knows shape split met now
   pub reads : (place : List ℕ) → item_held shape (item_of shape now.cur place)
       ≡ item_at (state.contents (part_no shape).0) place
+
+-- What a call that changes a place is given is what the change makes of it.
+pub record IsGivenFor (change : Changing) (shape : Shape) (place : List ℕ)
+    (found : Option (List ℕ)) : Type 0 where
+  pub part : part_no shape ≡ change.part
+  pub place_is : place ≡ change.place
+  pub item : change.new ≡ item_held shape found

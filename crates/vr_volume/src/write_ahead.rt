@@ -8,6 +8,7 @@ ghost use Rattle.vr_types.specs.Regions.{Touches};
 ghost use Rattle.vr_types.specs.declared.unit.Unit.{Unit as UnitOfRecovery};
 ghost use Rattle.vr_space.specs.Part.{
   CanSet,
+  DueMore,
   HasKeptRoom,
   InPart,
   IsAtRest,
@@ -25,9 +26,13 @@ ghost use Rattle.vr_log.specs.Records.{HasLengths};
 ghost use Rattle.vr_log.specs.Standing.{InLog, LogStands};
 ghost use Rattle.vr_log.specs.declared.record.LogRecord.{LogRecord as Rec};
 ghost use Rattle.vr_log.specs.declared.record.LogRecord.TheVariants.{Before};
+ghost use Rattle.vr_history.specs.State.{BeforeImage, State};
 ghost use Rattle.vr_volume.specs.Laying.{IsLaidBy, IsLogged};
 ghost use Rattle.vr_volume.specs.Logged.{IsFirstBefore};
+ghost use Rattle.vr_volume.specs.PutBack.{lengths_kept};
+ghost use Rattle.vr_volume.specs.Rests.{IsGivenFor, IsPartAtRest, IsVolumeAtRest};
 ghost use Rattle.vr_volume.specs.Safe.{IsSafe, IsSafeImage};
+ghost use Rattle.vr_volume.specs.Steps.{Changing, IsChangeOf, IsFirstChange, image_by};
 
 use crate::changing::set_free;
 use vr_log::{LogNo, LogRecord, UndoLog};
@@ -112,7 +117,26 @@ pub fn change<B: Blocks, P: Part, K: Kept>(
     ensures knows { IsTrue B.tells → OnOk result (Knows (P.shape part.old) (P.split part.old)
         (P.met part.new) (B.seen blocks.new)) }
     ensures put { OnOk result (All (InPart (P.shape part.old)) (P.put part.new)) }
+    ensures due { IsTrue B.tells → OnOk result
+        (DueMore (P.shape part.old) (P.put part.new) (B.seen blocks.old) (B.seen blocks.new)) }
     ensures part { OnOk result (P.shape part.new ≡ P.shape part.old) }
+    ensures split { OnOk result (P.split part.new ≡ P.split part.old) }
+    ensures stands { IsTrue B.tells → OnOk result (LogStands log.new (B.seen blocks.new)) }
+    // A volume that was at rest is so by the state after the change, and so is the part.
+    ensures at_rest { IsTrue B.tells → OnOk result ((number : ℕ) (old new : State)
+        (change : Changing) (images after : List BeforeImage)
+        → IsVolumeAtRest log.old.geometry number log.old images old (B.seen blocks.old)
+        → IsPartAtRest log.old.geometry images old (P.shape part.old) (P.split part.old)
+        (P.met part.old) (B.seen blocks.old)
+        → IsChangeOf log.old.geometry old change → IsFirstChange log.old change old new
+        → rec.now ≡ Before change.unit change.part change.place change.old
+        → IsGivenFor change (P.shape part.old) place.now (given bytes.entry)
+        → after ≡ images ++ image_by change ∷ []
+        → K.kept kept.now (part_no (P.shape part.old))
+        ≡ lengths_kept after (part_no (P.shape part.old)).0
+        → IsVolumeAtRest log.old.geometry number log.new after new (B.seen blocks.new)
+        × IsPartAtRest log.old.geometry after new (P.shape part.old) (P.split part.new)
+        (P.met part.new) (B.seen blocks.new)) }
     ensures set { IsTrue B.tells → OnOk result (SetsOne (P.shape part.old) place.now
         (given bytes.entry) (B.seen blocks.old).cur (B.seen blocks.new).cur) }
 {

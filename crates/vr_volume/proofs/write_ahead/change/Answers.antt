@@ -10,6 +10,17 @@ use Rattle.vr_volume.specs.Safe.{IsSafe, IsSafeImage}
 use Rattle.vr_volume.proofs.Befores.{safe-more}
 use Rattle.vr_volume.proofs.Calls.{stays-part}
 use Rattle.vr_volume.proofs.LogCalls.{change-then, first-there, image-less, log-guards}
+use Rattle.std.proofs.Common.{◌∙◌, ◌<◌}
+use Rattle.vr_types.specs.declared.geometry.Geometry.{Geometry}
+use Rattle.std.proofs.Common.{ℕ, List, Option}
+use Rattle.vr_space.specs.Part.{HasKeptRoom, HasRoom, Knows, SetsOne}
+use Rattle.vr_space.specs.Room.{Lengths}
+use Rattle.vr_space.specs.Split.{SplitNow}
+use Rattle.vr_volume.specs.Committed.{committed_by}
+use Rattle.vr_volume.specs.Laying.{IsLaidBy, IsLogged}
+use Rattle.vr_volume.proofs.Rested.{first-of, laid-by-more, part-first-change, rec-is, stands-part}
+use Rattle.vr_space.proofs.CallerLemmas.{due-then}
+use Rattle.vr_volume.proofs.Rested.{due-stays, volume-first-change}
 use Rattle.vr_volume.proofs.write_ahead.change.Goals as goal
 
 pub set_free-requires-clause-rests : goal.set_free-requires-clause-rests
@@ -172,3 +183,77 @@ returns-clause-after g c told number committed unit old is safe next laid =
     ≢ None) (sym is)
     (first-there log.geometry log committed unit part c.args.place.now old next)) in
     (c.set_free.ensures.safe told log.geometry number new committed then.0 then.1 then.2).1
+
+-- the log stands while the part is put
+pub returns-clause-stands : goal.returns-clause-stands
+returns-clause-stands g c told =
+    let B = g.B.Blocks in
+    let shape = g.P.Part.shape c.args.part.now in
+    let logged = c.in_ok-log_forced.ensures.logged told in
+    stands-part c.log_forced.new.log shape
+    (HasRoom shape (g.K.Kept.kept c.args.kept.now (part_no shape)))
+    (B.seen c.log_forced.new.blocks) (B.seen c.set_free.new.blocks) logged.forced
+    (c.in_ok-log_forced.ensures.stands told)
+    (λ n inside. subst (λ (g : Geometry). g.log < n) (sym logged.geometry)
+    (c.requires.apart n inside))
+    (c.set_free.ensures.touches told)
+
+pub returns-clause-at_rest : goal.returns-clause-at_rest
+returns-clause-at_rest g c told number old new change images after rest part of made is given-for kept
+    room =
+    let B = g.B.Blocks in
+    let log = c.args.log.now in
+    let shape = g.P.Part.shape c.args.part.now in
+    let a = B.seen c.args.blocks.now in
+    let b = B.seen c.log_forced.new.blocks in
+    let d = B.seen c.set_free.new.blocks in
+    let more = c.log_forced.new.log in
+    let split = g.P.Part.split c.args.part.now in
+    let met = g.P.Part.met c.args.part.now in
+    let place = c.args.place.now in
+    let found = given c.args.bytes in
+    let it = is ∙ rec-is log.geometry number log images after old new change a shape split met place
+    found rest part of made given-for kept in
+    let next = first-of log.geometry number log images after old new change a shape split met place
+    found rest part of made given-for kept c.requires.place in
+    let laid = laid-by-more log.geometry number log images after old new change a shape split met
+    place found rest part of made given-for kept in
+    let logged = subst (λ (r : LogRecord). IsLogged log r more) is
+    (c.in_ok-log_forced.ensures.logged told) in
+    let safe = (returns-clause-after g c told) number (committed_by old) change.unit change.old it
+    rest.safe next
+    (subst (λ (r : LogRecord). IsLaidBy log.geometry (log.records ++ r ∷ []) (committed_by old)
+    (part_no shape).0 shape (g.K.Kept.kept c.args.kept.now (part_no shape))) (sym it)
+    (record { laid = laid.laid; kept_is = room ∙ laid.kept_is })) in
+    let stands = (returns-clause-stands g c told) in
+    (
+      volume-first-change log.geometry number log more images after old new change a d rest of made
+          logged kept stands safe,
+      part-first-change log.geometry number log more images after old new change a d rest of made
+          logged kept shape split (g.P.Part.split c.set_free.new.part) met
+          (g.P.Part.met c.set_free.new.part) found part given-for.part
+          (c.set_free.ensures.count ∙ c.in_ok-log_forced.ensures.count)
+          (c.set_free.ensures.size ∙ c.in_ok-log_forced.ensures.size)
+          (c.in_ok-set_free.ensures.rests told)
+          (subst (λ (lengths : Lengths). HasKeptRoom shape lengths d) room
+          (c.set_free.ensures.room told))
+          (subst (λ (s : Option SplitNow). Knows shape s (g.P.Part.met c.set_free.new.part) d)
+          (sym c.set_free.ensures.split) (c.in_ok-set_free.ensures.knows told))
+          (subst (λ (q : List ℕ). SetsOne shape q found a.cur d.cur) given-for.place_is
+          (returns-clause-set g c told))
+          given-for.item,
+    )
+
+pub returns-clause-due : goal.returns-clause-due
+returns-clause-due g c told =
+    let B = g.B.Blocks in
+    let log = c.args.log.now in
+    let shape = g.P.Part.shape c.args.part.now in
+    let a = B.seen c.args.blocks.now in
+    let b = B.seen c.log_forced.new.blocks in
+    due-then shape (g.P.Part.put c.set_free.new.part) a b (B.seen c.set_free.new.blocks)
+    (due-stays shape a b
+    (stays-part log.geometry shape (HasLog (with_record log c.args.rec.now)) a b c.requires.apart
+    (c.log_forced.ensures.touches told))
+    (rest-sound shape a (c.requires.rests told)) (g.met.B.Blocks.cur_may c.args.blocks.now told))
+    (c.in_ok-set_free.ensures.due told)
