@@ -68,7 +68,7 @@ end-forced log mid new unit kind appended is = record {
   geometry = ap (λ (l : LogNow). l.geometry) is ∙ forced-geometry mid ∙ appended.geometry;
   generation = ap (λ (l : LogNow). l.generation) is ∙ forced-generation mid ∙ appended.generation;
   records = ap (λ (l : LogNow). l.records) is ∙ forced-records mid ∙ appended.records;
-  forced = subst IsForced (sym is) (forced-is mid);
+  forced = subst IsForced (sym is) (forced-is mid ∙ sym (ap length (forced-records mid)));
   sound = ap (λ (l : LogNow). l.broken) is ∙ forced-sound mid ∙ appended.sound;
 }
 
