@@ -39,7 +39,7 @@ AreSome (image ∷ fewer) [] = ⊥
 AreSome (image ∷ fewer) (first ∷ images) =
     ((image ≡ first) × AreSome fewer images) ⊎ AreSome (image ∷ fewer) images
 
-some-skip : (fewer : List BeforeImage) (first : BeforeImage) (images : List BeforeImage)
+pub some-skip : (fewer : List BeforeImage) (first : BeforeImage) (images : List BeforeImage)
     → AreSome fewer images → AreSome fewer (first ∷ images)
 some-skip [] first images some = tt
 some-skip (image ∷ fewer) first images some = inr some
@@ -98,7 +98,7 @@ ended-images records unit kind =
 
 -- ---- less is kept
 
-kept-under : (part : ℕ) (fewer images : List BeforeImage) (lengths more : Lengths) → Rise more
+pub kept-under : (part : ℕ) (fewer images : List BeforeImage) (lengths more : Lengths) → Rise more
     → Under lengths more → AreSome fewer images
     → Under (with_lengths lengths (filter_map (length_in part) fewer))
     (with_lengths more (filter_map (length_in part) images))

@@ -17,3 +17,4 @@ pub mod Undoing
 pub mod Ending
 pub mod Resting
 pub mod Rested
+pub mod EndCalls

@@ -25,7 +25,7 @@ none-in [] = refl
 none-in (Before unit part place old ∷ records) = none-in records
 none-in (End unit kind ∷ records) = none-in records
 
-no-images : (records : List LogRecord) → live_in records ≡ [] → images_of records ≡ []
+pub no-images : (records : List LogRecord) → live_in records ≡ [] → images_of records ≡ []
 no-images records none =
     subst (λ live. filter_map (image_in live) records ≡ []) (sym none) (none-in records)
 

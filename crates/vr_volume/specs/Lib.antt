@@ -10,3 +10,4 @@ pub mod Ended
 pub mod Committed
 pub mod Steps
 pub mod Rests
+pub mod EndedLog
