@@ -9,14 +9,12 @@ mod again;
 mod changing;
 mod laws;
 mod logging;
-mod premises;
 mod unit_end;
 mod write_ahead;
 
 pub use again::set_again;
 pub use changing::{do_stage, force_blocks, set_free};
 pub use laws::{each_image_is_safe, image_recovers, one_recovery, one_volume};
-pub use premises::first_change;
 pub use logging::{append_before, append_end, force_log, restart_log};
 pub use unit_end::end_unit;
 pub use write_ahead::change;
