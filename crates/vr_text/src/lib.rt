@@ -6,10 +6,12 @@
 
 mod decimal;
 mod laws;
+mod lines;
 mod literal;
 mod spelling;
 
 pub use decimal::number;
 pub use laws::{one_outcome, one_value, written_is_read};
+pub use lines::Lines;
 pub use literal::{LiteralFault, read_literal};
 pub use spelling::write_literal;
