@@ -1,0 +1,6 @@
+pub mod Token
+pub mod TokensHeld
+pub mod Mark
+pub mod Class
+pub mod Piece
+pub mod Scan

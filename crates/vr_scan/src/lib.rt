@@ -1,0 +1,14 @@
+//! The tokens of IDCAMS text: columns 2 to 72 of its lines, with continuations, comments and literals
+//! taken. It stands on vr_text for the lines. It promises that a text has exactly the tokens that its
+//! definition gives, each with its place, or is refused with its first fault.
+#![tactic(auto)]
+
+mod class;
+mod fault;
+mod mark;
+mod reading;
+mod token;
+
+pub use fault::{FormCause, FormFault, ScanFault};
+pub use reading::scan;
+pub use token::{TokenKind, Tokens};
