@@ -4,3 +4,4 @@ pub mod Mark
 pub mod Class
 pub mod Piece
 pub mod Scan
+pub mod MarksLeft

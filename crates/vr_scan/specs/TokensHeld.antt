@@ -25,6 +25,6 @@ abbrev pub AreWithin : List ℕ → List Span → Type 0
 AreWithin bytes spans = All (IsWithin bytes) spans
 
 -- Tokens while a further one is being read: those that are complete, and its text so far.
-pub record Draft : Type 0 where
+pub record TokensSoFar : Type 0 where
   pub tokens : List Token
   pub text : List ℕ

@@ -4,8 +4,12 @@
 #![tactic(auto)]
 
 mod class;
+mod cursor;
+mod draft;
 mod fault;
+mod field;
 mod mark;
+mod reader;
 mod reading;
 mod token;
 

@@ -1,6 +1,7 @@
 //! Tokens.
 ghost use Rattle.std.specs.Prelude.{◌≡◌, ◌<◌, ◌↔◌, [], length, IsTrue};
 ghost use Rattle.vr_scan.specs.Token.{token_at};
+ghost use Rattle.vr_scan.specs.TokensHeld.{tokens_of, AreWithin};
 
 use std::marker::Model;
 
@@ -51,6 +52,14 @@ impl Model for Tokens {
     ghost view = { λ tokens. tokens_of tokens.bytes.items tokens.spans.items };
 
     ghost invariant = { λ tokens. AreWithin tokens.bytes.items tokens.spans.items };
+}
+
+/// The tokens of these spans, whose texts lie within the bytes.
+pub(crate) fn tokens_of_parts(bytes: Vec<u8>, spans: Vec<Span>) -> Tokens
+    requires { AreWithin bytes.items spans.items }
+    ensures { result ≡ tokens_of bytes.items spans.items }
+{
+    Tokens { bytes, spans }
 }
 
 impl Tokens {
