@@ -3,3 +3,4 @@ pub mod Heads
 pub mod Digits
 pub mod Quotes
 pub mod Cutting
+pub mod Outcomes

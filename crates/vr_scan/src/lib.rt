@@ -8,6 +8,7 @@ mod cursor;
 mod draft;
 mod fault;
 mod field;
+mod laws;
 mod literal;
 mod mark;
 mod piece;
@@ -16,5 +17,6 @@ mod reading;
 mod token;
 
 pub use fault::{FormCause, FormFault, ScanFault};
+pub use laws::{no_tokens_at_a_fault, one_first_fault, one_list_of_tokens};
 pub use reading::scan;
 pub use token::{TokenKind, Tokens};
