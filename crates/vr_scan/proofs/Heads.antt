@@ -1,6 +1,6 @@
 -- What a text is whose first mark is known, or that has none.
-use Rattle.std.proofs.Common.{◌≡◌, ℕ, ◌<◌, Bool, true, false, Option, Some, None, List, [], ◌∷◌, length, drop}
-use Rattle.std.proofs.Common.{refl, ap, subst, sym, ◌∙◌, arith}
+use Rattle.std.proofs.Common.{◌≡◌, ◌<◌, Bool, true, false, Some, None, List, [], ◌∷◌, length, drop}
+use Rattle.std.proofs.Common.{refl, subst, sym, ◌∙◌, arith}
 use Rattle.std.specs.Prelude.{slice_get, MatchBool}
 use Rattle.vr_scan.specs.declared.mark.Mark.{Mark}
 use Rattle.vr_scan.specs.declared.class.Class.{Class}
@@ -66,9 +66,10 @@ pub inner_passed : (start now rest : List Mark) (closes : Bool)
     ((begins 39 now ≡ false) × (rest ≡ now))
     → MatchBool closes (IsClosed start × (rest ≡ drop 1 (after_inner start))) (¬ IsClosed start)
 inner_passed start now rest true same out passed =
-    let e : now ≡ after_inner start = sym (inner_stops now out) ∙ same in
-    (subst (λ (z : List Mark). begins 39 z ≡ true) e passed.0,
-    subst (λ (z : List Mark). rest ≡ drop 1 z) e passed.1)
+    let e : now ≡ after_inner start = sym (inner_stops now out) ∙ same in (
+      subst (λ (z : List Mark). begins 39 z ≡ true) e passed.0,
+      subst (λ (z : List Mark). rest ≡ drop 1 z) e passed.1,
+    )
 inner_passed start now rest false same out passed =
     let e : now ≡ after_inner start = sym (inner_stops now out) ∙ same in
     let stays = subst (λ (z : List Mark). begins 39 z ≡ false) e passed.0 in

@@ -4,3 +4,6 @@ pub mod Digits
 pub mod Quotes
 pub mod Cutting
 pub mod Outcomes
+pub mod Suffixes
+pub mod Ascending
+pub mod Ends

@@ -1,5 +1,5 @@
 -- A text is cut in one way, up to its end or to a fault.
-use Rattle.std.proofs.Common.{◌≡◌, ◌⊎◌, ℕ, false, Some, None, List, [], ◌∷◌, refl, sym, ◌∙◌, ap, subst, inl, inr}
+use Rattle.std.proofs.Common.{◌≡◌, ℕ, false, List, [], ◌∷◌, refl, sym, ◌∙◌, ap, subst, inl, inr}
 use Rattle.vr_text.specs.Lines.{Line}
 use Rattle.vr_scan.specs.declared.mark.Mark.{Mark}
 use Rattle.vr_scan.specs.declared.class.Class.{Class}
@@ -87,13 +87,13 @@ fault_one_of Comparison mark text f g a b = absurd a
 fault_one_of QuotedCharacters mark text f g a b = b.0 ∙ sym a.0
 fault_one_of QuotedDigits mark text f g a b =
     elim a [
-      inl x ↦ elim b [
-        inl y ↦ y.0 ∙ sym x.0
-      | inr y ↦ absurd (x.1 y.0)
+      | inl x ↦ elim b [
+        | inl y ↦ y.0 ∙ sym x.0
+        | inr y ↦ absurd (x.1 y.0)
       ]
-    | inr x ↦ elim b [
-        inl y ↦ absurd (y.1 x.0)
-      | inr y ↦ let same : y.1 ≡ x.1 = cc (x.2, y.2) in rw (y.3, x.3, same) refl
+      | inr x ↦ elim b [
+        | inl y ↦ absurd (y.1 x.0)
+        | inr y ↦ let same : y.1 ≡ x.1 = cc (x.2, y.2) in rw (y.3, x.3, same) refl
       ]
     ]
 fault_one_of Word mark text f g a b = absurd a

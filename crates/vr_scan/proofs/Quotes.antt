@@ -1,8 +1,8 @@
 -- The bytes of C'..', one after another.
-use Rattle.std.proofs.Common.{◌≡◌, ◌≢◌, ◌⊎◌, ℕ, ◌≤◌, Bool, true, false, Some, None, List, [], ◌∷◌, ◌++◌, length, drop}
+use Rattle.std.proofs.Common.{◌≡◌, ℕ, Bool, true, false, List, [], ◌∷◌, ◌++◌, drop}
 use Rattle.std.proofs.Common.{refl, ap, sym, subst, append-nil, inl, inr, arith}
 use Rattle.std.proofs.lemmas.Bool.Decides.{nat_tests}
-use Rattle.std.specs.Prelude.{slice_get, MatchBool}
+use Rattle.std.specs.Prelude.{MatchBool}
 use Rattle.vr_scan.specs.declared.mark.Mark.{Mark}
 use Rattle.vr_scan.specs.declared.mark.Sign.{Sign}
 use Rattle.vr_scan.specs.declared.mark.Sign.TheVariants.{Character, LineEnd, OpenEnd}
@@ -15,13 +15,13 @@ pub byte_one : (b c : ℕ) (all left other : List Mark) → IsByte b all left �
     → (c ≡ b) × (other ≡ left)
 byte_one b c all left other p q =
     elim p.spelled [
-      inl x ↦ elim q.spelled [
-        inl y ↦ (cc, cc)
-      | inr y ↦ let e : b ≡ 39 = cc in absurd (x.0 e)
+      | inl x ↦ elim q.spelled [
+        | inl y ↦ (cc, cc)
+        | inr y ↦ let e : b ≡ 39 = cc in absurd (x.0 e)
       ]
-    | inr x ↦ elim q.spelled [
-        inl y ↦ let e : c ≡ 39 = cc in absurd (y.0 e)
-      | inr y ↦ (cc, cc)
+      | inr x ↦ elim q.spelled [
+        | inl y ↦ let e : c ≡ 39 = cc in absurd (y.0 e)
+        | inr y ↦ (cc, cc)
       ]
     ]
 
@@ -30,11 +30,11 @@ pub byte_not_closing : (b : ℕ) (all left rest : List Mark) → IsByte b all le
     → IsClosingQuote all rest → ⊥
 byte_not_closing b all left rest p q =
     elim p.spelled [
-      inl x ↦ let e : b ≡ 39 = cc in absurd (x.0 e)
-    | inr y ↦
-        let r : rest ≡ y.1 ∷ left = cc in
-        let h = subst (λ (z : List Mark). begins 39 z ≡ false) r q.alone in
-        let f : ⊥ = (let g = rw y.2 at h in cc) in f
+      | inl x ↦ let e : b ≡ 39 = cc in absurd (x.0 e)
+      | inr y ↦
+          let r : rest ≡ y.1 ∷ left = cc in
+          let h = subst (λ (z : List Mark). begins 39 z ≡ false) r q.alone in
+          let f : ⊥ = (let g = rw y.2 at h in cc) in f
     ]
 
 pub spells_left : (b : ℕ) (all left : List Mark) → IsByte b all left → (bytes : List ℕ)
@@ -94,7 +94,7 @@ pub quoted : (start now rest : List Mark) (before so_far taken : List ℕ) (clos
     → IsQuoted start rest before so_far closes
 quoted start now rest before so_far taken true none passed text reads whole =
     let quote = subst (λ (z : List Mark). IsClosingQuote now z) (sym passed.1)
-        (closing now none passed.0) in
+    (closing now none passed.0) in
     (taken ++ [], reads [] rest quote, rw append-nil text)
 quoted start now rest before so_far taken false none passed text reads whole =
     λ bytes left spells.

@@ -4,5 +4,6 @@ pub mod Mark
 pub mod Class
 pub mod Piece
 pub mod Scan
+pub mod Order
 pub mod MarksLeft
 pub mod Taking

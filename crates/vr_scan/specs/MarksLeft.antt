@@ -1,5 +1,5 @@
 -- What a reader has left: the rest of its line, what stands at that line's end, and further lines.
-use Rattle.std.specs.Prelude.{ℕ, ◌+◌, List, ◌++◌, length, drop}
+use Rattle.std.specs.Prelude.{◌+◌, List, ◌++◌, length, drop}
 use Rattle.vr_scan.specs.declared.mark.Mark.{Mark}
 use Rattle.vr_scan.specs.declared.reader.Reader.{Reader}
 use Rattle.vr_scan.specs.Mark.{characters, mark_at, marks_from}

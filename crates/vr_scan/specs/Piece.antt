@@ -1,7 +1,7 @@
 -- The pieces of a text, and what is wrong with one, after Access Method Services Commands. A comment
 -- counts as a blank. What stands next to what without a blank, and where each fault stands, are this
 -- project's own rules.
-use Rattle.std.specs.Prelude.{◌≡◌, ◌≢◌, ◌⊎◌, ℕ, ◌+◌, ◌*◌, ◌<◌, ◌==◌, ◌||◌, ◌&&◌, Bool, true, false}
+use Rattle.std.specs.Prelude.{◌≡◌, ◌≢◌, ◌⊎◌, ℕ, ◌+◌, ◌*◌, ◌==◌, ◌||◌, ◌&&◌, Bool, true, false}
 use Rattle.std.specs.Prelude.{nat_lt, not, if◌then◌else◌, Option, Some, None, List, [], ◌∷◌, map}
 use Rattle.std.specs.Prelude.{drop}
 use Rattle.std.specs.Char.{digit_value, to_ascii_uppercase}
@@ -20,7 +20,7 @@ use Rattle.vr_scan.specs.declared.fault.FormCause.TheVariants.{Continuation}
 use Rattle.vr_scan.specs.declared.fault.FormFault.{FormFault}
 use Rattle.vr_scan.specs.declared.token.TokenKind.{TokenKind}
 use Rattle.vr_scan.specs.declared.token.TokenKind.TheVariants.{Word, Characters, Hex, Compare}
-use Rattle.vr_scan.specs.declared.token.TokenKind.TheVariants.{Open, Close, End}
+use Rattle.vr_scan.specs.declared.token.TokenKind.TheVariants.{Open, Close}
 use Rattle.vr_scan.specs.Token.{Token}
 use Rattle.vr_scan.specs.Class.{begins, is_sign, class_of, goes_on}
 

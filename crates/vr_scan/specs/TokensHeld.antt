@@ -1,6 +1,6 @@
 -- How tokens are held: the bytes of all texts, one after another, and for each token where its text
 -- lies among them.
-use Rattle.std.specs.Prelude.{◌≡◌, ℕ, ◌≤◌, ◌-◌, List, [], ◌∷◌, length, map, take, drop, All}
+use Rattle.std.specs.Prelude.{ℕ, ◌≤◌, ◌-◌, List, length, map, take, drop, All}
 use Rattle.vr_scan.specs.declared.token.Span.{Span}
 use Rattle.vr_scan.specs.Token.{Token}
 

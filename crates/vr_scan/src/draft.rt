@@ -26,8 +26,8 @@ impl Model for Draft {
     ghost use Rattle.vr_scan.specs.TokensHeld.{tokens_of, AreWithin};
 
     ghost view = { λ draft. record {
-        tokens = tokens_of draft.bytes.items draft.spans.items;
-        text = drop draft.start draft.bytes.items;
+      tokens = tokens_of draft.bytes.items draft.spans.items;
+      text = drop draft.start draft.bytes.items;
     } };
 
     ghost invariant = { λ draft. AreWithin draft.bytes.items draft.spans.items
@@ -57,8 +57,8 @@ impl Draft {
     /// Makes a token of the text, with the place of its first character.
     pub(crate) fn finish(&mut self, kind: TokenKind, mark: Mark) -> Result<(), OutOfMemory>
         ensures { OnOk result (self.new ≡ record {
-            tokens = self.old.tokens ++ token kind self.old.text mark ∷ [];
-            text = [];
+          tokens = self.old.tokens ++ token kind self.old.text mark ∷ [];
+          text = [];
         }) }
     {
         let end = self.bytes.len();

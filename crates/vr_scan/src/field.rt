@@ -116,13 +116,7 @@ pub(crate) fn sign_at_end(ending: Ending, more: bool) -> Option<Sign>
                 Some(Sign::OpenEnd)
             }
         }
-        Ending::Plus => {
-            if more {
-                None
-            } else {
-                Some(Sign::OpenEnd)
-            }
-        }
+        Ending::Plus => { if more { None } else { Some(Sign::OpenEnd) } }
     }
 }
 

@@ -17,6 +17,8 @@ mod reading;
 mod token;
 
 pub use fault::{FormCause, FormFault, ScanFault};
-pub use laws::{no_tokens_at_a_fault, one_first_fault, one_list_of_tokens};
+pub use laws::{
+    ends_follow, no_tokens_at_a_fault, one_first_fault, one_list_of_tokens, places_ascend,
+};
 pub use reading::scan;
 pub use token::{TokenKind, Tokens};

@@ -107,11 +107,7 @@ fn take_right(mark: Mark, draft: &mut Draft) -> Result<bool, ScanFault>
 }
 
 /// Reads `=`, `<`, `>`, `<=` or `>=`, whose first character has been passed.
-fn take_comparison(
-    mark: Mark,
-    cursor: &mut Cursor,
-    draft: &mut Draft,
-) -> Result<bool, ScanFault>
+fn take_comparison(mark: Mark, cursor: &mut Cursor, draft: &mut Draft) -> Result<bool, ScanFault>
     requires { draft.old.text ≡ [] }
     ensures ok { IfOk result
         (λ after. (begun : Bool)
@@ -155,11 +151,7 @@ fn take_quoted_characters(
 }
 
 /// Reads `X'..'`, whose letter has been passed.
-fn take_quoted_digits(
-    mark: Mark,
-    cursor: &mut Cursor,
-    draft: &mut Draft,
-) -> Result<bool, ScanFault>
+fn take_quoted_digits(mark: Mark, cursor: &mut Cursor, draft: &mut Draft) -> Result<bool, ScanFault>
     requires { draft.old.text ≡ [] }
     ensures ok { IfOk result
         (λ after. (begun : Bool)
@@ -178,11 +170,7 @@ fn take_quoted_digits(
 }
 
 /// Reads a word, whose first character has been passed.
-fn take_whole_word(
-    mark: Mark,
-    cursor: &mut Cursor,
-    draft: &mut Draft,
-) -> Result<bool, ScanFault>
+fn take_whole_word(mark: Mark, cursor: &mut Cursor, draft: &mut Draft) -> Result<bool, ScanFault>
     requires { draft.old.text ≡ [] }
     ensures ok { IfOk result
         (λ after. (begun : Bool)

@@ -1,7 +1,8 @@
-//! Literals of bytes and numbers, as texts have them and as listings show them. It stands on
-//! vr_types, whose list of bytes it reads into and writes onto. It promises that a text is read
-//! exactly when it is a literal or a number, that each fault has its stated cause at its stated
-//! place, and that the one spelling that is written for some bytes is read as these bytes.
+//! Literals of bytes and numbers, as texts have them and as listings show them, and the lines of a
+//! part of a job text. It stands on vr_types, whose list of bytes it reads into and writes onto. It
+//! promises that a text is read exactly when it is a literal or a number, that each fault has its
+//! stated cause at its stated place, and that the one spelling that is written for some bytes is
+//! read as these bytes.
 #![tactic(auto)]
 
 mod decimal;

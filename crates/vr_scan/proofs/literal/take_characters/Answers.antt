@@ -1,4 +1,4 @@
-use Rattle.std.proofs.Common.{◌≡◌, [], ◌∷◌, ◌++◌, length, append_assoc, refl, arith}
+use Rattle.std.proofs.Common.{[], ◌∷◌, ◌++◌, append_assoc, refl, arith}
 use Rattle.vr_scan.proofs.Quotes.{spells_left, quoted}
 use Rattle.vr_scan.proofs.literal.take_characters.Goals as goal
 
@@ -8,14 +8,15 @@ loop-byte-preserved c =
     let byte = c.in-Some.ensures.byte in
     record {
       tokens = rw c.in_ok-push.ensures so_far.tokens;
-      so_far =
-        (so_far.so_far.0 ++ c.in-Some.byte ∷ [],
+      so_far = (
+        so_far.so_far.0 ++ c.in-Some.byte ∷ [],
         rw (c.in_ok-push.ensures, so_far.so_far.1, append_assoc) refl,
         λ bytes rest spells. rw append_assoc
-        (so_far.so_far.2 (c.in-Some.byte ∷ bytes) rest (c.next_byte.new.cursor, byte, spells)));
+            (so_far.so_far.2 (c.in-Some.byte ∷ bytes) rest (c.next_byte.new.cursor, byte, spells)),
+      );
       whole = λ bytes rest spells.
-        let left = so_far.whole bytes rest spells in
-        spells_left c.in-Some.byte c.loop-byte.cursor c.next_byte.new.cursor byte left.0 rest left.1;
+          let left = so_far.whole bytes rest spells in
+          spells_left c.in-Some.byte c.loop-byte.cursor c.next_byte.new.cursor byte left.0 rest left.1;
       shorter = omega (arith, c.in-Some.ensures.shorter, so_far.shorter);
     }
 

@@ -1,4 +1,4 @@
-use Rattle.std.proofs.Common.{◌≡◌, Some, List, drop, length, length-drop, ap, ◌∙◌, arith, subst}
+use Rattle.std.proofs.Common.{◌≡◌, Some, List, drop, length-drop, ap, ◌∙◌, arith}
 use Rattle.std.specs.Prelude.{slice_get}
 use Rattle.vr_scan.specs.declared.mark.Mark.{Mark}
 use Rattle.vr_scan.specs.Taking.{pair_value}
@@ -10,9 +10,9 @@ loop-byte-preserved c =
     let now = c.loop-byte.cursor in
     let so_far = c.loop-byte.invariant in
     let next : c.advance-in-Some.new.self ≡ drop 1 (drop 1 now) =
-        c.advance-in-Some.ensures ∙ ap (λ (z : List Mark). drop 1 z) c.advance.ensures in
+    c.advance-in-Some.ensures ∙ ap (λ (z : List Mark). drop 1 z) c.advance.ensures in
     let pair : pair_value (slice_get now 0) (slice_get now 1) ≡ Some c.in-Some.byte =
-        rw (← c.first.ensures, ← c.second.ensures, ← c.pair_value.ensures) c.in-Some.is in
+    rw (← c.first.ensures, ← c.second.ensures, ← c.pair_value.ensures) c.in-Some.is in
     let taken = pair_taken now c.in-Some.byte pair in
     record {
       bad = rw (next, ← taken.bad) so_far.bad;

@@ -11,11 +11,11 @@ returns-in_err-mark c =
 pub returns-then-goes_on : goal.returns-then-goes_on
 returns-then-goes_on c =
     let on : goes_on (class_here c.args.cursor.now c.in_ok-mark.mark) ≡ true =
-        rw (← c.second.ensures, ← c.class_of.ensures, ← c.goes_on.ensures) c.if-goes_on.true in
+    rw (← c.second.ensures, ← c.class_of.ensures, ← c.goes_on.ensures) c.if-goes_on.true in
     word_goes c.args.cursor.now _ (sym c.first.ensures ∙ c.in_ok-mark.was) on
 
 pub returns-else-goes_on : goal.returns-else-goes_on
 returns-else-goes_on c =
     let off : goes_on (class_here c.args.cursor.now c.in_ok-mark.mark) ≡ false =
-        rw (← c.second.ensures, ← c.class_of.ensures, ← c.goes_on.ensures) c.if-goes_on.false in
+    rw (← c.second.ensures, ← c.class_of.ensures, ← c.goes_on.ensures) c.if-goes_on.false in
     word_stops c.args.cursor.now _ (sym c.first.ensures ∙ c.in_ok-mark.was) off

@@ -1,4 +1,4 @@
-use Rattle.std.proofs.Common.{◌≡◌, List, drop, refl, subst, arith, length-drop, ap, length}
+use Rattle.std.proofs.Common.{List, refl, subst, arith, length-drop, ap, length}
 use Rattle.vr_scan.specs.declared.mark.Mark.{Mark}
 use Rattle.vr_scan.specs.declared.token.TokenKind.TheVariants.{Characters}
 use Rattle.vr_scan.specs.Piece.{Spelled, Spells, token}
@@ -10,11 +10,14 @@ returns-clause-ok c =
     let quoted = rw c.if-not-branch.false at taken.quoted in
     λ begun. record {
       piece = Spelled (token Characters quoted.0 c.args.mark);
-      is_piece = (quoted.0, refl,
+      is_piece = (
+        quoted.0,
+        refl,
         subst (λ (z : List Mark). Spells z quoted.0 c.take_characters.new.cursor) c.advance.ensures
-        quoted.1);
+            quoted.1,
+      );
       tokens = rw (c.in_ok-finish.ensures, taken.tokens, quoted.2, c.requires) refl;
       begun_is = refl;
       shorter =
-        omega (arith, taken.shorter, ap length c.advance.ensures, length-drop 1 c.args.cursor.now);
+          omega (arith, taken.shorter, ap length c.advance.ensures, length-drop 1 c.args.cursor.now);
     }

@@ -1,4 +1,4 @@
-use Rattle.std.proofs.Common.{List, [], ◌∷◌, refl}
+use Rattle.std.proofs.Common.{[], ◌∷◌, refl}
 use Rattle.std.proofs.lemmas.List.{drop-append-le}
 use Rattle.vr_scan.proofs.Texts.{tokens_kept}
 use Rattle.vr_scan.proofs.draft.Draft.push.Goals as goal
