@@ -1,5 +1,7 @@
 -- The places of marks and tokens ascend.
-use Rattle.std.proofs.Common.{◌≡◌, ◌⊎◌, ℕ, ◌+◌, ◌≤◌, Bool, true, false, Option, Some, None, List, [], ◌∷◌, ◌++◌, length, drop, refl, ◌∙◌, subst, inl, inr, append_assoc, arith, length-drop, ltb}
+use Rattle.std.proofs.Common.{◌≡◌, ◌⊎◌, ℕ, ◌+◌, ◌≤◌, Bool, true, false, Option, Some, None, List}
+use Rattle.std.proofs.Common.{[], ◌∷◌, ◌++◌, length, drop, refl, ◌∙◌, subst, inl, inr, append_assoc}
+use Rattle.std.proofs.Common.{arith, length-drop, ltb}
 use Rattle.std.proofs.lemmas.List.Sums.{prefix_len-le-length}
 use Rattle.std.proofs.lemmas.Bool.{cases_lt}
 use Rattle.vr_text.specs.Lines.{Line}
@@ -7,10 +9,15 @@ use Rattle.vr_scan.specs.declared.mark.Mark.{Mark}
 use Rattle.vr_scan.specs.declared.mark.Sign.{Sign}
 use Rattle.vr_scan.specs.declared.mark.Ending.{Ending}
 use Rattle.vr_scan.specs.declared.class.Class.{Class}
-use Rattle.vr_scan.specs.declared.class.Class.TheVariants.{Gap, Comment, Stop, LeftParenthesis, RightParenthesis, Comparison, QuotedCharacters, QuotedDigits, Word, OpenEnd}
+use Rattle.vr_scan.specs.declared.class.Class.TheVariants.{Gap, Comment, Stop, LeftParenthesis}
+use Rattle.vr_scan.specs.declared.class.Class.TheVariants.{RightParenthesis, Comparison}
+use Rattle.vr_scan.specs.declared.class.Class.TheVariants.{QuotedCharacters, QuotedDigits, Word}
+use Rattle.vr_scan.specs.declared.class.Class.TheVariants.{OpenEnd}
 use Rattle.vr_scan.specs.Token.{Token}
 use Rattle.vr_scan.specs.Class.{class_of}
-use Rattle.vr_scan.specs.Mark.{is_blank, field, ending_of, is_joined, own_text, characters, sign_at_end, mark_at, blanks_left_out, marks_of_own, marks_from, marks_of}
+use Rattle.vr_scan.specs.Mark.{is_blank, field, ending_of, is_joined, own_text, characters}
+use Rattle.vr_scan.specs.Mark.{sign_at_end, mark_at, blanks_left_out, marks_of_own, marks_from}
+use Rattle.vr_scan.specs.Mark.{marks_of}
 use Rattle.vr_scan.specs.Piece.{Piece, Nothing, Spelled, Ended, IsPieceOf}
 use Rattle.vr_scan.specs.Scan.{Cuts, tokens_from, added, opened, IsTokens}
 use Rattle.vr_scan.specs.Order.{IsAtOrPast, NumbersAscend, PlacesAscend}

@@ -1,5 +1,6 @@
 -- A text cut piece by piece.
-use Rattle.std.proofs.Common.{◌≡◌, Bool, false, Some, None, List, [], ◌∷◌, ◌++◌, refl, sym, subst, append_assoc, append-nil, drop}
+use Rattle.std.proofs.Common.{◌≡◌, Bool, false, Some, None, List, [], ◌∷◌, ◌++◌, refl, sym, subst}
+use Rattle.std.proofs.Common.{append_assoc, append-nil, drop}
 use Rattle.std.specs.Prelude.{slice_get}
 use Rattle.vr_text.specs.Lines.{Line}
 use Rattle.vr_scan.specs.declared.mark.Mark.{Mark}

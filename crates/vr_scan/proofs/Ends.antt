@@ -3,7 +3,10 @@ use Rattle.std.proofs.Common.{◌≡◌, ℕ, Bool, true, false, List, [], ◌�
 use Rattle.vr_text.specs.Lines.{Line}
 use Rattle.vr_scan.specs.declared.mark.Mark.{Mark}
 use Rattle.vr_scan.specs.declared.class.Class.{Class}
-use Rattle.vr_scan.specs.declared.class.Class.TheVariants.{Gap, Comment, Stop, LeftParenthesis, RightParenthesis, Comparison, QuotedCharacters, QuotedDigits, Word, OpenEnd}
+use Rattle.vr_scan.specs.declared.class.Class.TheVariants.{Gap, Comment, Stop, LeftParenthesis}
+use Rattle.vr_scan.specs.declared.class.Class.TheVariants.{RightParenthesis, Comparison}
+use Rattle.vr_scan.specs.declared.class.Class.TheVariants.{QuotedCharacters, QuotedDigits, Word}
+use Rattle.vr_scan.specs.declared.class.Class.TheVariants.{OpenEnd}
 use Rattle.vr_scan.specs.Token.{Token}
 use Rattle.vr_scan.specs.Class.{class_of}
 use Rattle.vr_scan.specs.Mark.{marks_of}

@@ -7,3 +7,4 @@ pub mod Outcomes
 pub mod Suffixes
 pub mod Ascending
 pub mod Ends
+pub mod Existing

@@ -3,12 +3,16 @@ use Rattle.std.proofs.Common.{◌≡◌, ℕ, false, List, [], ◌∷◌, refl, 
 use Rattle.vr_text.specs.Lines.{Line}
 use Rattle.vr_scan.specs.declared.mark.Mark.{Mark}
 use Rattle.vr_scan.specs.declared.class.Class.{Class}
-use Rattle.vr_scan.specs.declared.class.Class.TheVariants.{Gap, Comment, Stop, LeftParenthesis, RightParenthesis, Comparison, QuotedCharacters, QuotedDigits, Word, OpenEnd}
+use Rattle.vr_scan.specs.declared.class.Class.TheVariants.{Gap, Comment, Stop, LeftParenthesis}
+use Rattle.vr_scan.specs.declared.class.Class.TheVariants.{RightParenthesis, Comparison}
+use Rattle.vr_scan.specs.declared.class.Class.TheVariants.{QuotedCharacters, QuotedDigits, Word}
+use Rattle.vr_scan.specs.declared.class.Class.TheVariants.{OpenEnd}
 use Rattle.vr_scan.specs.declared.fault.FormFault.{FormFault}
 use Rattle.vr_scan.specs.declared.token.TokenKind.TheVariants.{Characters}
 use Rattle.vr_scan.specs.Token.{Token}
 use Rattle.vr_scan.specs.Class.{class_of}
-use Rattle.vr_scan.specs.Piece.{Piece, Spelled, token, IsClosingQuote, Spells, IsPiece, IsPieceOf, IsFault, IsFaultOf}
+use Rattle.vr_scan.specs.Piece.{Piece, Spelled, token, IsClosingQuote, Spells, IsPiece, IsPieceOf}
+use Rattle.vr_scan.specs.Piece.{IsFault, IsFaultOf}
 use Rattle.vr_scan.specs.Mark.{marks_of}
 use Rattle.vr_scan.specs.Scan.{Cuts, tokens_from, IsTokens, IsFirstFault}
 use Rattle.vr_scan.proofs.Quotes.{byte_one, byte_not_closing}

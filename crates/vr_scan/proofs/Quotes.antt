@@ -54,7 +54,7 @@ is_false : (b : Bool) → (b ≡ true → ⊥) → b ≡ false
 is_false true no_way = absurd (no_way refl)
 is_false false no_way = refl
 
-sign_is : (b : ℕ) (sign : Sign) → is_sign b sign ≡ true → sign ≡ Character b
+pub sign_is : (b : ℕ) (sign : Sign) → is_sign b sign ≡ true → sign ≡ Character b
 sign_is b (Character c) same =
     let e : c ≡ b = grind (arith, nat_tests) in ap Character e
 sign_is b LineEnd same = let f : ⊥ = cc in absurd f

@@ -1,11 +1,16 @@
 -- What follows a piece is a part of the text, up to its end.
-use Rattle.std.proofs.Common.{◌≡◌, ◌⊎◌, ℕ, Bool, true, false, Option, Some, List, [], ◌∷◌, ◌++◌, drop, refl, sym, ◌∙◌, ap, subst, inl, inr, append_assoc}
+use Rattle.std.proofs.Common.{◌≡◌, ◌⊎◌, ℕ, Bool, true, false, Option, Some, List, [], ◌∷◌, ◌++◌}
+use Rattle.std.proofs.Common.{drop, refl, sym, ◌∙◌, ap, subst, inl, inr, append_assoc}
 use Rattle.std.specs.Prelude.{if◌then◌else◌, ◌&&◌}
 use Rattle.vr_scan.specs.declared.mark.Mark.{Mark}
 use Rattle.vr_scan.specs.declared.class.Class.{Class}
-use Rattle.vr_scan.specs.declared.class.Class.TheVariants.{Gap, Comment, Stop, LeftParenthesis, RightParenthesis, Comparison, QuotedCharacters, QuotedDigits, Word, OpenEnd}
+use Rattle.vr_scan.specs.declared.class.Class.TheVariants.{Gap, Comment, Stop, LeftParenthesis}
+use Rattle.vr_scan.specs.declared.class.Class.TheVariants.{RightParenthesis, Comparison}
+use Rattle.vr_scan.specs.declared.class.Class.TheVariants.{QuotedCharacters, QuotedDigits, Word}
+use Rattle.vr_scan.specs.declared.class.Class.TheVariants.{OpenEnd}
 use Rattle.vr_scan.specs.Class.{begins, is_sign, class_of, goes_on}
-use Rattle.vr_scan.specs.Piece.{Piece, IsByte, Spells, IsPieceOf, after_comment, after_word, after_inner, after_comparison, is_inner, is_pair}
+use Rattle.vr_scan.specs.Piece.{Piece, IsByte, Spells, IsPieceOf, after_comment, after_word}
+use Rattle.vr_scan.specs.Piece.{after_inner, after_comparison, is_inner, is_pair}
 
 pub record IsSuffix (text rest : List Mark) : Type 0 where
   pub taken : List Mark

@@ -22,7 +22,8 @@ without_end text = take (length text - suffix_len is_blank text) text
 abbrev pub field : List ℕ → List ℕ
 field text = without_end (take 71 (drop 1 text))
 
--- A field whose last character is `-` goes on in the next line as after a blank; with `+`, directly.
+-- A field whose last character is `-` goes on in the next line as after a blank; with `+`,
+-- directly.
 abbrev pub ending_by : Option ℕ → Ending
 ending_by None = Whole
 ending_by (Some b) = if b == 45 then Hyphen else (if b == 43 then Plus else Whole)

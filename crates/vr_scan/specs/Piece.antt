@@ -1,6 +1,6 @@
--- The pieces of a text, and what is wrong with one, after Access Method Services Commands. A comment
--- counts as a blank. What stands next to what without a blank, and where each fault stands, are this
--- project's own rules.
+-- The pieces of a text, and what is wrong with one, after Access Method Services Commands. A
+-- comment counts as a blank. What stands next to what without a blank, and where each fault stands,
+-- are this project's own rules.
 use Rattle.std.specs.Prelude.{◌≡◌, ◌≢◌, ◌⊎◌, ℕ, ◌+◌, ◌*◌, ◌==◌, ◌||◌, ◌&&◌, Bool, true, false}
 use Rattle.std.specs.Prelude.{nat_lt, not, if◌then◌else◌, Option, Some, None, List, [], ◌∷◌, map}
 use Rattle.std.specs.Prelude.{drop}

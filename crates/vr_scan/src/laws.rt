@@ -1,5 +1,5 @@
 //! Laws of command texts: a text has one list of tokens or one first fault, never both.
-ghost use Rattle.std.specs.Prelude.{◌≡◌, false, List};
+ghost use Rattle.std.specs.Prelude.{◌≡◌, ◌⊎◌, false, List};
 ghost use Rattle.vr_text.specs.Lines.{Line};
 ghost use Rattle.vr_scan.specs.declared.fault.FormFault.{FormFault};
 ghost use Rattle.vr_scan.specs.Token.{Token};
@@ -34,4 +34,10 @@ pub fn places_ascend()
 pub fn ends_follow()
     ensures { (lines : List Line) (tokens : List Token) → IsTokens lines tokens
         → EndsFollow false tokens }
+{}
+
+/// Lines have a list of tokens or a first fault.
+pub fn tokens_or_a_fault()
+    ensures { (lines : List Line) → ((tokens : List Token) × IsTokens lines tokens)
+        ⊎ ((fault : FormFault) × IsFirstFault lines fault) }
 {}

@@ -63,7 +63,8 @@ impl<'a> Reader<'a> {
 
     /// A sign at the present place.
     fn mark(&self, sign: Sign) -> Mark
-        ensures { result ≡ record { sign = sign; line = self.now.number; column = self.now.column } }
+        ensures { result
+            ≡ record { sign = sign; line = self.now.number; column = self.now.column } }
     {
         Mark {
             sign,

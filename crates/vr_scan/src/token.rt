@@ -94,7 +94,8 @@ impl Tokens {
         &self.bytes[span.start..span.end]
     }
 
-    /// The number of the line in the job text where token `i` begins. An end of a line is on that line.
+    /// The number of the line in the job text where token `i` begins. The end of a line is on that
+    /// line.
     pub fn line(&self, i: usize) -> u32
         requires { i < length self.now }
         ensures { result ≡ (token_at self.now i).line }
@@ -102,8 +103,8 @@ impl Tokens {
         self.spans[i].line
     }
 
-    /// The column of the first character of token `i`, from 1. The end of a line has the column after
-    /// the line's last character.
+    /// The column of the first character of token `i`, from 1. The end of a line has the column
+    /// after the line's last character.
     pub fn column(&self, i: usize) -> u32
         requires { i < length self.now }
         ensures { result ≡ (token_at self.now i).column }

@@ -55,8 +55,9 @@ fn say_bytes(alloc: Global, out: &mut String, bytes: &[u8]) -> Answer {
     }
 }
 
-/// Writes a token, after a blank where it isn't the first: how it is spelled, `@`, its line, a dot and
-/// its column. A literal has its bytes between quotes, those of `X'..'` as digits; an end is `;`.
+/// Writes a token, after a blank where it isn't the first: how it is spelled, `@`, its line, a dot
+/// and its column. A literal has its bytes between quotes, those of `X'..'` as digits; an end is
+/// `;`.
 pub fn say_token(
     alloc: Global,
     out: &mut String,

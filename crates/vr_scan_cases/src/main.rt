@@ -1,9 +1,9 @@
 //! Cases of `vr_scan` from a text table: texts of commands with their tokens or their first fault,
 //! and all short texts beside a plain, slow program. It stands on `vr_scan`, `vr_text`, `vr_types`
-//! and `hex`. Each line of its input has a question, ` -> ` and the answer that is wanted. It prints
-//! each line whose answer differs, and at the end how many lines there were and how many differ; the
-//! status is 1 where one differs. What it promises is that it is safe and ends: what the answers
-//! show is tested, and its whole output is compared.
+//! and `hex`. Each line of its input has a question, ` -> ` and the answer that is wanted. It
+//! prints each line whose answer differs, and at the end how many lines there were and how many
+//! differ; the status is 1 where one differs. What it promises is that it is safe and ends: what
+//! the answers show is tested, and its whole output is compared.
 #![tactic(auto)]
 
 mod answers;

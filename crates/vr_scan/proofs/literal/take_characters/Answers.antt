@@ -16,7 +16,8 @@ loop-byte-preserved c =
       );
       whole = λ bytes rest spells.
           let left = so_far.whole bytes rest spells in
-          spells_left c.in-Some.byte c.loop-byte.cursor c.next_byte.new.cursor byte left.0 rest left.1;
+          spells_left c.in-Some.byte c.loop-byte.cursor c.next_byte.new.cursor byte left.0 rest
+          left.1;
       shorter = omega (arith, c.in-Some.ensures.shorter, so_far.shorter);
     }
 

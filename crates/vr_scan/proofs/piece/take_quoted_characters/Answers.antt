@@ -19,5 +19,10 @@ returns-clause-ok c =
       tokens = rw (c.in_ok-finish.ensures, taken.tokens, quoted.2, c.requires) refl;
       begun_is = refl;
       shorter =
-          omega (arith, taken.shorter, ap length c.advance.ensures, length-drop 1 c.args.cursor.now);
+          omega (
+            arith,
+            taken.shorter,
+            ap length c.advance.ensures,
+            length-drop 1 c.args.cursor.now,
+          );
     }
