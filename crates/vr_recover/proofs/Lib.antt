@@ -6,3 +6,4 @@ pub mod Areas
 pub mod Made
 pub mod NewVolume
 pub mod Safe
+pub mod Opened

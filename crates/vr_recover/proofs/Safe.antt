@@ -72,7 +72,7 @@ part-fits (KeyedShape part) image content stands =
 
 -- ---- the volume
 
-none-ascend : Ascends []
+pub none-ascend : Ascends []
 unfolding IsStrictlySortedBy
 none-ascend = tt
 
