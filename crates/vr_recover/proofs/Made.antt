@@ -1,7 +1,7 @@
 -- What the steps of formatting come to.
-use Rattle.std.proofs.Common.{◌≡◌, ◌≢◌, ◌<◌, ◌≤◌, ◌+◌, ◌*◌, ℕ, Bool, true, false, List, [], ◌∷◌, length}
-use Rattle.std.proofs.Common.{refl, sym, ap, subst, ◌∙◌, arith, Option, Some, None, inl, inr, ⊎_elim}
-use Rattle.std.proofs.Common.{replicate, IsTrue, ◌++◌, zero, suc}
+use Rattle.std.proofs.Common.{◌≡◌, ◌<◌, ◌≤◌, ◌+◌, ℕ, Bool, true, false, List, [], ◌∷◌, length}
+use Rattle.std.proofs.Common.{refl, sym, ap, subst, ◌∙◌, arith, Some, inl, inr, ⊎_elim}
+use Rattle.std.proofs.Common.{replicate, IsTrue, zero, suc}
 use Rattle.std.specs.Prelude.{cond, nat_eq, Result, Ok, Err, OnOk}
 use Rattle.std.proofs.lemmas.List.{ext_get_or}
 use Rattle.std.proofs.lemmas.Bool.{cases_lt, eq-eqb}
@@ -17,11 +17,15 @@ use Rattle.vr_types.proofs.CallerLemmas.{puts-touches, touches-then}
 use Rattle.vr_catalog.specs.declared.entry.CatEntry.{CatEntry}
 use Rattle.vr_space.specs.Part.{InPart, KeyedShape, Shape, StandsFor}
 use Rattle.vr_volume.specs.Header.{header_block}
-use Rattle.vr_volume.specs.Laid.{catalog_shape, shape_by}
+use Rattle.std.specs.Option.{option_and_then}
+use Rattle.std.proofs.Common.{true≢false}
+use Rattle.vr_catalog.specs.Catalog.{entries_in, entry_with_part}
+use Rattle.vr_volume.specs.Laid.{catalog_shape, shape_by, shape_of}
+use Rattle.vr_recover.specs.Formatted.{IsInside}
 use Rattle.vr_recover.specs.Formatted.{Anything, IsFormatted, IsWritten, catalog_of}
 use Rattle.vr_recover.specs.Planned.{AreEmpty, ArePlanned, InClusters, IsOneOf, catalog_keyed}
 use Rattle.vr_recover.specs.Planned.{cluster_keyed, content_of}
-use Rattle.vr_recover.proofs.Areas.{area-before}
+use Rattle.vr_recover.proofs.Areas.{area-before, area-on, two-areas}
 use Rattle.vr_recover.proofs.Standing.{stands-same}
 
 -- what puts into some blocks puts into more
@@ -202,21 +206,41 @@ module _ (geometry : Geometry) (number : ℕ) (entries clusters : List CatEntry)
   cluster-laid shape one = subst (λ (s : Shape). StandsFor s last.cur []) (sym one.shape_is)
       (steps.empty one.at one.entry (below-of clusters one.at one.entry one.there) one.there)
 
+  shapes-same : (x y : Shape) → Some x ≡ Some y → x ≡ y
+  shapes-same x y same = cc
+
+  -- the shape of part 0
+  catalog-is : (part : ℕ) (shape : Shape) → nat_eq part 0 ≡ true
+      → shape_by geometry (catalog_of entries) part ≡ Some shape → catalog_shape geometry ≡ shape
+  catalog-is part shape is there = shapes-same (catalog_shape geometry) shape
+      (sym (ap (λ (b : Bool). cond b (Some (catalog_shape geometry))
+      (option_and_then (shape_of geometry)
+      (entry_with_part (entries_in (catalog_of entries)) part))) is) ∙ there)
+
+  -- and each other part
+  one-of : (part : ℕ) (shape : Shape) → nat_eq part 0 ≡ false
+      → shape_by geometry (catalog_of entries) part ≡ Some shape → IsOneOf geometry clusters shape
+  one-of part shape is there = planned.laid part shape
+      (λ zero-part. true≢false (sym (eq-eqb part 0 zero-part) ∙ is)) there
+
   laid-by : (part : ℕ) (shape : Shape) (is : Bool) → nat_eq part 0 ≡ is
       → shape_by geometry (catalog_of entries) part ≡ Some shape
       → StandsFor shape last.cur (cond is (catalog_of entries) [])
   laid-by part shape true is there = subst (λ (s : Shape). StandsFor s last.cur (catalog_of entries))
-      (shapes-same (catalog_shape geometry) shape
-      (sym (ap (λ (b : Bool). cond b (Some (catalog_shape geometry))
-      (Rattle.std.specs.Option.option_and_then (Rattle.vr_volume.specs.Laid.shape_of geometry)
-      (Rattle.vr_catalog.specs.Catalog.entry_with_part
-      (Rattle.vr_catalog.specs.Catalog.entries_in (catalog_of entries)) part))) is) ∙ there))
-      catalog-stays
-    where
-      shapes-same : (x y : Shape) → Some x ≡ Some y → x ≡ y
-      shapes-same x y same = cc
-  laid-by part shape false is there = cluster-laid shape (planned.laid part shape
-      (λ zero-part. Rattle.std.proofs.Common.true≢false (sym (eq-eqb part 0 zero-part) ∙ is)) there)
+      (catalog-is part shape is there) catalog-stays
+  laid-by part shape false is there = cluster-laid shape (one-of part shape is there)
+
+  inside-by : (part : ℕ) (shape : Shape) (is : Bool) → nat_eq part 0 ≡ is
+      → shape_by geometry (catalog_of entries) part ≡ Some shape → IsInside geometry shape
+  inside-by part shape true is there = subst (IsInside geometry) (catalog-is part shape is there)
+      (area-on geometry 0 (omega (arith, two-areas geometry allowed)), refl)
+  inside-by part shape false is there =
+      let one = one-of part shape is there in
+      subst (IsInside geometry) (sym one.shape_is) (
+        area-on geometry (one.at + 1)
+            (omega (arith, below-of clusters one.at one.entry one.there, planned.areas)),
+        refl,
+      )
 
   pub all-made : length last.cur ≡ geometry.blocks → IsFormatted geometry number entries last.cur
   all-made long = record {
@@ -225,5 +249,6 @@ module _ (geometry : Geometry) (number : ℕ) (entries clusters : List CatEntry)
     log = start-stays 1 (omega arith) ∙ steps.log;
     catalog = planned.catalog;
     apart = planned.apart;
+    inside = λ part shape there. inside-by part shape (nat_eq part 0) refl there;
     laid = λ part shape there. laid-by part shape (nat_eq part 0) refl there;
   }

@@ -8,7 +8,7 @@ use Rattle.vr_types.specs.Image.{Image, block_at}
 use Rattle.vr_types.specs.Seen.{Seen}
 use Rattle.vr_types.specs.declared.geometry.Geometry.{Geometry}
 use Rattle.vr_types.specs.declared.unit.Kind.TheVariants.{Keyed}
-use Rattle.vr_space.specs.Part.{Shape, StandsFor}
+use Rattle.vr_space.specs.Part.{KeyedShape, Shape, StandsFor}
 use Rattle.vr_catalog.specs.Definition.{catalog_definition, key_of}
 use Rattle.vr_catalog.specs.Record.{spelling}
 use Rattle.vr_catalog.specs.declared.entry.CatEntry.{CatEntry}
@@ -40,6 +40,11 @@ catalog_of (entry ∷ entries) =
 abbrev pub contents_of : List CatEntry → ℕ → Content
 contents_of entries part = if part == 0 then catalog_of entries else []
 
+-- the blocks of a part are there
+abbrev pub IsInside : Geometry → Shape → Type 0
+IsInside geometry (KeyedShape part) =
+    (part.head + part.area < geometry.blocks) × (part.size ≡ geometry.size)
+
 -- The image is that of a volume which was formatted with these entries and not changed since.
 pub record IsFormatted (geometry : Geometry) (number : ℕ) (entries : List CatEntry)
     (image : Image) : Type 0 where
@@ -49,6 +54,8 @@ pub record IsFormatted (geometry : Geometry) (number : ℕ) (entries : List CatE
   pub log : block_at image 1 ≡ replicate geometry.size 0
   pub catalog : IsCatalog geometry (catalog_of entries)
   pub apart : AreApart (shape_by geometry (catalog_of entries))
+  pub inside : (part : ℕ) (shape : Shape)
+      → shape_by geometry (catalog_of entries) part ≡ Some shape → IsInside geometry shape
   pub laid : (part : ℕ) (shape : Shape)
       → shape_by geometry (catalog_of entries) part ≡ Some shape
       → StandsFor shape image (contents_of entries part)

@@ -33,6 +33,15 @@ pub fn formatted_recovers()
         → Recovers geometry number image (contents_of entries) }
 {}
 
+/// Where a crash leaves it alone on a device of that shape, it may be opened: each of its parts is on
+/// blocks that there are, and it has no before-image to put back.
+pub fn formatted_can_open<B: Blocks>(blocks: &B)
+    ensures { (geometry : Geometry) (number : ℕ) (entries : List CatEntry) (image : Image)
+        → IsFormatted geometry number entries image → IsOf geometry (B.seen blocks.now)
+        → CanOpen (shapes_by geometry (record { generation = 0; records = [] })
+        (contents_of entries)) [] (B.seen blocks.now) }
+{}
+
 /// What opening begins with: where a crash leaves what is read alone, and the blocks that are read
 /// recover to some contents, the volume is safe, with its log, and with these contents committed.
 pub fn settled_is_safe<B: Blocks>(blocks: &B)
