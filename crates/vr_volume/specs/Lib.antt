@@ -10,4 +10,5 @@ pub mod Ended
 pub mod Committed
 pub mod Steps
 pub mod Rests
+pub mod Cause
 pub mod EndedLog
