@@ -106,7 +106,7 @@ module _ (case : Case) where
       → CanEnd case case.request → IsAnswered case (done_by case case.request)
   answered_done none no_record no_log ends = (
     sym (ap (λ (o : Option Refusal). refused_or o (done_by case case.request))
-    (after_record none no_record ∙ no_log)),
+        (after_record none no_record ∙ no_log)),
     λ first. ends,
   )
 

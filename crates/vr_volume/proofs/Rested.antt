@@ -326,8 +326,10 @@ module _ (geometry : Geometry) (number : ℕ) (log : LogNow) (images after : Lis
       ++ Before change.unit (part_no shape) place change.old ∷ []) ≡ after
   images-with = ap (λ (rec : LogRecord). images_of (log.records ++ rec ∷ [])) (sym rec-is)
       ∙ images-now geometry log
-      (record log { records = log.records
-      ++ Before change.unit change.part change.place change.old ∷ [] }) old new change rest.laid
+      (record log {
+        records = log.records
+            ++ Before change.unit change.part change.place change.old ∷ [];
+      }) old new change rest.laid
       rest.logged of made refl
       ∙ ap (λ (found : List BeforeImage). found ++ image_by change ∷ []) (sym rest.kept)
       ∙ sym kept
@@ -351,13 +353,19 @@ module _ (geometry : Geometry) (number : ℕ) (log : LogNow) (images after : Lis
       (ap (λ (found : List BeforeImage). lengths_kept found (part_no shape).0) images-with)
       (((safe-more geometry number log (committed_by old) a change.unit (part_no shape) place
       change.old rest.safe (first-of at)).by_log
-      (record { generation = log.generation;
-      records = log.records ++ Before change.unit (part_no shape) place change.old ∷ [] })
+      (record {
+        generation = log.generation;
+        records = log.records ++ Before change.unit (part_no shape) place change.old ∷ [];
+      })
       (inl (record {
         count = length (log.records
             ++ Before change.unit (part_no shape) place change.old ∷ []);
-        forced = omega (arith, rest.forced, length-append log.records
-            (Before change.unit (part_no shape) place change.old ∷ []));
+        forced = omega (
+          arith,
+          rest.forced,
+          length-append log.records
+              (Before change.unit (part_no shape) place change.old ∷ []),
+        );
         all = omega arith;
         is = ap (λ (records : List LogRecord). let c : LogContent = record {
           generation = log.generation;
@@ -423,21 +431,21 @@ module _ (geometry : Geometry) (number : ℕ) (log : LogNow) (images : List Befo
         ∙ ap (oldest images (part_no shape).0) (sym given.place_is) ∙ none)
 
   module _ (new : State) (change : Changing) (d : Seen) (of : IsChangeOf geometry old change)
-      where
-    -- each other part stays at rest
-    pub other-stays : (shape other : Shape) (Q : Image → Type 0) (split : Option SplitNow)
-        (met : List Met) (after : Option SplitNow) (now : List Met) → IsPutIn change old new
-        → IsPartAtRest geometry images old shape split met a → part_no shape ≡ change.part
-        → ((part_no other).0 ≡ change.part.0 → ⊥) → Touches (InPart shape) Q a d → Left a a.cur
-        → IsPartAtRest geometry images old other after now a
-        → IsPartAtRest geometry images new other after now d
-    other-stays shape other Q split met after now put part at apart call left others =
-        part-stays geometry images images old new other after now a d
-        (stays-apart shape other Q a d
-        (rest.laid.apart (part_no other).0 (part_no shape).0 other shape others.laid part.laid
-        (λ same. apart (same ∙ ap (λ (p : PartNo). p.0) at))) call)
-        left others (catalog-stays geometry old new change rest.laid of put)
-        (other-part geometry old new change rest.laid of put (part_no other).0 apart) refl
+    where
+      -- each other part stays at rest
+      pub other-stays : (shape other : Shape) (Q : Image → Type 0) (split : Option SplitNow)
+          (met : List Met) (after : Option SplitNow) (now : List Met) → IsPutIn change old new
+          → IsPartAtRest geometry images old shape split met a → part_no shape ≡ change.part
+          → ((part_no other).0 ≡ change.part.0 → ⊥) → Touches (InPart shape) Q a d → Left a a.cur
+          → IsPartAtRest geometry images old other after now a
+          → IsPartAtRest geometry images new other after now d
+      other-stays shape other Q split met after now put part at apart call left others =
+          part-stays geometry images images old new other after now a d
+          (stays-apart shape other Q a d
+          (rest.laid.apart (part_no other).0 (part_no shape).0 other shape others.laid part.laid
+          (λ same. apart (same ∙ ap (λ (p : PartNo). p.0) at))) call)
+          left others (catalog-stays geometry old new change rest.laid of put)
+          (other-part geometry old new change rest.laid of put (part_no other).0 apart) refl
 
   module _ (new : State) (change : Changing) (d : Seen) (of : IsChangeOf geometry old change)
       (stands : LogStands log d) (safe : IsSafe geometry number log (committed_by old) d) where

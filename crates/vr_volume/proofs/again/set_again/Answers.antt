@@ -51,8 +51,7 @@ returns-clause-next g c told number old new change images rest part of made give
     let safe = (c.set_free.ensures.safe told log.geometry number log (committed_by old) rest.safe
     (laid-again log.geometry number log images old a rest shape split met place part some
     (g.K.Kept.kept c.args.kept.now (part_no shape)) room)
-    (free-again log.geometry number log images old a rest (part_no shape).0 place some)).1 in
-    (
+    (free-again log.geometry number log images old a rest (part_no shape).0 place some)).1 in (
       volume-next-change log.geometry number log images old a rest new change d of stands safe made,
       part-put log.geometry number log images old a rest new change d of stands safe shape split
           (g.P.Part.split c.set_free.new.part) met now place found made.contents part given-for
@@ -83,8 +82,7 @@ returns-clause-back g c told number old new change images rest part of made give
     let safe = (c.set_free.ensures.safe told log.geometry number log (committed_by old) rest.safe
     (laid-again log.geometry number log images old a rest shape split met place part some
     (g.K.Kept.kept c.args.kept.now (part_no shape)) room)
-    (free-again log.geometry number log images old a rest (part_no shape).0 place some)).1 in
-    (
+    (free-again log.geometry number log images old a rest (part_no shape).0 place some)).1 in (
       volume-put-back log.geometry number log images old a rest new change d of stands safe made,
       part-put log.geometry number log images old a rest new change d of stands safe shape split
           (g.P.Part.split c.set_free.new.part) met now place found made.contents part given-for

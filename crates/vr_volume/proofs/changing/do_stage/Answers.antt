@@ -56,8 +56,7 @@ returns-clause-at_rest g c told number log images state rest part room =
     let adds = c.advance.ensures.adds told in
     let left = g.met.B.Blocks.cur_may c.args.blocks.now told in
     let laid = laid-rest log.geometry number log images state a rest shape split met part kept room in
-    let past = part-past log.geometry (state.contents 0) (part_no shape).0 shape part.laid in
-    (
+    let past = part-past log.geometry (state.contents 0) (part_no shape).0 shape part.laid in (
       volume-same log.geometry number log images state a rest d
           (part-after log.geometry number log (committed_by state) (part_no shape).0 shape kept
           Nothing a d rest.safe laid

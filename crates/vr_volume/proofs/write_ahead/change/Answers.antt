@@ -229,8 +229,7 @@ returns-clause-at_rest g c told number old new change images after rest part of 
     (subst (λ (r : LogRecord). IsLaidBy log.geometry (log.records ++ r ∷ []) (committed_by old)
     (part_no shape).0 shape (g.K.Kept.kept c.args.kept.now (part_no shape))) (sym it)
     (record { laid = laid.laid; kept_is = room ∙ laid.kept_is })) in
-    let stands = (returns-clause-stands g c told) in
-    (
+    let stands = (returns-clause-stands g c told) in (
       volume-first-change log.geometry number log more images after old new change a d rest of made
           logged kept stands safe,
       part-first-change log.geometry number log more images after old new change a d rest of made
