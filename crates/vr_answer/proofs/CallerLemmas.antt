@@ -1,6 +1,6 @@
 -- What the calls of this crate, in their order, make of a reply: for those who enter it in a
 -- history.
-use Rattle.std.proofs.Common.{◌≡◌, ℕ, ◌<◌, Bool, true, false, List, [], ◌∷◌, ◌++◌, Option}
+use Rattle.std.proofs.Common.{◌≡◌, ℕ, ◌<◌, false, List, [], ◌∷◌, ◌++◌, Option}
 use Rattle.std.proofs.Common.{Some, None, IsTrue, inl, inr, refl, sym, ap, ◌∙◌}
 use Rattle.std.specs.Option.{option_map_or, option_or}
 use Rattle.std.proofs.lemmas.Option.{none-some}
@@ -14,14 +14,13 @@ use Rattle.vr_types.specs.declared.reply.Reply.TheVariants.{Refused}
 use Rattle.vr_types.specs.declared.request.Request.{Request}
 use Rattle.vr_types.specs.declared.request.Request.TheVariants.{Get, Point, Add, Update, Erase}
 use Rattle.vr_types.specs.declared.request.Request.TheVariants.{EndReq, Commit, Backout}
-use Rattle.vr_types.specs.declared.unit.Kind.{Kind}
 use Rattle.vr_types.specs.declared.unit.Kind.TheVariants.{Keyed}
 use Rattle.vr_types.specs.declared.unit.Unit.{Unit as UnitOfRecovery}
 use Rattle.vr_history.specs.Case.{Case, new_record}
 use Rattle.vr_history.specs.Opened.{Opened, Cluster, definition_in, opened}
 use Rattle.vr_history.specs.RefusedRoom.{free_areas, log_full}
-use Rattle.vr_history.specs.Replies.{CanEnd, FillsKeyed, IsAnswered, LacksMemory, LacksRoom}
-use Rattle.vr_history.specs.Replies.{MayReply, MeetsFault, all_refusals, answer_of, before_all}
+use Rattle.vr_history.specs.Replies.{CanEnd, IsAnswered, LacksMemory, LacksRoom}
+use Rattle.vr_history.specs.Replies.{MeetsFault, all_refusals, answer_of, before_all}
 use Rattle.vr_history.specs.Replies.{before_room, done_by, first_of, is_keyed, may_read, may_want}
 use Rattle.vr_history.specs.Replies.{refused_or}
 use Rattle.vr_history.specs.State.{State}
@@ -106,7 +105,7 @@ module _ (case : Case) where
       → CanEnd case case.request → IsAnswered case (done_by case case.request)
   answered_done none no_record no_log ends = (
     sym (ap (λ (o : Option Refusal). refused_or o (done_by case case.request))
-    (after_record none no_record ∙ no_log)),
+        (after_record none no_record ∙ no_log)),
     λ first. ends,
   )
 
