@@ -1,5 +1,5 @@
--- What the calls of this crate, in their order, make of a reply: for those who enter it in a
--- history.
+-- What the calls of this crate, in their order, make of a reply, and what its entry leaves of the
+-- state: for those who enter it in a history.
 use Rattle.std.proofs.Common.{◌≡◌, ℕ, ◌<◌, false, List, [], ◌∷◌, ◌++◌, Option}
 use Rattle.std.proofs.Common.{Some, None, IsTrue, inl, inr, refl, sym, ap, ◌∙◌}
 use Rattle.std.specs.Option.{option_map_or, option_or}
@@ -27,6 +27,13 @@ use Rattle.vr_history.specs.State.{State}
 use Rattle.vr_history.specs.Step.{case_of}
 use Rattle.vr_answer.specs.Looked.{place_looked_at}
 use Rattle.vr_answer.specs.Tried.{file_refusals, record_refusals}
+
+-- what an entry leaves
+pub use Rattle.vr_answer.proofs.AfterLemmas.{after_backout, after_change, after_commit, after_endreq}
+pub use Rattle.vr_answer.proofs.AfterLemmas.{after_read, after_refused}
+-- before-images are under locks, and locks are taken as the record file says
+pub use Rattle.vr_answer.proofs.KeptLemmas.{kept_in_the_way, kept_throughout}
+pub use Rattle.vr_answer.proofs.TakingLemmas.{taken_alike}
 
 -- the first of two lists
 pub first_of-append : (one other : List (Option Refusal))
