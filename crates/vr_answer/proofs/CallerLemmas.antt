@@ -27,7 +27,6 @@ use Rattle.vr_history.specs.State.{State}
 use Rattle.vr_history.specs.Step.{case_of}
 use Rattle.vr_answer.specs.Looked.{place_looked_at}
 use Rattle.vr_answer.specs.Tried.{file_refusals, record_refusals}
-
 -- what an entry leaves
 pub use Rattle.vr_answer.proofs.AfterLemmas.{after_backout, after_change, after_commit, after_endreq}
 pub use Rattle.vr_answer.proofs.AfterLemmas.{after_read, after_refused}

@@ -1,7 +1,7 @@
 -- Each before-image of a history is under its unit's exclusive lock.
 use Rattle.std.proofs.Common.{◌≡◌, ℕ, Bool, true, false, cond, not, ◌&&◌, ◌||◌, List, [], ◌∷◌, ◌++◌}
 use Rattle.std.proofs.Common.{Option, Some, None, refl, sym, ap, ◌∙◌, filter, find, map}
-use Rattle.std.specs.List.{AllByRecursion, list_any}
+use Rattle.std.specs.List.{list_any}
 use Rattle.std.specs.Option.{option_map, option_map_or, option_to_list}
 use Rattle.std.specs.Prelude.{flat_map}
 use Rattle.vr_types.specs.LockName.{lock_name_eq}
@@ -14,7 +14,6 @@ use Rattle.vr_types.specs.declared.position.Stand.{Stand}
 use Rattle.vr_types.specs.declared.reply.Reply.{Reply}
 use Rattle.vr_types.specs.declared.reply.Reply.TheVariants.{Done, Refused}
 use Rattle.vr_types.specs.declared.request.FileRef.{FileRef}
-use Rattle.vr_types.specs.declared.request.Find.{Find}
 use Rattle.vr_types.specs.declared.request.Request.{Request}
 use Rattle.vr_types.specs.declared.request.Request.TheVariants.{Get, Point, Add, Update, Erase}
 use Rattle.vr_types.specs.declared.request.Request.TheVariants.{EndReq, Commit, Backout}
@@ -31,7 +30,7 @@ use Rattle.vr_history.specs.Effects.{changes, drops_held, gives_back, holding, i
 use Rattle.vr_history.specs.Effects.{is_utility_live, keeps_other, last_kept, locks, moves_file}
 use Rattle.vr_history.specs.Effects.{takes_out, without_last, without_unit}
 use Rattle.vr_history.specs.Found.{place_read}
-use Rattle.vr_history.specs.Legal.{AreSteps, state_of}
+use Rattle.vr_history.specs.Legal.{state_of}
 use Rattle.vr_history.specs.Names.{change_names, is_own, keys_moved, lock_names, raised}
 use Rattle.vr_history.specs.Names.{raises, record_name, with_lock, with_locks}
 use Rattle.vr_history.specs.Opened.{base_of}

@@ -1,6 +1,6 @@
 -- Before-images and locks: what a unit may bring back is under its exclusive lock (DFSMStvs
 -- Planning and Operating Guide, record-level locking).
-use Rattle.std.specs.Prelude.{◌≡◌, ℕ, Bool, true, ◌&&◌, List}
+use Rattle.std.specs.Prelude.{◌≡◌, Bool, true, ◌&&◌, List}
 use Rattle.std.specs.List.{AllByRecursion, list_any}
 use Rattle.vr_types.specs.Locks.{Lock, is_exclusive}
 use Rattle.vr_types.specs.declared.lock_name.LockName.{LockName}
