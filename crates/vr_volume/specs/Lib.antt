@@ -11,3 +11,4 @@ pub mod Committed
 pub mod Steps
 pub mod Rests
 pub mod EndedLog
+pub mod Due

@@ -6,6 +6,7 @@
 #![tactic(auto)]
 
 mod changing;
+mod forcing;
 mod laws;
 mod logging;
 mod premises;
@@ -13,6 +14,7 @@ mod unit_end;
 mod write_ahead;
 
 pub use changing::{do_stage, force_blocks, set_free};
+pub use forcing::{force_changed, forced_is_firm};
 pub use laws::{each_image_is_safe, image_recovers, one_recovery, one_volume};
 pub use premises::first_change;
 pub use logging::{append_before, append_end, force_log, restart_log};
