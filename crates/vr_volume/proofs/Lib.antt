@@ -19,3 +19,4 @@ pub mod Resting
 pub mod Rested
 pub mod EndCalls
 pub mod ForceCalls
+pub mod Lasting

@@ -12,3 +12,4 @@ pub mod Steps
 pub mod Rests
 pub mod EndedLog
 pub mod Due
+pub mod Durable

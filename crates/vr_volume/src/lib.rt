@@ -6,6 +6,7 @@
 #![tactic(auto)]
 
 mod changing;
+mod durable;
 mod forcing;
 mod laws;
 mod logging;
@@ -14,6 +15,7 @@ mod unit_end;
 mod write_ahead;
 
 pub use changing::{do_stage, force_blocks, set_free};
+pub use durable::state_recovers;
 pub use forcing::{force_changed, forced_is_firm};
 pub use laws::{each_image_is_safe, image_recovers, one_recovery, one_volume};
 pub use premises::first_change;
