@@ -18,3 +18,5 @@ pub mod Ending
 pub mod Resting
 pub mod Rested
 pub mod EndCalls
+pub mod ForceCalls
+pub mod Lasting

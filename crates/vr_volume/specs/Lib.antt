@@ -12,3 +12,5 @@ pub mod Steps
 pub mod Rests
 pub mod Cause
 pub mod EndedLog
+pub mod Due
+pub mod Durable

@@ -80,6 +80,8 @@ pub fn end_unit<B: Blocks>(
     requires shape { IsOf log.old.geometry (B.seen blocks.old) }
     requires live { IsTrue (is_in unit (live_in log.old.records)) }
     requires stands { IsTrue B.tells → LogStands log.old (B.seen blocks.old) }
+    ensures touches { IsTrue B.tells → Touches (InLog log.old.geometry)
+        (HasLog (with_record log.old (End unit kind))) (B.seen blocks.old) (B.seen blocks.new) }
     ensures any_moment { IsTrue B.tells → (geometry : Geometry) (number : ℕ) (old : State)
         → IsVolumeAtRest geometry number log.old (images_in undo.old) old (B.seen blocks.old)
         → IsFirmFor geometry log.old old unit (B.seen blocks.old) → KeepsNoneIf kind old unit

@@ -1,0 +1,118 @@
+-- What forcing blocks that were changed leaves of a volume at rest.
+use Rattle.std.proofs.Common.{◌≡◌, ◌⊎◌, inl, inr, ⊎_elim, ◌<◌, ◌-◌, ℕ, Bool, IsTrue, true, List, []}
+use Rattle.std.proofs.Common.{◌++◌, Option, Some, None, refl, sym, ap, subst, ◌∙◌, arith, length, take}
+use Rattle.std.proofs.Common.{drop}
+use Rattle.std.specs.List.{Contains}
+use Rattle.std.proofs.lemmas.List.{take-append-drop}
+use Rattle.std.proofs.lemmas.List.Elements.{Contains-append_cases}
+use Rattle.vr_types.specs.Blocks.{Forced, Keeps}
+use Rattle.vr_types.specs.Image.{Block, Image, block_at}
+use Rattle.vr_types.specs.Seen.{Left, Seen}
+use Rattle.vr_types.specs.declared.geometry.Geometry.{Geometry}
+use Rattle.vr_types.specs.declared.unit.Unit.{Unit as UnitOfRecovery}
+use Rattle.vr_space.specs.Met.{Met}
+use Rattle.vr_space.specs.Part.{InPart, IsDueTo, IsFirm, IsSound, KeyedShape, Shape, item_of}
+use Rattle.vr_space.specs.Split.{SplitNow}
+use Rattle.vr_space.specs.Way.{MayOnceForced}
+use Rattle.vr_space.specs.Keyed.{keyed_way}
+use Rattle.vr_space.proofs.CallerLemmas.{IsBlock, StaysPart, find-more, keyed-within, within-less}
+use Rattle.vr_log.specs.LogNow.{LogNow}
+use Rattle.vr_history.specs.State.{BeforeImage, State}
+use Rattle.vr_volume.specs.Committed.{IsFirmFor, committed_by}
+use Rattle.vr_volume.specs.Due.{AreRead, IsDueFor}
+use Rattle.vr_volume.specs.Rests.{IsPartAtRest, IsVolumeAtRest}
+use Rattle.vr_volume.specs.Safe.{IsSafe, item_held}
+use Rattle.vr_volume.proofs.Rested.{part-stays, stands-still}
+
+-- ---- what is due
+
+-- what is due to some blocks is due to others by which a crash leaves no more
+due-fewer : (shape : Shape) (listed left place : List ℕ) (a b : Seen) → IsSound shape a
+    → ((n : ℕ) (block : Block) → n < a.count → b.may n block → a.may n block)
+    → ((n : ℕ) (block : Block) → n < a.count → MayOnceForced left b n block
+    → MayOnceForced listed a n block)
+    → b.cur ≡ a.cur → IsDueTo shape listed a place → IsDueTo shape left b place
+due-fewer (KeyedShape part) listed left place a b sound fewer less same due item holds =
+    due item (find-more (IsBlock part a) (MayOnceForced left b) (MayOnceForced listed a) item
+    (λ n block is may. less n block is.0 may) (keyed_way part place)
+    (within-less (IsBlock part a) (MayOnceForced left b) a.may
+    (λ n block is may. fewer n block is.0 may.0) (keyed_way part place)
+    (keyed-within part a sound place)) holds)
+    ∙ sym (ap (λ (image : Image). item_of (KeyedShape part) image place) same)
+
+-- once no block is due, a crash leaves the current record alone
+due-none : (shape : Shape) (place : List ℕ) (now : Seen) → IsSound shape now
+    → IsDueTo shape [] now place → IsFirm shape now place
+due-none (KeyedShape part) place now sound due item holds =
+    due item (find-more (IsBlock part now) now.may (MayOnceForced [] now) item
+    (λ n block is may. (may, λ there. absurd (omega (arith, there.1)))) (keyed_way part place)
+    (keyed-within part now sound place) holds)
+
+pub firm-for : (geometry : Geometry) (log : LogNow) (state : State) (unit : UnitOfRecovery)
+    (now : Seen) → IsDueFor geometry log state unit [] now → AreRead geometry state now
+    → IsFirmFor geometry log state unit now
+firm-for geometry log state unit now due read part place image shape found is mine laid may =
+    let reads = read part shape laid in
+    ap (item_held shape)
+    (due-none shape place now reads.0 (due part place image shape is mine laid) found may)
+    ∙ reads.1 place
+
+-- ---- a call that forces some
+
+module _ (tells : Bool) (told : IsTrue tells) (a b : Seen) (call : Keeps tells a b) where
+  -- whether it fails or not, what was due is,
+  pub due-kept : (shape : Shape) (listed place : List ℕ) → IsSound shape a
+      → IsDueTo shape listed a place → IsDueTo shape listed b place
+  due-kept shape listed place sound = due-fewer shape listed listed place a b sound
+      (λ n block below may. call.adds_none told n block below may)
+      (λ n block below may. (
+        call.adds_none told n block below may.0,
+        λ there. may.1 there ∙ ap (λ (image : Image). block_at image n) (call.content told),
+      ))
+      (call.content told)
+
+  -- to those alone that it didn't force
+  pub due-left : (shape : Shape) (listed place : List ℕ) (count : ℕ)
+      → Forced (drop count listed) a.cur b.may → IsSound shape a → IsDueTo shape listed a place
+      → IsDueTo shape (take count listed) b place
+  due-left shape listed place count forced sound = due-fewer shape listed (take count listed) place
+      a b sound
+      (λ n block below may. call.adds_none told n block below may)
+      (λ n block below may. (
+        call.adds_none told n block below may.0,
+        λ there. ⊎_elim
+            (λ left. may.1 left ∙ ap (λ (image : Image). block_at image n) (call.content told))
+            (λ done. forced n block done may.0)
+            (Contains-append_cases (take count listed) (drop count listed) n
+            (subst (λ (all : List ℕ). Contains all n) (sym (take-append-drop count listed)) there)),
+      ))
+      (call.content told)
+
+  -- the volume stays at rest, and each part of it
+  pub volume-kept : (geometry : Geometry) (number : ℕ) (log : LogNow) (images : List BeforeImage)
+      (state : State) → IsSafe geometry number log (committed_by state) b
+      → IsVolumeAtRest geometry number log images state a
+      → IsVolumeAtRest geometry number log images state b
+  volume-kept geometry number log images state safe rest = record {
+    safe = safe;
+    stands = stands-still log rest.forced a b rest.stands call.count_same call.size_same
+        (λ n block below inside may. call.adds_none told n block below may);
+    sound = rest.sound;
+    forced = rest.forced;
+    laid = rest.laid;
+    logged = rest.logged;
+    kept = rest.kept;
+  }
+
+  pub part-kept : (geometry : Geometry) (images : List BeforeImage) (state : State) (shape : Shape)
+      (split : Option SplitNow) (met : List Met) → Left a a.cur
+      → IsPartAtRest geometry images state shape split met a
+      → IsPartAtRest geometry images state shape split met b
+  part-kept geometry images state shape split met left part =
+      part-stays geometry images images state state shape split met a b
+      (record {
+        count = call.count_same;
+        size = call.size_same;
+        same = λ n inside. ap (λ (image : Image). block_at image n) (call.content told);
+        fewer = λ n block below inside may. call.adds_none told n block below may;
+      }) left part refl refl refl

@@ -1,0 +1,70 @@
+//! The blocks that units of recovery changed are forced, a few at a time, before a unit ends.
+ghost use Rattle.std.specs.Prelude.{◌≡◌, ◌<◌, ◌-◌, [], ℕ, List, Option, IsTrue, OnOk, OnErr, All};
+ghost use Rattle.std.specs.Prelude.{IfOk, length, min, take};
+ghost use Rattle.vr_types.specs.Faults.{HasWriteCause};
+ghost use Rattle.vr_types.specs.Moments.{Guards};
+ghost use Rattle.vr_types.specs.declared.geometry.Geometry.{Geometry};
+ghost use Rattle.vr_types.specs.declared.unit.Unit.{Unit as UnitOfRecovery};
+ghost use Rattle.vr_space.specs.Met.{Met};
+ghost use Rattle.vr_space.specs.Part.{IsDueTo, IsSound, Shape};
+ghost use Rattle.vr_space.specs.Split.{SplitNow};
+ghost use Rattle.vr_log.specs.LogNow.{LogNow};
+ghost use Rattle.vr_history.specs.State.{BeforeImage, State};
+ghost use Rattle.vr_volume.specs.Committed.{IsFirmFor, committed_by};
+ghost use Rattle.vr_volume.specs.Due.{AreRead, IsDueFor};
+ghost use Rattle.vr_volume.specs.Rests.{IsPartAtRest, IsVolumeAtRest};
+ghost use Rattle.vr_volume.specs.Safe.{IsSafeImage};
+
+use crate::changing::force_blocks;
+use vr_types::{Blocks, DeviceFault};
+
+/// Forces the last four of the blocks that were changed, or all where there are no more, takes them
+/// out of the list, and answers how many are left, at most 2^32 - 1. The volume stays at rest: what
+/// was due to the blocks of the list is due to those that are left. `Write` is the device's, and the
+/// list stays.
+pub fn force_changed<B: Blocks>(
+    blocks: &mut B,
+    changed: &mut Vec<u32>,
+) -> Result<u32, DeviceFault>
+    requires { All (λ n. n < (B.seen blocks.old).count) changed.old.items }
+    ensures due { IsTrue B.tells → (shape : Shape) (place : List ℕ)
+        → IsSound shape (B.seen blocks.old)
+        → IsDueTo shape changed.old.items (B.seen blocks.old) place
+        → IsDueTo shape changed.new.items (B.seen blocks.new) place }
+    ensures rests { IsTrue B.tells → (geometry : Geometry) (number : ℕ) (log : LogNow)
+        (images : List BeforeImage) (state : State)
+        → IsVolumeAtRest geometry number log images state (B.seen blocks.old)
+        → Guards (B.seen blocks.old) (B.seen blocks.new)
+        (IsSafeImage geometry number log (committed_by state))
+        × IsVolumeAtRest geometry number log images state (B.seen blocks.new) }
+    ensures others { IsTrue B.tells → (geometry : Geometry) (images : List BeforeImage)
+        (state : State) (shape : Shape) (split : Option SplitNow) (met : List Met)
+        → IsPartAtRest geometry images state shape split met (B.seen blocks.old)
+        → IsPartAtRest geometry images state shape split met (B.seen blocks.new) }
+    ensures taken { OnOk result
+        (changed.new.items ≡ take (length changed.old.items - 4) changed.old.items) }
+    ensures left { IfOk result (λ left. left ≡ min (length changed.new.items) 4294967295) }
+    ensures kept { OnErr result (changed.new.items ≡ changed.old.items) }
+    ensures cause { HasWriteCause (B.faults blocks.old) (B.faults blocks.new) result }
+{
+    let left = changed.len().saturating_sub(4);
+    force_blocks(blocks, &changed[left..])?;
+    changed.truncate(left);
+    Ok(count_of(left))
+}
+
+/// A count, at most 2^32 - 1.
+fn count_of(count: usize) -> u32
+    ensures { result ≡ min count 4294967295 }
+{
+    if count < 4294967295 { count as u32 } else { 4294967295 }
+}
+
+/// Once no block is due, whatever a crash leaves of the places that a unit changed is what stands
+/// there, so that the unit may end.
+pub fn forced_is_firm<B: Blocks>(blocks: &B)
+    ensures { (geometry : Geometry) (log : LogNow) (state : State) (unit : UnitOfRecovery)
+        → IsDueFor geometry log state unit [] (B.seen blocks.now)
+        → AreRead geometry state (B.seen blocks.now)
+        → IsFirmFor geometry log state unit (B.seen blocks.now) }
+{}
