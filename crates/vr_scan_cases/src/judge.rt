@@ -11,8 +11,9 @@ const ALPHABET: [&str; 16] = [
     "", "| ", " ", "A", "C", "x", "'", "/", "*", "-", "+", "(", ";", "=", ">", "1",
 ];
 
-/// How texts begin: within a literal, a comment or a word that goes on, or close to column 72.
-const BEGINS: [&str; 8] = [
+/// How texts begin: within a literal, a comment, a comparison or a word that goes on, or close to
+/// column 72.
+const BEGINS: [&str; 16] = [
     "",
     "C'",
     "X'",
@@ -20,7 +21,15 @@ const BEGINS: [&str; 8] = [
     "A+|   ",
     "C'A-|  ",
     "X'1",
+    "A>",
+    "C'A'",
+    "X'1+|  ",
+    "A /* *",
+    ";",
+    "B /* -|  ",
+    "'C",
     "BBBBBBBBBBBBBBBBBBBBBBBBBBBBBBBBBBBBBBBBBBBBBBBBBBBBBBBBBBBBBBBBBBBB",
+    "BBBBBBBBBBBBBBBBBBBBBBBBBBBBBBBBBBBBBBBBBBBBBBBBBBBBBBBBBBBBBBBBBB /",
 ];
 
 /// Writes what the crate reads, and what the plain program reads where that is something else.
@@ -47,8 +56,8 @@ fn is_same(alloc: Global, text: &str) -> Result<bool, Stop> {
 /// A beginning with four letters of the alphabet after it, by its number.
 fn text_of(alloc: Global, number: usize) -> Result<String, Stop> {
     let mut text = String::from_str(alloc, " ")?;
-    text.push_str(BEGINS[number % 8])?;
-    let mut rest = number / 8;
+    text.push_str(BEGINS[number % 16])?;
+    let mut rest = number / 16;
     for _ in 0..4 {
         text.push_str(ALPHABET[rest % 16])?;
         rest /= 16;
@@ -64,7 +73,7 @@ pub fn judge(alloc: Global, kind: &str, out: &mut String) -> Answer {
     }
     let mut differ = 0u64;
     let mut last = String::new(alloc);
-    for number in 0..524_288usize {
+    for number in 0..1_048_576usize {
         let text = text_of(alloc, number)?;
         if !is_same(alloc, text.as_str())? {
             differ = differ.saturating_add(1);
@@ -72,6 +81,6 @@ pub fn judge(alloc: Global, kind: &str, out: &mut String) -> Answer {
         }
     }
     let last = last.as_str();
-    write!(out, "{differ} differ of 524288{last}")?;
+    write!(out, "{differ} differ of 1048576{last}")?;
     Ok(())
 }
