@@ -17,6 +17,7 @@ pub mod Undoing
 pub mod Ending
 pub mod Resting
 pub mod Rested
+pub mod Histories
 pub mod EndCalls
 pub mod ForceCalls
 pub mod Lasting

@@ -17,6 +17,8 @@ use Rattle.vr_log.specs.declared.record.EndKind.{EndKind}
 use Rattle.vr_log.specs.declared.record.EndKind.TheVariants.{Committed, BackedOut}
 use Rattle.vr_log.specs.declared.record.LogRecord.{LogRecord}
 use Rattle.vr_log.specs.declared.record.LogRecord.TheVariants.{Before, End}
+use Rattle.vr_history.specs.declared.entry.Entry.{Entry}
+use Rattle.vr_history.specs.Committed.{is_counted}
 use Rattle.vr_history.specs.State.{BeforeImage, Logged, State, is_live}
 use Rattle.vr_volume.specs.CatalogRules.{IsCatalog}
 use Rattle.vr_volume.specs.Laid.{shape_by}
@@ -114,3 +116,12 @@ abbrev pub KeepsNoneIf : EndKind → State → UnitOfRecovery → Type 0
 KeepsNoneIf Committed state unit = Unit {0}
 KeepsNoneIf BackedOut state unit =
     All (λ (image : BeforeImage). same_unit unit image.unit ≡ false) state.befores
+
+-- ---- histories
+
+-- Of the units that keep something the log has the commits of those that count: those whose COMMIT
+-- the history has, and these others, which are in their commit.
+abbrev pub CountAlike : List UnitOfRecovery → List Entry → List LogRecord → State → Type 0
+CountAlike others entries records state =
+    All (λ (image : BeforeImage). is_counted others entries image.unit
+    ≡ has_commit records image.unit) state.befores

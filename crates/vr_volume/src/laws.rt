@@ -8,6 +8,13 @@ ghost use Rattle.vr_types.specs.declared.geometry.Geometry.{Geometry};
 ghost use Rattle.vr_log.specs.Content.{Content as LogContent};
 ghost use Rattle.vr_log.specs.LogNow.{LogNow};
 ghost use Rattle.vr_log.specs.declared.record.LogRecord.{LogRecord};
+ghost use Rattle.vr_types.specs.declared.unit.Unit.{Unit as UnitOfRecovery};
+ghost use Rattle.vr_history.specs.declared.entry.Entry.{Entry};
+ghost use Rattle.vr_history.specs.Committed.{committed, is_counted};
+ghost use Rattle.vr_history.specs.Laws.{HasPartThroughout, record_now};
+ghost use Rattle.vr_history.specs.Legal.{AreSteps, state_of};
+ghost use Rattle.vr_history.specs.State.{Owned, opening_state};
+ghost use Rattle.vr_volume.specs.Committed.{CountAlike, committed_by};
 ghost use Rattle.vr_volume.specs.Safe.{IsImageSafe, IsSafe, IsSafeImage};
 ghost use Rattle.vr_volume.specs.Volume.{Recovers, VolumeStandsFor};
 
@@ -43,4 +50,19 @@ pub fn each_image_is_safe<B: Blocks>(blocks: &B)
         → IsSafe geometry number log committed (B.seen blocks.now)
         → (image : Image) → Left (B.seen blocks.now) image
         → IsSafeImage geometry number log committed image }
+{}
+
+/// What is committed in the state that a history gives, by a log that has the commits of the units
+/// that count, is what the history committed: the records of each part that the catalog has
+/// throughout. The other units are those that are in their commit as a crash comes.
+pub fn committed_by_its_history()
+    ensures { (geometry : Geometry) (contents : ℕ → Content) (owned : List Owned)
+        (entries : List Entry) (others : List UnitOfRecovery) (records : List LogRecord)
+        (part : ℕ) → let opening = opening_state contents owned in
+        AreSteps geometry opening entries
+        → HasPartThroughout geometry part (is_counted others entries) opening contents entries
+        → CountAlike others entries records (state_of geometry opening entries)
+        → (place : List ℕ)
+        → record_now (committed_by (state_of geometry opening entries) records) part place
+        ≡ record_now (committed geometry opening entries others) part place }
 {}
