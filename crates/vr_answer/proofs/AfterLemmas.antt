@@ -105,9 +105,8 @@ module _ (case : Case) (place : List ℕ) (alone : HasClustersAlone case.state)
       → IsChanged case place (makes_change case (let_go case))
   made names =
       let here = (let_go case).positions in
-      let is : makes_change case (let_go case) ≡ makes case (change_at case place) (record case.state {
-        positions = here;
-      }) =
+      let is : makes_change case (let_go case)
+      ≡ makes case (change_at case place) (record case.state { positions = here }) =
       ap (λ (o : Option Change). option_map_or (λ change. makes case change (let_go case)) o
       (let_go case)) change_is
       ∙ ap (λ (s : State). makes case (change_at case place) s)
@@ -127,7 +126,7 @@ after_change geometry state unit (Update on new) place feedback shown bytes alon
     made (case_of geometry state unit (Update on new)) place alone at refl
 after_change geometry state unit (Erase on) place feedback shown bytes alone at =
     made (case_of geometry state unit (Erase on)) place alone at refl
-after_change geometry state unit (Get on find update integrity) place feedback shown bytes alone at =
+after_change geometry state unit (Get on find update keeps) place feedback shown bytes alone at =
     absurd (none-some place at)
 after_change geometry state unit (Point on find) place feedback shown bytes alone at =
     absurd (none-some place at)
@@ -155,7 +154,8 @@ module _ (geometry : Geometry) (state : State) (unit : UnitOfRecovery) (on : Fil
       ap (λ (o : Option Stand). stands_after (read update integrity) o state)
       (unmoved place (found (read update integrity)))
 
-  one_name : (update : Bool) (integrity : Integrity) → place_read (read update integrity) ≡ Some place
+  one_name : (update : Bool) (integrity : Integrity)
+      → place_read (read update integrity) ≡ Some place
       → read_names (read update integrity) ≡ record_name (read update integrity) place ∷ []
   one_name update integrity at =
       ap (λ (o : Option (List ℕ)). map (record_name (read update integrity)) (option_to_list o)) at

@@ -112,7 +112,8 @@ module _ (unit : UnitOfRecovery) (name : LockName) (mode : Mode) where
   kept_with_one : (owner : UnitOfRecovery) (held : LockName) (locks : List Lock)
       → list_any (is_under owner held) locks ≡ true
       → list_any (is_under owner held) (with_lock unit mode name locks) ≡ true
-  kept_with_one owner held locks is = kept_by_one (list_any (is_own unit name) locks) owner held locks is
+  kept_with_one owner held locks is =
+      kept_by_one (list_any (is_own unit name) locks) owner held locks is
 
 kept_with : (unit : UnitOfRecovery) (mode : Mode) (names : List LockName) (owner : UnitOfRecovery)
     (held : LockName) (locks : List Lock) → list_any (is_under owner held) locks ≡ true

@@ -4,6 +4,7 @@ pub mod CallerLemmas
 mod FileLemmas
 mod HeldLemmas
 mod KeptLemmas
+mod KeyedLemmas
 mod LogLemmas
 mod OpeningLemmas
 mod Outcomes

@@ -19,7 +19,8 @@ use Rattle.vr_types.specs.declared.request.Request.TheVariants.{EndReq, Commit, 
 use Rattle.vr_history.specs.Case.{file_of, find_of, is_add}
 use Rattle.vr_history.specs.Names.{mode_asked}
 use Rattle.vr_history.specs.RefusedFile.{goes_with_kind, is_unknown, length_wrong, refused_if}
-use Rattle.vr_history.specs.RefusedFile.{find_length_wrong, key_length_wrong, record_wrong, shown_length}
+use Rattle.vr_history.specs.RefusedFile.{find_length_wrong, key_length_wrong, record_wrong}
+use Rattle.vr_history.specs.RefusedFile.{shown_length}
 use Rattle.vr_history.specs.RefusedRecord.{held_by}
 use Rattle.vr_history.specs.Step.{stand_lost, stand_refused}
 use Rattle.vr_answer.specs.declared.case.Case.{Case as CaseInHand}

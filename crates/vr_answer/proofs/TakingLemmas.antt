@@ -42,7 +42,8 @@ is_raised Exclusive = refl
 raised_alike : (mode : Mode) (lock : Lock)
     → table.raise mode lock ≡ record lock { mode = raised lock.mode mode }
 raised_alike Shared lock = ap (λ (m : Mode). record lock { mode = m }) (sym (stays_so lock.mode))
-raised_alike Exclusive lock = ap (λ (m : Mode). record lock { mode = m }) (sym (is_raised lock.mode))
+raised_alike Exclusive lock =
+    ap (λ (m : Mode). record lock { mode = m }) (sym (is_raised lock.mode))
 
 module _ (unit : UnitOfRecovery) (mode : Mode) (name : LockName) where
   own_alike : (lock : Lock) → table.is_own unit name lock ≡ is_own unit name lock

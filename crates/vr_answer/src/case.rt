@@ -1,6 +1,7 @@
 //! What a volume has in memory of a request that it meets.
-ghost use Rattle.std.specs.Prelude.{◌≡◌};
+ghost use Rattle.std.specs.Prelude.{◌≡◌, IfSome};
 ghost use Rattle.std.specs.Option.{option_map_or};
+ghost use Rattle.vr_types.specs.declared.unit.Kind.TheVariants.{Keyed};
 ghost use Rattle.vr_history.specs.Case as cases;
 ghost use Rattle.vr_history.specs.Opened as files;
 ghost use Rattle.vr_answer.specs.Here as here;
@@ -69,9 +70,10 @@ pub(crate) fn definition(case: &Case) -> Option<Definition>
 
 /// The definition of the cluster that the request's file is on; None where there is no file, or
 /// nothing that can be opened by its name.
-#[tactic(auto, using(crate::proofs::OpeningLemmas::opened_is))]
 pub fn opened(case: &Case) -> Option<Definition>
-    ensures { InEach case.now (λ whole. files.opened whole ≡ as_opened result) }
+    ensures value { InEach case.now (λ whole. files.opened whole ≡ as_opened result) }
+    // and the cluster is key-sequenced
+    ensures keyed { InEach case.now (λ whole. IfSome result (λ known. known.kind ≡ Keyed)) }
 {
     definition(case)
 }

@@ -36,11 +36,10 @@ pub fn refusals_come_in_order()
         ≡ file_refusals case ++ (record_refusals case ++ full case ∷ []) }
 {}
 
-/// What the calls answer in their order is the reply that the record file gives, and what may come
-/// in its place: the first refusal by what is in memory (`file`), and where there is none that by
-/// the record (`by_record`), and where there is none that by the log (`by_log`), and where there is
-/// none the reply to a request that is done (`done`), a BACKOUT once its unit keeps no
-/// before-image.
+/// What the calls answer in their order is the reply that the record file gives: the first refusal
+/// by what is in memory (`file`), and where there is none that by the record (`by_record`), and
+/// where there is none that by the log (`by_log`), and where there is none the reply to a request
+/// that is done (`done`), a BACKOUT once its unit keeps no before-image.
 pub fn answer_comes_in_order()
     ensures file { (case : Asked) (refusal : RefusalOf)
         → replies.first_of (file_refusals case) ≡ Some refusal
