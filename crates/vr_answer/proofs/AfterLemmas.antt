@@ -1,14 +1,12 @@
 -- What the entry of a direct request leaves of the state.
-use Rattle.std.proofs.Common.{◌≡◌, ℕ, ◌+◌, Bool, true, false, not, cond, List, [], ◌∷◌, ◌++◌, Option}
+use Rattle.std.proofs.Common.{◌≡◌, ℕ, Bool, true, false, not, cond, List, [], ◌∷◌, ◌++◌, Option}
 use Rattle.std.proofs.Common.{Some, None, refl, sym, ap, ◌∙◌, subst, filter, map}
 use Rattle.std.proofs.lemmas.Option.{none-some}
 use Rattle.std.specs.Prelude.{flat_map}
 use Rattle.std.specs.Option.{option_and_then, option_map, option_map_or, option_to_list}
-use Rattle.vr_types.specs.Content.{Standing}
 use Rattle.vr_types.specs.declared.lock_name.LockName.{LockName}
 use Rattle.vr_types.specs.declared.position.Position.{Position}
 use Rattle.vr_types.specs.declared.position.Stand.{Stand}
-use Rattle.vr_types.specs.declared.position.Stand.TheVariants.{None as Nowhere}
 use Rattle.vr_types.specs.declared.geometry.Geometry.{Geometry}
 use Rattle.vr_types.specs.declared.reply.Refusal.{Refusal}
 use Rattle.vr_types.specs.declared.reply.Reply.TheVariants.{Done, Refused}
@@ -22,7 +20,7 @@ use Rattle.vr_types.specs.declared.unit.Integrity.{Integrity}
 use Rattle.vr_types.specs.declared.unit.Mode.TheVariants.{Exclusive, Shared}
 use Rattle.vr_types.specs.declared.unit.Unit.{Unit as UnitOfRecovery}
 use Rattle.vr_history.specs.Case.{Case, file_of}
-use Rattle.vr_history.specs.Change.{Change, PairMove, change_of, pair_moves, place_changed}
+use Rattle.vr_history.specs.Change.{Change, PairMove, change_of, place_changed}
 use Rattle.vr_history.specs.Effects.{as_logged, drops_held, ends_unit, holding, locks, moves_file}
 use Rattle.vr_history.specs.Found.{Candidate, found, place_read}
 use Rattle.vr_history.specs.LogSpace.{Logging, base_logging, loggings_at, new_loggings}

@@ -1,5 +1,5 @@
 -- The reply to a request that is done, and the answer as a whole, are those of the record file.
-use Rattle.std.proofs.Common.{◌≡◌, ℕ, Bool, true, false, cond, List, [], ◌∷◌, ◌++◌, Option}
+use Rattle.std.proofs.Common.{◌≡◌, ℕ, Bool, false, cond, List, Option}
 use Rattle.std.proofs.Common.{Some, None, Result, Ok, Err, OnErr, IsTrue, refl, sym, ap, ◌∙◌}
 use Rattle.std.specs.List.{list_any}
 use Rattle.std.specs.Option.{is_some, option_and_then, option_copied, option_map_or, option_or}
@@ -13,18 +13,17 @@ use Rattle.vr_types.specs.declared.request.Request.{Request}
 use Rattle.vr_types.specs.declared.request.Request.TheVariants.{Get, Point, Add, Update, Erase}
 use Rattle.vr_types.specs.declared.request.Request.TheVariants.{EndReq, Commit, Backout}
 use Rattle.vr_history.specs.Case.{Case, find_of}
-use Rattle.vr_history.specs.Change.{PairMove, pair_moves, place_changed, record_held}
+use Rattle.vr_history.specs.Change.{PairMove, place_changed, record_held}
 use Rattle.vr_history.specs.Found.{Candidate, found, place_read}
-use Rattle.vr_history.specs.Opened.{Opened, opened}
+use Rattle.vr_history.specs.Opened.{Opened}
 use Rattle.vr_history.specs.RefusedRecord.{record_read}
-use Rattle.vr_history.specs.RefusedRoom.{log_full}
-use Rattle.vr_history.specs.Replies.{LacksMemory, all_refusals, answer_of, before_all}
+use Rattle.vr_history.specs.Replies.{LacksMemory, all_refusals, answer_of}
 use Rattle.vr_history.specs.Replies.{change_feedback, done_by, feedback_if, first_of, has_later}
 use Rattle.vr_history.specs.Replies.{is_shared, may_want, read_feedback, refused_or}
 use Rattle.vr_history.specs.State.{State, is_live}
 use Rattle.vr_answer.specs.declared.case.Case.{Case as CaseInHand}
-use Rattle.vr_answer.specs.Here.{answer_here, asked_here, before_here, changed_by, changed_here}
-use Rattle.vr_answer.specs.Here.{done_here, file_here, full_here, read_by, read_here, record_here}
+use Rattle.vr_answer.specs.Here.{answer_here, asked_here, before_here, changed_by}
+use Rattle.vr_answer.specs.Here.{done_here, file_here, full_here, read_by, record_here}
 use Rattle.vr_answer.specs.InHand.{InEach, IsCaseOf, is_place_logged, whole}
 use Rattle.vr_answer.specs.Looked.{record_looked_at}
 use Rattle.vr_answer.specs.Opening.{as_opened, definition_here}

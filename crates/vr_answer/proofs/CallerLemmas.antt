@@ -1,6 +1,6 @@
--- What the calls of this crate, in their order, make of a reply: for those who enter it in a
--- history.
-use Rattle.std.proofs.Common.{◌≡◌, ℕ, ◌<◌, Bool, true, false, List, [], ◌∷◌, ◌++◌, Option}
+-- What the calls of this crate, in their order, make of a reply, and what its entry leaves of the
+-- state: for those who enter it in a history.
+use Rattle.std.proofs.Common.{◌≡◌, ℕ, ◌<◌, false, List, [], ◌∷◌, ◌++◌, Option}
 use Rattle.std.proofs.Common.{Some, None, IsTrue, inl, inr, refl, sym, ap, ◌∙◌}
 use Rattle.std.specs.Option.{option_map_or, option_or}
 use Rattle.std.proofs.lemmas.Option.{none-some}
@@ -14,20 +14,25 @@ use Rattle.vr_types.specs.declared.reply.Reply.TheVariants.{Refused}
 use Rattle.vr_types.specs.declared.request.Request.{Request}
 use Rattle.vr_types.specs.declared.request.Request.TheVariants.{Get, Point, Add, Update, Erase}
 use Rattle.vr_types.specs.declared.request.Request.TheVariants.{EndReq, Commit, Backout}
-use Rattle.vr_types.specs.declared.unit.Kind.{Kind}
 use Rattle.vr_types.specs.declared.unit.Kind.TheVariants.{Keyed}
 use Rattle.vr_types.specs.declared.unit.Unit.{Unit as UnitOfRecovery}
 use Rattle.vr_history.specs.Case.{Case, new_record}
 use Rattle.vr_history.specs.Opened.{Opened, Cluster, definition_in, opened}
 use Rattle.vr_history.specs.RefusedRoom.{free_areas, log_full}
-use Rattle.vr_history.specs.Replies.{CanEnd, FillsKeyed, IsAnswered, LacksMemory, LacksRoom}
-use Rattle.vr_history.specs.Replies.{MayReply, MeetsFault, all_refusals, answer_of, before_all}
+use Rattle.vr_history.specs.Replies.{CanEnd, IsAnswered, LacksMemory, LacksRoom}
+use Rattle.vr_history.specs.Replies.{MeetsFault, all_refusals, answer_of, before_all}
 use Rattle.vr_history.specs.Replies.{before_room, done_by, first_of, is_keyed, may_read, may_want}
 use Rattle.vr_history.specs.Replies.{refused_or}
 use Rattle.vr_history.specs.State.{State}
 use Rattle.vr_history.specs.Step.{case_of}
 use Rattle.vr_answer.specs.Looked.{place_looked_at}
 use Rattle.vr_answer.specs.Tried.{file_refusals, record_refusals}
+-- what an entry leaves
+pub use Rattle.vr_answer.proofs.AfterLemmas.{after_backout, after_change, after_commit, after_endreq}
+pub use Rattle.vr_answer.proofs.AfterLemmas.{after_read, after_refused}
+-- before-images are under locks, and locks are taken as the record file says
+pub use Rattle.vr_answer.proofs.KeptLemmas.{kept_in_the_way, kept_throughout}
+pub use Rattle.vr_answer.proofs.TakingLemmas.{taken_alike}
 
 -- the first of two lists
 pub first_of-append : (one other : List (Option Refusal))
@@ -106,7 +111,7 @@ module _ (case : Case) where
       → CanEnd case case.request → IsAnswered case (done_by case case.request)
   answered_done none no_record no_log ends = (
     sym (ap (λ (o : Option Refusal). refused_or o (done_by case case.request))
-    (after_record none no_record ∙ no_log)),
+        (after_record none no_record ∙ no_log)),
     λ first. ends,
   )
 

@@ -1,22 +1,21 @@
 -- The refusals by what is in memory are those of the record file.
-use Rattle.std.proofs.Common.{◌≡◌, ℕ, Bool, true, false, not, ◌&&◌, ◌||◌, List, [], ◌∷◌, Option}
-use Rattle.std.proofs.Common.{Some, None, refl, sym, ap, ◌∙◌, subst}
-use Rattle.std.specs.Option.{is_none, option_and_then, option_copied, option_map, option_map_or}
+use Rattle.std.proofs.Common.{◌≡◌, ℕ, Bool, false, not, ◌&&◌, ◌||◌, List, [], ◌∷◌, Option}
+use Rattle.std.proofs.Common.{Some, None, refl, sym, ap, ◌∙◌}
+use Rattle.std.specs.Option.{is_none, option_and_then, option_map, option_map_or}
 use Rattle.std.specs.Option.{option_or}
 use Rattle.vr_catalog.specs.declared.definition.Definition.{Definition}
 use Rattle.vr_types.specs.declared.reply.Refusal.{Refusal}
 use Rattle.vr_types.specs.declared.reply.Refusal.TheVariants.{BadSlot, NoFile, NoGet, NotAllowed}
 use Rattle.vr_types.specs.declared.reply.Refusal.TheVariants.{NoPosition, Stopped}
-use Rattle.vr_types.specs.declared.request.FileRef.{FileRef}
 use Rattle.vr_types.specs.declared.request.Find.TheVariants.{Next, Equal, AtLeast}
 use Rattle.vr_types.specs.declared.request.Request.{Request}
 use Rattle.vr_types.specs.declared.request.Request.TheVariants.{Get, Point, Add, Update, Erase}
 use Rattle.vr_types.specs.declared.request.Request.TheVariants.{EndReq, Commit, Backout}
 use Rattle.vr_types.specs.declared.unit.Kind.{Kind}
-use Rattle.vr_types.specs.declared.unit.Kind.TheVariants.{Keyed, Entry, Relative}
-use Rattle.vr_history.specs.Case.{Case, acts_on_held, dropped, file_of}
+use Rattle.vr_types.specs.declared.unit.Kind.TheVariants.{Keyed}
+use Rattle.vr_history.specs.Case.{Case, acts_on_held, file_of}
 use Rattle.vr_history.specs.Found.{stand_of}
-use Rattle.vr_history.specs.Opened.{Opened, Unknown, Cluster, opened}
+use Rattle.vr_history.specs.Opened.{Opened, Cluster, opened}
 use Rattle.vr_history.specs.RefusedFile.{bad_length, bad_slot, goes_with_kind, is_catalog_changing}
 use Rattle.vr_history.specs.RefusedFile.{is_slot_zero, is_unknown, length_wrong, no_file}
 use Rattle.vr_history.specs.RefusedFile.{not_allowed, refused_if, slot_named, stopped}
@@ -24,7 +23,7 @@ use Rattle.vr_history.specs.RefusedRecord.{is_nowhere, is_sequential, no_get, no
 use Rattle.vr_history.specs.Replies.{before_all, first_of}
 use Rattle.vr_history.specs.State.{State}
 use Rattle.vr_answer.specs.declared.case.Case.{Case as CaseInHand}
-use Rattle.vr_answer.specs.Here.{asked_here, before_here, file_here, form_by, form_here, no_file_here}
+use Rattle.vr_answer.specs.Here.{before_here, file_here, form_by, form_here, no_file_here}
 use Rattle.vr_answer.specs.Here.{no_get_here, stopped_here}
 use Rattle.vr_answer.specs.InHand.{IsCaseOf, whole}
 use Rattle.vr_answer.specs.Opening.{as_opened, definition_here}

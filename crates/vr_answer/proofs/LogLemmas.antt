@@ -9,7 +9,7 @@ use Rattle.vr_types.specs.declared.request.Request.{Request}
 use Rattle.vr_types.specs.declared.request.Request.TheVariants.{Get, Point, Add, Update, Erase}
 use Rattle.vr_types.specs.declared.request.Request.TheVariants.{EndReq, Commit, Backout}
 use Rattle.vr_history.specs.Case.{Case, is_add}
-use Rattle.vr_history.specs.Change.{PairMove, old_record, pair_moves, place_changed, record_held}
+use Rattle.vr_history.specs.Change.{PairMove, place_changed, record_held}
 use Rattle.vr_history.specs.Found.{place_read}
 use Rattle.vr_history.specs.LogSpace.{Logging, base_logging, log_need, loggings, loggings_at}
 use Rattle.vr_history.specs.LogSpace.{need_for, new_loggings, pair_loggings}
@@ -18,7 +18,7 @@ use Rattle.vr_history.specs.RefusedFile.{refused_if}
 use Rattle.vr_history.specs.RefusedRoom.{log_full}
 use Rattle.vr_history.specs.State.{State, is_live, is_logged}
 use Rattle.vr_answer.specs.declared.case.Case.{Case as CaseInHand}
-use Rattle.vr_answer.specs.Here.{bytes_for, changed_by, changed_here, full_here, need_here}
+use Rattle.vr_answer.specs.Here.{bytes_for, changed_by, full_here, need_here}
 use Rattle.vr_answer.specs.Here.{old_here, read_by}
 use Rattle.vr_answer.specs.InHand.{IsCaseOf, is_place_logged, whole}
 use Rattle.vr_answer.specs.Looked.{record_looked_at}

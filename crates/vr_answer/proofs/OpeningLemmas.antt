@@ -16,7 +16,7 @@ use Rattle.vr_types.specs.declared.request.FileRef.{FileRef}
 use Rattle.vr_types.specs.declared.unit.Kind.TheVariants.{Keyed}
 use Rattle.vr_types.specs.declared.unit.PartNo.{PartNo}
 use Rattle.vr_history.specs.Case.{Case, file_of}
-use Rattle.vr_history.specs.Opened.{Opened, Unknown, Cluster, built_over, by_name, by_path}
+use Rattle.vr_history.specs.Opened.{Unknown, built_over, by_name, by_path}
 use Rattle.vr_history.specs.Change.{move_of, moves_at, moves_key, pair_moves, place_changed}
 use Rattle.vr_history.specs.Opened.{base_of, catalog_of, opened, opened_base, opened_file}
 use Rattle.vr_history.specs.State.{State}

@@ -1,25 +1,24 @@
 -- The places that a request reads and changes, and the name that it locks.
-use Rattle.std.proofs.Common.{◌≡◌, ℕ, Bool, true, false, cond, List, [], ◌∷◌, ◌++◌, Option}
+use Rattle.std.proofs.Common.{◌≡◌, ℕ, true, cond, List, [], ◌∷◌, ◌++◌, Option}
 use Rattle.std.proofs.Common.{Some, None, refl, sym, ap, ◌∙◌, filter, map}
 use Rattle.std.specs.Prelude.{flat_map}
 use Rattle.std.specs.Option.{is_some, option_and_then, option_copied, option_map, option_map_or}
 use Rattle.std.specs.Option.{option_or, option_to_list}
 use Rattle.vr_catalog.specs.Definition.{key_of}
 use Rattle.vr_catalog.specs.declared.definition.Definition.{Definition}
-use Rattle.vr_types.specs.declared.lock_name.LockName.{LockName}
 use Rattle.vr_types.specs.declared.request.Find.TheVariants.{Next, Equal, AtLeast}
 use Rattle.vr_types.specs.declared.request.Request.{Request}
 use Rattle.vr_types.specs.declared.request.Request.TheVariants.{Get, Point, Add, Update, Erase}
 use Rattle.vr_types.specs.declared.request.Request.TheVariants.{EndReq, Commit, Backout}
 use Rattle.vr_types.specs.declared.unit.Kind.{Kind}
 use Rattle.vr_types.specs.declared.unit.Mode.{Mode}
-use Rattle.vr_history.specs.Case.{Case, dropped, find_of}
-use Rattle.vr_history.specs.Change.{PairMove, pair_moves, place_added, place_asked, place_by}
+use Rattle.vr_history.specs.Case.{Case, find_of}
+use Rattle.vr_history.specs.Change.{PairMove, place_added, place_asked, place_by}
 use Rattle.vr_history.specs.Change.{place_changed}
 use Rattle.vr_history.specs.Found.{Candidate, found, place_in, place_read}
 use Rattle.vr_history.specs.Names.{change_names, keys_moved, lock_names, read_mode, read_names}
 use Rattle.vr_history.specs.Names.{record_name}
-use Rattle.vr_history.specs.Opened.{Opened, Cluster, definition_in, opened}
+use Rattle.vr_history.specs.Opened.{Opened, definition_in}
 use Rattle.vr_history.specs.State.{State}
 use Rattle.vr_answer.specs.declared.case.Case.{Case as CaseInHand}
 use Rattle.vr_answer.specs.Here.{asks_lock, changed_by, changed_here, looked_here, name_here, name_of}

@@ -1,5 +1,5 @@
 -- The refusals by the record that is there, and by locks, are those of the record file.
-use Rattle.std.proofs.Common.{◌≡◌, ℕ, Bool, true, false, not, ◌&&◌, cond, List, [], ◌∷◌, Option}
+use Rattle.std.proofs.Common.{◌≡◌, ℕ, Bool, false, not, ◌&&◌, cond, List, [], Option}
 use Rattle.std.proofs.Common.{Some, None, refl, sym, ap, ◌∙◌, find, length}
 use Rattle.std.specs.Option.{is_none, is_some, option_and_then, option_copied, option_map}
 use Rattle.std.specs.Option.{option_map_or, option_or}
@@ -16,12 +16,12 @@ use Rattle.vr_types.specs.declared.request.Request.TheVariants.{EndReq, Commit, 
 use Rattle.vr_types.specs.declared.unit.Kind.{Kind}
 use Rattle.vr_history.specs.Address.{areas_needed, interval_needed}
 use Rattle.vr_history.specs.Case.{Case, acts_on_held, dropped, find_of, is_add, new_record}
-use Rattle.vr_history.specs.Change.{PairMove, old_record, pair_moves, place_changed, record_held}
+use Rattle.vr_history.specs.Change.{PairMove, old_record, place_changed, record_held}
 use Rattle.vr_history.specs.Found.{place_read}
-use Rattle.vr_history.specs.Names.{lock_names, mode_asked}
-use Rattle.vr_history.specs.Opened.{Opened, Cluster, base_of, definition_in, opened}
+use Rattle.vr_history.specs.Names.{mode_asked}
+use Rattle.vr_history.specs.Opened.{Opened, base_of, definition_in, opened}
 use Rattle.vr_history.specs.RefusedFile.{refused_if}
-use Rattle.vr_history.specs.RefusedRecord.{absent, absent_by, absent_for, absent_in, absent_to}
+use Rattle.vr_history.specs.RefusedRecord.{absent, absent_by, absent_in, absent_to}
 use Rattle.vr_history.specs.RefusedRecord.{changes_key, changes_length, duplicate, duplicate_key}
 use Rattle.vr_history.specs.RefusedRecord.{gone, held, held_by, is_taken, key_changed, key_changes}
 use Rattle.vr_history.specs.RefusedRecord.{length_changed, length_changes, other_key, other_length}
@@ -34,7 +34,7 @@ use Rattle.vr_answer.specs.Here.{changed_by, gone_here, held_here, held_on, is_o
 use Rattle.vr_answer.specs.Here.{key_changed_here, key_changes_by, name_here, names_in}
 use Rattle.vr_answer.specs.Here.{presence_here, read_by, record_here}
 use Rattle.vr_answer.specs.InHand.{IsCaseOf, whole}
-use Rattle.vr_answer.specs.Looked.{place_looked_at, record_looked_at}
+use Rattle.vr_answer.specs.Looked.{record_looked_at}
 use Rattle.vr_answer.specs.Opening.{as_opened, definition_here}
 use Rattle.vr_answer.specs.Scope.{IsDirect}
 use Rattle.vr_answer.specs.Tried.{record_refusals}

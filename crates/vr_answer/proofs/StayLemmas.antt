@@ -1,12 +1,11 @@
 -- The refusals of a direct request move no file.
 use Rattle.std.proofs.Common.{◌≡◌, ℕ, Bool, true, false, not, ◌&&◌, ◌||◌, List, Option, Some, None}
-use Rattle.std.proofs.Common.{refl, sym, ap, ◌∙◌, nat_eq, length}
-use Rattle.std.specs.Option.{is_none, is_some, option_and_then, option_copied, option_map, option_or}
+use Rattle.std.proofs.Common.{refl, nat_eq, length}
+use Rattle.std.specs.Option.{is_some, option_and_then, option_map, option_or}
 use Rattle.vr_catalog.specs.Definition.{is_valid_record}
 use Rattle.vr_catalog.specs.declared.definition.Definition.{Definition}
 use Rattle.vr_types.specs.Locks.{Lock, first_conflict}
 use Rattle.vr_types.specs.declared.lock_name.LockName.{LockName}
-use Rattle.vr_types.specs.declared.position.Stand.{Stand}
 use Rattle.vr_types.specs.declared.reply.Refusal.{Refusal}
 use Rattle.vr_types.specs.declared.reply.Refusal.TheVariants.{BadLength, Duplicate, KeyChanged}
 use Rattle.vr_types.specs.declared.reply.Refusal.TheVariants.{LogFull, NoFile, NoGet, NotAllowed}
@@ -22,9 +21,6 @@ use Rattle.vr_history.specs.Names.{mode_asked}
 use Rattle.vr_history.specs.RefusedFile.{goes_with_kind, is_unknown, length_wrong, refused_if}
 use Rattle.vr_history.specs.RefusedFile.{find_length_wrong, key_length_wrong, record_wrong, shown_length}
 use Rattle.vr_history.specs.RefusedRecord.{held_by}
-use Rattle.vr_history.specs.RefusedRoom.{log_full}
-use Rattle.vr_history.specs.Replies.{first_of}
-use Rattle.vr_history.specs.State.{State, is_live}
 use Rattle.vr_history.specs.Step.{stand_lost, stand_refused}
 use Rattle.vr_answer.specs.declared.case.Case.{Case as CaseInHand}
 use Rattle.vr_answer.specs.Here.{asked_here, before_here, file_here, form_by, form_here, full_here}

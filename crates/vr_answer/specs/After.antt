@@ -1,17 +1,14 @@
 -- What the entry of a direct request leaves of the state, field by field, in a catalog of
 -- key-sequenced clusters alone.
-use Rattle.std.specs.Prelude.{◌≡◌, ℕ, ◌+◌, Bool, true, false, cond, List, [], ◌∷◌, ◌++◌, Option, Some, None}
+use Rattle.std.specs.Prelude.{◌≡◌, ℕ, ◌+◌, Bool, true, false, cond, List, [], ◌∷◌, ◌++◌}
 use Rattle.std.specs.Prelude.{option_map}
-use Rattle.vr_types.specs.Content.{Item, Standing}
-use Rattle.vr_types.specs.Position.{unheld}
-use Rattle.vr_types.specs.declared.lock_name.LockName.{LockName}
+use Rattle.vr_types.specs.Content.{Standing}
 use Rattle.vr_types.specs.declared.position.Position.{Position}
 use Rattle.vr_types.specs.declared.position.Stand.TheVariants.{None as Nowhere}
 use Rattle.vr_types.specs.declared.request.FileRef.{FileRef}
 use Rattle.vr_types.specs.declared.unit.Integrity.{Integrity}
 use Rattle.vr_types.specs.declared.unit.Integrity.TheVariants.{Nri, Cr, Cre}
 use Rattle.vr_types.specs.declared.unit.Mode.TheVariants.{Exclusive, Shared}
-use Rattle.vr_types.specs.declared.unit.Unit.{Unit as UnitOfRecovery}
 use Rattle.vr_history.specs.Case.{Case, file_of, new_record}
 use Rattle.vr_history.specs.Change.{Change, old_record}
 use Rattle.vr_history.specs.Effects.{as_logged, drops_held, holding, image_kept, locks}

@@ -20,7 +20,6 @@ use Rattle.vr_types.specs.declared.request.Find.TheVariants.{Next, Equal, AtLeas
 use Rattle.vr_types.specs.declared.request.Request.{Request}
 use Rattle.vr_types.specs.declared.request.Request.TheVariants.{Get, Point, Add, Update, Erase}
 use Rattle.vr_types.specs.declared.request.Request.TheVariants.{EndReq, Commit, Backout}
-use Rattle.vr_types.specs.declared.unit.PartNo.{PartNo}
 use Rattle.vr_history.specs.Case.{acts_on_held, file_of, find_of, is_add}
 use Rattle.vr_history.specs.Names.{mode_asked, read_mode}
 use Rattle.vr_history.specs.RefusedFile.{goes_with_kind, is_unknown, length_wrong, refused_if}

@@ -1,7 +1,6 @@
 -- What a volume has in memory of a request that it meets, beside the state that it stands for.
 use Rattle.std.specs.Prelude.{◌≡◌, ℕ, Bool, false, List, Option}
 use Rattle.std.specs.Option.{option_copied, option_map_or}
-use Rattle.vr_types.specs.declared.request.Request.{Request}
 use Rattle.vr_history.specs.Case.{Case, dropped}
 use Rattle.vr_history.specs.Change.{place_changed}
 use Rattle.vr_history.specs.Opened.{base_of, catalog_of}

@@ -1,6 +1,6 @@
 -- Which requests on which volumes are answered here. The limits are this project's own, and each is
 -- one line: a further request in `IsDirect`, a further kind of data set in `IsKeyedCluster`.
-use Rattle.std.specs.Prelude.{◌≡◌, ℕ, List}
+use Rattle.std.specs.Prelude.{◌≡◌, List}
 use Rattle.std.specs.List.{AllByRecursion}
 use Rattle.vr_catalog.specs.Catalog.{definition_in}
 use Rattle.vr_catalog.specs.declared.entry.CatEntry.{CatEntry}

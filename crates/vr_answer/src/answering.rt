@@ -48,11 +48,7 @@ fn bytes_shown(alloc: Global, at: Option<&[u8]>) -> Result<Option<Bytes>, OutOfM
 }
 
 /// The reply with the place that was looked at.
-fn done_at(
-    alloc: Global,
-    case: &Case,
-    present: Option<&[u8]>,
-) -> Result<Reply, OutOfMemory>
+fn done_at(alloc: Global, case: &Case, present: Option<&[u8]>) -> Result<Reply, OutOfMemory>
     ensures { IfOk result (λ reply.
         reply ≡ here.done_here case.now (option_copied present.entry)) }
 {
@@ -66,11 +62,7 @@ fn done_at(
 }
 
 /// The reply to a request that is done.
-fn done_here(
-    alloc: Global,
-    case: &Case,
-    present: Option<&[u8]>,
-) -> Result<Reply, OutOfMemory>
+fn done_here(alloc: Global, case: &Case, present: Option<&[u8]>) -> Result<Reply, OutOfMemory>
     ensures value { IfOk result (λ reply.
         reply ≡ here.done_here case.now (option_copied present.entry)) }
     ensures memory { OnErr result (IsTrue (replies.may_want case.now.request.now)) }
@@ -82,19 +74,16 @@ fn done_here(
             bytes: None,
         }),
         Request::Get { .. } | Request::Point { .. } => done_at(alloc, case, present),
-        Request::Add { .. } | Request::Update { .. } | Request::Erase { .. } =>
-            done_at(alloc, case, present),
+        Request::Add { .. } | Request::Update { .. } | Request::Erase { .. } => done_at(
+            alloc, case, present,
+        ),
     }
 }
 
 /// The reply to a request that nothing refuses: with the place that it looked at, and a GET with
 /// the record that was read. It fails only if memory runs out, and not for a request that is on no
 /// file.
-pub fn done(
-    alloc: Global,
-    case: &Case,
-    present: Option<&[u8]>,
-) -> Result<Reply, OutOfMemory>
+pub fn done(alloc: Global, case: &Case, present: Option<&[u8]>) -> Result<Reply, OutOfMemory>
     ensures value { IfOk result (λ reply. InEachWith case.now (option_copied present.entry)
         (λ whole. reply ≡ replies.done_by whole whole.request)) }
     ensures memory { OnErr result (IsTrue (replies.may_want case.now.request.now)) }

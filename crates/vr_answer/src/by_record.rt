@@ -81,11 +81,7 @@ fn presence_here(case: &Case, there: bool) -> Option<Refusal>
 }
 
 /// The refusals by locks, and those that come after them.
-fn locked_here(
-    alloc: Global,
-    case: &Case,
-    there: bool,
-) -> Result<Option<Refusal>, OutOfMemory>
+fn locked_here(alloc: Global, case: &Case, there: bool) -> Result<Option<Refusal>, OutOfMemory>
     ensures value { IfOk result (λ refusal. refusal ≡ here.locked_here case.now there) }
     ensures memory { OnErr result (IsTrue (may_want case.now.request.now)) }
 {

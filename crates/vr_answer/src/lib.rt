@@ -22,7 +22,10 @@ pub use by_file::{refused_before_all, refused_by_file};
 pub use by_record::refused_by_record;
 pub use case::{Case, opened};
 pub use effects::{change_leaves, end_leaves, read_leaves, refusal_leaves};
-pub use laws::{answer_comes_in_order, refusals_come_in_order};
+pub use laws::{
+    answer_comes_in_order, before_images_are_locked, locks_are_taken_alike, may_come_instead,
+    refusals_come_in_order,
+};
 pub use locking::{lock_names, mode_asked};
 pub use logging::{log_full, log_need};
 pub use places::{place_changed, place_looked_at, place_read};

@@ -33,7 +33,11 @@ fn asks_lock(request: &Request) -> bool
     ensures { result ≡ here.asks_lock request.now }
 {
     match request {
-        Request::Get { update, integrity, .. } => {
+        Request::Get {
+            update,
+            integrity,
+            ..
+        } => {
             if *update {
                 true
             } else {

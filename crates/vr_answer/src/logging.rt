@@ -44,13 +44,7 @@ fn bytes_for(place: Option<&[u8]>, old: Option<&[u8]>, logged: bool) -> u64
 {
     match place {
         None => 0,
-        Some(place) => {
-            if logged {
-                0
-            } else {
-                before_length(place, old)
-            }
-        }
+        Some(place) => { if logged { 0 } else { before_length(place, old) } }
     }
 }
 

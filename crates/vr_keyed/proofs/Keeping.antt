@@ -49,6 +49,7 @@ module _ (part : Keyed) (tells : Bool) (told : IsTrue tells) (a b : Seen) (call 
     found = ap (λ (top : Block). entry_for None (entries_of top) split.cut) (still part.head)
         ∙ is.found;
     interval = is.interval;
+    high = is.high;
     old = stable split.old (subst (λ (n : ℕ). n < part.area) is.interval
         (found-in part (block_at a.cur part.head) split.cut is.at head is.found)) is.old;
   }

@@ -17,3 +17,4 @@ pub mod PlanLemmas
 pub mod Advancing
 pub mod StageKinds
 pub mod Keeping
+pub mod Attaching

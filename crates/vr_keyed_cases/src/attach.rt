@@ -7,7 +7,7 @@ ghost use Rattle.vr_keyed_cases.specs.TheLayout.{the_geometry};
 use crate::answers::{Answer, Stop, say, say_fault, say_number};
 use crate::held::Held;
 use crate::images::last_blocks;
-use crate::plain_damage::{Found, plain_damage};
+use crate::plain_damage::{Found, damage_in};
 use crate::traced::Traced;
 use crate::words::{long_number, number, parted};
 use std::alloc::Global;
@@ -84,8 +84,8 @@ pub fn attach(alloc: Global, held: &Held, rest: &str, out: &mut String) -> Answe
     attach_to(alloc, blocks.as_slice(), &[], out)
 }
 
-/// Attaches the part to what was written last, on a device whose call of a number fails. The first
-/// four calls write the blocks: `attach_fails NUMBER`.
+/// Attaches the part to what was written last, on a device whose call of a number fails: calls 0 to
+/// 3 write the blocks: `attach_fails NUMBER`.
 pub fn attach_fails(alloc: Global, held: &Held, rest: &str, out: &mut String) -> Answer {
     let blocks = last_blocks(alloc, held.blocks.device())?;
     attach_to(alloc, blocks.as_slice(), &[long_number(rest)?], out)
@@ -152,9 +152,9 @@ fn attach_to(alloc: Global, blocks: &[u8], fails: &[u64], out: &mut String) -> A
     let mut traced = volume(alloc, blocks, fails)?;
     let found = attached(alloc, &mut traced, out)?;
     say(out, traced.notes())?;
-    if fails.is_empty() && found != plain_damage(blocks, LONGEST as usize) {
+    if fails.is_empty() && found != damage_in(blocks, LONGEST as usize) {
         say(out, ", but the plain program says ")?;
-        say_found(out, plain_damage(blocks, LONGEST as usize))?;
+        say_found(out, damage_in(blocks, LONGEST as usize))?;
     }
     Ok(())
 }

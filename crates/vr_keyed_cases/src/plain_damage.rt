@@ -23,7 +23,7 @@ fn are_all(blocks: &[u8], at: usize, count: usize, wanted: u8) -> bool {
 }
 
 /// What is found of four blocks of a part whose records have at most so many bytes.
-pub fn plain_damage(blocks: &[u8], most: usize) -> Option<Found> {
+pub fn damage_in(blocks: &[u8], most: usize) -> Option<Found> {
     let rule = head_rule(blocks);
     if rule != 0 {
         return Some(Found { block: 0, rule });
@@ -285,7 +285,9 @@ fn after(block: &[u8], left: Left, run: Run) -> Left {
     let withdrawn = is_withdrawn(block, left.control);
     let room = run.length.saturating_add(3).saturating_mul(run.count);
     Left {
-        start: left.start.saturating_add(run.length.saturating_mul(run.count)),
+        start: left
+            .start
+            .saturating_add(run.length.saturating_mul(run.count)),
         control: left.control.saturating_sub(run.control),
         room: left.room.saturating_add(room),
         last: if withdrawn { 0 } else { run.length },

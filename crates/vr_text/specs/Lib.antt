@@ -1,3 +1,5 @@
+pub mod Lines
+pub mod LinesHeld
 pub mod Literal
 pub mod LiteralParts
 pub mod Number

@@ -16,7 +16,6 @@ use Rattle.vr_log.specs.declared.record.LogRecord.{LogRecord}
 use Rattle.vr_log.specs.declared.record.LogRecord.TheVariants.{Before, End}
 use Rattle.vr_volume.specs.Logged.{HasNoneOf}
 use Rattle.vr_volume.specs.PutBack.{image_in, images_of}
-
 -- one image more: the oldest of a place, and the lengths that are kept
 pub use Rattle.vr_undo.proofs.CallerLemmas.{kept-append, kept_more, oldest-append}
 

@@ -1,7 +1,8 @@
 -- What calls leave of a volume at rest.
 use Rattle.std.proofs.Common.{◌≡◌, ◌≢◌, ◌⊎◌, inl, inr, ⊎_elim, ◌<◌, ◌≤◌, ◌*◌, ◌+◌, ℕ, Bool, true}
 use Rattle.std.proofs.Common.{false, cond, List, [], ◌∷◌, ◌++◌, Option, Some, None, refl, sym, ap}
-use Rattle.std.proofs.Common.{subst, ◌∙◌, arith, length, ◌==◌}
+use Rattle.std.proofs.Common.{subst, ◌∙◌, arith, length, ◌==◌, IsTrue}
+use Rattle.std.specs.List.{filter_map}
 use Rattle.std.specs.Option.{option_and_then, option_map}
 use Rattle.std.proofs.lemmas.Bool.{true≢false}
 use Rattle.std.proofs.lemmas.List.{length-append, take_all}
@@ -13,10 +14,12 @@ use Rattle.vr_types.specs.Image.{Block, Image, block_at}
 use Rattle.vr_types.specs.Regions.{IsImageOn, Outside, Touches}
 use Rattle.vr_types.specs.Seen.{Left, Seen}
 use Rattle.vr_types.specs.declared.geometry.Geometry.{Geometry}
+use Rattle.vr_types.specs.Blocks.{Keeps}
 use Rattle.vr_types.specs.declared.unit.PartNo.{PartNo}
+use Rattle.vr_types.specs.declared.unit.Unit.{Unit as UnitOfRecovery}
 use Rattle.vr_space.specs.Met.{Met}
 use Rattle.vr_space.specs.Part.{DueMore, HasKeptRoom, HasRoom, InPart, IsAtRest, IsOn, KeyedShape}
-use Rattle.vr_space.specs.Part.{Knows}
+use Rattle.vr_space.specs.Part.{Knows, SameRecords}
 use Rattle.vr_space.specs.Part.{IsPlaceOf, IsSound, SetsOne, Shape, item_of, part_no}
 use Rattle.vr_space.specs.Room.{Lengths}
 use Rattle.vr_space.specs.Split.{SplitNow}
@@ -27,27 +30,37 @@ use Rattle.vr_space.specs.Keyed.{keyed_way}
 use Rattle.vr_space.specs.Way.{MayOnceForced}
 use Rattle.vr_log.specs.Content.{Content as LogContent}
 use Rattle.vr_log.specs.LogBlock.{room_of}
-use Rattle.vr_log.specs.LogNow.{IsForced, IsLogOf, LogNow}
+use Rattle.vr_log.specs.Live.{live_in}
+use Rattle.vr_log.specs.LogNow.{IsForced, IsLogOf, IsPrefixOf, LogNow}
 use Rattle.vr_log.specs.Records.{bytes_of}
 use Rattle.vr_log.specs.Standing.{InLog, IsExact, LogStands}
 use Rattle.vr_log.specs.declared.record.LogRecord.{LogRecord}
-use Rattle.vr_log.specs.declared.record.LogRecord.TheVariants.{Before}
+use Rattle.vr_log.specs.declared.record.LogRecord.TheVariants.{Before, End}
 use Rattle.vr_history.specs.State.{BeforeImage, State}
 use Rattle.vr_volume.specs.Committed.{HasLogged, IsLaidState, committed_by}
 use Rattle.vr_volume.specs.Laid.{shape_by}
-use Rattle.vr_volume.specs.Laying.{IsLaidBy, IsLogged}
+use Rattle.vr_volume.specs.Laying.{IsFreeIn, IsLaidBy, IsLaidSo, IsLogged}
 use Rattle.vr_volume.specs.Logged.{IsFirstBefore}
-use Rattle.vr_volume.specs.PutBack.{images_of, length_in, length_of, lengths_kept, oldest}
+use Rattle.vr_volume.specs.PutBack.{image_in, images_of, length_in, length_of, lengths_kept}
+use Rattle.vr_volume.specs.PutBack.{oldest}
 use Rattle.vr_volume.specs.Rests.{IsGivenFor, IsPartAtRest, IsVolumeAtRest}
 use Rattle.vr_volume.specs.Safe.{IsSafe, item_held}
-use Rattle.vr_volume.specs.Steps.{Changing, IsChangeOf, IsFirstChange, IsPutIn, image_by}
+use Rattle.vr_volume.specs.Steps.{Changing, IsChangeOf, IsFirstChange, IsNextChange, IsPutBack}
+use Rattle.vr_volume.specs.Steps.{IsPutIn, image_by}
 use Rattle.vr_volume.proofs.Befores.{safe-more}
+use Rattle.vr_volume.proofs.Calls.{safe-keeps}
 use Rattle.vr_volume.proofs.Committing.{catalog-same}
 use Rattle.vr_volume.proofs.Images.{kept-append, kept_more}
 use Rattle.vr_volume.proofs.Meeting.{first-before}
 use Rattle.vr_volume.proofs.Moving.{catalog-stays, images-now, item-else, item-here}
 use Rattle.vr_volume.proofs.Moving.{laid-first-change, logged-first-change, other-part}
-use Rattle.vr_volume.proofs.Resting.{safe-first-change}
+use Rattle.vr_volume.proofs.Resting.{rest-records, safe-first-change, safe-next-change}
+use Rattle.vr_volume.proofs.Resting.{safe-put-back}
+use Rattle.vr_volume.proofs.Undoing.{laid-next-change, laid-put-back, logged-next-change}
+use Rattle.vr_volume.proofs.Undoing.{logged-put-back, put-some}
+
+some-none : {X : Type 0} {x : X} → Some x ≡ None → ⊥
+some-none same = cc
 
 -- ---- the log, while blocks past it are put
 
@@ -101,6 +114,28 @@ stands-part log shape Q a b forced stands past call = stands-still log forced a 
     (λ there. omega (arith, past n there, inside.1)) may)
 
 -- ---- a part that a call leaves as it is
+
+-- a call of another part leaves it as it is,
+pub stays-apart : (shape other : Shape) (Q : Image → Type 0) (a b : Seen)
+    → ((n : ℕ) → InPart other n → InPart shape n → ⊥) → Touches (InPart shape) Q a b
+    → StaysPart other a b
+stays-apart shape other Q a b apart call = record {
+  count = call.count_same;
+  size = call.size_same;
+  same = λ n inside. call.content n (apart n inside);
+  fewer = λ n block below inside may. call.adds_none n block below (apart n inside) may;
+}
+
+-- and so do two calls
+pub stays-then : (shape : Shape) (a b c : Seen) → StaysPart shape a b → StaysPart shape b c
+    → StaysPart shape a c
+stays-then shape a b c first second = record {
+  count = second.count ∙ first.count;
+  size = second.size ∙ first.size;
+  same = λ n inside. second.same n inside ∙ first.same n inside;
+  fewer = λ n block below inside may. first.fewer n block below inside
+      (second.fewer n block (omega (arith, below, first.count)) inside may);
+}
 
 -- what has to be forced for its places stays
 pub due-stays : (shape : Shape) (a b : Seen) → StaysPart shape a b → IsSound shape a → Left a a.cur
@@ -157,6 +192,68 @@ other-kept images image part apart = kept-append images image part
     none true is = absurd (apart ((Decides-eqb image.part part).0 is))
     none false is = refl
 
+-- ---- the part in which a record is set
+
+module _ (geometry : Geometry) (old new : State) (change : Changing) (a d : Seen)
+    (laid : IsLaidState geometry old) (of : IsChangeOf geometry old change)
+    (put : IsPutIn change old new) where
+  pub part-set : (shape : Shape) (split after-split : Option SplitNow)
+      (met now : List Met)
+      (found : Option (List ℕ)) (images after : List BeforeImage)
+      → IsPartAtRest geometry images old shape split met a
+      → part_no shape ≡ change.part → d.count ≡ a.count → d.size ≡ a.size
+      → IsAtRest shape d → HasKeptRoom shape (lengths_kept after (part_no shape).0) d
+      → Knows shape after-split now d → SetsOne shape change.place found a.cur d.cur
+      → change.new ≡ item_held shape found
+      → IsPartAtRest geometry after new shape after-split now d
+  part-set shape split after-split met now found images after part at count size rests room knows set given =
+      record {
+        laid = ap (λ (c : Content). shape_by geometry c (part_no shape).0)
+            (catalog-stays geometry old new change laid of put) ∙ part.laid;
+        on = on-still shape a d part.on count size;
+        rests = rests;
+        room = room;
+        knows = knows;
+        reads = λ place. by_place place (bytes_eq place change.place) refl;
+      }
+    where
+      same-part : (part_no shape).0 ≡ change.part.0
+      same-part = ap (λ (p : PartNo). p.0) at
+
+      by_place : (place : List ℕ) (here : Bool) → bytes_eq place change.place ≡ here
+          → item_held shape (item_of shape d.cur place)
+          ≡ item_at (new.contents (part_no shape).0) place
+      by_place place true is =
+          let there : place ≡ change.place = (bytes_eq-Decides place change.place).0 is in
+          ap (λ (q : List ℕ). item_held shape (item_of shape d.cur q)) there
+          ∙ ap (item_held shape) set.here ∙ sym given
+          ∙ sym (item-here geometry old new change laid of put)
+          ∙ sym (ap (λ (p : ℕ). item_at (new.contents p) place) same-part
+          ∙ ap (item_at (new.contents change.part.0)) there)
+      by_place place false is =
+          let apart : place ≡ change.place → ⊥ =
+          λ same. true≢false (sym ((bytes_eq-Decides place change.place).1 same) ∙ is) in
+          ap (item_held shape) (set.others place apart) ∙ part.reads place
+          ∙ sym (item-else geometry old new change laid of put (part_no shape).0
+          place (λ same there. apart there))
+
+-- each other part stays at rest
+module _ (geometry : Geometry) (number : ℕ) (log : LogNow) (images after : List BeforeImage)
+    (old new : State) (change : Changing) (a d : Seen)
+    (rest : IsVolumeAtRest geometry number log images old a)
+    (of : IsChangeOf geometry old change) (put : IsPutIn change old new)
+    (kept : after ≡ images ++ image_by change ∷ []) where
+  pub other-first-change : (shape : Shape) (split : Option SplitNow) (met : List Met)
+      → IsPartAtRest geometry images old shape split met a
+      → ((part_no shape).0 ≡ change.part.0 → ⊥) → StaysPart shape a d → Left a a.cur
+      → IsPartAtRest geometry after new shape split met d
+  other-first-change shape split met part apart stays left =
+      part-stays geometry images after old new shape split met a d stays left part
+      (catalog-stays geometry old new change rest.laid of put)
+      (other-part geometry old new change rest.laid of put (part_no shape).0 apart)
+      (ap (λ (found : List BeforeImage). lengths_kept found (part_no shape).0) kept
+      ∙ other-kept images (image_by change) (part_no shape).0 (λ same. apart (sym same)))
+
 module _ (geometry : Geometry) (number : ℕ) (log more : LogNow) (images after : List BeforeImage)
     (old new : State) (change : Changing) (a d : Seen)
     (rest : IsVolumeAtRest geometry number log images old a)
@@ -181,57 +278,18 @@ module _ (geometry : Geometry) (number : ℕ) (log more : LogNow) (images after 
         logged.records);
   }
 
-  -- and so are the part that is changed
+  -- and so is the part that is changed.
   pub part-first-change : (shape : Shape) (split after-split : Option SplitNow)
-      (met now : List Met)
-      (found : Option (List ℕ)) → IsPartAtRest geometry images old shape split met a
+      (met now : List Met) (found : Option (List ℕ))
+      → IsPartAtRest geometry images old shape split met a
       → part_no shape ≡ change.part → d.count ≡ a.count → d.size ≡ a.size
       → IsAtRest shape d → HasKeptRoom shape (lengths_kept after (part_no shape).0) d
       → Knows shape after-split now d → SetsOne shape change.place found a.cur d.cur
       → change.new ≡ item_held shape found
       → IsPartAtRest geometry after new shape after-split now d
-  part-first-change shape split after-split met now found part at count size rests room knows set given =
-      record {
-        laid = ap (λ (c : Content). shape_by geometry c (part_no shape).0)
-            (catalog-stays geometry old new change rest.laid of made.contents) ∙ part.laid;
-        on = on-still shape a d part.on count size;
-        rests = rests;
-        room = room;
-        knows = knows;
-        reads = λ place. by_place place (bytes_eq place change.place) refl;
-      }
-    where
-      same-part : (part_no shape).0 ≡ change.part.0
-      same-part = ap (λ (p : PartNo). p.0) at
-
-      by_place : (place : List ℕ) (here : Bool) → bytes_eq place change.place ≡ here
-          → item_held shape (item_of shape d.cur place)
-          ≡ item_at (new.contents (part_no shape).0) place
-      by_place place true is =
-          let there : place ≡ change.place = (bytes_eq-Decides place change.place).0 is in
-          ap (λ (q : List ℕ). item_held shape (item_of shape d.cur q)) there
-          ∙ ap (item_held shape) set.here ∙ sym given
-          ∙ sym (item-here geometry old new change rest.laid of made.contents)
-          ∙ sym (ap (λ (p : ℕ). item_at (new.contents p) place) same-part
-          ∙ ap (item_at (new.contents change.part.0)) there)
-      by_place place false is =
-          let apart : place ≡ change.place → ⊥ =
-          λ same. true≢false (sym ((bytes_eq-Decides place change.place).1 same) ∙ is) in
-          ap (item_held shape) (set.others place apart) ∙ part.reads place
-          ∙ sym (item-else geometry old new change rest.laid of made.contents (part_no shape).0
-          place (λ same there. apart there))
-
-  -- and each other part, which stays.
-  pub other-first-change : (shape : Shape) (split : Option SplitNow) (met : List Met)
-      → IsPartAtRest geometry images old shape split met a
-      → ((part_no shape).0 ≡ change.part.0 → ⊥) → StaysPart shape a d → Left a a.cur
-      → IsPartAtRest geometry after new shape split met d
-  other-first-change shape split met part apart stays left =
-      part-stays geometry images after old new shape split met a d stays left part
-      (catalog-stays geometry old new change rest.laid of made.contents)
-      (other-part geometry old new change rest.laid of made.contents (part_no shape).0 apart)
-      (ap (λ (found : List BeforeImage). lengths_kept found (part_no shape).0) kept
-      ∙ other-kept images (image_by change) (part_no shape).0 (λ same. apart (sym same)))
+  part-first-change shape split after-split met now found part at count size rests room knows set
+      given = part-set geometry old new change a d rest.laid of made.contents shape split
+      after-split met now found images after part at count size rests room knows set given
 
 -- ---- what a first change asks for
 
@@ -268,8 +326,10 @@ module _ (geometry : Geometry) (number : ℕ) (log : LogNow) (images after : Lis
       ++ Before change.unit (part_no shape) place change.old ∷ []) ≡ after
   images-with = ap (λ (rec : LogRecord). images_of (log.records ++ rec ∷ [])) (sym rec-is)
       ∙ images-now geometry log
-      (record log { records = log.records
-      ++ Before change.unit change.part change.place change.old ∷ [] }) old new change rest.laid
+      (record log {
+        records = log.records
+            ++ Before change.unit change.part change.place change.old ∷ [];
+      }) old new change rest.laid
       rest.logged of made refl
       ∙ ap (λ (found : List BeforeImage). found ++ image_by change ∷ []) (sym rest.kept)
       ∙ sym kept
@@ -293,13 +353,19 @@ module _ (geometry : Geometry) (number : ℕ) (log : LogNow) (images after : Lis
       (ap (λ (found : List BeforeImage). lengths_kept found (part_no shape).0) images-with)
       (((safe-more geometry number log (committed_by old) a change.unit (part_no shape) place
       change.old rest.safe (first-of at)).by_log
-      (record { generation = log.generation;
-      records = log.records ++ Before change.unit (part_no shape) place change.old ∷ [] })
+      (record {
+        generation = log.generation;
+        records = log.records ++ Before change.unit (part_no shape) place change.old ∷ [];
+      })
       (inl (record {
         count = length (log.records
             ++ Before change.unit (part_no shape) place change.old ∷ []);
-        forced = omega (arith, rest.forced, length-append log.records
-            (Before change.unit (part_no shape) place change.old ∷ []));
+        forced = omega (
+          arith,
+          rest.forced,
+          length-append log.records
+              (Before change.unit (part_no shape) place change.old ∷ []),
+        );
         all = omega arith;
         is = ap (λ (records : List LogRecord). let c : LogContent = record {
           generation = log.generation;
@@ -309,3 +375,228 @@ module _ (geometry : Geometry) (number : ℕ) (log : LogNow) (images after : Lis
             (log.records ++ Before change.unit (part_no shape) place change.old ∷ [])
             (omega arith)));
       }))).parts (part_no shape).0 shape laid-by-more.laid).room
+
+-- ---- a place that was logged before
+
+module _ (geometry : Geometry) (number : ℕ) (log : LogNow) (images : List BeforeImage)
+    (old : State) (a : Seen) (rest : IsVolumeAtRest geometry number log images old a) where
+  -- where a place has an image, each log has all records
+  pub all-records : (part : ℕ) (place : List ℕ) → oldest images part place ≢ None
+      → (content : LogContent) → IsLogOf log content → content.records ≡ log.records
+  all-records part place some content is = ⊎_elim (λ all. all)
+      (λ none. absurd (some (ap (λ (found : List BeforeImage). oldest found part place)
+      (rest.kept ∙ ap images_of none))))
+      (rest-records log rest.forced rest.stands.behind content is)
+
+  -- the place is free in each log,
+  pub free-again : (part : ℕ) (place : List ℕ) → oldest images part place ≢ None
+      → IsFreeIn log part place
+  free-again part place some content is none = some
+      (ap (λ (found : List BeforeImage). oldest found part place)
+      (rest.kept ∙ ap images_of (sym (all-records part place some content is))) ∙ none)
+
+  -- and the part is laid by each.
+  pub laid-again : (shape : Shape) (split : Option SplitNow) (met : List Met) (place : List ℕ)
+      → IsPartAtRest geometry images old shape split met a
+      → oldest images (part_no shape).0 place ≢ None
+      → (kept : Lengths) → kept ≡ lengths_kept images (part_no shape).0
+      → IsLaidSo geometry log (committed_by old) (part_no shape).0 shape kept
+  laid-again shape split met place part some kept room content is = record {
+    laid = ap (λ (c : Content). shape_by geometry c (part_no shape).0)
+        (catalog-same geometry old rest.laid content.records) ∙ part.laid;
+    kept_is = room ∙ ap (λ (found : List BeforeImage). lengths_kept found (part_no shape).0)
+        (rest.kept ∙ ap images_of (sym (all-records (part_no shape).0 place some content is)));
+  }
+
+  module _ (change : Changing) where
+    -- a place for which something is kept has an image
+    pub kept-some : oldest old.befores change.part.0 change.place ≢ None
+        → oldest images change.part.0 change.place ≢ None
+    kept-some some none = by_found (oldest old.befores change.part.0 change.place) refl
+      where
+        by_found : (found : Option BeforeImage)
+            → oldest old.befores change.part.0 change.place ≡ found → ⊥
+        by_found None is = some is
+        by_found (Some image) is = some-none
+            (sym (ap (λ (f : List BeforeImage). oldest f change.part.0 change.place) rest.kept
+            ∙ rest.logged.kept change.part.0 change.place image is) ∙ none)
+
+    -- so has the place that a call was given
+    pub place-some : (shape : Shape) (place : List ℕ) (found : Option (List ℕ))
+        → IsGivenFor change shape place found
+        → oldest old.befores change.part.0 change.place ≢ None
+        → oldest images (part_no shape).0 place ≢ None
+    place-some shape place found given some none = kept-some some
+        (ap (λ (p : ℕ). oldest images p change.place) (sym (ap (λ (p : PartNo). p.0) given.part))
+        ∙ ap (oldest images (part_no shape).0) (sym given.place_is) ∙ none)
+
+  module _ (new : State) (change : Changing) (d : Seen) (of : IsChangeOf geometry old change)
+    where
+      -- each other part stays at rest
+      pub other-stays : (shape other : Shape) (Q : Image → Type 0) (split : Option SplitNow)
+          (met : List Met) (after : Option SplitNow) (now : List Met) → IsPutIn change old new
+          → IsPartAtRest geometry images old shape split met a → part_no shape ≡ change.part
+          → ((part_no other).0 ≡ change.part.0 → ⊥) → Touches (InPart shape) Q a d → Left a a.cur
+          → IsPartAtRest geometry images old other after now a
+          → IsPartAtRest geometry images new other after now d
+      other-stays shape other Q split met after now put part at apart call left others =
+          part-stays geometry images images old new other after now a d
+          (stays-apart shape other Q a d
+          (rest.laid.apart (part_no other).0 (part_no shape).0 other shape others.laid part.laid
+          (λ same. apart (same ∙ ap (λ (p : PartNo). p.0) at))) call)
+          left others (catalog-stays geometry old new change rest.laid of put)
+          (other-part geometry old new change rest.laid of put (part_no other).0 apart) refl
+
+  module _ (new : State) (change : Changing) (d : Seen) (of : IsChangeOf geometry old change)
+      (stands : LogStands log d) (safe : IsSafe geometry number log (committed_by old) d) where
+    -- The volume is at rest by the state after a further change,
+    pub volume-next-change : IsNextChange change old new
+        → IsVolumeAtRest geometry number log images new d
+    volume-next-change made = record {
+      safe = safe-next-change geometry old new log change rest.laid rest.logged of number d made
+          (all-records change.part.0 change.place (kept-some change made.kept)) safe;
+      stands = stands;
+      sound = rest.sound;
+      forced = rest.forced;
+      laid = laid-next-change geometry log old new change rest.laid rest.logged of made;
+      logged = logged-next-change geometry log old new change rest.laid rest.logged of made;
+      kept = rest.kept;
+    }
+
+    -- and by that after a before-image is put back.
+    pub volume-put-back : IsPutBack change old new
+        → IsVolumeAtRest geometry number log images new d
+    volume-put-back made = record {
+      safe = safe-put-back geometry old new log change rest.laid rest.logged of number d made
+          (all-records change.part.0 change.place (kept-some change (put-some geometry log old new change
+          rest.laid rest.logged of made))) safe;
+      stands = stands;
+      sound = rest.sound;
+      forced = rest.forced;
+      laid = laid-put-back geometry log old new change rest.laid rest.logged of made;
+      logged = logged-put-back geometry log old new change rest.laid rest.logged of made;
+      kept = rest.kept;
+    }
+
+    -- and so is the part that is changed.
+    pub part-put : (shape : Shape) (split after-split : Option SplitNow) (met now : List Met)
+        (place : List ℕ) (found : Option (List ℕ)) → IsPutIn change old new
+        → IsPartAtRest geometry images old shape split met a
+        → IsGivenFor change shape place found → d.count ≡ a.count → d.size ≡ a.size
+        → IsAtRest shape d → HasKeptRoom shape (lengths_kept images (part_no shape).0) d
+        → Knows shape after-split now d → SetsOne shape place found a.cur d.cur
+        → IsPartAtRest geometry images new shape after-split now d
+    part-put shape split after-split met now place found put part given count size rests room knows
+        set = part-set geometry old new change a d rest.laid of put shape split after-split met now
+        found images images part given.part count size rests room knows
+        (subst (λ (q : List ℕ). SetsOne shape q found a.cur d.cur) given.place_is set) given.item
+
+-- ---- calls that leave the records as they are
+
+-- no image is of a unit where none is live
+pub none-images : (records : List LogRecord) → live_in records ≡ [] → images_of records ≡ []
+none-images records none = ap (λ (units : List UnitOfRecovery). filter_map (image_in units) records)
+    none ∙ empty records
+  where
+    empty : (rs : List LogRecord) → filter_map (image_in []) rs ≡ []
+    empty [] = refl
+    empty (Before unit part place old ∷ rs) = empty rs
+    empty (End unit kind ∷ rs) = empty rs
+
+module _ (geometry : Geometry) (number : ℕ) (log : LogNow) (images : List BeforeImage)
+    (state : State) (a : Seen) (rest : IsVolumeAtRest geometry number log images state a) where
+  -- the images of each log that an image may have
+  images-rest : (content : LogContent) → IsLogOf log content → images ≡ images_of content.records
+  images-rest content (inl prefix) = rest.kept ∙ ap images_of (sym (⊎_elim (λ all. all)
+      (λ none. of-none prefix none) (rest-records log rest.forced rest.stands.behind content
+      (inl prefix))))
+    where
+      of-none : IsPrefixOf log content → log.records ≡ [] → content.records ≡ log.records
+      of-none has none = ap (λ (c : LogContent). c.records) has.is
+          ∙ take_all has.count log.records (omega (arith, rest.forced, has.forced))
+  images-rest content (inr older) = ⊎_elim
+      (λ own. rest.kept ∙ ap images_of (sym (ap (λ (c : LogContent). c.records) own
+      ∙ take_all log.forced log.records (omega (arith, rest.forced)))))
+      (λ begun. rest.kept
+      ∙ ap images_of (no-length log.records (omega (arith, rest.forced, begun.0)))
+      ∙ sym (none-images content.records begun.1)) (rest.stands.behind content older)
+    where
+      no-length : (records : List LogRecord) → length records ≡ 0 → records ≡ []
+      no-length [] none = refl
+      no-length (rec ∷ records) none = absurd (omega (arith, none))
+
+  -- the part is laid by each log
+  pub laid-rest : (shape : Shape) (split : Option SplitNow) (met : List Met)
+      → IsPartAtRest geometry images state shape split met a → (kept : Lengths)
+      → kept ≡ lengths_kept images (part_no shape).0
+      → IsLaidSo geometry log (committed_by state) (part_no shape).0 shape kept
+  laid-rest shape split met part kept room content is = record {
+    laid = ap (λ (c : Content). shape_by geometry c (part_no shape).0)
+        (catalog-same geometry state rest.laid content.records) ∙ part.laid;
+    kept_is = room ∙ ap (λ (found : List BeforeImage). lengths_kept found (part_no shape).0)
+        (images-rest content is);
+  }
+
+  -- The volume stays at rest where its blocks are safe and its log stands.
+  pub volume-same : (d : Seen) → IsSafe geometry number log (committed_by state) d
+      → LogStands log d → IsVolumeAtRest geometry number log images state d
+  volume-same d safe stands = record {
+    safe = safe;
+    stands = stands;
+    sound = rest.sound;
+    forced = rest.forced;
+    laid = rest.laid;
+    logged = rest.logged;
+    kept = rest.kept;
+  }
+
+-- The part stays at rest where each place has the record that it had.
+pub part-same-records : (geometry : Geometry) (images : List BeforeImage) (state : State)
+    (shape : Shape) (split after : Option SplitNow) (met now : List Met) (a d : Seen)
+    → IsPartAtRest geometry images state shape split met a → d.count ≡ a.count → d.size ≡ a.size
+    → IsAtRest shape d → HasKeptRoom shape (lengths_kept images (part_no shape).0) d
+    → Knows shape after now d → SameRecords shape a.cur d.cur
+    → IsPartAtRest geometry images state shape after now d
+part-same-records geometry images state shape split after met now a d part count size rests room
+    knows same = record {
+      laid = part.laid;
+      on = on-still shape a d part.on count size;
+      rests = rests;
+      room = room;
+      knows = knows;
+      reads = λ place. ap (item_held shape) (same place) ∙ part.reads place;
+    }
+
+-- ---- calls that put nothing
+
+-- the log and each part stay
+module _ (tells : Bool) (told : IsTrue tells) (a b : Seen) (call : Keeps tells a b) where
+  pub stays-keeps : (shape : Shape) → StaysPart shape a b
+  stays-keeps shape = record {
+    count = call.count_same;
+    size = call.size_same;
+    same = λ n inside. ap (λ (image : Image). block_at image n) (call.content told);
+    fewer = λ n block below inside may. call.adds_none told n block below may;
+  }
+
+  pub stands-keeps : (log : LogNow) → IsForced log → LogStands log a → LogStands log b
+  stands-keeps log forced stands = stands-still log forced a b stands call.count_same call.size_same
+      (λ n block below inside may. call.adds_none told n block below may)
+
+  -- A volume at rest stays so.
+  pub volume-keeps : (geometry : Geometry) (number : ℕ) (log : LogNow)
+      (images : List BeforeImage) (state : State)
+      → IsVolumeAtRest geometry number log images state a
+      → IsVolumeAtRest geometry number log images state b
+  volume-keeps geometry number log images state rest =
+      volume-same geometry number log images state a rest b
+      (safe-keeps tells told geometry number log (committed_by state) a b call rest.safe)
+      (stands-keeps log rest.forced rest.stands)
+
+  pub part-keeps : (geometry : Geometry) (images : List BeforeImage) (state : State)
+      (shape : Shape) (split : Option SplitNow) (met : List Met) → Left a a.cur
+      → IsPartAtRest geometry images state shape split met a
+      → IsPartAtRest geometry images state shape split met b
+  part-keeps geometry images state shape split met left part =
+      part-stays geometry images images state state shape split met a b (stays-keeps shape) left part
+      refl refl refl

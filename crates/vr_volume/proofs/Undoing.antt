@@ -333,6 +333,10 @@ module _ (geometry : Geometry) (log : LogNow) (old new : State) (change : Changi
     was-here : oldest old.befores change.part.0 change.place ≡ Some image
     was-here = last-oldest change.unit old.befores image logged.once made.last
 
+    -- something is kept there
+    pub put-some : oldest old.befores change.part.0 change.place ≢ None
+    put-some none = some-none (sym was-here ∙ none)
+
     none-here : oldest new.befores change.part.0 change.place ≡ None
     none-here =
         ap (λ (images : List BeforeImage). oldest images change.part.0 change.place) made.befores

@@ -10,6 +10,7 @@ pub mod Ended
 pub mod Committed
 pub mod Steps
 pub mod Rests
+pub mod Cause
 pub mod EndedLog
 pub mod Due
 pub mod Durable

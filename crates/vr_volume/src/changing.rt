@@ -1,5 +1,5 @@
 //! Calls of a part on a volume: what each leaves of it in the image of each moment.
-ghost use Rattle.std.specs.Prelude.{◌≡◌, ◌<◌, [], ℕ, List, IsTrue, IfOk, OnOk, IfErr};
+ghost use Rattle.std.specs.Prelude.{◌≡◌, ◌≢◌, ◌<◌, [], ℕ, List, Option, IsTrue, IfOk, OnOk, IfErr};
 ghost use Rattle.std.specs.Prelude.{OnErr, All};
 ghost use Rattle.vr_types.specs.Blocks.{Forced, Keeps};
 ghost use Rattle.vr_types.specs.Content.{Content};
@@ -10,7 +10,8 @@ ghost use Rattle.vr_types.specs.Space.{free_count};
 ghost use Rattle.vr_types.specs.declared.fault.DeviceFault.TheVariants.{Read, Write};
 ghost use Rattle.vr_types.specs.declared.geometry.Geometry.{Geometry};
 ghost use Rattle.vr_space.specs.declared.room.Room.TheVariants as answers;
-ghost use Rattle.vr_space.specs.Met.{HasMet, places_met};
+ghost use Rattle.vr_space.specs.Met.{HasMet, Met, places_met};
+ghost use Rattle.vr_space.specs.Split.{SplitNow};
 ghost use Rattle.vr_space.specs.Part.{
   CanSet,
   DueMore,
@@ -27,13 +28,17 @@ ghost use Rattle.vr_space.specs.Part.{
   OwnersAfter,
   SameRecords,
   SetsOne,
+  Shape,
   given,
   part_no,
   room_of,
 };
+ghost use Rattle.vr_history.specs.State.{BeforeImage, State};
 ghost use Rattle.vr_log.specs.LogNow.{LogNow};
 ghost use Rattle.vr_log.specs.declared.record.LogRecord.{LogRecord};
 ghost use Rattle.vr_volume.specs.Laying.{IsFreeIn, IsLaidSo};
+ghost use Rattle.vr_volume.specs.PutBack.{lengths_kept};
+ghost use Rattle.vr_volume.specs.Rests.{IsPartAtRest, IsVolumeAtRest};
 ghost use Rattle.vr_volume.specs.Safe.{IsSafe, IsSafeImage};
 
 use vr_space::{Kept, Part};
@@ -150,8 +155,28 @@ pub fn do_stage<B: Blocks, P: Part, K: Kept>(
         (B.seen blocks.new))) }
     ensures cause { HasCause (B.faults blocks.old) (B.faults blocks.new) result }
     ensures shape { P.shape part.new ≡ P.shape part.old }
+    // A volume that was at rest is so by the same state, and so is each of its parts.
+    ensures at_rest { IsTrue B.tells → OnOk result ((number : ℕ) (log : LogNow)
+        (images : List BeforeImage) (state : State)
+        → IsVolumeAtRest log.geometry number log images state (B.seen blocks.old)
+        → IsPartAtRest log.geometry images state (P.shape part.old) (P.split part.old)
+        (P.met part.old) (B.seen blocks.old)
+        → K.kept kept.now (part_no (P.shape part.old))
+        ≡ lengths_kept images (part_no (P.shape part.old)).0
+        → IsVolumeAtRest log.geometry number log images state (B.seen blocks.new)
+        × IsPartAtRest log.geometry images state (P.shape part.old) (P.split part.new)
+        (P.met part.new) (B.seen blocks.new)) }
+    ensures others { IsTrue B.tells → OnOk result ((number : ℕ) (log : LogNow)
+        (images : List BeforeImage) (state : State) (other : Shape) (split : Option SplitNow)
+        (met : List Met) → IsVolumeAtRest log.geometry number log images state (B.seen blocks.old)
+        → IsPartAtRest log.geometry images state (P.shape part.old) (P.split part.old)
+        (P.met part.old) (B.seen blocks.old)
+        → (part_no other).0 ≢ (part_no (P.shape part.old)).0
+        → IsPartAtRest log.geometry images state other split met (B.seen blocks.old)
+        → IsPartAtRest log.geometry images state other split met (B.seen blocks.new)) }
 {
-    part.advance(blocks, space, kept, place, length)
+    let kind = part.advance(blocks, space, kept, place, length)?;
+    Ok(kind)
 }
 
 /// Forces blocks. At each moment of it, whether it fails or not, each image is a safe one, and the
@@ -167,6 +192,15 @@ pub fn force_blocks<B: Blocks>(blocks: &mut B, list: &[u32]) -> Result<(), Devic
     ensures forced { IsTrue B.tells → OnOk result
         (Forced list.now (B.seen blocks.old).cur (B.seen blocks.new).may) }
     ensures after { Keeps B.tells (B.seen blocks.old) (B.seen blocks.new) }
+    // A volume that was at rest stays so, and so does each part.
+    ensures at_rest { IsTrue B.tells → (geometry : Geometry) (number : ℕ) (log : LogNow)
+        (images : List BeforeImage) (state : State)
+        → IsVolumeAtRest geometry number log images state (B.seen blocks.old)
+        → IsVolumeAtRest geometry number log images state (B.seen blocks.new) }
+    ensures parts { IsTrue B.tells → (geometry : Geometry) (images : List BeforeImage)
+        (state : State) (shape : Shape) (split : Option SplitNow) (met : List Met)
+        → IsPartAtRest geometry images state shape split met (B.seen blocks.old)
+        → IsPartAtRest geometry images state shape split met (B.seen blocks.new) }
     ensures cause { HasWriteCause (B.faults blocks.old) (B.faults blocks.new) result }
 {
     blocks.force(list)

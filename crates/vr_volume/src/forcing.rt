@@ -22,10 +22,7 @@ use vr_types::{Blocks, DeviceFault};
 /// out of the list, and answers how many are left, at most 2^32 - 1. The volume stays at rest: what
 /// was due to the blocks of the list is due to those that are left. `Write` is the device's, and the
 /// list stays.
-pub fn force_changed<B: Blocks>(
-    blocks: &mut B,
-    changed: &mut Vec<u32>,
-) -> Result<u32, DeviceFault>
+pub fn force_changed<B: Blocks>(blocks: &mut B, changed: &mut Vec<u32>) -> Result<u32, DeviceFault>
     requires { All (λ n. n < (B.seen blocks.old).count) changed.old.items }
     ensures due { IsTrue B.tells → (shape : Shape) (place : List ℕ)
         → IsSound shape (B.seen blocks.old)
@@ -57,7 +54,11 @@ pub fn force_changed<B: Blocks>(
 fn count_of(count: usize) -> u32
     ensures { result ≡ min count 4294967295 }
 {
-    if count < 4294967295 { count as u32 } else { 4294967295 }
+    if count < 4294967295 {
+        count as u32
+    } else {
+        4294967295
+    }
 }
 
 /// Once no block is due, whatever a crash leaves of the places that a unit changed is what stands

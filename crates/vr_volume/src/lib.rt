@@ -5,20 +5,20 @@
 //! There are definitions and laws alone yet: the value that one event changes will stand on them.
 #![tactic(auto)]
 
+mod again;
 mod changing;
 mod durable;
 mod forcing;
 mod laws;
 mod logging;
-mod premises;
 mod unit_end;
 mod write_ahead;
 
+pub use again::set_again;
 pub use changing::{do_stage, force_blocks, set_free};
 pub use durable::state_recovers;
 pub use forcing::{force_changed, forced_is_firm};
 pub use laws::{each_image_is_safe, image_recovers, one_recovery, one_volume};
-pub use premises::first_change;
 pub use logging::{append_before, append_end, force_log, restart_log};
 pub use unit_end::end_unit;
 pub use write_ahead::change;

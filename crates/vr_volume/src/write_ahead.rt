@@ -1,11 +1,14 @@
 //! A change of a record under a unit of recovery: its before-image is logged and forced before the
 //! first block of the part is put.
-ghost use Rattle.std.specs.Prelude.{◌≡◌, ◌<◌, ◌∷◌, ◌++◌, [], ℕ, List, Option, IsTrue, OnOk, false};
+ghost use Rattle.std.specs.Prelude.{◌≡◌, ◌≢◌, ◌<◌, ◌∷◌, ◌++◌, [], ℕ, List, Option, IsTrue, OnOk};
+ghost use Rattle.std.specs.Prelude.{IfErr, false};
 ghost use Rattle.std.specs.Prelude.{All};
 ghost use Rattle.vr_types.specs.Content.{Content};
 ghost use Rattle.vr_types.specs.Moments.{Guards};
 ghost use Rattle.vr_types.specs.Regions.{Touches};
 ghost use Rattle.vr_types.specs.declared.unit.Unit.{Unit as UnitOfRecovery};
+ghost use Rattle.vr_space.specs.Met.{Met};
+ghost use Rattle.vr_space.specs.Split.{SplitNow};
 ghost use Rattle.vr_space.specs.Part.{
   CanSet,
   DueMore,
@@ -17,16 +20,19 @@ ghost use Rattle.vr_space.specs.Part.{
   IsPlaceOf,
   Knows,
   SetsOne,
+  Shape,
   given,
   part_no,
 };
-ghost use Rattle.vr_log.specs.Live.{EndsLive, live_in};
-ghost use Rattle.vr_log.specs.LogNow.{HasLog, IsOf, with_record};
+ghost use Rattle.vr_log.specs.Live.{EndsLive, live_in, need_of};
+ghost use Rattle.vr_log.specs.LogNow.{HasLog, HasLogCause, IsFullNo, IsFullWhere, IsOf};
+ghost use Rattle.vr_log.specs.LogNow.{with_record};
 ghost use Rattle.vr_log.specs.Records.{HasLengths};
 ghost use Rattle.vr_log.specs.Standing.{InLog, LogStands};
 ghost use Rattle.vr_log.specs.declared.record.LogRecord.{LogRecord as Rec};
 ghost use Rattle.vr_log.specs.declared.record.LogRecord.TheVariants.{Before};
 ghost use Rattle.vr_history.specs.State.{BeforeImage, State};
+ghost use Rattle.vr_volume.specs.Cause.{HasChangeCause};
 ghost use Rattle.vr_volume.specs.Laying.{IsLaidBy, IsLogged};
 ghost use Rattle.vr_volume.specs.Logged.{IsFirstBefore};
 ghost use Rattle.vr_volume.specs.PutBack.{lengths_kept};
@@ -52,6 +58,10 @@ fn log_forced<B: Blocks>(blocks: &mut B, log: &mut UndoLog, rec: &LogRecord) -> 
     ensures stands { IsTrue B.tells → OnOk result (LogStands log.new (B.seen blocks.new)) }
     ensures count { OnOk result ((B.seen blocks.new).count ≡ (B.seen blocks.old).count) }
     ensures size { OnOk result ((B.seen blocks.new).size ≡ (B.seen blocks.old).size) }
+    ensures full { IsFullWhere log.old (need_of (live_in log.old.records) rec.now) result }
+    ensures unchanged { IfErr result (λ no. IsFullNo no
+        → (log.new ≡ log.old) × (blocks.new ≡ blocks.old)) }
+    ensures cause { HasLogCause (B.faults blocks.old) (B.faults blocks.new) result }
 {
     log.append(blocks, rec)?;
     log.force(blocks)?;
@@ -137,6 +147,24 @@ pub fn change<B: Blocks, P: Part, K: Kept>(
         → IsVolumeAtRest log.old.geometry number log.new after new (B.seen blocks.new)
         × IsPartAtRest log.old.geometry after new (P.shape part.old) (P.split part.new)
         (P.met part.new) (B.seen blocks.new)) }
+    // What it may answer: that the log is full exactly where it is, and then nothing is done; a fault
+    // of the device only where there was one.
+    ensures full { IsFullWhere log.old (need_of (live_in log.old.records) rec.now) result }
+    ensures unchanged { IfErr result (λ no. IsFullNo no
+        → (log.new ≡ log.old) × (blocks.new ≡ blocks.old) × (part.new ≡ part.old)) }
+    ensures cause { HasChangeCause (B.faults blocks.old) (B.faults blocks.new) result }
+    // And so is each other part.
+    ensures others { IsTrue B.tells → OnOk result ((number : ℕ) (old new : State)
+        (change : Changing) (images after : List BeforeImage) (other : Shape)
+        (split : Option SplitNow) (met : List Met)
+        → IsVolumeAtRest log.old.geometry number log.old images old (B.seen blocks.old)
+        → IsPartAtRest log.old.geometry images old (P.shape part.old) (P.split part.old)
+        (P.met part.old) (B.seen blocks.old)
+        → IsChangeOf log.old.geometry old change → IsFirstChange log.old change old new
+        → part_no (P.shape part.old) ≡ change.part
+        → after ≡ images ++ image_by change ∷ [] → (part_no other).0 ≢ change.part.0
+        → IsPartAtRest log.old.geometry images old other split met (B.seen blocks.old)
+        → IsPartAtRest log.old.geometry after new other split met (B.seen blocks.new)) }
     ensures set { IsTrue B.tells → OnOk result (SetsOne (P.shape part.old) place.now
         (given bytes.entry) (B.seen blocks.old).cur (B.seen blocks.new).cur) }
 {

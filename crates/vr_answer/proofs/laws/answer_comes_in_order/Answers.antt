@@ -1,5 +1,5 @@
 use Rattle.vr_answer.proofs.CallerLemmas.{answered_by_file, answered_by_log, answered_by_record}
-use Rattle.vr_answer.proofs.CallerLemmas.{answered_done, lacks_room}
+use Rattle.vr_answer.proofs.CallerLemmas.{answered_done}
 use Rattle.vr_answer.proofs.laws.answer_comes_in_order.Goals as goal
 
 pub returns : goal.returns
@@ -8,5 +8,4 @@ returns c = record {
   by_record = answered_by_record;
   by_log = answered_by_log;
   done = answered_done;
-  room = lacks_room;
 }

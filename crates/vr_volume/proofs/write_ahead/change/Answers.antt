@@ -20,7 +20,11 @@ use Rattle.vr_volume.specs.Committed.{committed_by}
 use Rattle.vr_volume.specs.Laying.{IsLaidBy, IsLogged}
 use Rattle.vr_volume.proofs.Rested.{first-of, laid-by-more, part-first-change, rec-is, stands-part}
 use Rattle.vr_space.proofs.CallerLemmas.{due-then}
-use Rattle.vr_volume.proofs.Rested.{due-stays, volume-first-change}
+use Rattle.std.proofs.Common.{◌≡◌, ap, arith}
+use Rattle.vr_types.specs.declared.unit.PartNo.{PartNo}
+use Rattle.vr_volume.proofs.Apart.{part-past}
+use Rattle.vr_volume.proofs.Rested.{due-stays, other-first-change, stays-apart, stays-then}
+use Rattle.vr_volume.proofs.Rested.{volume-first-change}
 use Rattle.vr_volume.proofs.write_ahead.change.Goals as goal
 
 pub set_free-requires-clause-rests : goal.set_free-requires-clause-rests
@@ -225,8 +229,7 @@ returns-clause-at_rest g c told number old new change images after rest part of 
     (subst (λ (r : LogRecord). IsLaidBy log.geometry (log.records ++ r ∷ []) (committed_by old)
     (part_no shape).0 shape (g.K.Kept.kept c.args.kept.now (part_no shape))) (sym it)
     (record { laid = laid.laid; kept_is = room ∙ laid.kept_is })) in
-    let stands = (returns-clause-stands g c told) in
-    (
+    let stands = (returns-clause-stands g c told) in (
       volume-first-change log.geometry number log more images after old new change a d rest of made
           logged kept stands safe,
       part-first-change log.geometry number log more images after old new change a d rest of made
@@ -257,3 +260,28 @@ returns-clause-due g c told =
     (c.log_forced.ensures.touches told))
     (rest-sound shape a (c.requires.rests told)) (g.met.B.Blocks.cur_may c.args.blocks.now told))
     (c.in_ok-set_free.ensures.due told)
+
+pub returns-clause-others : goal.returns-clause-others
+returns-clause-others g c told number old new change images after other split met rest part of made at
+    kept apart others =
+    let B = g.B.Blocks in
+    let log = c.args.log.now in
+    let shape = g.P.Part.shape c.args.part.now in
+    let a = B.seen c.args.blocks.now in
+    let b = B.seen c.log_forced.new.blocks in
+    let d = B.seen c.set_free.new.blocks in
+    let here : (part_no shape).0 ≡ change.part.0 = ap (λ (p : PartNo). p.0) at in
+    other-first-change log.geometry number log images after old new change a d rest of made.contents
+    kept other split met others apart
+    (stays-then other a b d
+    (stays-part log.geometry other (HasLog (with_record log c.args.rec.now)) a b
+    (λ n inside. omega (
+      arith,
+      part-past log.geometry (old.contents 0) (part_no other).0 other others.laid n inside,
+    ))
+    (c.log_forced.ensures.touches told))
+    (stays-apart shape other (HasRoom shape (g.K.Kept.kept c.args.kept.now (part_no shape))) b d
+    (rest.laid.apart (part_no other).0 (part_no shape).0 other shape others.laid part.laid
+    (λ same. apart (same ∙ here)))
+    (c.set_free.ensures.touches told)))
+    (g.met.B.Blocks.cur_may c.args.blocks.now told)

@@ -1,0 +1,79 @@
+//! What a line asks: `every STEP`, the crate beside the plain program; or a request with the state
+//! that it meets, in words.
+
+use crate::answers::{Answer, Stop};
+use crate::desk::answer_of;
+use crate::judge::judge;
+use crate::small::{Ask, Keeps, Small, small_case};
+use crate::spelling::{key_of, number_of, parted, say_reply, with_word};
+use std::alloc::Global;
+use vr_catalog::Catalog;
+
+/// Writes the answer to a line.
+pub fn answer(alloc: Global, catalog: &Catalog, line: &str, out: &mut String) -> Answer {
+    let (verb, rest) = parted(line);
+    if verb == "every" {
+        return judge(alloc, catalog, number_of(rest)?, out);
+    }
+    let case = case_of(verb, rest)?;
+    let reply = answer_of(alloc, catalog, &case)?;
+    say_reply(out, &reply)
+}
+
+/// The request and its state: `get A`, `place LENGTH`, `add A`, `update A`, `erase`, `endreq`,
+/// `commit` or `backout`, and then words that change it.
+fn case_of(verb: &str, rest: &str) -> Result<Small, Stop> {
+    let (first, words) = parted(rest);
+    match verb {
+        "get" => with_words(
+            small_case(Ask::Get {
+                key: key_of(first)?,
+                update: false,
+                keeps: Keeps::Nothing,
+            }),
+            words,
+        ),
+        "place" => with_words(
+            small_case(Ask::GetOf {
+                length: number_of(first)?,
+            }),
+            words,
+        ),
+        "add" => with_words(
+            small_case(Ask::Add {
+                key: key_of(first)?,
+                length: 2,
+            }),
+            words,
+        ),
+        "update" => with_words(
+            small_case(Ask::Update {
+                key: key_of(first)?,
+                length: 2,
+            }),
+            words,
+        ),
+        other => bare_case(other, rest),
+    }
+}
+
+fn bare_case(verb: &str, words: &str) -> Result<Small, Stop> {
+    match verb {
+        "erase" => with_words(small_case(Ask::Erase), words),
+        "endreq" => with_words(small_case(Ask::EndReq), words),
+        "commit" => with_words(small_case(Ask::Commit), words),
+        "backout" => with_words(small_case(Ask::Backout), words),
+        _ => Err(Stop::Line),
+    }
+}
+
+/// The state with what the words say of it.
+fn with_words(case: Small, words: &str) -> Result<Small, Stop> {
+    let mut case = case;
+    for word in words.split(' ') {
+        if !word.is_empty() {
+            case = with_word(case, word)?;
+        }
+    }
+    Ok(case)
+}

@@ -1,0 +1,4 @@
+pub mod Formatted
+pub mod Planned
+pub mod FormatCause
+pub mod Opening

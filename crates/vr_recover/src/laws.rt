@@ -1,0 +1,57 @@
+//! Laws of what formatting leaves, and of what opening begins with: each is the contract of a
+//! function that does nothing.
+ghost use Rattle.std.specs.Prelude.{ℕ, List, []};
+ghost use Rattle.vr_types.specs.Blocks.{AllForced};
+ghost use Rattle.vr_types.specs.Content.{Content};
+ghost use Rattle.vr_types.specs.Geometry.{IsAllowed};
+ghost use Rattle.vr_types.specs.Image.{Image};
+ghost use Rattle.vr_types.specs.declared.geometry.Geometry.{Geometry};
+ghost use Rattle.vr_catalog.specs.declared.entry.CatEntry.{CatEntry};
+ghost use Rattle.vr_log.specs.LogNow.{IsOf, made};
+ghost use Rattle.vr_log.specs.Standing.{LogStands};
+ghost use Rattle.vr_volume.specs.PutBack.{images_of};
+ghost use Rattle.vr_volume.specs.Safe.{IsImageSafe, IsSafe};
+ghost use Rattle.vr_volume.specs.Volume.{Recovers, shapes_by};
+ghost use Rattle.vr_recover.specs.Formatted.{IsFormatted, contents_of};
+ghost use Rattle.vr_recover.specs.Opening.{CanOpen};
+
+use vr_types::Blocks;
+
+/// What was formatted is safe, with a log of no records and no generation yet: off the places of
+/// before-images, of which there are none, it has what is committed.
+pub fn formatted_is_safe()
+    ensures { (geometry : Geometry) (number : ℕ) (entries : List CatEntry) (image : Image)
+        → IsFormatted geometry number entries image
+        → IsImageSafe geometry number (record { generation = 0; records = [] })
+        (contents_of entries) image }
+{}
+
+/// And it recovers to the records of its entries in the catalog, and to nothing in each other part.
+pub fn formatted_recovers()
+    ensures { (geometry : Geometry) (number : ℕ) (entries : List CatEntry) (image : Image)
+        → IsFormatted geometry number entries image
+        → Recovers geometry number image (contents_of entries) }
+{}
+
+/// Where a crash leaves it alone on a device of that shape, it may be opened: each of its parts is on
+/// blocks that there are, and it has no before-image to put back.
+pub fn formatted_can_open<B: Blocks>(blocks: &B)
+    ensures { (geometry : Geometry) (number : ℕ) (entries : List CatEntry) (image : Image)
+        → IsFormatted geometry number entries image → IsOf geometry (B.seen blocks.now)
+        → CanOpen (shapes_by geometry (record { generation = 0; records = [] })
+        (contents_of entries)) [] (B.seen blocks.now) }
+{}
+
+/// What opening begins with: where a crash leaves what is read alone, and the blocks that are read
+/// recover to some contents, the volume is safe, with its log, and with these contents committed.
+pub fn settled_is_safe<B: Blocks>(blocks: &B)
+    ensures { (geometry : Geometry) (number : ℕ) (recovered : ℕ → Content)
+        (is : Recovers geometry number (B.seen blocks.now).cur recovered)
+        → IsAllowed geometry → IsOf geometry (B.seen blocks.now)
+        → AllForced (B.seen blocks.now).count (B.seen blocks.now).cur (B.seen blocks.now).may
+        → LogStands (made geometry is.log) (B.seen blocks.now)
+        → CanOpen (shapes_by geometry is.log is.contents) (images_of is.log.records)
+        (B.seen blocks.now)
+        → IsSafe geometry number (made geometry is.log) (λ records. recovered)
+        (B.seen blocks.now) }
+{}

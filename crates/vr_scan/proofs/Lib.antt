@@ -1,0 +1,10 @@
+pub mod Texts
+pub mod Heads
+pub mod Digits
+pub mod Quotes
+pub mod Cutting
+pub mod Outcomes
+pub mod Suffixes
+pub mod Ascending
+pub mod Ends
+pub mod Existing

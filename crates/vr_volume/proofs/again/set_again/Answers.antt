@@ -1,0 +1,107 @@
+use Rattle.std.proofs.Common.{◌≡◌, ◌<◌, ap, sym, subst, ℕ, List, Option}
+use Rattle.vr_types.specs.declared.unit.PartNo.{PartNo}
+use Rattle.vr_space.specs.Part.{HasKeptRoom, HasRoom, InPart, Knows, given, part_no}
+use Rattle.vr_space.specs.Room.{Lengths}
+use Rattle.vr_space.specs.Split.{SplitNow}
+use Rattle.vr_volume.specs.Committed.{committed_by}
+use Rattle.vr_volume.specs.PutBack.{lengths_kept, oldest}
+use Rattle.vr_volume.proofs.Rested.{free-again, kept-some, laid-again, other-stays, part-put}
+use Rattle.vr_volume.proofs.Rested.{place-some, stands-part, volume-next-change, volume-put-back}
+use Rattle.vr_volume.proofs.Undoing.{put-some}
+use Rattle.vr_volume.proofs.again.set_again.Goals as goal
+
+pub returns-clause-any_moment : goal.returns-clause-any_moment
+returns-clause-any_moment g c told number old images rest part some room =
+    let log = c.args.log.now in
+    let shape = g.P.Part.shape c.args.part.now in
+    let a = g.B.Blocks.seen c.args.blocks.now in
+    (c.set_free.ensures.safe told log.geometry number log (committed_by old) rest.safe
+    (laid-again log.geometry number log images old a rest shape
+    (g.P.Part.split c.args.part.now) (g.P.Part.met c.args.part.now) c.args.place.now part some
+    (g.K.Kept.kept c.args.kept.now (part_no shape)) room)
+    (free-again log.geometry number log images old a rest (part_no shape).0 c.args.place.now some)).0
+
+pub returns-in_err-set_free-clause-any_moment : goal.returns-in_err-set_free-clause-any_moment
+returns-in_err-set_free-clause-any_moment g c told number old images rest part some room =
+    let log = c.args.log.now in
+    let shape = g.P.Part.shape c.args.part.now in
+    let a = g.B.Blocks.seen c.args.blocks.now in
+    (c.set_free.ensures.safe told log.geometry number log (committed_by old) rest.safe
+    (laid-again log.geometry number log images old a rest shape
+    (g.P.Part.split c.args.part.now) (g.P.Part.met c.args.part.now) c.args.place.now part some
+    (g.K.Kept.kept c.args.kept.now (part_no shape)) room)
+    (free-again log.geometry number log images old a rest (part_no shape).0 c.args.place.now some)).0
+
+pub returns-clause-next : goal.returns-clause-next
+returns-clause-next g c told number old new change images rest part of made given-for room =
+    let log = c.args.log.now in
+    let shape = g.P.Part.shape c.args.part.now in
+    let split = g.P.Part.split c.args.part.now in
+    let met = g.P.Part.met c.args.part.now in
+    let now = g.P.Part.met c.set_free.new.part in
+    let place = c.args.place.now in
+    let found = given c.args.bytes in
+    let a = g.B.Blocks.seen c.args.blocks.now in
+    let d = g.B.Blocks.seen c.set_free.new.blocks in
+    let some = place-some log.geometry number log images old a rest change shape place found
+    given-for made.kept in
+    let stands = stands-part log shape
+    (HasRoom shape (g.K.Kept.kept c.args.kept.now (part_no shape))) a d rest.forced rest.stands
+    c.requires.apart (c.set_free.ensures.touches told) in
+    let safe = (c.set_free.ensures.safe told log.geometry number log (committed_by old) rest.safe
+    (laid-again log.geometry number log images old a rest shape split met place part some
+    (g.K.Kept.kept c.args.kept.now (part_no shape)) room)
+    (free-again log.geometry number log images old a rest (part_no shape).0 place some)).1 in (
+      volume-next-change log.geometry number log images old a rest new change d of stands safe made,
+      part-put log.geometry number log images old a rest new change d of stands safe shape split
+          (g.P.Part.split c.set_free.new.part) met now place found made.contents part given-for
+          c.set_free.ensures.count c.set_free.ensures.size (c.in_ok-set_free.ensures.rests told)
+          (subst (λ (lengths : Lengths). HasKeptRoom shape lengths d) room
+          (c.set_free.ensures.room told))
+          (subst (λ (s : Option SplitNow). Knows shape s now d) (sym c.set_free.ensures.split)
+          (c.in_ok-set_free.ensures.knows told))
+          (c.in_ok-set_free.ensures.set told),
+    )
+
+pub returns-clause-back : goal.returns-clause-back
+returns-clause-back g c told number old new change images rest part of made given-for room =
+    let log = c.args.log.now in
+    let shape = g.P.Part.shape c.args.part.now in
+    let split = g.P.Part.split c.args.part.now in
+    let met = g.P.Part.met c.args.part.now in
+    let now = g.P.Part.met c.set_free.new.part in
+    let place = c.args.place.now in
+    let found = given c.args.bytes in
+    let a = g.B.Blocks.seen c.args.blocks.now in
+    let d = g.B.Blocks.seen c.set_free.new.blocks in
+    let some = place-some log.geometry number log images old a rest change shape place found
+    given-for (put-some log.geometry log old new change rest.laid rest.logged of made) in
+    let stands = stands-part log shape
+    (HasRoom shape (g.K.Kept.kept c.args.kept.now (part_no shape))) a d rest.forced rest.stands
+    c.requires.apart (c.set_free.ensures.touches told) in
+    let safe = (c.set_free.ensures.safe told log.geometry number log (committed_by old) rest.safe
+    (laid-again log.geometry number log images old a rest shape split met place part some
+    (g.K.Kept.kept c.args.kept.now (part_no shape)) room)
+    (free-again log.geometry number log images old a rest (part_no shape).0 place some)).1 in (
+      volume-put-back log.geometry number log images old a rest new change d of stands safe made,
+      part-put log.geometry number log images old a rest new change d of stands safe shape split
+          (g.P.Part.split c.set_free.new.part) met now place found made.contents part given-for
+          c.set_free.ensures.count c.set_free.ensures.size (c.in_ok-set_free.ensures.rests told)
+          (subst (λ (lengths : Lengths). HasKeptRoom shape lengths d) room
+          (c.set_free.ensures.room told))
+          (subst (λ (s : Option SplitNow). Knows shape s now d) (sym c.set_free.ensures.split)
+          (c.in_ok-set_free.ensures.knows told))
+          (c.in_ok-set_free.ensures.set told),
+    )
+
+pub returns-clause-others : goal.returns-clause-others
+returns-clause-others g c told number old new change images other split met rest part of put at apart
+    others =
+    let log = c.args.log.now in
+    let shape = g.P.Part.shape c.args.part.now in
+    let a = g.B.Blocks.seen c.args.blocks.now in
+    let d = g.B.Blocks.seen c.set_free.new.blocks in
+    other-stays log.geometry number log images old a rest new change d of shape other
+    (HasRoom shape (g.K.Kept.kept c.args.kept.now (part_no shape))) (g.P.Part.split c.args.part.now)
+    (g.P.Part.met c.args.part.now) split met put part at apart (c.set_free.ensures.touches told)
+    (g.met.B.Blocks.cur_may c.args.blocks.now told) others
