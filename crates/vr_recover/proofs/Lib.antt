@@ -7,3 +7,4 @@ pub mod Made
 pub mod NewVolume
 pub mod Safe
 pub mod Opened
+pub mod Clearing

@@ -1,14 +1,18 @@
 //! Laws of what formatting leaves, and of what opening begins with: each is the contract of a
 //! function that does nothing.
-ghost use Rattle.std.specs.Prelude.{ℕ, List, []};
+ghost use Rattle.std.specs.Prelude.{◌≡◌, ◌+◌, ◌<◌, ◌≤◌, ℕ, List, [], length, slice_set};
 ghost use Rattle.vr_types.specs.Blocks.{AllForced};
 ghost use Rattle.vr_types.specs.Content.{Content};
 ghost use Rattle.vr_types.specs.Geometry.{IsAllowed};
-ghost use Rattle.vr_types.specs.Image.{Image};
+ghost use Rattle.vr_types.specs.Fields.{AreZeros};
+ghost use Rattle.vr_types.specs.Image.{Block, Image, block_at};
 ghost use Rattle.vr_types.specs.declared.geometry.Geometry.{Geometry};
 ghost use Rattle.vr_catalog.specs.declared.entry.CatEntry.{CatEntry};
-ghost use Rattle.vr_log.specs.LogNow.{IsOf, made};
-ghost use Rattle.vr_log.specs.Standing.{LogStands};
+ghost use Rattle.vr_log.specs.Content.{Content as LogContent};
+ghost use Rattle.vr_log.specs.LogNow.{IsOf, last_index, made};
+ghost use Rattle.vr_log.specs.Records.{bytes_of};
+ghost use Rattle.vr_log.specs.Spells.{Spells};
+ghost use Rattle.vr_log.specs.Standing.{InLog, LogStands};
 ghost use Rattle.vr_volume.specs.PutBack.{images_of};
 ghost use Rattle.vr_volume.specs.Safe.{IsImageSafe, IsSafe};
 ghost use Rattle.vr_volume.specs.Volume.{Recovers, shapes_by};
@@ -54,4 +58,16 @@ pub fn settled_is_safe<B: Blocks>(blocks: &B)
         (B.seen blocks.now)
         → IsSafe geometry number (made geometry is.log) (λ records. recovered)
         (B.seen blocks.now) }
+{}
+
+/// A block past the last one of a log may become zeros, as opening makes those that an earlier log
+/// left: the blocks spell the same log.
+pub fn cleared_log_stays()
+    ensures { (geometry : Geometry) (image : Image) (content : LogContent) (index : ℕ)
+        (zeros : Block) → IsAllowed geometry
+        → ((n : ℕ) → InLog geometry n → length (block_at image n) ≡ geometry.size)
+        → last_index geometry (bytes_of content.records) < index → index < geometry.log
+        → AreZeros zeros → 8 ≤ length zeros → 1 + index < length image
+        → Spells geometry image content
+        → Spells geometry (slice_set image (1 + index) zeros) content }
 {}
