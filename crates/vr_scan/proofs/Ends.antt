@@ -1,4 +1,4 @@
--- Each end follows another token.
+-- Each end follows another token, and the last token is one.
 use Rattle.std.proofs.Common.{◌≡◌, ℕ, Bool, true, false, List, [], ◌∷◌, ◌++◌, refl, sym, subst}
 use Rattle.vr_text.specs.Lines.{Line}
 use Rattle.vr_scan.specs.declared.mark.Mark.{Mark}
@@ -12,12 +12,14 @@ use Rattle.vr_scan.specs.Class.{class_of}
 use Rattle.vr_scan.specs.Mark.{marks_of}
 use Rattle.vr_scan.specs.Piece.{Piece, Nothing, Spelled, Ended, IsPieceOf}
 use Rattle.vr_scan.specs.Scan.{Cuts, tokens_from, added, opened, IsTokens}
-use Rattle.vr_scan.specs.Order.{is_end, EndsFollow}
+use Rattle.std.specs.Prelude.{not}
+use Rattle.vr_scan.proofs.Closing.{Closes, next_closes, marks_close}
+use Rattle.vr_scan.specs.Order.{is_end, AreEnded}
 
 -- the tokens of a piece before further ones
 abbrev pub Follows : Bool → Piece → Type 0
-Follows begun piece = (tail : List Token) → EndsFollow (opened begun piece) tail
-    → EndsFollow begun (added begun piece ++ tail)
+Follows begun piece = (tail : List Token) → AreEnded (opened begun piece) tail
+    → AreEnded begun (added begun piece ++ tail)
 
 nothing_follows : (begun : Bool) → Follows begun Nothing
 nothing_follows begun = λ tail ends. ends
@@ -63,16 +65,23 @@ piece_follows Word mark text piece rest begun p =
     token_follows begun piece _ p.0 refl
 piece_follows OpenEnd mark text piece rest begun p = absurd p
 
-tokens_follow : (text rest : List Mark) (begun : Bool) (pieces : List Piece)
-    → Cuts text pieces rest → EndsFollow begun (tokens_from begun pieces)
-tokens_follow text rest begun [] cuts = tt
-tokens_follow [] rest begun (piece ∷ pieces) cuts = absurd cuts.1
-tokens_follow (mark ∷ text) rest begun (piece ∷ pieces) cuts =
+not_begun : (begun : Bool) → not begun ≡ true → begun ≡ false
+not_begun true e = let h : ⊥ = cc (e) in absurd h
+not_begun false e = refl
+
+tokens_follow : (text : List Mark) (begun : Bool) (pieces : List Piece) → Cuts text pieces []
+    → Closes (not begun) text → AreEnded begun (tokens_from begun pieces)
+tokens_follow text begun [] cuts closes =
+    not_begun begun (subst (λ (z : List Mark). Closes (not begun) z) (sym cuts) closes)
+tokens_follow [] begun (piece ∷ pieces) cuts closes = absurd cuts.1
+tokens_follow (mark ∷ text) begun (piece ∷ pieces) cuts closes =
     piece_follows (class_of mark text) mark text piece cuts.0 begun cuts.1
     (tokens_from (opened begun piece) pieces)
-    (tokens_follow cuts.0 rest (opened begun piece) pieces cuts.2)
+    (tokens_follow cuts.0 (opened begun piece) pieces cuts.2
+    (next_closes mark.sign mark text piece cuts.0 begun refl closes cuts.1))
 
-pub ends_follow : (lines : List Line) (tokens : List Token) → IsTokens lines tokens
-    → EndsFollow false tokens
-ends_follow lines tokens is =
-    rw (is.are) (tokens_follow (marks_of lines) [] false is.pieces is.cut)
+pub commands_are_ended : (lines : List Line) (tokens : List Token) → IsTokens lines tokens
+    → AreEnded false tokens
+commands_are_ended lines tokens is =
+    rw is.are
+    (tokens_follow (marks_of lines) false is.pieces is.cut (marks_close lines))

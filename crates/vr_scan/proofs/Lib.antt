@@ -6,5 +6,6 @@ pub mod Cutting
 pub mod Outcomes
 pub mod Suffixes
 pub mod Ascending
+pub mod Closing
 pub mod Ends
 pub mod Existing

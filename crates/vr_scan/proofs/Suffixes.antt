@@ -39,7 +39,7 @@ either : (b : Bool) (text one other : List Mark) → IsSuffix text one → IsSuf
 either true text one other s t = s
 either false text one other s t = t
 
-one_of : (b : Bool) (x y : Option (List Mark)) (rest : List Mark)
+pub one_of : (b : Bool) (x y : Option (List Mark)) (rest : List Mark)
     → (if b then x else y) ≡ Some rest → (x ≡ Some rest) ⊎ (y ≡ Some rest)
 one_of true x y rest e = inl e
 one_of false x y rest e = inr e
@@ -64,7 +64,7 @@ word_suffix (mark ∷ text) =
     either (goes_on (class_of mark text)) (mark ∷ text) (after_word text) (mark ∷ text)
     (later mark text (after_word text) (word_suffix text)) (whole (mark ∷ text))
 
-inner_suffix : (text : List Mark) → IsSuffix text (after_inner text)
+pub inner_suffix : (text : List Mark) → IsSuffix text (after_inner text)
 inner_suffix [] = whole []
 inner_suffix (mark ∷ text) =
     either (is_inner mark.sign) (mark ∷ text) (after_inner text) (mark ∷ text)

@@ -33,8 +33,9 @@ is_end Open = false
 is_end Close = false
 is_end End = true
 
--- Each end follows another token, given whether one stands before.
-abbrev pub EndsFollow : Bool → List Token → Type 0
-EndsFollow begun [] = Unit {0}
-EndsFollow begun (token ∷ tokens) =
-    (is_end token.kind ≡ true → begun ≡ true) × EndsFollow (not (is_end token.kind)) tokens
+-- Commands are ended: each end follows another token, given whether one stands before, and the
+-- last token is an end.
+abbrev pub AreEnded : Bool → List Token → Type 0
+AreEnded begun [] = begun ≡ false
+AreEnded begun (token ∷ tokens) =
+    (is_end token.kind ≡ true → begun ≡ true) × AreEnded (not (is_end token.kind)) tokens

@@ -4,7 +4,7 @@ ghost use Rattle.vr_text.specs.Lines.{Line};
 ghost use Rattle.vr_scan.specs.declared.fault.FormFault.{FormFault};
 ghost use Rattle.vr_scan.specs.Token.{Token};
 ghost use Rattle.vr_scan.specs.Scan.{IsTokens, IsFirstFault};
-ghost use Rattle.vr_scan.specs.Order.{NumbersAscend, PlacesAscend, EndsFollow};
+ghost use Rattle.vr_scan.specs.Order.{NumbersAscend, PlacesAscend, AreEnded};
 
 /// Lines have one list of tokens at most.
 pub fn one_list_of_tokens()
@@ -30,10 +30,10 @@ pub fn places_ascend()
         → IsTokens lines tokens → PlacesAscend 0 0 tokens }
 {}
 
-/// Each end follows another token: none comes first, and no two follow one another.
-pub fn ends_follow()
+/// Commands are ended: no end comes first, no two follow one another, and the last token is one.
+pub fn commands_are_ended()
     ensures { (lines : List Line) (tokens : List Token) → IsTokens lines tokens
-        → EndsFollow false tokens }
+        → AreEnded false tokens }
 {}
 
 /// Lines have a list of tokens or a first fault.

@@ -18,7 +18,7 @@ mod token;
 
 pub use fault::{FormCause, FormFault, ScanFault};
 pub use laws::{
-    ends_follow, no_tokens_at_a_fault, one_first_fault, one_list_of_tokens, places_ascend,
+    commands_are_ended, no_tokens_at_a_fault, one_first_fault, one_list_of_tokens, places_ascend,
     tokens_or_a_fault,
 };
 pub use reading::scan;

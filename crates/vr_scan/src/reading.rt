@@ -16,7 +16,7 @@ use vr_text::Lines;
 /// in the next as after a blank; with `+` it goes on directly at the next line's first character
 /// that isn't blank. A comment counts as a blank and may run over lines. An `End` stands where a
 /// line doesn't go on, and at `;`, but not where no other token stands before it since the last
-/// `End`: so no two follow one another, and none comes first.
+/// `End`: so no two follow one another, none comes first, and the last token is one.
 ///
 /// `Form` is the first fault of the text, with its place. `Memory` may come at any text.
 pub fn scan(alloc: Global, lines: &Lines) -> Result<Tokens, ScanFault>
