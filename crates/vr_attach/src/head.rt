@@ -72,12 +72,7 @@ fn ends_part(layout: &Layout, view: &SeqView<'_>) -> bool
 }
 
 /// The same as `head_rule`, of a head that was read.
-fn record_rule(
-    layout: &Layout,
-    area: u32,
-    areas: u32,
-    view: &SeqView<'_>,
-) -> Option<Rule>
+fn record_rule(layout: &Layout, area: u32, areas: u32, view: &SeqView<'_>) -> Option<Rule>
     requires { 0 < length view.now.entries }
     ensures { (top : List ℕ) → SpellsRecord layout.now top → record_in top ≡ view.now
         → MatchOption result (IsHead layout.now top)

@@ -125,13 +125,7 @@ impl Keyed {
         ensures keeps { Keeps B.tells (B.seen blocks.old) (B.seen blocks.new) }
         ensures cause { HasCause (B.faults blocks.old) (B.faults blocks.new) result }
     {
-        first_damage(
-            blocks,
-            &self.layout,
-            area,
-            areas,
-            self.out.as_mut_slice(),
-        )
+        first_damage(blocks, &self.layout, area, areas, self.out.as_mut_slice())
     }
 }
 
