@@ -1,11 +1,9 @@
 -- Which rule a head breaks.
-use Rattle.std.proofs.Common.{◌≡◌, ℕ, true, false, Option, Some, None, All, refl, sym, ap, subst}
-use Rattle.std.proofs.Common.{◌∙◌, length, List, ◌∷◌, [], ◌++◌}
-use Rattle.std.specs.Prelude.{replicate}
+use Rattle.std.proofs.Common.{◌≡◌, ℕ, Option, Some, None, sym, subst}
+use Rattle.std.proofs.Common.{◌∙◌}
 use Rattle.vr_types.specs.Image.{Block}
-use Rattle.vr_seqset.specs.Entry.{Entry}
 use Rattle.vr_seqset.specs.Reading.{record_in}
-use Rattle.vr_space.specs.Keyed.{Keyed, IsHead, entries_of}
+use Rattle.vr_space.specs.Keyed.{Keyed, IsHead}
 use Rattle.vr_attach.specs.Damage.{HeadBreaks, IsLeastBroken, SpellsRecord, NamesAreas}
 use Rattle.vr_attach.specs.Damage.{IsFirstRecord, IsOfPart, EndsPart}
 use Rattle.vr_attach.specs.declared.rule.Rule.{Rule}

@@ -1,5 +1,5 @@
 -- Which rule an interval breaks.
-use Rattle.std.proofs.Common.{◌≡◌, ℕ, ◌<◌, true, false, List, All, IsTrue, refl, sym, ap, subst}
+use Rattle.std.proofs.Common.{◌≡◌, ℕ, List, All, IsTrue, refl, sym, ap, subst}
 use Rattle.std.proofs.Common.{◌∙◌, arith, map}
 use Rattle.std.specs.List.Sorted.{IsStrictlySortedBy}
 use Rattle.vr_types.specs.Content.{place_cmp}
@@ -14,7 +14,6 @@ use Rattle.vr_ci.proofs.CallerLemmas.{one_value, interval_says}
 use Rattle.vr_space.specs.Room.{Range, is_in}
 use Rattle.vr_space.specs.Keyed.{Keyed, IsKept, HoldsRange, items_of, key_of}
 use Rattle.vr_attach.specs.Damage.{IntervalBreaks, IsLeastBroken, Spells, HasRecords, AreInOrder}
-use Rattle.vr_attach.specs.Damage.{rule_number}
 use Rattle.vr_attach.specs.declared.rule.Rule.{Rule}
 use Rattle.vr_attach.specs.declared.rule.Rule.TheVariants as rules
 use Rattle.vr_attach.proofs.Rules.{NoneBelow, none_more, least}

@@ -15,7 +15,7 @@ use Rattle.vr_space.specs.UnderWay.{interval_block}
 use Rattle.vr_space.specs.declared.search.FoundEntry.{FoundEntry}
 use Rattle.vr_space.proofs.CallerLemmas.{holds-nth}
 use Rattle.vr_attach.specs.Damage.{rule_number, HeadBreaks, IntervalBreaks, IsLeastBroken, HoldsNth}
-use Rattle.vr_attach.specs.Damage.{IsBadInterval, IsBadHead, IsDamagedAt}
+use Rattle.vr_attach.specs.Damage.{IsBadInterval, IsDamagedAt}
 use Rattle.vr_types.specs.declared.fault.DeviceFault.{DeviceFault}
 use Rattle.vr_attach.specs.declared.damage.Damage.{Damage}
 use Rattle.vr_attach.specs.declared.rule.Rule.{Rule}

@@ -3,7 +3,7 @@
 -- interval of each entry in their order. Written over what the blocks spell, apart from the walk of
 -- the code. The rules and their numbers are this project's own.
 use Rattle.std.specs.Prelude.{◌≡◌, ◌⊎◌, ℕ, ◌<◌, true, false, IsTrue, List, [], ◌∷◌, ◌++◌, length}
-use Rattle.std.specs.Prelude.{All, Option, Some, None, IfSome, map, replicate}
+use Rattle.std.specs.Prelude.{All, Some, None, IfSome, map, replicate}
 use Rattle.std.specs.List.{slice_get}
 use Rattle.std.specs.List.Sorted.{IsStrictlySortedBy}
 use Rattle.vr_types.specs.Content.{place_cmp}

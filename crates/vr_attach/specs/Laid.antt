@@ -1,9 +1,9 @@
 -- Where the keyed parts of a volume are on its blocks: the catalog, which is part 0, in area 0, and
 -- each key-sequenced cluster in the area that its entry names. There are clusters of one area yet.
 -- The rules are this project's own.
-use Rattle.std.specs.Prelude.{◌≡◌, ◌+◌, ◌≤◌, ◌<◌, ℕ, Option, Some, None, false}
+use Rattle.std.specs.Prelude.{ℕ, Option, Some, None}
 use Rattle.std.specs.Option.{option_and_then}
-use Rattle.vr_types.specs.Geometry.{head_block, area_count}
+use Rattle.vr_types.specs.Geometry.{head_block}
 use Rattle.vr_types.specs.declared.geometry.Geometry.{Geometry}
 use Rattle.vr_types.specs.declared.unit.AreaNo.{AreaNo}
 use Rattle.vr_types.specs.declared.unit.Kind.{Kind}

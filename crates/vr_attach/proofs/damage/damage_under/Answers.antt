@@ -1,9 +1,7 @@
-use Rattle.std.proofs.Common.{◌<◌, ℕ, Option, Some, refl, subst, ◌∙◌, arith}
-use Rattle.std.specs.Prelude.{None}
+use Rattle.std.proofs.Common.{Some, refl, subst, ◌∙◌, arith}
 use Rattle.vr_types.specs.Image.{Image}
 use Rattle.vr_types.proofs.CallerLemmas.{keeps-none, keeps-then}
-use Rattle.vr_attach.specs.Damage.{HoldsNth, IsBadInterval}
-use Rattle.vr_attach.specs.declared.damage.Damage.{Damage}
+use Rattle.vr_attach.specs.Damage.{HoldsNth}
 use Rattle.vr_attach.proofs.Walks.{FoundAt, held_more}
 use Rattle.vr_attach.proofs.damage.damage_under.Goals as goal
 

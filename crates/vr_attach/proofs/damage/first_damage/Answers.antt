@@ -1,4 +1,4 @@
-use Rattle.std.proofs.Common.{◌≡◌, ℕ, Option, ap, sym, subst, ◌∙◌, length}
+use Rattle.std.proofs.Common.{◌≡◌, ℕ, Option, ap, subst, ◌∙◌, length}
 use Rattle.std.specs.Prelude.{◌<◌, IfOk, MatchOption}
 use Rattle.vr_types.specs.Image.{Image, block_at}
 use Rattle.vr_space.specs.Keyed.{Keyed, entries_of}

@@ -1,4 +1,3 @@
-use Rattle.std.proofs.Common.{refl}
 use Rattle.vr_ci.specs.Interval as ci
 use Rattle.vr_space.specs.Keyed.{IsKept}
 use Rattle.vr_attach.proofs.Passing.{still-passes}

@@ -1,6 +1,6 @@
 use Rattle.std.proofs.Common.{sym, ◌∙◌}
 use Rattle.vr_space.specs.Lent.{range_lent}
-use Rattle.vr_attach.proofs.Intervals.{least_8, least_9, least_10, segment_other}
+use Rattle.vr_attach.proofs.Intervals.{least_10, segment_other}
 use Rattle.vr_attach.proofs.interval.interval_rule.Goals as goal
 
 pub returns-in-Segment : goal.returns-in-Segment
