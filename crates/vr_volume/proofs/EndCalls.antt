@@ -1,9 +1,8 @@
 -- What the calls that end a unit leave of a volume at rest.
-use Rattle.std.proofs.Common.{◌≡◌, ◌≢◌, ◌⊎◌, inl, inr, ⊎_elim, ◌≤◌, ◌<◌, ◌+◌, ◌^◌, ℕ, Bool, true, false}
-use Rattle.std.proofs.Common.{cond, List, [], ◌∷◌, ◌++◌, Option, Some, None, refl, sym, ap, subst}
+use Rattle.std.proofs.Common.{◌≡◌, ◌≢◌, ◌⊎◌, inl, inr, ⊎_elim, ◌<◌, ◌+◌, ◌^◌, ℕ, Bool, true, false}
+use Rattle.std.proofs.Common.{cond, List, [], ◌∷◌, Option, None, refl, sym, ap, subst}
 use Rattle.std.proofs.Common.{◌∙◌, arith, length, filter, map}
 use Rattle.std.specs.Prelude.{nat_eq}
-use Rattle.std.proofs.lemmas.Bool.Decides.{Decides-eqb}
 use Rattle.vr_types.specs.Content.{Content, item_at}
 use Rattle.vr_types.specs.Image.{Image}
 use Rattle.vr_types.specs.Moments.{Guards}
@@ -12,13 +11,12 @@ use Rattle.vr_types.specs.Seen.{Left, Seen}
 use Rattle.vr_types.specs.declared.geometry.Geometry.{Geometry}
 use Rattle.vr_types.specs.declared.unit.Unit.{Unit as UnitOfRecovery}
 use Rattle.vr_space.specs.Met.{Met}
-use Rattle.vr_space.specs.Part.{InPart, IsOn, IsSound, KeyedShape, Shape, part_no, item_of}
+use Rattle.vr_space.specs.Part.{IsSound, Shape, part_no}
 use Rattle.vr_space.specs.Split.{SplitNow}
 use Rattle.vr_space.proofs.CallerLemmas.{StaysPart, fewer-room, knows-stays, rest-sound, rest-stays}
 use Rattle.vr_space.proofs.CallerLemmas.{on-still, room-stays, same-stays}
-use Rattle.vr_log.specs.Content.{Content as LogContent}
 use Rattle.vr_log.specs.Live.{is_in, live_in}
-use Rattle.vr_log.specs.LogNow.{HasLog, IsAppended, IsForced, IsLogOf, LogNow, forced_now, restarted}
+use Rattle.vr_log.specs.LogNow.{HasLog, IsAppended, IsForced, LogNow, forced_now, restarted}
 use Rattle.vr_log.specs.LogNow.{IsOf, next_generation, with_record}
 use Rattle.vr_log.specs.Standing.{InLog, LogStands}
 use Rattle.vr_log.specs.declared.record.EndKind.{EndKind}
@@ -27,9 +25,8 @@ use Rattle.vr_log.specs.declared.record.LogRecord.TheVariants.{End}
 use Rattle.vr_log.proofs.CallerLemmas.{restarted_stands}
 use Rattle.vr_history.specs.Effects.{is_other}
 use Rattle.vr_history.specs.State.{BeforeImage, Logged, State}
-use Rattle.vr_volume.specs.Committed.{HasLogged, IsCurrent, IsFirmFor, IsLaidState, KeepsNoneIf}
+use Rattle.vr_volume.specs.Committed.{IsCurrent, IsFirmFor, IsLaidState, KeepsNoneIf}
 use Rattle.vr_volume.specs.Committed.{committed_by, kept_by, logged_of}
-use Rattle.vr_volume.specs.Ended.{IsEndOf, ended}
 use Rattle.vr_volume.specs.EndedLog.{IsEndForced, IsEndedLog}
 use Rattle.vr_volume.specs.Laid.{shape_by}
 use Rattle.vr_volume.specs.Laying.{IsLogged}

@@ -1,6 +1,6 @@
 -- What forcing blocks that were changed leaves of a volume at rest.
-use Rattle.std.proofs.Common.{◌≡◌, ◌⊎◌, inl, inr, ⊎_elim, ◌<◌, ◌-◌, ℕ, Bool, IsTrue, true, List, []}
-use Rattle.std.proofs.Common.{◌++◌, Option, Some, None, refl, sym, ap, subst, ◌∙◌, arith, length, take}
+use Rattle.std.proofs.Common.{◌≡◌, ⊎_elim, ◌<◌, ℕ, Bool, IsTrue, List, []}
+use Rattle.std.proofs.Common.{Option, refl, sym, ap, subst, ◌∙◌, arith, take}
 use Rattle.std.proofs.Common.{drop}
 use Rattle.std.specs.List.{Contains}
 use Rattle.std.proofs.lemmas.List.{take-append-drop}
@@ -11,11 +11,11 @@ use Rattle.vr_types.specs.Seen.{Left, Seen}
 use Rattle.vr_types.specs.declared.geometry.Geometry.{Geometry}
 use Rattle.vr_types.specs.declared.unit.Unit.{Unit as UnitOfRecovery}
 use Rattle.vr_space.specs.Met.{Met}
-use Rattle.vr_space.specs.Part.{InPart, IsDueTo, IsFirm, IsSound, KeyedShape, Shape, item_of}
+use Rattle.vr_space.specs.Part.{IsDueTo, IsFirm, IsSound, KeyedShape, Shape, item_of}
 use Rattle.vr_space.specs.Split.{SplitNow}
 use Rattle.vr_space.specs.Way.{MayOnceForced}
 use Rattle.vr_space.specs.Keyed.{keyed_way}
-use Rattle.vr_space.proofs.CallerLemmas.{IsBlock, StaysPart, find-more, keyed-within, within-less}
+use Rattle.vr_space.proofs.CallerLemmas.{IsBlock, find-more, keyed-within, within-less}
 use Rattle.vr_log.specs.LogNow.{LogNow}
 use Rattle.vr_history.specs.State.{BeforeImage, State}
 use Rattle.vr_volume.specs.Committed.{IsFirmFor, committed_by}

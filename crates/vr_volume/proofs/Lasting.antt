@@ -1,5 +1,5 @@
 -- What a crash leaves of a volume at rest.
-use Rattle.std.proofs.Common.{◌≡◌, ⊎_elim, ℕ, List, [], Option, None, refl, sym, ap, ◌∙◌, not}
+use Rattle.std.proofs.Common.{◌≡◌, ⊎_elim, ℕ, List, Option, None, sym, ap, ◌∙◌, not}
 use Rattle.vr_types.specs.Content.{item_at}
 use Rattle.vr_types.specs.Image.{Image}
 use Rattle.vr_types.specs.Seen.{Left, Seen}

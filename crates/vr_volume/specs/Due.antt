@@ -1,5 +1,5 @@
 -- The blocks that have to be forced before a unit ends. The rules are this project's own.
-use Rattle.std.specs.Prelude.{◌≡◌, ℕ, true, List, Option, Some}
+use Rattle.std.specs.Prelude.{◌≡◌, ℕ, true, List, Some}
 use Rattle.vr_types.specs.Content.{item_at}
 use Rattle.vr_types.specs.Locks.{same_unit}
 use Rattle.vr_types.specs.Seen.{Seen}

@@ -1,11 +1,10 @@
 -- What the end of a unit of recovery makes of the log: the end is there and forced, and once no unit
 -- is live the next generation has begun. The rules are this project's own.
-use Rattle.std.specs.Prelude.{◌≡◌, ◌≢◌, false, List, []}
+use Rattle.std.specs.Prelude.{◌≡◌, ◌≢◌, false, []}
 use Rattle.vr_types.specs.declared.unit.Unit.{Unit as UnitOfRecovery}
 use Rattle.vr_log.specs.Live.{live_in}
 use Rattle.vr_log.specs.LogNow.{IsForced, LogNow, next_generation}
 use Rattle.vr_log.specs.declared.record.EndKind.{EndKind}
-use Rattle.vr_log.specs.declared.record.LogRecord.{LogRecord}
 use Rattle.vr_volume.specs.Ended.{ended}
 
 -- The end is in the log, and forced.

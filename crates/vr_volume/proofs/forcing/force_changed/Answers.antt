@@ -35,7 +35,7 @@ returns-clause-due g c told shape place sound due =
     let a = B.seen c.args.blocks.now in
     let b = B.seen c.force_blocks.new.blocks in
     let left = c.saturating_sub-left.result in
-    subst (λ (listed : List ℕ). IsDueTo shape listed b place) (sym c.truncate.ensures.items)
+    subst (λ (listed : List ℕ). IsDueTo shape listed b place) (sym {A = List ℕ} c.truncate.ensures.items)
     (due-left B.tells told a b c.force_blocks.ensures.after shape c.args.changed.now.items place
     left
     (subst (λ (listed : List ℕ). Forced (drop left listed) a.cur b.may) c.deref.ensures.value
