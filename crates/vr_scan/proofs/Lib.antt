@@ -9,3 +9,4 @@ pub mod Ascending
 pub mod Closing
 pub mod Ends
 pub mod Existing
+pub mod CallerLemmas
