@@ -20,7 +20,9 @@ pub use data_names::DataNames;
 pub use given::{Given, given_for};
 pub use point::{Move, Point, Statement};
 pub use reader::{Seen, move_at};
-pub use row::{Choice, Parameter, Range, Row, Slot, Takes, Value, Values, parameter_named};
+pub use row::{
+    Choice, Parameter, Range, Row, Slot, Takes, Value, Values, is_column_of, parameter_named,
+};
 pub use section::{Section, parameter_in};
 pub use tables::{
     ALTERNATE_ROWS, ALTER_ROWS, BUILD_ROWS, CLUSTER_ROWS, CLUSTER_PART_ROWS, ALTERNATE_PART_ROWS, DATA_ROWS, DELETE_ROWS,
@@ -28,4 +30,4 @@ pub use tables::{
     VERIFY_ROWS,
 };
 pub use text::{is_class, is_name, number_in};
-pub use value::judge;
+pub use value::{judge, number_fault};

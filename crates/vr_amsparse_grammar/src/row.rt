@@ -140,8 +140,8 @@ pub struct Row {
     pub parameter: Parameter,
 }
 
-/// Whether a column that is filled with blanks has this word. No column has the empty word.
-fn is_column_of(column: &[u8], word: &[u8]) -> bool
+/// Whether a column of a table that is filled with blanks has this word. No column has the empty word.
+pub fn is_column_of(column: &[u8], word: &[u8]) -> bool
     ensures { result ≡ is_column_of column.now word.now }
 {
     !word.is_empty()

@@ -140,7 +140,7 @@ fn text_fault(kind: TokenKind) -> Option<AmsCause>
 }
 
 /// A number is a word of digits, and within the range.
-fn number_fault(range: Range, kind: TokenKind, text: &[u8]) -> Option<AmsCause>
+pub fn number_fault(range: Range, kind: TokenKind, text: &[u8]) -> Option<AmsCause>
     ensures { result ≡ number_fault range kind text.now }
 {
     match kind {
