@@ -5,3 +5,4 @@ pub mod Class
 pub mod Piece
 pub mod Scan
 pub mod MarksLeft
+pub mod Taking

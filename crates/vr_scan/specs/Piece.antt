@@ -57,7 +57,7 @@ after_comment [] = None
 after_comment (mark ∷ text) =
     if is_sign 42 mark.sign && begins 47 text then Some (drop 1 text) else after_comment text
 
--- the word that a text begins with, and what follows it
+-- how the word that this text goes on ends, and what follows it
 abbrev pub word : List Mark → List Mark
 word [] = []
 word (mark ∷ text) = if goes_on (class_of mark text) then mark ∷ word text else []
@@ -153,8 +153,8 @@ IsPieceOf QuotedDigits mark text piece rest =
     × IsClosed (drop 1 text) × (first_bad (inner (drop 1 text)) ≡ None)
     × (rest ≡ drop 1 (after_inner (drop 1 text)))
 IsPieceOf WordClass mark text piece rest =
-    (piece ≡ Spelled (token Word (map to_ascii_uppercase (bytes_of (word (mark ∷ text)))) mark))
-    × (rest ≡ after_word (mark ∷ text))
+    (piece ≡ Spelled (token Word (map to_ascii_uppercase (bytes_of (mark ∷ word text))) mark))
+    × (rest ≡ after_word text)
 IsPieceOf OpenEnd mark text piece rest = ⊥
 
 -- a text begins with this piece, and then comes the rest

@@ -8,6 +8,7 @@ use std::marker::Model;
 use vr_text::Lines;
 
 /// What is left of a text.
+#[derive(Drop)]
 pub(crate) struct Cursor<'a> {
     first: Option<Mark>,
     second: Option<Mark>,

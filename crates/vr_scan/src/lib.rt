@@ -8,11 +8,15 @@ mod cursor;
 mod draft;
 mod fault;
 mod field;
+mod laws;
+mod literal;
 mod mark;
+mod piece;
 mod reader;
 mod reading;
 mod token;
 
 pub use fault::{FormCause, FormFault, ScanFault};
+pub use laws::{no_tokens_at_a_fault, one_first_fault, one_list_of_tokens};
 pub use reading::scan;
 pub use token::{TokenKind, Tokens};

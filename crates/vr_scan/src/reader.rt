@@ -6,6 +6,7 @@ use crate::mark::{Mark, Sign};
 use vr_text::Lines;
 
 /// Lines, as far as they are not read yet.
+#[derive(Drop)]
 pub(crate) struct Reader<'a> {
     lines: &'a Lines<'a>,
     /// The place of the next line, and whether it is joined to the present one.

@@ -1,8 +1,12 @@
 //! The reading of a command text.
-ghost use Rattle.std.specs.Prelude.{IfOk, IfErr};
+ghost use Rattle.std.specs.Prelude.{◌≡◌, [], IfOk, IfErr, OnOk};
 ghost use Rattle.vr_scan.specs.Scan.{IsTokens, CauseOf};
 
+use crate::class::class_of;
+use crate::cursor::Cursor;
+use crate::draft::Draft;
 use crate::fault::ScanFault;
+use crate::piece::take_piece;
 use crate::token::Tokens;
 use std::alloc::Global;
 use vr_text::Lines;
@@ -19,7 +23,25 @@ pub fn scan(alloc: Global, lines: &Lines) -> Result<Tokens, ScanFault>
     ensures tokens { IfOk result (IsTokens lines.now) }
     ensures fault { IfErr result (CauseOf lines.now) }
 {
-    let _ = alloc;
-    let _ = lines.len();
-    Err(ScanFault::Memory)
+    let mut draft = Draft::new(alloc);
+    match read_pieces(lines, &mut draft) {
+        Ok(()) => Ok(draft.into_tokens()),
+        Err(fault) => Err(fault),
+    }
+}
+
+/// Reads all pieces of the lines.
+fn read_pieces(lines: &Lines, draft: &mut Draft) -> Result<(), ScanFault>
+    requires { draft.old ≡ record { tokens = []; text = [] } }
+    ensures ok { OnOk result (IsTokens lines.now draft.new.tokens) }
+    ensures fault { IfErr result (CauseOf lines.now) }
+{
+    let mut cursor = Cursor::new(lines);
+    let mut begun = false;
+    while let Some(mark) = cursor.first() {
+        let class = class_of(mark, cursor.second());
+        cursor.advance();
+        begun = take_piece(class, mark, &mut cursor, draft, begun)?;
+    }
+    Ok(())
 }
