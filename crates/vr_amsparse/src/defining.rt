@@ -164,11 +164,7 @@ fn sizes_of(tokens: &Tokens, given: &[Given], long: bool) -> Result<Sizes, OutOf
 }
 
 /// The names of the components.
-fn components_of(
-    alloc: Global,
-    tokens: &Tokens,
-    given: &[Given],
-) -> Result<Components, OutOfMemory>
+fn components_of(alloc: Global, tokens: &Tokens, given: &[Given]) -> Result<Components, OutOfMemory>
     ensures { IfOk result (λ names.
         (names.data_name ≡ name_if tokens.now given.now slots.DataName)
         × (names.index_name ≡ name_if tokens.now given.now slots.IndexName)) }
@@ -233,11 +229,7 @@ fn data_options(
 }
 
 /// What DEFINE CLUSTER adds.
-fn new_cluster(
-    alloc: Global,
-    tokens: &Tokens,
-    given: &[Given],
-) -> Result<NewEntry, OutOfMemory>
+fn new_cluster(alloc: Global, tokens: &Tokens, given: &[Given]) -> Result<NewEntry, OutOfMemory>
     ensures { IfOk result (λ what. what ≡ new_cluster tokens.now given.now) }
 {
     let kind = kind_of(choice_for(given, Slot::Kind));
@@ -251,11 +243,7 @@ fn new_cluster(
 }
 
 /// What DEFINE ALTERNATEINDEX adds.
-fn new_alternate(
-    alloc: Global,
-    tokens: &Tokens,
-    given: &[Given],
-) -> Result<NewEntry, OutOfMemory>
+fn new_alternate(alloc: Global, tokens: &Tokens, given: &[Given]) -> Result<NewEntry, OutOfMemory>
     ensures { IfOk result (λ what. what ≡ new_alternate tokens.now given.now) }
 {
     let unique = is_first(choice_for(given, Slot::Unique));
@@ -269,11 +257,7 @@ fn new_alternate(
 }
 
 /// What DEFINE PATH adds.
-fn new_path(
-    alloc: Global,
-    tokens: &Tokens,
-    given: &[Given],
-) -> Result<NewEntry, OutOfMemory>
+fn new_path(alloc: Global, tokens: &Tokens, given: &[Given]) -> Result<NewEntry, OutOfMemory>
     ensures { IfOk result (λ what. what ≡ new_path tokens.now given.now) }
 {
     let related = name_for(alloc, tokens, given, Slot::Related)?;

@@ -10,9 +10,7 @@ use crate::command::{
     Source, To,
 };
 use crate::defining::{alter_command, define_alternate, define_cluster, define_path};
-use crate::values::{
-    choice_for, is_first, is_second, name_for, names_for, number_for, text_for,
-};
+use crate::values::{choice_for, is_first, is_second, name_for, names_for, number_for, text_for};
 use std::alloc::Global;
 use vr_amsparse_grammar::{Choice, Given, Section, Slot, given_for};
 use vr_catalog::EntryKind;
@@ -147,11 +145,7 @@ fn verify_command(alloc: Global, tokens: &Tokens, given: &[Given]) -> Result<Com
 }
 
 /// EXAMINE.
-fn examine_command(
-    alloc: Global,
-    tokens: &Tokens,
-    given: &[Given],
-) -> Result<Command, OutOfMemory>
+fn examine_command(alloc: Global, tokens: &Tokens, given: &[Given]) -> Result<Command, OutOfMemory>
     ensures { IfOk result (λ command. command ≡ examine_command tokens.now given.now) }
 {
     Ok(Command::Examine(name_for(alloc, tokens, given, Slot::Name)?))

@@ -8,9 +8,7 @@ ghost use Rattle.vr_amsparse.specs.Run.{begun, granted, applied, is_other, ready
 ghost use Rattle.vr_amsparse.specs.Stops.{Stops};
 
 use crate::act::{Act, Around, Place, act_at};
-use crate::command::{
-    Branch, CodeVariable, Command, Comparison, Condition, Node, Setting, Within,
-};
+use crate::command::{Branch, CodeVariable, Command, Comparison, Condition, Node, Setting, Within};
 use crate::opens::{Open, Opens, Stage, complete, settle};
 use crate::orders::{command_of, has_all};
 use crate::values::text_at;
@@ -144,7 +142,11 @@ fn within_of(top: Option<Open>) -> Option<Within>
 fn line_at(tokens: &Tokens, at: usize) -> u32
     ensures { result ≡ (token_at tokens.now at).line }
 {
-    if at < tokens.len() { tokens.line(at) } else { 0 }
+    if at < tokens.len() {
+        tokens.line(at)
+    } else {
+        0
+    }
 }
 
 /// Adds a command in its place.
@@ -278,13 +280,7 @@ fn give(state: &mut State, given: Given, point: Point) -> Result<(), OutOfMemory
 }
 
 /// What a token does to the state.
-fn apply(
-    alloc: Global,
-    tokens: &Tokens,
-    state: &mut State,
-    at: usize,
-    act: Act,
-) -> Result<(), Stop>
+fn apply(alloc: Global, tokens: &Tokens, state: &mut State, at: usize, act: Act) -> Result<(), Stop>
     ensures ok { OnOk result (applied tokens.now state.old at act ≡ Went state.new) }
     ensures bad { IfErr result (Stops (applied tokens.now state.old at act)) }
 {
@@ -350,7 +346,14 @@ fn act_of(
         top: state.opens.top(),
         depth: state.opens.len(),
     };
-    act_at(alloc, state.place, seen, state.given.as_slice(), names, around)
+    act_at(
+        alloc,
+        state.place,
+        seen,
+        state.given.as_slice(),
+        names,
+        around,
+    )
 }
 
 /// The step of a token.

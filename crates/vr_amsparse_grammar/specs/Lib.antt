@@ -4,3 +4,4 @@ pub mod Sections
 pub mod Words
 pub mod Judging
 pub mod Moves
+pub mod Reading

@@ -7,6 +7,7 @@
 mod cause;
 mod data_names;
 mod given;
+mod laws;
 mod point;
 mod reader;
 mod row;
@@ -18,6 +19,7 @@ mod value;
 pub use cause::AmsCause;
 pub use data_names::DataNames;
 pub use given::{Given, given_for};
+pub use laws::spelled_is_given;
 pub use point::{Move, Point, Statement};
 pub use reader::{Seen, move_at};
 pub use row::{
@@ -25,9 +27,9 @@ pub use row::{
 };
 pub use section::{Section, parameter_in};
 pub use tables::{
-    ALTERNATE_ROWS, ALTER_ROWS, BUILD_ROWS, CLUSTER_ROWS, CLUSTER_PART_ROWS, ALTERNATE_PART_ROWS, DATA_ROWS, DELETE_ROWS,
-    EXAMINE_ROWS, INDEX_ROWS, LIST_ROWS, NAME_ROWS, PATH_ROWS, PRINT_ROWS, REPRO_ROWS, SPACE_ROWS,
-    VERIFY_ROWS,
+    ALTER_ROWS, ALTERNATE_PART_ROWS, ALTERNATE_ROWS, BUILD_ROWS, CLUSTER_PART_ROWS, CLUSTER_ROWS,
+    DATA_ROWS, DELETE_ROWS, EXAMINE_ROWS, INDEX_ROWS, LIST_ROWS, NAME_ROWS, PATH_ROWS, PRINT_ROWS,
+    REPRO_ROWS, SPACE_ROWS, VERIFY_ROWS,
 };
 pub use text::{is_class, is_name, number_in};
 pub use value::{judge, number_fault};

@@ -203,7 +203,13 @@ fn parameter_move(section: Section, at: usize, given: &[Given], parameter: Param
         slot: parameter.slot,
         choice: parameter.choice,
     };
-    taken_move(section, at, states, parameter.takes, repeated(given, states))
+    taken_move(
+        section,
+        at,
+        states,
+        parameter.takes,
+        repeated(given, states),
+    )
 }
 
 /// A parameter of a list, with what is wrong with giving it too. What is left out comes first.
@@ -284,7 +290,14 @@ fn value_move(
             if pending.values.most <= before {
                 return Ok(Move::Bad(AmsCause::WrongCount));
             }
-            let cause = judge(alloc, pending.values.value, before, seen.kind, seen.text, names)?;
+            let cause = judge(
+                alloc,
+                pending.values.value,
+                before,
+                seen.kind,
+                seen.text,
+                names,
+            )?;
             Ok(judged_move(pending, cause))
         }
     }

@@ -5,9 +5,9 @@ ghost use Rattle.vr_amsparse_grammar.specs.Sections.{is_enclosed, section_after,
 
 use crate::row::{Parameter, Row, parameter_named};
 use crate::tables::{
-    ALTERNATE_ROWS, ALTER_ROWS, BUILD_ROWS, CLUSTER_ROWS, CLUSTER_PART_ROWS, ALTERNATE_PART_ROWS, DATA_ROWS, DELETE_ROWS,
-    EXAMINE_ROWS, INDEX_ROWS, LIST_ROWS, NAME_ROWS, NO_ROWS, PATH_ROWS, PRINT_ROWS, REPRO_ROWS,
-    SPACE_ROWS, VERIFY_ROWS,
+    ALTER_ROWS, ALTERNATE_PART_ROWS, ALTERNATE_ROWS, BUILD_ROWS, CLUSTER_PART_ROWS, CLUSTER_ROWS,
+    DATA_ROWS, DELETE_ROWS, EXAMINE_ROWS, INDEX_ROWS, LIST_ROWS, NAME_ROWS, NO_ROWS, PATH_ROWS,
+    PRINT_ROWS, REPRO_ROWS, SPACE_ROWS, VERIFY_ROWS,
 };
 
 /// A list of parameters. One in parentheses is followed by another list; one without is ended by

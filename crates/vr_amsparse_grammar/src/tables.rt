@@ -55,20 +55,38 @@ macro_rules! numbers {
 }
 
 const ONE_NAME: Takes = values!(Value::Name, 1, 1);
+
 const SOME_NAMES: Takes = values!(Value::Name, 1, 18_446_744_073_709_551_615);
+
 const DATA_NAME: Takes = values!(Value::Data, 1, 1);
+
 const CLASS: Takes = values!(Value::Class, 1, 1);
+
 const SERIAL: Takes = values!(Value::Serial, 1, 1);
+
 const LOG_VALUE: Takes = values!(Value::Log, 1, 1);
+
 const ONE_TEXT: Takes = values!(Value::Text, 1, 1);
+
 const ONE_COUNT: Takes = values!(numbers!(ANY, ANY), 1, 1);
+
 const TWO_COUNTS: Takes = values!(numbers!(ANY, ANY), 2, 2);
+
 const SPACE: Takes = values!(numbers!(ANY, ANY), 1, 2);
-const PARTS: Range = Range { least: 0, most: 100 };
+
+const PARTS: Range = Range {
+    least: 0,
+    most: 100,
+};
+
 const FREE_SPACE: Takes = values!(numbers!(PARTS, PARTS), 1, 2);
+
 const KEYS: Takes = values!(
     numbers!(
-        Range { least: 1, most: 255 },
+        Range {
+            least: 1,
+            most: 255
+        },
         Range {
             least: 0,
             most: 32_759
@@ -77,6 +95,7 @@ const KEYS: Takes = values!(
     2,
     2
 );
+
 const SHARE_OPTIONS: Takes = values!(
     numbers!(Range { least: 1, most: 4 }, Range { least: 3, most: 4 }),
     1,
@@ -251,4 +270,3 @@ pub const VERIFY_ROWS: [Row; 1] = [
 pub const EXAMINE_ROWS: [Row; 1] = [
     row!(b"NAME               ", b"      ", Name, First, ONE_NAME),
 ];
-

@@ -38,11 +38,7 @@ pub fn judge(
 }
 
 /// A data set is named by a word that is its name. One with `*` is left out.
-fn name_fault(
-    alloc: Global,
-    kind: TokenKind,
-    text: &[u8],
-) -> Result<Option<AmsCause>, OutOfMemory>
+fn name_fault(alloc: Global, kind: TokenKind, text: &[u8]) -> Result<Option<AmsCause>, OutOfMemory>
     ensures { IfOk result (λ cause. cause ≡ name_fault kind text.now) }
 {
     match kind {
@@ -60,11 +56,7 @@ fn name_fault(
 }
 
 /// A class is named by a word that is a name without a dot.
-fn class_fault(
-    alloc: Global,
-    kind: TokenKind,
-    text: &[u8],
-) -> Result<Option<AmsCause>, OutOfMemory>
+fn class_fault(alloc: Global, kind: TokenKind, text: &[u8]) -> Result<Option<AmsCause>, OutOfMemory>
     ensures { IfOk result (λ cause. cause ≡ class_fault kind text.now) }
 {
     match kind {
