@@ -25,7 +25,7 @@ use Rattle.vr_amsparse.specs.declared.act.Place.TheVariants as places
 use Rattle.vr_amsparse.specs.declared.command.CodeVariable.{CodeVariable}
 use Rattle.vr_amsparse.specs.declared.opens.Open.{Open}
 use Rattle.vr_amsparse.specs.declared.opens.Stage.{Stage}
-use Rattle.vr_amsparse.specs.declared.opens.Stage.TheVariants.{Single, Group, Done}
+use Rattle.vr_amsparse.specs.declared.opens.Stage.TheVariants.{Single}
 use Rattle.vr_amsparse.specs.declared.verb.Verb.{Verb}
 use Rattle.vr_amsparse.specs.declared.verb.Verb.TheVariants as verbs
 use Rattle.vr_amsparse.specs.Opens.{is_done_stage, is_group_stage}

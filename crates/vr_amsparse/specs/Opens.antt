@@ -2,7 +2,7 @@
 -- ended, DO and END to each other, as Access Method Services Commands says.
 use Rattle.std.specs.Prelude.{ℕ, Bool, true, false, List, [], ◌∷◌, Option, Some, None, if◌then◌else◌}
 use Rattle.vr_amsparse.specs.declared.command.Branch.{Branch}
-use Rattle.vr_amsparse.specs.declared.command.Branch.TheVariants.{Then, Else}
+use Rattle.vr_amsparse.specs.declared.command.Branch.TheVariants.{Else}
 use Rattle.vr_amsparse.specs.declared.opens.Open.{Open}
 use Rattle.vr_amsparse.specs.declared.opens.Stage.{Stage}
 use Rattle.vr_amsparse.specs.declared.opens.Stage.TheVariants.{Single, Group, Done}

@@ -1,9 +1,7 @@
 -- The command that given parameters make, with its defaults, and what it has to have. The commands and
 -- their defaults are those of Access Method Services Commands; that LOG is UNDO is this project's own.
-use Rattle.std.specs.Prelude.{ℕ, ◌+◌, Bool, true, false, ◌&&◌, ◌||◌, not, ◌==◌, if◌then◌else◌, min, List, Option}
-use Rattle.std.specs.Prelude.{Some, None, is_some, codes, bytes_eq}
-use Rattle.std.specs.List.{find}
-use Rattle.std.specs.Option.{option_map, unwrap_or}
+use Rattle.std.specs.Prelude.{ℕ, Bool, true, ◌&&◌, if◌then◌else◌, List, Option}
+use Rattle.std.specs.Prelude.{Some, None, is_some}
 use Rattle.vr_types.specs.declared.unit.Kind.{Kind}
 use Rattle.vr_types.specs.declared.unit.Kind.TheVariants as kinds
 use Rattle.vr_catalog.specs.declared.entry.EntryKind.{EntryKind}
@@ -12,7 +10,6 @@ use Rattle.vr_catalog.specs.declared.entry.FreeSpace.{FreeSpace}
 use Rattle.vr_catalog.specs.declared.entry.ShareOptions.{ShareOptions}
 use Rattle.vr_catalog.specs.declared.entry.SpaceUnit.{SpaceUnit}
 use Rattle.vr_catalog.specs.declared.entry.SpaceUnit.TheVariants as units
-use Rattle.vr_catalog.specs.declared.order.Alter.{Alter}
 use Rattle.vr_catalog.specs.declared.order.DataOptions.{DataOptions}
 use Rattle.vr_catalog.specs.declared.order.NewEntry.{NewEntry}
 use Rattle.vr_catalog.specs.declared.order.NewEntry.TheVariants as news
@@ -25,7 +22,6 @@ use Rattle.vr_amsparse_grammar.specs.declared.row.Slot.TheVariants as slots
 use Rattle.vr_amsparse_grammar.specs.declared.section.Section.{Section}
 use Rattle.vr_amsparse_grammar.specs.declared.section.Section.TheVariants as lists
 use Rattle.vr_amsparse_grammar.specs.Moves.{given_in}
-use Rattle.vr_amsparse_grammar.specs.Words.{number_in}
 use Rattle.vr_amsparse.specs.declared.command.Command.{Command}
 use Rattle.vr_amsparse.specs.declared.command.Command.TheVariants as commands
 use Rattle.vr_amsparse.specs.declared.command.From.{From}
@@ -36,7 +32,7 @@ use Rattle.vr_amsparse.specs.declared.command.Source.{Source}
 use Rattle.vr_amsparse.specs.declared.command.Source.TheVariants as sources
 use Rattle.vr_amsparse.specs.declared.command.PrintForm.{PrintForm}
 use Rattle.vr_amsparse.specs.declared.command.PrintForm.TheVariants as forms
-use Rattle.vr_amsparse.specs.Values.{value_text, number_for, number_value, name_for, name_value, name_if}
+use Rattle.vr_amsparse.specs.Values.{number_for, name_for, name_if}
 use Rattle.vr_amsparse.specs.Values.{text_if, text_for, names_for, choice_for, is_first, is_second}
 
 -- INDEXED, NONINDEXED, NUMBERED; INDEXED where none is given

@@ -2,7 +2,7 @@
 -- one state to the next or is the first fault.
 use Rattle.std.specs.Prelude.{ℕ, ◌+◌, Bool, true, false, min, List, [], ◌∷◌, ◌++◌, length, Option, Some, None}
 use Rattle.std.specs.Prelude.{codes, bytes_eq, if◌then◌else◌}
-use Rattle.std.specs.Option.{option_map, unwrap_or}
+use Rattle.std.specs.Option.{unwrap_or}
 use Rattle.vr_scan.specs.declared.token.TokenKind.{TokenKind}
 use Rattle.vr_scan.specs.declared.token.TokenKind.TheVariants as kinds
 use Rattle.vr_scan.specs.Token.{Token, token_at}
@@ -18,10 +18,9 @@ use Rattle.vr_amsparse.specs.declared.act.Act.{Act}
 use Rattle.vr_amsparse.specs.declared.act.Act.TheVariants as acts
 use Rattle.vr_amsparse.specs.declared.act.Place.{Place}
 use Rattle.vr_amsparse.specs.declared.act.Place.TheVariants as places
-use Rattle.vr_amsparse.specs.declared.command.Branch.{Branch}
 use Rattle.vr_amsparse.specs.declared.command.Branch.TheVariants.{Then, Else}
 use Rattle.vr_amsparse.specs.declared.command.CodeVariable.{CodeVariable}
-use Rattle.vr_amsparse.specs.declared.command.CodeVariable.TheVariants.{LastCode, MaxCode}
+use Rattle.vr_amsparse.specs.declared.command.CodeVariable.TheVariants.{LastCode}
 use Rattle.vr_amsparse.specs.declared.command.Command.{Command}
 use Rattle.vr_amsparse.specs.declared.command.Command.TheVariants as commands
 use Rattle.vr_amsparse.specs.declared.command.Comparison.{Comparison}
@@ -32,10 +31,10 @@ use Rattle.vr_amsparse.specs.declared.command.Setting.{Setting}
 use Rattle.vr_amsparse.specs.declared.command.Within.{Within}
 use Rattle.vr_amsparse.specs.declared.opens.Open.{Open}
 use Rattle.vr_amsparse.specs.declared.opens.Stage.{Stage}
-use Rattle.vr_amsparse.specs.declared.opens.Stage.TheVariants.{Single, Group, Done}
+use Rattle.vr_amsparse.specs.declared.opens.Stage.TheVariants.{Single, Group}
 use Rattle.vr_amsparse.specs.declared.state.State.{State}
 use Rattle.vr_amsparse.specs.Acts.{act_at}
-use Rattle.vr_amsparse.specs.Opens.{top_of, with_top, completed, settled, last_group}
+use Rattle.vr_amsparse.specs.Opens.{top_of, completed, settled, last_group}
 use Rattle.vr_amsparse.specs.Orders.{has_all, command_of}
 use Rattle.vr_amsparse.specs.Values.{text_at}
 use Rattle.vr_amsparse.specs.Verbs.{variable_named, comparison_named}

@@ -1,11 +1,9 @@
 -- The words that begin commands, the words after DEFINE, and the comparisons of IF, by the tables of
 -- the code.
-use Rattle.std.specs.Prelude.{ℕ, Bool, true, false, ◌||◌, ◌&&◌, List, Option, Some, None, codes, bytes_eq, is_some, is_none}
+use Rattle.std.specs.Prelude.{ℕ, Bool, ◌||◌, List, Option, Some, None, codes, bytes_eq}
 use Rattle.std.specs.Prelude.{if◌then◌else◌}
 use Rattle.std.specs.List.{find}
-use Rattle.std.specs.Option.{option_map, unwrap_or}
-use Rattle.vr_scan.specs.declared.token.TokenKind.{TokenKind}
-use Rattle.vr_scan.specs.declared.token.TokenKind.TheVariants as kinds
+use Rattle.std.specs.Option.{option_map}
 use Rattle.vr_amsparse_grammar.specs.declared.section.Section.{Section}
 use Rattle.vr_amsparse_grammar.specs.Rows.{is_column_of}
 use Rattle.vr_amsparse.specs.declared.command.CodeVariable.{CodeVariable}

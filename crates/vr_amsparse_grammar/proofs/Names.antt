@@ -1,5 +1,5 @@
 -- Names and numbers: the tests of Words answer what the calls for them do.
-use Rattle.std.proofs.Common.{◌≡◌, ◌≢◌, ℕ, suc, ◌<◌, ◌≤◌, List, [], ◌∷◌, length, Bool, true, false, not}
+use Rattle.std.proofs.Common.{◌≡◌, ◌≢◌, ℕ, suc, ◌<◌, List, [], ◌∷◌, length, true, false, not}
 use Rattle.std.proofs.Common.{◌==◌, nat_lt, get_or, refl, sym, subst, ap, ◌∙◌, Option, Some, None, IfSome}
 use Rattle.std.proofs.Common.{IfNone, arith}
 use Rattle.std.specs.Bool.{Decides}

@@ -1,6 +1,6 @@
 -- A parameter as it is spelled is read as given.
-use Rattle.std.proofs.Common.{◌≡◌, ℕ, suc, ◌+◌, ◌-◌, ◌<◌, ◌≤◌, List, [], ◌∷◌, ◌++◌, length, Option, Some, None}
-use Rattle.std.proofs.Common.{Bool, true, false, cond, refl, sym, ap, subst, ◌∙◌, arith, nat_le, nat_lt, add-zero}
+use Rattle.std.proofs.Common.{◌≡◌, ℕ, suc, ◌+◌, ◌<◌, ◌≤◌, List, [], ◌∷◌, ◌++◌, length, Option, Some, None}
+use Rattle.std.proofs.Common.{true, false, cond, refl, sym, ap, subst, ◌∙◌, arith, nat_le, add-zero}
 use Rattle.std.proofs.lemmas.Bool.{lt-leb, le-ltb, both_ways}
 use Rattle.vr_scan.specs.declared.token.TokenKind.{TokenKind}
 use Rattle.vr_scan.specs.declared.token.TokenKind.TheVariants as kinds

@@ -9,8 +9,6 @@ use Rattle.vr_amsparse_grammar.specs.declared.point.Statement.{Statement}
 use Rattle.vr_amsparse_grammar.specs.declared.point.Point.{Point}
 use Rattle.vr_amsparse_grammar.specs.declared.point.Move.{Move}
 use Rattle.vr_amsparse_grammar.specs.declared.point.Move.TheVariants as moves
-use Rattle.vr_amsparse_grammar.specs.declared.row.Parameter.{Parameter}
-use Rattle.vr_amsparse_grammar.specs.declared.row.Slot.{Slot}
 use Rattle.vr_amsparse_grammar.specs.declared.row.Takes.TheVariants as takes
 use Rattle.vr_amsparse_grammar.specs.declared.row.Value.{Value}
 use Rattle.vr_amsparse_grammar.specs.declared.row.Values.{Values}

@@ -1,4 +1,4 @@
-use Rattle.std.proofs.Common.{◌≡◌, ℕ, List, IfSome, IfNone, subst, sym, true}
+use Rattle.std.proofs.Common.{◌≡◌, ℕ, List, subst, sym, true}
 use Rattle.vr_amsparse_grammar.proofs.Names.{number_plain}
 use Rattle.vr_amsparse_grammar.specs.Words.{number_in, is_plain}
 use Rattle.vr_amsparse_grammar.proofs.text.number_in.Goals as goal

@@ -1,4 +1,3 @@
-use Rattle.std.proofs.Common.{rules, sym, ◌∙◌}
 use Rattle.std.proofs.lemmas.Bool.{false_from_ne_true}
 use Rattle.vr_amsparse_grammar.proofs.Names.{plain_is_utf8}
 use Rattle.vr_amsparse_grammar.proofs.text.plain_text.Goals as goal
