@@ -2,7 +2,7 @@
 //! that the committed contents. It stands on the parts (vr_space), before-images (vr_undo), the log
 //! (vr_log), the catalog (vr_catalog) and the record file (vr_history).
 //!
-//! There are definitions and laws alone yet: the value that one event changes will stand on them.
+//! Each event on the blocks is here; the value that one event changes isn't built yet.
 #![tactic(auto)]
 
 mod again;
