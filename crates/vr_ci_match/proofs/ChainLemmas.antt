@@ -7,13 +7,8 @@ use Rattle.vr_ci_match.specs.declared.form.Form.{Form}
 use Rattle.vr_ci_match.specs.declared.form.Piece.{Piece}
 use Rattle.vr_ci_match.specs.declared.rdf.Rdf.{Rdf}
 use Rattle.vr_ci_match.specs.declared.rdf.Rdf.TheVariants.{Single, Run, Segment}
-use Rattle.vr_types.specs.BlockSize.{IsBlockSize}
 use Rattle.vr_ci_match.specs.Rdf.{IsRdf, IsOfRecords, MayFollow, IsChainFrom, IsChain, last_from}
 use Rattle.vr_ci_match.specs.Rdf.{shape_of, shape_by}
-
--- a block that is allowed has 512 to 32,768 bytes
-pub size_bounds : (n : ℕ) → IsBlockSize n → (512 ≤ n) × (n ≤ 32768)
-size_bounds n size = (omega (arith, size.some, size.small), size.most)
 
 -- each RDF of a chain is one
 pub chain_rdfs : (form : Form) (before : Option Rdf) (rs : List Rdf) → IsChainFrom form before rs
