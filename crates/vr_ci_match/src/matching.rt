@@ -29,8 +29,8 @@ pub struct Found {
 
 /// What the block holds, or its first fault. It answers Ok exactly for the blocks that their RDFs,
 /// their records' bytes and their busy flag describe, with their records in the block's room, and
-/// for those that are all zeros. A block has 512 to 32,768 bytes; whether a block may have just so
-/// many is for the caller to test.
+/// for those that are all zeros. Whether blocks may have this size is for the caller to test: here
+/// any of 512 to 32,768 bytes will do.
 pub fn match_block(form: Form, bytes: &[u8]) -> Result<Found, CiFault>
     requires least { 512 ≤ length bytes.now }
     requires most { length bytes.now ≤ 32768 }
