@@ -1,7 +1,7 @@
 -- Chains of RDFs, and what the last RDF says of the whole chain.
 use Rattle.vr_ci_match.specs.declared.form.Shape.TheVariants as shapes
-use Rattle.std.proofs.Common.{◌≡◌, ℕ, ◌≤◌, Bool, List, [], ◌∷◌, ◌++◌, Option}
-use Rattle.std.proofs.Common.{Some, None, refl, ap, ◌∙◌, arith, sym, subst}
+use Rattle.std.proofs.Common.{◌≡◌, ℕ, Bool, List, [], ◌∷◌, ◌++◌, Option}
+use Rattle.std.proofs.Common.{Some, None, refl, ap, ◌∙◌, sym, subst}
 use Rattle.std.specs.List.{AllByRecursion}
 use Rattle.vr_ci_match.specs.declared.form.Form.{Form}
 use Rattle.vr_ci_match.specs.declared.form.Piece.{Piece}
