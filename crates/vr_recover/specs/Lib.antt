@@ -1,4 +1,4 @@
 pub mod Formatted
 pub mod Planned
 pub mod FormatCause
-pub mod Opening
+pub mod Undone

@@ -17,10 +17,11 @@ mod laws;
 mod no;
 mod part;
 mod start;
+mod undone;
 mod volume;
 
 pub use format::format_volume;
 pub use laws::{
-    cleared_log_stays, formatted_can_open, formatted_is_safe, formatted_recovers, settled_is_safe,
+    cleared_log_stays, formatted_is_safe, formatted_recovers, settled_is_safe,
 };
 pub use no::FormatNo;

@@ -29,38 +29,25 @@ use Rattle.vr_history.specs.State.{BeforeImage, Logged, State, is_live}
 use Rattle.vr_history.proofs.CallerLemmas.{unit_self}
 use Rattle.vr_history.proofs.Same.{unit_same}
 use Rattle.vr_volume.specs.CatalogRules.{IsCatalog}
-use Rattle.vr_volume.specs.Committed.{AreAlone, HasLogged, IsCurrent, IsKeptIn, IsLaidState, IsPast}
+use Rattle.vr_volume.specs.Committed.{HasLogged, IsCurrent, IsKeptIn, IsLaidState, IsPast}
 use Rattle.vr_volume.specs.Committed.{KeepsNoneIf, committed_by, has_commit, is_committing}
 use Rattle.vr_volume.specs.Committed.{kept_by, logged_of}
 use Rattle.vr_volume.specs.Ended.{ended}
 use Rattle.vr_volume.specs.Laid.{shape_by}
-use Rattle.vr_volume.specs.PutBack.{images_of, is_image_of, oldest, put_back}
+use Rattle.vr_volume.specs.PutBack.{AreAlone, images_of, is_image_of, oldest, put_back}
 use Rattle.vr_volume.specs.Steps.{IsEndedIn}
 use Rattle.vr_volume.specs.Volume.{AreApart}
 use Rattle.vr_volume.proofs.Committing.{all-map, commit-append, none-ended}
 use Rattle.vr_volume.proofs.Images.{live-append}
 use Rattle.vr_volume.proofs.Living.{in-without, live-once}
-use Rattle.vr_volume.proofs.Meeting.{filter-alone, find-none, find-passes, find-stays, images-ended}
-use Rattle.vr_volume.proofs.Moving.{bytes-more, is-own}
+use Rattle.vr_volume.proofs.Alone.{is-own}
+use Rattle.vr_volume.proofs.Meeting.{alone-filter, filter-alone, find-none, find-passes, find-stays, images-ended}
+use Rattle.vr_volume.proofs.Moving.{bytes-more}
 
 some-none : {X : Type 0} {x : X} → Some x ≡ None → ⊥
 some-none same = cc
 
 -- ---- images of other units
-
-pub alone-filter : (keeps : BeforeImage → Bool) (images : List BeforeImage) → AreAlone images
-    → AreAlone (filter keeps images)
-alone-filter keeps [] alone = tt
-alone-filter keeps (image ∷ images) alone =
-    by_keep (keeps image) (alone-filter keeps images alone.1)
-  where
-    by_keep : (b : Bool) → AreAlone (filter keeps images)
-        → AreAlone (cond b (image ∷ filter keeps images) (filter keeps images))
-    by_keep true further = (
-      find-none (is_image_of image.part image.place) keeps images alone.0,
-      further,
-    )
-    by_keep false further = further
 
 logged-filter : (unit : UnitOfRecovery) (images : List BeforeImage)
     → map logged_of (filter (λ (image : BeforeImage). is_other unit image.unit) images)

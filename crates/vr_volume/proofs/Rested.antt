@@ -47,7 +47,6 @@ use Rattle.vr_volume.specs.Rests.{IsGivenFor, IsPartAtRest, IsVolumeAtRest}
 use Rattle.vr_volume.specs.Safe.{IsSafe, item_held}
 use Rattle.vr_volume.specs.Steps.{Changing, IsChangeOf, IsFirstChange, IsNextChange, IsPutBack}
 use Rattle.vr_volume.specs.Steps.{IsPutIn, image_by}
-use Rattle.vr_volume.proofs.Befores.{safe-more}
 use Rattle.vr_volume.proofs.Calls.{safe-keeps}
 use Rattle.vr_volume.proofs.Committing.{catalog-same}
 use Rattle.vr_volume.proofs.Images.{kept-append, kept_more}
@@ -345,36 +344,6 @@ module _ (geometry : Geometry) (number : ℕ) (log : LogNow) (images after : Lis
     kept_is = ap (λ (found : List BeforeImage). lengths_kept found (part_no shape).0)
         (sym images-with);
   }
-
-  -- What is kept then has room.
-  pub room-more : IsPlaceOf shape place
-      → HasKeptRoom shape (lengths_kept after (part_no shape).0) a
-  room-more at = subst (λ (lengths : Lengths). HasKeptRoom shape lengths a)
-      (ap (λ (found : List BeforeImage). lengths_kept found (part_no shape).0) images-with)
-      (((safe-more geometry number log (committed_by old) a change.unit (part_no shape) place
-      change.old rest.safe (first-of at)).by_log
-      (record {
-        generation = log.generation;
-        records = log.records ++ Before change.unit (part_no shape) place change.old ∷ [];
-      })
-      (inl (record {
-        count = length (log.records
-            ++ Before change.unit (part_no shape) place change.old ∷ []);
-        forced = omega (
-          arith,
-          rest.forced,
-          length-append log.records
-              (Before change.unit (part_no shape) place change.old ∷ []),
-        );
-        all = omega arith;
-        is = ap (λ (records : List LogRecord). let c : LogContent = record {
-          generation = log.generation;
-          records = records;
-        } in c) (sym (take_all (length (log.records
-            ++ Before change.unit (part_no shape) place change.old ∷ []))
-            (log.records ++ Before change.unit (part_no shape) place change.old ∷ [])
-            (omega arith)));
-      }))).parts (part_no shape).0 shape laid-by-more.laid).room
 
 -- ---- a place that was logged before
 

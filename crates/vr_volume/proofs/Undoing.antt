@@ -19,12 +19,13 @@ use Rattle.vr_log.specs.declared.record.LogRecord.{LogRecord}
 use Rattle.vr_history.specs.Committed.{kept_or}
 use Rattle.vr_history.specs.Effects.{keeps_other, last_kept, last_of, without_last}
 use Rattle.vr_history.specs.State.{BeforeImage, Logged, State, is_live}
-use Rattle.vr_volume.specs.Committed.{AreAlone, HasLogged, IsCurrent, IsKeptIn, IsLaidState, IsPast}
+use Rattle.vr_volume.specs.Committed.{HasLogged, IsCurrent, IsKeptIn, IsLaidState, IsPast}
 use Rattle.vr_volume.specs.Committed.{committed_by, logged_of}
-use Rattle.vr_volume.specs.PutBack.{images_of, is_image_of, oldest}
+use Rattle.vr_volume.specs.PutBack.{AreAlone, images_of, is_image_of, oldest}
 use Rattle.vr_volume.specs.Steps.{Changing, IsChangeOf, IsNextChange, IsPutBack, IsPutIn}
 use Rattle.vr_volume.proofs.Committing.{item-now}
-use Rattle.vr_volume.proofs.Moving.{is-own, is-there, item-else, item-here, laid-stays}
+use Rattle.vr_volume.proofs.Alone.{is-own, is-there}
+use Rattle.vr_volume.proofs.Moving.{item-else, item-here, laid-stays}
 
 some-none : {X : Type 0} {x : X} → Some x ≡ None → ⊥
 some-none same = cc

@@ -1,0 +1,61 @@
+-- What is put back into a part as a volume is opened, and what the part reads then. The rules are
+-- this project's own.
+use Rattle.std.specs.Prelude.{◌≡◌, ◌≤◌, ℕ, List, All, IfSome, Option, Some, None, length}
+use Rattle.std.specs.Option.{option_and_then}
+use Rattle.vr_types.specs.Content.{Content, item_at, record_of}
+use Rattle.vr_types.specs.Image.{Image}
+use Rattle.vr_types.specs.Seen.{Seen}
+use Rattle.vr_space.specs.Met.{Met}
+use Rattle.vr_space.specs.Part.{HasKeptRoom, IsAtRest, IsFirm, IsPlaceOf, IsRecordOf, Knows, Shape}
+use Rattle.vr_space.specs.Part.{item_of, part_no}
+use Rattle.vr_space.specs.Room.{Lengths, length_at}
+use Rattle.vr_history.specs.State.{BeforeImage}
+use Rattle.vr_log.specs.Content.{Content as LogContent}
+use Rattle.vr_log.specs.LogNow.{IsLogOf, LogNow}
+use Rattle.vr_volume.specs.Safe.{item_held}
+
+-- Between two calls that put before-images back into it: the part is at rest, with no split under
+-- way, and has room for what is kept.
+pub record IsReady (shape : Shape) (met : List Met) (kept : Lengths) (now : Seen) : Type 0 where
+  pub rests : IsAtRest shape now
+  pub room : HasKeptRoom shape kept now
+  pub knows : Knows shape None met now
+
+-- room is kept for the record at the place, or there is none
+abbrev pub IsKeptAt : Lengths → List ℕ → Option (List ℕ) → Type 0
+IsKeptAt kept place old = IfSome old (λ (bytes : List ℕ). (n : ℕ)
+    × (length_at kept place ≡ Some n) × (length bytes ≤ n))
+
+-- A before-image of a part is of a place of it, and a record that may stand there, for which room is
+-- kept, or none.
+pub record IsFit (shape : Shape) (kept : Lengths) (image : BeforeImage) : Type 0 where
+  pub place : IsPlaceOf shape image.place
+  pub old : IfSome (option_and_then record_of image.old) (IsRecordOf shape image.place)
+  pub kept_at : IsKeptAt kept image.place (option_and_then record_of image.old)
+
+-- it is so of the before-images of this part
+abbrev pub FitsPart : Shape → Lengths → BeforeImage → Type 0
+FitsPart shape kept image = image.part ≡ (part_no shape).0 → IsFit shape kept image
+
+-- before-images of the part are items of the content
+abbrev pub IsItemIn : Shape → Content → BeforeImage → Type 0
+IsItemIn shape content image =
+    image.part ≡ (part_no shape).0 → image.old ≡ item_at content image.place
+
+-- the place of a before-image of the part reads its item in the content
+abbrev pub IsBackIn : Shape → Content → Image → BeforeImage → Type 0
+IsBackIn shape content now image = image.part ≡ (part_no shape).0
+    → item_held shape (item_of shape now image.place) ≡ item_at content image.place
+
+-- Calls put these before-images back into the part, and force them: what a crash left alone at a
+-- place it leaves alone, and no place that had its item lost it.
+pub record ArePutBack (shape : Shape) (content : Content) (images : List BeforeImage)
+    (old new : Seen) : Type 0 where
+  pub back : All (IsBackIn shape content new.cur) images
+  pub stays : (image : BeforeImage) → IsBackIn shape content old.cur image
+      → IsBackIn shape content new.cur image
+  pub firm : (place : List ℕ) → IsFirm shape old place → IsFirm shape new place
+
+-- each image has all records of the log
+abbrev pub HasAllRecords : LogNow → Type 0
+HasAllRecords log = (content : LogContent) → IsLogOf log content → content.records ≡ log.records
