@@ -1,18 +1,25 @@
 -- What is put back into a part as a volume is opened, and what the part reads then. The rules are
 -- this project's own.
-use Rattle.std.specs.Prelude.{◌≡◌, ◌≤◌, ℕ, List, All, IfSome, Option, Some, None, length}
+use Rattle.std.specs.Prelude.{◌≡◌, ◌≤◌, ℕ, true, false, List, All, IfSome, Option, Some, None}
+use Rattle.std.specs.Prelude.{length}
 use Rattle.std.specs.Option.{option_and_then}
 use Rattle.vr_types.specs.Content.{Content, item_at, record_of}
 use Rattle.vr_types.specs.Image.{Image}
 use Rattle.vr_types.specs.Seen.{Seen}
+use Rattle.vr_types.specs.declared.geometry.Geometry.{Geometry}
+use Rattle.vr_types.specs.declared.unit.Unit.{Unit as UnitOfRecovery}
 use Rattle.vr_space.specs.Met.{Met}
-use Rattle.vr_space.specs.Part.{HasKeptRoom, IsAtRest, IsFirm, IsPlaceOf, IsRecordOf, Knows, Shape}
-use Rattle.vr_space.specs.Part.{item_of, part_no}
+use Rattle.vr_space.specs.Part.{HasKeptRoom, IsAtRest, IsFirm, IsPlaceOf, IsRecordOf, Knows}
+use Rattle.vr_space.specs.Part.{MayHold, Shape, item_of, part_no}
 use Rattle.vr_space.specs.Room.{Lengths, length_at}
 use Rattle.vr_history.specs.State.{BeforeImage}
 use Rattle.vr_log.specs.Content.{Content as LogContent}
+use Rattle.vr_log.specs.Live.{is_in, live_in}
 use Rattle.vr_log.specs.LogNow.{IsLogOf, LogNow}
-use Rattle.vr_volume.specs.Safe.{item_held}
+use Rattle.vr_log.specs.declared.record.LogRecord.{LogRecord}
+use Rattle.vr_log.specs.declared.record.LogRecord.TheVariants.{Before, End}
+use Rattle.vr_volume.specs.Laid.{shape_by}
+use Rattle.vr_volume.specs.Safe.{IsSafe, item_held}
 
 -- Between two calls that put before-images back into it: the part is at rest, with no split under
 -- way, and has room for what is kept.
@@ -59,3 +66,32 @@ pub record ArePutBack (shape : Shape) (content : Content) (images : List BeforeI
 -- each image has all records of the log
 abbrev pub HasAllRecords : LogNow → Type 0
 HasAllRecords log = (content : LogContent) → IsLogOf log content → content.records ≡ log.records
+
+-- Whatever a crash leaves of the parts, each place has the item of these contents.
+abbrev pub HasAll : Geometry → (ℕ → Content) → Seen → Type 0
+HasAll geometry contents now = (part : ℕ) (shape : Shape)
+    → shape_by geometry (contents 0) part ≡ Some shape → (place : List ℕ)
+    (found : Option (List ℕ)) → MayHold shape now.may place found
+    → item_held shape found ≡ item_at (contents part) place
+
+-- the same contents are committed whatever the log has
+abbrev pub alike : (ℕ → Content) → List LogRecord → ℕ → Content
+alike contents records = contents
+
+-- The volume is safe, with these contents committed, and whatever a crash leaves of its parts has
+-- their items: no before-image has to be put back any more.
+pub record IsUndone (number : ℕ) (log : LogNow) (contents : ℕ → Content) (now : Seen) : Type 0
+  where
+    pub safe : IsSafe log.geometry number log (alike contents) now
+    pub all : HasAll log.geometry contents now
+
+-- the record is a before-image of the unit
+abbrev pub IsBeforeOf : UnitOfRecovery → LogRecord → Type 0
+IsBeforeOf unit (Before other part place old) = other ≡ unit
+IsBeforeOf unit (End other kind) = ⊥
+
+-- Each unit that is live now was so, and that of this record isn't.
+pub record IsOut (rec : LogRecord) (old new : List LogRecord) : Type 0 where
+  pub fewer : (unit : UnitOfRecovery) → is_in unit (live_in new) ≡ true
+      → is_in unit (live_in old) ≡ true
+  pub out : (unit : UnitOfRecovery) → IsBeforeOf unit rec → is_in unit (live_in new) ≡ false

@@ -6,6 +6,7 @@
 //! to that; that nothing else is written; and when each answer comes.
 #![tactic(auto)]
 
+mod backing_out;
 mod clusters;
 mod fillers;
 mod first;

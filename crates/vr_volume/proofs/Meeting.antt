@@ -40,7 +40,7 @@ use Rattle.vr_volume.specs.Volume.{CanPutBack, IsInside}
 use Rattle.vr_volume.proofs.Committing.{are-committed, catalog-same, commit-append}
 use Rattle.vr_volume.proofs.Committing.{before-same, item-now, none-ended}
 use Rattle.vr_volume.proofs.Images.{live-append}
-use Rattle.vr_volume.proofs.Living.{live-or-none, other-images, same-flip}
+use Rattle.vr_volume.proofs.Living.{left-images, live-or-none, same-flip}
 use Rattle.vr_volume.proofs.PuttingBack.{back-item}
 
 -- ---- what is found among some of the images
@@ -228,14 +228,7 @@ module _ (geometry : Geometry) (state : State) (laid : IsLaidState geometry stat
 
     -- the images that the log has with the end
     pub images-ended : images_of (ended log unit kind) ≡ filter keeps (images_of log.records)
-    unfolding live_after
-    images-ended =
-        ap (λ (live : List UnitOfRecovery). filter_map (image_in live)
-        (log.records ++ End unit kind ∷ [])) (live-append [] log.records (End unit kind))
-        ∙ filter_map-append (image_in (without unit (live_in log.records))) log.records
-        (End unit kind ∷ [])
-        ∙ append-nil (filter_map (image_in (without unit (live_in log.records))) log.records)
-        ∙ other-images unit log.records
+    images-ended = left-images log.records unit kind
 
     -- a place whose image goes is one of the unit's
     gone-of : (part : ℕ) (place : List ℕ) (image : BeforeImage)
