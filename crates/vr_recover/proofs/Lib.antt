@@ -8,5 +8,3 @@ pub mod NewVolume
 pub mod Safe
 pub mod Opened
 pub mod Clearing
-pub mod PuttingBack
-pub mod BackingOut

@@ -6,7 +6,6 @@
 //! to that; that nothing else is written; and when each answer comes.
 #![tactic(auto)]
 
-mod backing_out;
 mod clusters;
 mod fillers;
 mod first;
@@ -18,11 +17,8 @@ mod laws;
 mod no;
 mod part;
 mod start;
-mod undone;
 mod volume;
 
 pub use format::format_volume;
-pub use laws::{
-    cleared_log_stays, formatted_is_safe, formatted_recovers, settled_is_safe,
-};
+pub use laws::{cleared_log_stays, formatted_is_safe, formatted_recovers, settled_is_safe};
 pub use no::FormatNo;

@@ -1,21 +1,19 @@
 -- What the end of a unit leaves: the log has again what the state logged, and what is committed is
 -- what the end made of it.
-use Rattle.std.proofs.Common.{◌≡◌, ◌≢◌, ◌<◌, ◌+◌, ◌*◌, ℕ, Bool, true, false, cond, not, List, [], ◌∷◌}
-use Rattle.std.proofs.Common.{◌++◌, Option, Some, None, refl, sym, ap, subst, ◌∙◌, ◌&&◌, ◌||◌, arith}
+use Rattle.std.proofs.Common.{◌≡◌, ◌<◌, ◌+◌, ℕ, Bool, true, false, cond, not, List, [], ◌∷◌}
+use Rattle.std.proofs.Common.{Option, Some, None, refl, sym, ap, subst, ◌∙◌, ◌&&◌, ◌||◌, arith}
 use Rattle.std.proofs.Common.{filter, map, length, ◌==◌, ◌⊎◌, inl, inr}
-use Rattle.std.specs.Prelude.{All, find, if◌then◌else◌}
+use Rattle.std.specs.Prelude.{All}
 use Rattle.std.specs.List.{list_any}
 use Rattle.std.proofs.lemmas.Bool.{true≢false}
 use Rattle.std.proofs.lemmas.Bool.Decides.{Decides-eqb}
-use Rattle.std.proofs.lemmas.List.{length-append}
 use Rattle.std.proofs.lemmas.List.Elements.{All-append, All-cons, All-filter, All-head, All-nil}
 use Rattle.std.proofs.lemmas.List.Elements.{All-tail}
-use Rattle.vr_types.specs.Content.{Content, Ascends, Item, item_at}
+use Rattle.vr_types.specs.Content.{Content, Ascends, item_at}
 use Rattle.vr_types.specs.Locks.{same_unit}
 use Rattle.vr_types.specs.LogSpace.{end_length}
 use Rattle.vr_types.specs.declared.geometry.Geometry.{Geometry}
 use Rattle.vr_types.specs.declared.unit.Unit.{Unit as UnitOfRecovery}
-use Rattle.vr_space.specs.Part.{Shape}
 use Rattle.vr_log.specs.Live.{is_in, live_after, live_in, used_by, without}
 use Rattle.vr_log.specs.LogNow.{IsForced, LogNow}
 use Rattle.vr_log.specs.Records.{bytes_of, record_bytes}
@@ -41,7 +39,7 @@ use Rattle.vr_volume.proofs.Committing.{all-map, commit-append, none-ended}
 use Rattle.vr_volume.proofs.Images.{live-append}
 use Rattle.vr_volume.proofs.Living.{in-without, live-once}
 use Rattle.vr_volume.proofs.Alone.{is-own}
-use Rattle.vr_volume.proofs.Meeting.{alone-filter, filter-alone, find-none, find-passes, find-stays, images-ended}
+use Rattle.vr_volume.proofs.Meeting.{alone-filter, filter-alone, find-passes, find-stays, images-ended}
 use Rattle.vr_volume.proofs.Moving.{bytes-more}
 
 some-none : {X : Type 0} {x : X} → Some x ≡ None → ⊥

@@ -1,30 +1,27 @@
 -- What has to hold before a record of the log is appended holds of a volume whose log has what its
 -- state logged.
-use Rattle.std.proofs.Common.{◌≡◌, ◌≢◌, ◌≤◌, inl, inr, ℕ, Bool, true, false, cond, not, List, [], ◌∷◌, ◌++◌}
+use Rattle.std.proofs.Common.{◌≡◌, inl, ℕ, Bool, true, false, cond, not, List, [], ◌∷◌}
 use Rattle.std.proofs.Common.{Option, Some, None, refl, sym, ap, subst, ◌∙◌, arith, length, filter}
-use Rattle.std.proofs.Common.{◌&&◌, ◌||◌, ◌==◌, ⊎_elim}
+use Rattle.std.proofs.Common.{◌&&◌, ◌||◌, ◌==◌}
 use Rattle.std.specs.Prelude.{All, find}
 use Rattle.std.specs.Option.{option_map}
-use Rattle.std.specs.List.{filter_map}
 use Rattle.std.proofs.lemmas.Bool.{true≢false}
 use Rattle.std.proofs.lemmas.Bool.Decides.{Decides-eqb}
-use Rattle.std.proofs.lemmas.List.{append-nil, take_all}
-use Rattle.std.proofs.lemmas.List.Elements.{All-filter, All-head, All-tail, filter_map-append}
+use Rattle.std.proofs.lemmas.List.{take_all}
+use Rattle.std.proofs.lemmas.List.Elements.{All-filter, All-head, All-tail}
 use Rattle.std.proofs.lemmas.Slice.Eq.{bytes_eq-Decides}
-use Rattle.vr_types.specs.Content.{Content, Item, Standing, item_at}
+use Rattle.vr_types.specs.Content.{Content, Standing, item_at}
 use Rattle.vr_types.specs.Locks.{same_unit}
 use Rattle.vr_types.specs.Seen.{Seen}
 use Rattle.vr_types.specs.declared.geometry.Geometry.{Geometry}
 use Rattle.vr_types.specs.declared.unit.PartNo.{PartNo}
 use Rattle.vr_types.specs.declared.unit.Unit.{Unit as UnitOfRecovery}
 use Rattle.vr_space.specs.Part.{IsPlaceOf, MayHold, Shape}
-use Rattle.vr_log.specs.Live.{live_after, live_in, without}
-use Rattle.vr_log.specs.Content.{Content as LogContent}
 use Rattle.vr_log.specs.LogNow.{IsForced, LogNow, first_of}
 use Rattle.vr_log.specs.declared.record.EndKind.{EndKind}
 use Rattle.vr_log.specs.declared.record.EndKind.TheVariants.{Committed, BackedOut}
 use Rattle.vr_log.specs.declared.record.LogRecord.{LogRecord}
-use Rattle.vr_log.specs.declared.record.LogRecord.TheVariants.{Before, End}
+use Rattle.vr_log.specs.declared.record.LogRecord.TheVariants.{End}
 use Rattle.vr_history.specs.Committed.{kept_or}
 use Rattle.vr_history.specs.Effects.{is_other}
 use Rattle.vr_history.specs.State.{BeforeImage, State}
@@ -34,13 +31,12 @@ use Rattle.vr_volume.specs.Committed.{KeepsNoneIf, committed_by, has_commit, is_
 use Rattle.vr_volume.specs.Ended.{IsEndOf, ended}
 use Rattle.vr_volume.specs.Laid.{shape_by}
 use Rattle.vr_volume.specs.Logged.{IsFirstBefore}
-use Rattle.vr_volume.specs.PutBack.{AreAlone, image_in, images_of, is_image_of, oldest, put_back}
-use Rattle.vr_volume.specs.Safe.{AreCommitted, IsItemOf, IsSafe, IsSafeBy, item_held}
+use Rattle.vr_volume.specs.PutBack.{AreAlone, images_of, is_image_of, oldest}
+use Rattle.vr_volume.specs.Safe.{IsSafe, IsSafeBy, item_held}
 use Rattle.vr_volume.specs.Volume.{CanPutBack, IsInside}
 use Rattle.vr_volume.proofs.Committing.{are-committed, catalog-same, commit-append}
 use Rattle.vr_volume.proofs.Committing.{before-same, item-now, none-ended}
-use Rattle.vr_volume.proofs.Images.{live-append}
-use Rattle.vr_volume.proofs.Living.{left-images, live-or-none, same-flip}
+use Rattle.vr_volume.proofs.Living.{left-images, live-or-none}
 use Rattle.vr_volume.proofs.PuttingBack.{back-item}
 
 -- ---- what is found among some of the images

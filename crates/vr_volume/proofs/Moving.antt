@@ -2,22 +2,20 @@
 -- is what was.
 use Rattle.std.proofs.Common.{◌≡◌, ◌≢◌, ◌⊎◌, inl, inr, ⊎_elim, ℕ, Bool, true, false, cond, List, []}
 use Rattle.std.proofs.Common.{◌∷◌, ◌++◌, ◌+◌, Option, Some, None, refl, sym, ap, subst, ◌∙◌, arith}
-use Rattle.std.proofs.Common.{length, map, bytes_eq, ◌==◌, ◌&&◌, ◌||◌, ◌*◌}
-use Rattle.std.specs.Prelude.{All, find}
+use Rattle.std.proofs.Common.{length, map, ◌==◌, ◌||◌}
+use Rattle.std.specs.Prelude.{All}
 use Rattle.std.specs.List.{list_any}
-use Rattle.std.specs.Option.{option_map, option_or}
+use Rattle.std.specs.Option.{option_or}
 use Rattle.std.proofs.lemmas.Bool.{true≢false}
 use Rattle.std.proofs.lemmas.Bool.Decides.{Decides-eqb}
 use Rattle.std.proofs.lemmas.List.{length-append, map-append}
 use Rattle.std.proofs.lemmas.List.Elements.{All-append, All-cons, All-nil}
-use Rattle.std.proofs.lemmas.Slice.Eq.{bytes_eq-Decides}
-use Rattle.vr_types.specs.Content.{Content, Item, Standing, Ascends, item_at}
+use Rattle.vr_types.specs.Content.{Content, Ascends, item_at}
 use Rattle.vr_types.specs.Locks.{same_unit}
 use Rattle.vr_types.specs.LogSpace.{end_length}
 use Rattle.vr_types.specs.declared.geometry.Geometry.{Geometry}
 use Rattle.vr_types.specs.declared.unit.PartNo.{PartNo}
 use Rattle.vr_types.specs.declared.unit.Unit.{Unit as UnitOfRecovery}
-use Rattle.vr_space.specs.Part.{IsPlaceOf, Shape}
 use Rattle.vr_altkey.specs.Placing.{placed_in}
 use Rattle.vr_altkey.proofs.CallerLemmas.{placed_here, placed_elsewhere, placed_ascends}
 use Rattle.vr_log.specs.Live.{is_in, live_after, live_in, need_of, used_by}
@@ -28,7 +26,7 @@ use Rattle.vr_log.specs.declared.record.LogRecord.TheVariants.{Before}
 use Rattle.vr_history.specs.Committed.{kept_or}
 use Rattle.vr_history.specs.State.{BeforeImage, Logged, State, is_live}
 use Rattle.vr_history.proofs.CallerLemmas.{unit_self}
-use Rattle.vr_history.proofs.Same.{first_holds, second_holds, unit_same}
+use Rattle.vr_history.proofs.Same.{unit_same}
 use Rattle.vr_volume.specs.CatalogRules.{IsCatalog}
 use Rattle.vr_volume.specs.Committed.{HasLogged, IsCurrent, IsKeptIn, IsLaidState, IsPast}
 use Rattle.vr_volume.specs.Committed.{committed_by, logged_of}
@@ -37,10 +35,9 @@ use Rattle.vr_volume.specs.PutBack.{AreAlone, images_of, is_image_of, oldest}
 use Rattle.vr_volume.specs.Steps.{Changing, IsChangeOf, IsFirstChange, IsPutIn, image_by}
 use Rattle.vr_volume.specs.Volume.{AreApart}
 use Rattle.vr_volume.proofs.Alone.{alone-append, is-own, is-there}
-use Rattle.vr_volume.proofs.Committing.{all-map, before-same, item-now}
+use Rattle.vr_volume.proofs.Committing.{all-map, item-now}
 use Rattle.vr_volume.proofs.Images.{images-append, live-append, oldest-append}
 use Rattle.vr_volume.proofs.Living.{live-or-none}
-use Rattle.vr_volume.proofs.Meeting.{item-there, none-kept}
 
 some-none : {X : Type 0} {x : X} → Some x ≡ None → ⊥
 some-none same = cc

@@ -1,24 +1,24 @@
 -- What calls leave of a volume at rest.
-use Rattle.std.proofs.Common.{◌≡◌, ◌≢◌, ◌⊎◌, inl, inr, ⊎_elim, ◌<◌, ◌≤◌, ◌*◌, ◌+◌, ℕ, Bool, true}
+use Rattle.std.proofs.Common.{◌≡◌, ◌≢◌, inl, inr, ⊎_elim, ◌<◌, ◌+◌, ℕ, Bool, true}
 use Rattle.std.proofs.Common.{false, cond, List, [], ◌∷◌, ◌++◌, Option, Some, None, refl, sym, ap}
 use Rattle.std.proofs.Common.{subst, ◌∙◌, arith, length, ◌==◌, IsTrue}
 use Rattle.std.specs.List.{filter_map}
-use Rattle.std.specs.Option.{option_and_then, option_map}
+use Rattle.std.specs.Option.{option_and_then}
 use Rattle.std.proofs.lemmas.Bool.{true≢false}
-use Rattle.std.proofs.lemmas.List.{length-append, take_all}
+use Rattle.std.proofs.lemmas.List.{take_all}
 use Rattle.std.proofs.lemmas.Bool.Decides.{Decides-eqb}
 use Rattle.std.proofs.lemmas.Slice.Eq.{bytes_eq-Decides}
 use Rattle.std.specs.Prelude.{bytes_eq}
-use Rattle.vr_types.specs.Content.{Content, Item, Standing, item_at, record_of}
+use Rattle.vr_types.specs.Content.{Content, item_at, record_of}
 use Rattle.vr_types.specs.Image.{Block, Image, block_at}
-use Rattle.vr_types.specs.Regions.{IsImageOn, Outside, Touches}
+use Rattle.vr_types.specs.Regions.{Touches}
 use Rattle.vr_types.specs.Seen.{Left, Seen}
 use Rattle.vr_types.specs.declared.geometry.Geometry.{Geometry}
 use Rattle.vr_types.specs.Blocks.{Keeps}
 use Rattle.vr_types.specs.declared.unit.PartNo.{PartNo}
 use Rattle.vr_types.specs.declared.unit.Unit.{Unit as UnitOfRecovery}
 use Rattle.vr_space.specs.Met.{Met}
-use Rattle.vr_space.specs.Part.{DueMore, HasKeptRoom, HasRoom, InPart, IsAtRest, IsOn, KeyedShape}
+use Rattle.vr_space.specs.Part.{DueMore, HasKeptRoom, InPart, IsAtRest, KeyedShape}
 use Rattle.vr_space.specs.Part.{Knows, SameRecords}
 use Rattle.vr_space.specs.Part.{IsPlaceOf, IsSound, SetsOne, Shape, item_of, part_no}
 use Rattle.vr_space.specs.Room.{Lengths}
@@ -29,19 +29,17 @@ use Rattle.vr_space.proofs.CallerLemmas.{within-less}
 use Rattle.vr_space.specs.Keyed.{keyed_way}
 use Rattle.vr_space.specs.Way.{MayOnceForced}
 use Rattle.vr_log.specs.Content.{Content as LogContent}
-use Rattle.vr_log.specs.LogBlock.{room_of}
 use Rattle.vr_log.specs.Live.{live_in}
 use Rattle.vr_log.specs.LogNow.{IsForced, IsLogOf, IsPrefixOf, LogNow}
-use Rattle.vr_log.specs.Records.{bytes_of}
-use Rattle.vr_log.specs.Standing.{InLog, IsExact, LogStands}
+use Rattle.vr_log.specs.Standing.{InLog, LogStands}
 use Rattle.vr_log.specs.declared.record.LogRecord.{LogRecord}
 use Rattle.vr_log.specs.declared.record.LogRecord.TheVariants.{Before, End}
 use Rattle.vr_history.specs.State.{BeforeImage, State}
-use Rattle.vr_volume.specs.Committed.{HasLogged, IsLaidState, committed_by}
+use Rattle.vr_volume.specs.Committed.{IsLaidState, committed_by}
 use Rattle.vr_volume.specs.Laid.{shape_by}
 use Rattle.vr_volume.specs.Laying.{IsFreeIn, IsLaidBy, IsLaidSo, IsLogged}
 use Rattle.vr_volume.specs.Logged.{IsFirstBefore}
-use Rattle.vr_volume.specs.PutBack.{image_in, images_of, length_in, length_of, lengths_kept}
+use Rattle.vr_volume.specs.PutBack.{image_in, images_of, length_of, lengths_kept}
 use Rattle.vr_volume.specs.PutBack.{oldest}
 use Rattle.vr_volume.specs.Rests.{IsGivenFor, IsPartAtRest, IsVolumeAtRest}
 use Rattle.vr_volume.specs.Safe.{IsSafe, item_held}

@@ -2,7 +2,7 @@
 -- contents of the state with the before-images put back that its units keep, but for a unit whose
 -- commit the log has already. And what the log of such a volume has. The rules are this project's
 -- own.
-use Rattle.std.specs.Prelude.{◌≡◌, ◌≢◌, ◌<◌, ℕ, Bool, true, false, not, List, [], ◌∷◌, Option, Some}
+use Rattle.std.specs.Prelude.{◌≡◌, ◌≢◌, ◌<◌, ℕ, Bool, true, false, not, List, [], Option, Some}
 use Rattle.std.specs.Prelude.{None, ◌&&◌, filter, map, All}
 use Rattle.std.specs.List.{list_any}
 use Rattle.vr_types.specs.Content.{Content, Ascends, item_at}
