@@ -21,7 +21,7 @@ use Rattle.std.specs.Option.{option_and_then}
 use Rattle.std.proofs.Common.{true≢false}
 use Rattle.vr_catalog.specs.Catalog.{entries_in, entry_with_part}
 use Rattle.vr_volume.specs.Laid.{catalog_shape, shape_by, shape_of}
-use Rattle.vr_recover.specs.Formatted.{IsInside}
+use Rattle.vr_volume.specs.Volume.{IsInside}
 use Rattle.vr_recover.specs.Formatted.{Anything, IsFormatted, IsWritten, catalog_of}
 use Rattle.vr_recover.specs.Planned.{AreEmpty, ArePlanned, InClusters, IsOneOf, catalog_keyed}
 use Rattle.vr_recover.specs.Planned.{cluster_keyed, content_of}

@@ -37,10 +37,9 @@ use Rattle.vr_volume.specs.CatalogRules.{IsCatalog}
 use Rattle.vr_volume.specs.Laid.{shape_by}
 use Rattle.vr_volume.specs.PutBack.{images_of, length_in, length_of, lengths_kept, oldest, put_back}
 use Rattle.vr_volume.specs.Safe.{AreCommitted, IsItemOf, IsPartSafe, IsSafe, IsSafeBy, item_held}
-use Rattle.vr_volume.specs.Volume.{AreApart, Recovers, shapes_by}
+use Rattle.vr_volume.specs.Volume.{AreApart, CanPutBack, IsInside, Recovers, shapes_by}
 use Rattle.vr_volume.proofs.PuttingBack.{back-ascends, back-item}
 use Rattle.vr_volume.proofs.Standings.{item-read}
-use Rattle.vr_recover.specs.Opening.{CanOpen, IsPutBack}
 use Rattle.vr_recover.proofs.Safe.{none-ascend}
 
 -- ---- a part
@@ -150,15 +149,15 @@ no-shape x same = cc
 module _ (shapes : ℕ → Option Shape) (part : ℕ) where
   -- before-images of a part are at its places
   kept-places : (shape : Shape) → shapes part ≡ Some shape → (images : List BeforeImage)
-      → All (IsPutBack shapes) images
+      → All (CanPutBack shapes) images
       → All (λ (entry : List ℕ × ℕ). IsPlaceOf shape entry.0) (filter_map (length_in part) images)
   kept-places shape laid [] all = All-nil (λ (entry : List ℕ × ℕ). IsPlaceOf shape entry.0)
   kept-places shape laid (image ∷ images) all =
       by (nat_eq image.part part) refl (option_and_then record_of image.old)
-      (kept-places shape laid images (All-tail (IsPutBack shapes) image images all))
+      (kept-places shape laid images (All-tail (CanPutBack shapes) image images all))
     where
-      first : IsPutBack shapes image
-      first = All-head (IsPutBack shapes) image images all
+      first : CanPutBack shapes image
+      first = All-head (CanPutBack shapes) image images all
 
       by : (mine : Bool) → nat_eq image.part part ≡ mine → (old : Option (List ℕ))
           → All (λ (entry : List ℕ × ℕ). IsPlaceOf shape entry.0)
@@ -176,14 +175,14 @@ module _ (shapes : ℕ → Option Shape) (part : ℕ) where
           rest
 
   -- a part that isn't laid has none
-  none-back : shapes part ≡ None → (images : List BeforeImage) → All (IsPutBack shapes) images
+  none-back : shapes part ≡ None → (images : List BeforeImage) → All (CanPutBack shapes) images
       → put_back part images [] ≡ []
   none-back none [] all = refl
   none-back none (image ∷ images) all = by (nat_eq image.part part) refl
-      (none-back none images (All-tail (IsPutBack shapes) image images all))
+      (none-back none images (All-tail (CanPutBack shapes) image images all))
     where
-      first : IsPutBack shapes image
-      first = All-head (IsPutBack shapes) image images all
+      first : CanPutBack shapes image
+      first = All-head (CanPutBack shapes) image images all
 
       by : (mine : Bool) → nat_eq image.part part ≡ mine → put_back part images [] ≡ []
           → cond mine (Rattle.vr_altkey.specs.Placing.placed_in image.place image.old
@@ -194,11 +193,16 @@ module _ (shapes : ℕ → Option Shape) (part : ℕ) where
 
 -- ---- the volume
 
+-- a part is on the blocks of a device of the volume's shape
+pub on-by : (geometry : Geometry) (now : Seen) → IsOf geometry now → (shape : Shape)
+    → IsInside geometry shape → IsOn shape now
+on-by geometry now of (KeyedShape part) inside =
+    (omega (arith, inside.0, of.count), of.size ∙ sym inside.1)
+
 module _ (geometry : Geometry) (number : ℕ) (now : Seen) (recovered : ℕ → Content)
     (is : Recovers geometry number now.cur recovered) (allowed : IsAllowed geometry)
     (of : IsOf geometry now) (forced : AllForced now.count now.cur now.may)
-    (stands : LogStands (made geometry is.log) now)
-    (can : CanOpen (shapes_by geometry is.log is.contents) (images_of is.log.records) now) where
+    (stands : LogStands (made geometry is.log) now) where
   abbrev images : List BeforeImage
   images = images_of is.log.records
 
@@ -227,10 +231,14 @@ module _ (geometry : Geometry) (number : ℕ) (now : Seen) (recovered : ℕ → 
     catalog = subst (IsCatalog geometry) (sym (is.back 0)) is.stands.catalog;
     apart = subst (λ (c : Content). AreApart (shape_by geometry c)) (sym (is.back 0))
         is.stands.apart;
+    inside = λ part shape laid. is.inside part shape (sym (laid-same part) ∙ laid);
+    images = subst (λ (c : Content). All (CanPutBack (shape_by geometry c)) images)
+        (sym (is.back 0)) is.images;
+    alone = is.alone;
     others = λ part none. let laid = sym (laid-same part) ∙ none in
         is.back part
         ∙ ap (put_back part images) (is.stands.others part laid)
-        ∙ none-back (shapes_by geometry is.log is.contents) part laid images can.back;
+        ∙ none-back (shapes_by geometry is.log is.contents) part laid images is.images;
     olds = λ part place image there. sym (item-back part place
         ∙ ap (λ (o : Option BeforeImage). kept_or o (item_at (is.contents part) place)) there);
   }
@@ -262,7 +270,7 @@ module _ (geometry : Geometry) (number : ℕ) (now : Seen) (recovered : ℕ → 
             (with-all (IsPlaceOf (KeyedShape keyed)) [] (filter_map (length_in part) images)
             (All-nil (λ (entry : List ℕ × ℕ). length entry.0 ≡ keyed.key))
             (kept-places (shapes_by geometry is.log is.contents) part (KeyedShape keyed) laid images
-            can.back))
+            is.images))
             (is.room part (KeyedShape keyed) laid);
       }
 
@@ -270,7 +278,7 @@ module _ (geometry : Geometry) (number : ℕ) (now : Seen) (recovered : ℕ → 
   safe-by = record {
     committed = committed-by;
     parts = λ part shape laid. let found = sym (laid-same part) ∙ laid in
-        part-by part shape (can.on part shape found) found;
+        part-by part shape (on-by geometry now of shape (is.inside part shape found)) found;
   }
 
   -- each log that an image may have has the same records

@@ -15,9 +15,6 @@ use Rattle.vr_seqset.specs.Entry.{Entry}
 use Rattle.vr_space.specs.Room.{HaveRoom, Range, is_in, weight}
 use Rattle.vr_space.specs.Keyed.{HaveRooms, HoldRanges, HoldsRange, Keyed, entries_of, entry_block}
 use Rattle.vr_space.specs.Keyed.{items_of, key_of, length_of, lengths_of, placed, range_of}
-use Rattle.vr_types.specs.Seen.{Seen}
-use Rattle.vr_log.specs.LogNow.{IsOf}
-use Rattle.vr_space.specs.Part.{IsOn}
 use Rattle.vr_space.specs.Part.{HasRoom, KeyedShape, Shape, StandsFor}
 use Rattle.vr_space.proofs.CallerLemmas.{stands_content}
 use Rattle.vr_catalog.specs.declared.entry.CatEntry.{CatEntry}
@@ -25,11 +22,10 @@ use Rattle.vr_log.specs.Content.{Content as LogContent}
 use Rattle.vr_history.specs.State.{BeforeImage}
 use Rattle.vr_volume.specs.Laid.{catalog_shape, shape_by}
 use Rattle.vr_volume.specs.Safe.{IsImageSafe}
-use Rattle.vr_volume.specs.Volume.{Recovers, shapes_by}
+use Rattle.vr_volume.specs.Volume.{CanPutBack, Recovers}
 use Rattle.vr_volume.proofs.Recovering.{image_recovers}
 use Rattle.vr_volume.proofs.Standings.{item-read}
-use Rattle.vr_recover.specs.Formatted.{IsFormatted, IsInside, catalog_of, contents_of}
-use Rattle.vr_recover.specs.Opening.{CanOpen, IsPutBack}
+use Rattle.vr_recover.specs.Formatted.{IsFormatted, catalog_of, contents_of}
 
 -- ---- room
 
@@ -124,7 +120,10 @@ module _ (geometry : Geometry) (number : ℕ) (entries : List CatEntry) (image :
       each = λ part. each-by (nat_eq part 0);
       catalog = formatted.catalog;
       apart = formatted.apart;
+      inside = formatted.inside;
       others = λ part none. others-by part (nat_eq part 0) refl none;
+      images = All-nil (CanPutBack (shape_by geometry (contents 0)));
+      alone = tt;
       olds = λ part place one is. absurd (no-image one is);
     };
     parts = λ part shape is. record {
@@ -140,17 +139,3 @@ module _ (geometry : Geometry) (number : ℕ) (entries : List CatEntry) (image :
 
   pub formatted-recovers : Recovers geometry number image contents
   formatted-recovers = image_recovers geometry number image no_log contents formatted-safe
-
-  -- ---- it may be opened
-
-  on-by : (now : Seen) → IsOf geometry now → (shape : Shape) → IsInside geometry shape
-      → IsOn shape now
-  on-by now of (KeyedShape part) inside =
-      (omega (arith, inside.0, of.count), of.size ∙ sym inside.1)
-
-  pub formatted-opens : (now : Seen) → IsOf geometry now
-      → CanOpen (shapes_by geometry no_log contents) [] now
-  formatted-opens now of = record {
-    on = λ part shape is. on-by now of shape (formatted.inside part shape is);
-    back = All-nil (IsPutBack (shapes_by geometry no_log contents));
-  }

@@ -8,7 +8,7 @@ use Rattle.vr_types.specs.Image.{Image, block_at}
 use Rattle.vr_types.specs.Seen.{Seen}
 use Rattle.vr_types.specs.declared.geometry.Geometry.{Geometry}
 use Rattle.vr_types.specs.declared.unit.Kind.TheVariants.{Keyed}
-use Rattle.vr_space.specs.Part.{KeyedShape, Shape, StandsFor}
+use Rattle.vr_space.specs.Part.{Shape, StandsFor}
 use Rattle.vr_catalog.specs.Definition.{catalog_definition, key_of}
 use Rattle.vr_catalog.specs.Record.{spelling}
 use Rattle.vr_catalog.specs.declared.entry.CatEntry.{CatEntry}
@@ -17,7 +17,7 @@ use Rattle.vr_catalog.specs.declared.entry.SpaceUnit.TheVariants.{Unstated}
 use Rattle.vr_volume.specs.CatalogRules.{IsCatalog}
 use Rattle.vr_volume.specs.Header.{header_block}
 use Rattle.vr_volume.specs.Laid.{shape_by}
-use Rattle.vr_volume.specs.Volume.{AreApart}
+use Rattle.vr_volume.specs.Volume.{AreApart, IsInside}
 
 -- the shape of a volume on blocks that are seen so, with this log and these intervals an area
 abbrev pub geometry_of : Seen → ℕ → ℕ → Geometry
@@ -39,11 +39,6 @@ catalog_of (entry ∷ entries) =
 -- part 0 has it, and every other part is empty
 abbrev pub contents_of : List CatEntry → ℕ → Content
 contents_of entries part = if part == 0 then catalog_of entries else []
-
--- the blocks of a part are there
-abbrev pub IsInside : Geometry → Shape → Type 0
-IsInside geometry (KeyedShape part) =
-    (part.head + part.area < geometry.blocks) × (part.size ≡ geometry.size)
 
 -- The image is that of a volume which was formatted with these entries and not changed since.
 pub record IsFormatted (geometry : Geometry) (number : ℕ) (entries : List CatEntry)

@@ -1,4 +1,3 @@
 pub mod Formatted
 pub mod Planned
 pub mod FormatCause
-pub mod Opening

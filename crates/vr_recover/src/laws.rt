@@ -13,11 +13,9 @@ ghost use Rattle.vr_log.specs.LogNow.{IsOf, last_index, made};
 ghost use Rattle.vr_log.specs.Records.{bytes_of};
 ghost use Rattle.vr_log.specs.Spells.{Spells};
 ghost use Rattle.vr_log.specs.Standing.{InLog, LogStands};
-ghost use Rattle.vr_volume.specs.PutBack.{images_of};
 ghost use Rattle.vr_volume.specs.Safe.{IsImageSafe, IsSafe};
-ghost use Rattle.vr_volume.specs.Volume.{Recovers, shapes_by};
+ghost use Rattle.vr_volume.specs.Volume.{Recovers};
 ghost use Rattle.vr_recover.specs.Formatted.{IsFormatted, contents_of};
-ghost use Rattle.vr_recover.specs.Opening.{CanOpen};
 
 use vr_types::Blocks;
 
@@ -31,19 +29,11 @@ pub fn formatted_is_safe()
 {}
 
 /// And it recovers to the records of its entries in the catalog, and to nothing in each other part.
+/// Each of its parts is on blocks that the volume has, and it has no before-image to put back.
 pub fn formatted_recovers()
     ensures { (geometry : Geometry) (number : ℕ) (entries : List CatEntry) (image : Image)
         → IsFormatted geometry number entries image
         → Recovers geometry number image (contents_of entries) }
-{}
-
-/// Where a crash leaves it alone on a device of that shape, it may be opened: each of its parts is on
-/// blocks that there are, and it has no before-image to put back.
-pub fn formatted_can_open<B: Blocks>(blocks: &B)
-    ensures { (geometry : Geometry) (number : ℕ) (entries : List CatEntry) (image : Image)
-        → IsFormatted geometry number entries image → IsOf geometry (B.seen blocks.now)
-        → CanOpen (shapes_by geometry (record { generation = 0; records = [] })
-        (contents_of entries)) [] (B.seen blocks.now) }
 {}
 
 /// What opening begins with: where a crash leaves what is read alone, and the blocks that are read
@@ -54,8 +44,6 @@ pub fn settled_is_safe<B: Blocks>(blocks: &B)
         → IsAllowed geometry → IsOf geometry (B.seen blocks.now)
         → AllForced (B.seen blocks.now).count (B.seen blocks.now).cur (B.seen blocks.now).may
         → LogStands (made geometry is.log) (B.seen blocks.now)
-        → CanOpen (shapes_by geometry is.log is.contents) (images_of is.log.records)
-        (B.seen blocks.now)
         → IsSafe geometry number (made geometry is.log) (λ records. recovered)
         (B.seen blocks.now) }
 {}

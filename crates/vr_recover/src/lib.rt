@@ -20,7 +20,5 @@ mod start;
 mod volume;
 
 pub use format::format_volume;
-pub use laws::{
-    cleared_log_stays, formatted_can_open, formatted_is_safe, formatted_recovers, settled_is_safe,
-};
+pub use laws::{cleared_log_stays, formatted_is_safe, formatted_recovers, settled_is_safe};
 pub use no::FormatNo;

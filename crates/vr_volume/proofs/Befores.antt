@@ -2,20 +2,22 @@
 use Rattle.std.proofs.Common.{◌≡◌, ◌⊎◌, inl, inr, ⊎_elim, ◌≤◌, ◌<◌, ℕ, Bool, true}
 use Rattle.std.proofs.Common.{false, cond, List, [], ◌∷◌, ◌++◌, Option, Some, None, refl, sym, ap}
 use Rattle.std.proofs.Common.{subst, ◌∙◌, arith, length, bytes_eq, ◌==◌, ◌&&◌}
-use Rattle.std.specs.Prelude.{IfSome}
+use Rattle.std.specs.Prelude.{All, IfSome}
 use Rattle.std.specs.Option.{option_and_then, option_map, option_or}
 use Rattle.std.proofs.lemmas.Bool.{cases_lt, true≢false}
 use Rattle.std.proofs.lemmas.List.{length-append, take-append-le, take_all}
 use Rattle.std.proofs.lemmas.Slice.Eq.{bytes_eq-Decides}
 use Rattle.std.proofs.lemmas.Bool.Decides.{Decides-eqb}
-use Rattle.vr_types.specs.Content.{Content, Standing, item_at, record_of}
-use Rattle.vr_types.specs.Seen.{Seen}
+use Rattle.std.proofs.lemmas.List.Elements.{All-append, All-cons, All-nil}
+use Rattle.vr_types.specs.Content.{Content, Standing, item_at, record_at, record_of}
+use Rattle.vr_types.specs.Seen.{Left, Seen}
 use Rattle.vr_types.specs.declared.geometry.Geometry.{Geometry}
 use Rattle.vr_types.specs.declared.unit.PartNo.{PartNo}
 use Rattle.vr_types.specs.declared.unit.Unit.{Unit as UnitOfRecovery}
-use Rattle.vr_space.specs.Part.{HasKeptRoom, IsPlaceOf, KeyedShape, Shape}
+use Rattle.vr_space.specs.Part.{HasKeptRoom, HasOnly, IsPlaceOf, IsRecordOf, KeyedShape, MayHold}
+use Rattle.vr_space.specs.Part.{Shape}
 use Rattle.vr_space.specs.Room.{Lengths, with_length}
-use Rattle.vr_space.proofs.CallerLemmas.{keep-room}
+use Rattle.vr_space.proofs.CallerLemmas.{keep-room, sound-image}
 use Rattle.vr_history.specs.State.{BeforeImage}
 use Rattle.vr_history.proofs.CallerLemmas.{unit_self}
 use Rattle.vr_log.specs.Content.{Content as LogContent}
@@ -24,13 +26,16 @@ use Rattle.vr_log.specs.declared.record.LogRecord.{LogRecord}
 use Rattle.vr_log.specs.declared.record.LogRecord.TheVariants.{Before}
 use Rattle.vr_volume.specs.Laid.{shape_by}
 use Rattle.vr_volume.specs.Logged.{IsFirstBefore}
-use Rattle.vr_volume.specs.PutBack.{images_of, is_image_of, length_of, lengths_kept}
+use Rattle.vr_volume.specs.PutBack.{AreAlone, images_of, is_image_of, length_of, lengths_kept}
 use Rattle.vr_volume.specs.PutBack.{oldest}
 use Rattle.vr_log.proofs.Growing.{has_more}
 use Rattle.vr_volume.specs.Safe.{IsPartSafe, IsSafe, IsSafeBy}
 use Rattle.vr_volume.specs.Safe.{item_held}
+use Rattle.vr_volume.specs.Volume.{CanPutBack}
 use Rattle.vr_volume.proofs.Images.{image_of, images-append, kept_more, kept-append}
+use Rattle.vr_volume.proofs.Alone.{alone-append}
 use Rattle.vr_volume.proofs.Images.{oldest-append}
+use Rattle.vr_volume.proofs.Standings.{record-read}
 
 -- ---- which logs there may be with one record more
 
@@ -77,6 +82,9 @@ found-record : (found : Option (List ℕ)) (bytes : List ℕ)
 found-record None bytes is = absurd (cc)
 found-record (Some other) bytes is = cc
 
+shape-is : (one other : Shape) → Some one ≡ Some other → one ≡ other
+shape-is one other same = cc
+
 record-held : (shape : Shape) (found : Option (List ℕ)) (bytes : List ℕ)
     → item_held shape found ≡ Some (Standing bytes) → found ≡ Some bytes
 record-held (KeyedShape part) found bytes is = found-record found bytes is
@@ -84,7 +92,7 @@ record-held (KeyedShape part) found bytes is = found-record found bytes is
 module _ (geometry : Geometry) (number : ℕ) (log : LogNow)
     (committed : List LogRecord → ℕ → Content) (a : Seen) (unit : UnitOfRecovery) (part : PartNo)
     (place : List ℕ) (old : Option (List ℕ)) (safe : IsSafe geometry number log committed a)
-    (next : IsFirstBefore geometry log committed unit part place old) where
+    (left : Left a a.cur) (next : IsFirstBefore geometry log committed unit part place old) where
   abbrev pub rec : LogRecord
   rec = Before unit part place old
 
@@ -152,13 +160,15 @@ module _ (geometry : Geometry) (number : ℕ) (log : LogNow)
     abbrev kept : Lengths
     kept = lengths_kept (images_of log.records) other
 
+    same-shape : part.0 ≡ other → next.shape ≡ shape
+    same-shape here = shape-is next.shape shape
+        (sym next.laid ∙ ap (shape_by geometry (committed log.records 0)) here ∙ laid)
+
     -- the record that stands may be kept
     room-kept : (bytes : List ℕ) → old ≡ Some bytes → part.0 ≡ other
         → HasKeptRoom shape (with_length kept place (length bytes)) a
     room-kept bytes is here = keep-room shape kept place (length bytes) a
-        (subst (λ (found : Option Shape). IfSome found (λ s. IsPlaceOf s place)) laid
-        (subst (λ (p : ℕ). IfSome (shape_by geometry (committed log.records 0) p)
-        (λ s. IsPlaceOf s place)) here next.at))
+        (subst (λ (s : Shape). IsPlaceOf s place) (same-shape here) next.at)
         mine.sound mine.room
         (λ item held. (
           bytes,
@@ -191,6 +201,47 @@ module _ (geometry : Geometry) (number : ℕ) (log : LogNow)
           (room-by (part.0 == other) refl old refl);
     }
 
+  -- ---- it may be put back
+
+  abbrev safe-here : IsPartSafe next.shape part.0 (images_of log.records)
+      (committed log.records part.0) a
+  safe-here = by-all.parts part.0 next.shape next.laid
+
+  abbrev stands : HasOnly next.shape (MayHold next.shape a.may) a.cur
+  stands = sound-image next.shape a safe-here.sound a.cur (record {
+    each = λ n below inside. left.each n below;
+  })
+
+  -- what stands at its place is the record that it has
+  record-old : (bytes : List ℕ) → old ≡ Some bytes → IsRecordOf next.shape place bytes
+  record-old bytes is = record-read next.shape a.cur stands.content stands.stands place bytes
+      (record-held next.shape (record_at stands.content place) bytes
+      (safe-here.items place (record_at stands.content place) (stands.each place) next.first
+      ∙ sym next.item ∙ ap (option_map Standing) is))
+
+  can-put-back : CanPutBack (shape_by geometry (committed log.records 0)) image
+  can-put-back = record {
+    shape = next.shape;
+    laid = next.laid;
+    place = next.at;
+    old = by_old old refl;
+  }
+    where
+      by_old : (was : Option (List ℕ)) → old ≡ was
+          → IfSome (option_and_then record_of (option_map Standing was))
+          (IsRecordOf next.shape place)
+      by_old None is = tt
+      by_old (Some bytes) is = record-old bytes is
+
+  images-back : All (CanPutBack (shape_by geometry (committed log.records 0)))
+      (images_of (log.records ++ rec ∷ []))
+  images-back = subst (All (CanPutBack (shape_by geometry (committed log.records 0))))
+      (sym images-more)
+      (All-append (CanPutBack (shape_by geometry (committed log.records 0)))
+      (images_of log.records) (image ∷ []) by-all.committed.images
+      (All-cons (CanPutBack (shape_by geometry (committed log.records 0))) image [] can-put-back
+      (All-nil (CanPutBack (shape_by geometry (committed log.records 0))))))
+
   by-more : IsSafeBy geometry (log.records ++ rec ∷ []) (committed (log.records ++ rec ∷ [])) a
   by-more = subst (λ (contents : ℕ → Content). IsSafeBy geometry (log.records ++ rec ∷ []) contents
       a) (sym next.same)
@@ -199,7 +250,11 @@ module _ (geometry : Geometry) (number : ℕ) (log : LogNow)
           each = by-all.committed.each;
           catalog = by-all.committed.catalog;
           apart = by-all.committed.apart;
+          inside = by-all.committed.inside;
           others = by-all.committed.others;
+          images = images-back;
+          alone = subst AreAlone (sym images-more)
+              (alone-append (images_of log.records) image by-all.committed.alone next.first);
           olds = λ other at found is. olds-more other at found
               (oldest (images_of log.records) other at) refl (sym (oldest-more other at) ∙ is);
         };

@@ -1,12 +1,10 @@
 -- What is committed of a volume whose log has what its state logged.
 use Rattle.std.proofs.Common.{◌≡◌, ◌≢◌, ◌<◌, ℕ, Bool, true, false, cond, not, List, [], ◌∷◌, ◌++◌}
 use Rattle.std.proofs.Common.{Option, Some, None, refl, sym, ap, subst, ◌∙◌, arith, ◌==◌, ◌&&◌, ◌||◌}
-use Rattle.std.proofs.Common.{filter}
 use Rattle.std.specs.Prelude.{All}
-use Rattle.std.specs.List.{list_any}
 use Rattle.std.proofs.lemmas.Bool.Decides.{Decides-eqb}
 use Rattle.std.proofs.lemmas.List.Elements.{All-cons, All-head, All-nil, All-tail}
-use Rattle.vr_types.specs.Content.{Content, Item, item_at}
+use Rattle.vr_types.specs.Content.{Ascends, Content, item_at}
 use Rattle.vr_types.specs.Locks.{same_unit}
 use Rattle.vr_types.specs.declared.geometry.Geometry.{Geometry}
 use Rattle.vr_types.specs.declared.unit.PartNo.{PartNo}
@@ -14,7 +12,6 @@ use Rattle.vr_types.specs.declared.unit.Unit.{Unit as UnitOfRecovery}
 use Rattle.vr_space.specs.Part.{Shape}
 use Rattle.vr_altkey.specs.Placing.{placed_in}
 use Rattle.vr_log.specs.LogNow.{LogNow}
-use Rattle.vr_log.specs.declared.record.EndKind.{EndKind}
 use Rattle.vr_log.specs.declared.record.LogRecord.{LogRecord}
 use Rattle.vr_log.specs.declared.record.LogRecord.TheVariants.{Before, End}
 use Rattle.vr_history.specs.Committed.{kept_or}
@@ -25,9 +22,9 @@ use Rattle.vr_volume.specs.Committed.{HasLogged, IsCurrent, IsKeptIn, IsLaidStat
 use Rattle.vr_volume.specs.Committed.{committed_by, commits_unit, has_commit, is_committing}
 use Rattle.vr_volume.specs.Committed.{kept_by}
 use Rattle.vr_volume.specs.Laid.{shape_by}
-use Rattle.vr_volume.specs.PutBack.{images_of, oldest, put_back}
+use Rattle.vr_volume.specs.PutBack.{AreAlone, images_of, oldest, put_back}
 use Rattle.vr_volume.specs.Safe.{AreCommitted}
-use Rattle.vr_volume.specs.Volume.{AreApart}
+use Rattle.vr_volume.specs.Volume.{AreApart, CanPutBack, IsInside}
 use Rattle.vr_volume.proofs.PuttingBack.{back-ascends, back-item}
 
 -- ---- contents to which nothing is put back
@@ -173,21 +170,36 @@ module _ (geometry : Geometry) (state : State) (laid : IsLaidState geometry stat
       no-shape : (shape : Shape) → None ≡ Some shape → ⊥
       no-shape shape same = cc
 
-  -- the contents are committed ones, where each before-image of the log is the item of its place
+  pub committed-ascends : (records : List LogRecord) (part : ℕ)
+      → Ascends (committed_by state records part)
+  committed-ascends records part = back-ascends part (kept_by records state.befores)
+      (state.contents part) (laid.each part)
+
+  -- the contents are committed ones, where the parts are on blocks that there are, and each
+  -- before-image of the log may be put back, and is the item of its place
   pub are-committed : (records : List LogRecord)
+      → ((part : ℕ) (shape : Shape) → shape_by geometry (state.contents 0) part ≡ Some shape
+      → IsInside geometry shape)
+      → All (CanPutBack (shape_by geometry (state.contents 0))) (images_of records)
+      → AreAlone (images_of records)
       → ((part : ℕ) (place : List ℕ) (image : BeforeImage)
       → oldest (images_of records) part place ≡ Some image
       → image.old ≡ item_at (committed_by state records part) place)
       → AreCommitted geometry records (committed_by state records)
-  are-committed records olds = record {
-    each = λ part. back-ascends part (kept_by records state.befores) (state.contents part)
-        (laid.each part);
+  are-committed records inside images alone olds = record {
+    each = committed-ascends records;
     catalog = subst (IsCatalog geometry) (sym (catalog-same records)) laid.catalog;
     apart = subst (λ (catalog : Content). AreApart (shape_by geometry catalog))
         (sym (catalog-same records)) laid.apart;
+    inside = λ part shape is. inside part shape
+        (sym (ap (λ (catalog : Content). shape_by geometry catalog part) (catalog-same records))
+        ∙ is);
     others = λ part none. none-kept records part
         (sym (ap (λ (catalog : Content). shape_by geometry catalog part) (catalog-same records))
         ∙ none);
+    images = subst (λ (catalog : Content). All (CanPutBack (shape_by geometry catalog))
+        (images_of records)) (sym (catalog-same records)) images;
+    alone = alone;
     olds = olds;
   }
 
@@ -210,21 +222,3 @@ module _ (geometry : Geometry) (state : State) (laid : IsLaidState geometry stat
         back-item part (kept_by log.records state.befores) (state.contents part) place
         ∙ ap (λ (images : List BeforeImage). kept_or (oldest images part place)
         (item_at (state.contents part) place)) all-kept
-
-    olds-now : (part : ℕ) (place : List ℕ) (image : BeforeImage)
-        → oldest (images_of log.records) part place ≡ Some image
-        → image.old ≡ item_at (committed_by state log.records part) place
-    olds-now part place image is =
-        by_kept (oldest state.befores part place) refl ∙ sym (item-now part place)
-      where
-        by_kept : (found : Option BeforeImage) → oldest state.befores part place ≡ found
-            → image.old ≡ kept_or found (item_at (state.contents part) place)
-        by_kept None none = logged.back part place image is none
-        by_kept (Some kept) there =
-            let same : Some image ≡ Some kept = sym is ∙ logged.kept part place kept there in
-            let one : image ≡ kept = cc in
-            ap (λ (i : BeforeImage). i.old) one
-
-    -- By all records of the log the contents are committed ones.
-    pub committed-now : AreCommitted geometry log.records (committed_by state log.records)
-    committed-now = are-committed log.records olds-now

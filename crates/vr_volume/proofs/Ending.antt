@@ -1,21 +1,19 @@
 -- What the end of a unit leaves: the log has again what the state logged, and what is committed is
 -- what the end made of it.
-use Rattle.std.proofs.Common.{◌≡◌, ◌≢◌, ◌<◌, ◌+◌, ◌*◌, ℕ, Bool, true, false, cond, not, List, [], ◌∷◌}
-use Rattle.std.proofs.Common.{◌++◌, Option, Some, None, refl, sym, ap, subst, ◌∙◌, ◌&&◌, ◌||◌, arith}
+use Rattle.std.proofs.Common.{◌≡◌, ◌<◌, ◌+◌, ℕ, Bool, true, false, cond, not, List, [], ◌∷◌}
+use Rattle.std.proofs.Common.{Option, Some, None, refl, sym, ap, subst, ◌∙◌, ◌&&◌, ◌||◌, arith}
 use Rattle.std.proofs.Common.{filter, map, length, ◌==◌, ◌⊎◌, inl, inr}
-use Rattle.std.specs.Prelude.{All, find, if◌then◌else◌}
+use Rattle.std.specs.Prelude.{All}
 use Rattle.std.specs.List.{list_any}
 use Rattle.std.proofs.lemmas.Bool.{true≢false}
 use Rattle.std.proofs.lemmas.Bool.Decides.{Decides-eqb}
-use Rattle.std.proofs.lemmas.List.{length-append}
 use Rattle.std.proofs.lemmas.List.Elements.{All-append, All-cons, All-filter, All-head, All-nil}
 use Rattle.std.proofs.lemmas.List.Elements.{All-tail}
-use Rattle.vr_types.specs.Content.{Content, Ascends, Item, item_at}
+use Rattle.vr_types.specs.Content.{Content, Ascends, item_at}
 use Rattle.vr_types.specs.Locks.{same_unit}
 use Rattle.vr_types.specs.LogSpace.{end_length}
 use Rattle.vr_types.specs.declared.geometry.Geometry.{Geometry}
 use Rattle.vr_types.specs.declared.unit.Unit.{Unit as UnitOfRecovery}
-use Rattle.vr_space.specs.Part.{Shape}
 use Rattle.vr_log.specs.Live.{is_in, live_after, live_in, used_by, without}
 use Rattle.vr_log.specs.LogNow.{IsForced, LogNow}
 use Rattle.vr_log.specs.Records.{bytes_of, record_bytes}
@@ -29,38 +27,25 @@ use Rattle.vr_history.specs.State.{BeforeImage, Logged, State, is_live}
 use Rattle.vr_history.proofs.CallerLemmas.{unit_self}
 use Rattle.vr_history.proofs.Same.{unit_same}
 use Rattle.vr_volume.specs.CatalogRules.{IsCatalog}
-use Rattle.vr_volume.specs.Committed.{AreAlone, HasLogged, IsCurrent, IsKeptIn, IsLaidState, IsPast}
+use Rattle.vr_volume.specs.Committed.{HasLogged, IsCurrent, IsKeptIn, IsLaidState, IsPast}
 use Rattle.vr_volume.specs.Committed.{KeepsNoneIf, committed_by, has_commit, is_committing}
 use Rattle.vr_volume.specs.Committed.{kept_by, logged_of}
 use Rattle.vr_volume.specs.Ended.{ended}
 use Rattle.vr_volume.specs.Laid.{shape_by}
-use Rattle.vr_volume.specs.PutBack.{images_of, is_image_of, oldest, put_back}
+use Rattle.vr_volume.specs.PutBack.{AreAlone, images_of, is_image_of, oldest, put_back}
 use Rattle.vr_volume.specs.Steps.{IsEndedIn}
 use Rattle.vr_volume.specs.Volume.{AreApart}
 use Rattle.vr_volume.proofs.Committing.{all-map, commit-append, none-ended}
 use Rattle.vr_volume.proofs.Images.{live-append}
 use Rattle.vr_volume.proofs.Living.{in-without, live-once}
-use Rattle.vr_volume.proofs.Meeting.{filter-alone, find-none, find-passes, find-stays, images-ended}
-use Rattle.vr_volume.proofs.Moving.{bytes-more, is-own}
+use Rattle.vr_volume.proofs.Alone.{is-own}
+use Rattle.vr_volume.proofs.Meeting.{alone-filter, filter-alone, find-passes, find-stays, images-ended}
+use Rattle.vr_volume.proofs.Moving.{bytes-more}
 
 some-none : {X : Type 0} {x : X} → Some x ≡ None → ⊥
 some-none same = cc
 
 -- ---- images of other units
-
-pub alone-filter : (keeps : BeforeImage → Bool) (images : List BeforeImage) → AreAlone images
-    → AreAlone (filter keeps images)
-alone-filter keeps [] alone = tt
-alone-filter keeps (image ∷ images) alone =
-    by_keep (keeps image) (alone-filter keeps images alone.1)
-  where
-    by_keep : (b : Bool) → AreAlone (filter keeps images)
-        → AreAlone (cond b (image ∷ filter keeps images) (filter keeps images))
-    by_keep true further = (
-      find-none (is_image_of image.part image.place) keeps images alone.0,
-      further,
-    )
-    by_keep false further = further
 
 logged-filter : (unit : UnitOfRecovery) (images : List BeforeImage)
     → map logged_of (filter (λ (image : BeforeImage). is_other unit image.unit) images)

@@ -1,10 +1,10 @@
 -- What the end of a unit leaves of a safe volume.
-use Rattle.std.proofs.Common.{◌≡◌, ◌⊎◌, inl, inr, ⊎_elim, ◌≤◌, ◌+◌, ℕ, Bool, true, false, cond}
+use Rattle.std.proofs.Common.{◌≡◌, ◌⊎◌, inl, inr, ⊎_elim, ℕ, Bool, true, false, cond}
 use Rattle.std.proofs.Common.{List}
 use Rattle.std.proofs.Common.{[], ◌∷◌, ◌++◌, Option, Some, None, refl, sym, ap, subst, ◌∙◌, arith}
-use Rattle.std.proofs.Common.{length, take}
+use Rattle.std.proofs.Common.{length}
 use Rattle.std.specs.List.{cons_option, filter_map}
-use Rattle.std.specs.Prelude.{if◌then◌else◌, ◌||◌, ◌==◌}
+use Rattle.std.specs.Prelude.{◌||◌}
 use Rattle.std.proofs.lemmas.Bool.{true≢false}
 use Rattle.std.proofs.lemmas.List.{append-nil, take_all}
 use Rattle.std.proofs.lemmas.List.Elements.{filter_map-append}
@@ -13,13 +13,12 @@ use Rattle.vr_types.specs.Locks.{same_unit}
 use Rattle.vr_types.specs.Seen.{Seen}
 use Rattle.vr_types.specs.declared.geometry.Geometry.{Geometry}
 use Rattle.vr_types.specs.declared.unit.Unit.{Unit as UnitOfRecovery}
-use Rattle.vr_space.specs.Part.{HasKeptRoom, MayHold, Shape}
 use Rattle.vr_space.specs.Room.{Lengths, with_length, with_lengths}
 use Rattle.vr_space.proofs.CallerLemmas.{Rise, Under, fewer-room, rise-with, under-both, under-more}
 use Rattle.vr_history.specs.State.{BeforeImage}
 use Rattle.vr_log.specs.Content.{Content as LogContent}
-use Rattle.vr_log.specs.Live.{is_in, live_after, live_from, live_in, without}
-use Rattle.vr_log.specs.LogNow.{IsLogOf, LogNow, first_of, with_record}
+use Rattle.vr_log.specs.Live.{is_in, live_after, live_in, without}
+use Rattle.vr_log.specs.LogNow.{LogNow, first_of, with_record}
 use Rattle.vr_log.specs.declared.record.EndKind.{EndKind}
 use Rattle.vr_log.specs.declared.record.LogRecord.{LogRecord}
 use Rattle.vr_log.specs.declared.record.LogRecord.TheVariants.{Before, End}
@@ -45,7 +44,7 @@ some-skip [] first images some = tt
 some-skip (image ∷ fewer) first images some = inr some
 
 -- a unit that is among others without one is among them
-in-without : (unit gone : UnitOfRecovery) (units : List UnitOfRecovery)
+pub in-without : (unit gone : UnitOfRecovery) (units : List UnitOfRecovery)
     → is_in unit (without gone units) ≡ true → is_in unit units ≡ true
 in-without unit gone [] there = there
 in-without unit gone (first ∷ units) there =

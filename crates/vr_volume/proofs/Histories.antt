@@ -1,9 +1,9 @@
 -- What is committed in the state of a history is what the history committed.
-use Rattle.std.proofs.Common.{◌≡◌, ℕ, Bool, true, false, cond, not, List, [], ◌∷◌, Option, Some, None}
-use Rattle.std.proofs.Common.{refl, sym, ap, ◌∙◌, ◌&&◌, filter}
+use Rattle.std.proofs.Common.{◌≡◌, ℕ, Bool, true, false, cond, not, List, [], ◌∷◌, Option, Some}
+use Rattle.std.proofs.Common.{refl, sym, ap, ◌∙◌, ◌&&◌}
 use Rattle.std.specs.Prelude.{All, find}
 use Rattle.std.proofs.lemmas.List.Elements.{All-head, All-tail}
-use Rattle.vr_types.specs.Content.{Content, Item, item_at}
+use Rattle.vr_types.specs.Content.{Content, item_at}
 use Rattle.vr_types.specs.declared.geometry.Geometry.{Geometry}
 use Rattle.vr_types.specs.declared.unit.Unit.{Unit as UnitOfRecovery}
 use Rattle.vr_history.specs.declared.entry.Entry.{Entry}

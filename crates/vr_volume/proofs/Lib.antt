@@ -4,6 +4,7 @@ pub mod Recovering
 pub mod Apart
 pub mod Calls
 pub mod Images
+pub mod Alone
 pub mod Befores
 pub mod LogCalls
 pub mod Endings

@@ -1,13 +1,15 @@
 -- The units that are live in a log whose ends are all past.
 use Rattle.std.proofs.Common.{◌≡◌, ◌⊎◌, inl, inr, ◌<◌, ℕ, Bool, true, false, cond, not, List, []}
-use Rattle.std.proofs.Common.{◌∷◌, ◌++◌, Option, Some, None, refl, sym, ap, ◌∙◌, arith, ◌&&◌, ◌||◌, filter}
+use Rattle.std.proofs.Common.{◌∷◌, ◌++◌, Some, None, refl, sym, ap, ◌∙◌, arith, ◌&&◌, ◌||◌, filter}
 use Rattle.std.specs.Prelude.{All}
 use Rattle.std.specs.List.{cons_option, filter_map}
 use Rattle.std.proofs.lemmas.Bool.{true≢false}
-use Rattle.std.proofs.lemmas.List.Elements.{All-head, All-tail}
+use Rattle.std.proofs.lemmas.List.{append-nil}
+use Rattle.std.proofs.lemmas.List.Elements.{All-head, All-tail, filter_map-append}
 use Rattle.vr_types.specs.Locks.{same_unit}
 use Rattle.vr_types.specs.declared.unit.Unit.{Unit as UnitOfRecovery}
 use Rattle.vr_log.specs.Live.{is_in, live_after, live_from, live_in, without}
+use Rattle.vr_log.specs.declared.record.EndKind.{EndKind}
 use Rattle.vr_log.specs.declared.record.LogRecord.{LogRecord}
 use Rattle.vr_log.specs.declared.record.LogRecord.TheVariants.{Before, End}
 use Rattle.vr_history.specs.Effects.{is_other}
@@ -17,7 +19,7 @@ use Rattle.vr_history.proofs.Same.{unit_same}
 use Rattle.vr_volume.specs.Committed.{IsCurrent, IsPast}
 use Rattle.vr_volume.specs.Logged.{HasNoneOf}
 use Rattle.vr_volume.specs.PutBack.{image_in, images_of}
-use Rattle.vr_volume.proofs.Images.{image_of, in-last}
+use Rattle.vr_volume.proofs.Images.{image_of, in-last, live-append}
 
 -- the test of units goes both ways
 pub same-flip : (unit other : UnitOfRecovery) → same_unit unit other ≡ same_unit other unit
@@ -292,3 +294,15 @@ pub other-images : (gone : UnitOfRecovery) (records : List LogRecord)
     → filter_map (image_in (without gone (live_in records))) records
     ≡ filter (λ (image : BeforeImage). is_other gone image.unit) (images_of records)
 other-images gone records = others-images gone (live_in records) records (live-once [] records tt)
+
+-- so are those of all its records
+pub left-images : (records : List LogRecord) (unit : UnitOfRecovery) (kind : EndKind)
+    → images_of (records ++ End unit kind ∷ [])
+    ≡ filter (λ (image : BeforeImage). is_other unit image.unit) (images_of records)
+unfolding live_after
+left-images records unit kind =
+    ap (λ (live : List UnitOfRecovery). filter_map (image_in live) (records ++ End unit kind ∷ []))
+    (live-append [] records (End unit kind))
+    ∙ filter_map-append (image_in (without unit (live_in records))) records (End unit kind ∷ [])
+    ∙ append-nil (filter_map (image_in (without unit (live_in records))) records)
+    ∙ other-images unit records

@@ -1,45 +1,42 @@
 -- What has to hold before a record of the log is appended holds of a volume whose log has what its
 -- state logged.
-use Rattle.std.proofs.Common.{◌≡◌, ◌≢◌, ◌≤◌, inl, inr, ℕ, Bool, true, false, cond, not, List, [], ◌∷◌, ◌++◌}
+use Rattle.std.proofs.Common.{◌≡◌, inl, ℕ, Bool, true, false, cond, not, List, [], ◌∷◌}
 use Rattle.std.proofs.Common.{Option, Some, None, refl, sym, ap, subst, ◌∙◌, arith, length, filter}
-use Rattle.std.proofs.Common.{◌&&◌, ◌||◌, ◌==◌, ⊎_elim}
-use Rattle.std.specs.Prelude.{All, IfSome, find}
+use Rattle.std.proofs.Common.{◌&&◌, ◌||◌, ◌==◌}
+use Rattle.std.specs.Prelude.{All, find}
 use Rattle.std.specs.Option.{option_map}
-use Rattle.std.specs.List.{filter_map}
 use Rattle.std.proofs.lemmas.Bool.{true≢false}
 use Rattle.std.proofs.lemmas.Bool.Decides.{Decides-eqb}
-use Rattle.std.proofs.lemmas.List.{append-nil, take_all}
-use Rattle.std.proofs.lemmas.List.Elements.{All-head, All-tail, filter_map-append}
+use Rattle.std.proofs.lemmas.List.{take_all}
+use Rattle.std.proofs.lemmas.List.Elements.{All-filter, All-head, All-tail}
 use Rattle.std.proofs.lemmas.Slice.Eq.{bytes_eq-Decides}
-use Rattle.vr_types.specs.Content.{Content, Item, Standing, item_at}
+use Rattle.vr_types.specs.Content.{Content, Standing, item_at}
 use Rattle.vr_types.specs.Locks.{same_unit}
 use Rattle.vr_types.specs.Seen.{Seen}
 use Rattle.vr_types.specs.declared.geometry.Geometry.{Geometry}
 use Rattle.vr_types.specs.declared.unit.PartNo.{PartNo}
 use Rattle.vr_types.specs.declared.unit.Unit.{Unit as UnitOfRecovery}
 use Rattle.vr_space.specs.Part.{IsPlaceOf, MayHold, Shape}
-use Rattle.vr_log.specs.Live.{live_after, live_in, without}
-use Rattle.vr_log.specs.Content.{Content as LogContent}
 use Rattle.vr_log.specs.LogNow.{IsForced, LogNow, first_of}
 use Rattle.vr_log.specs.declared.record.EndKind.{EndKind}
 use Rattle.vr_log.specs.declared.record.EndKind.TheVariants.{Committed, BackedOut}
 use Rattle.vr_log.specs.declared.record.LogRecord.{LogRecord}
-use Rattle.vr_log.specs.declared.record.LogRecord.TheVariants.{Before, End}
+use Rattle.vr_log.specs.declared.record.LogRecord.TheVariants.{End}
 use Rattle.vr_history.specs.Committed.{kept_or}
 use Rattle.vr_history.specs.Effects.{is_other}
 use Rattle.vr_history.specs.State.{BeforeImage, State}
 use Rattle.vr_history.proofs.Same.{first_holds, second_holds}
-use Rattle.vr_volume.specs.Committed.{AreAlone, HasLogged, IsCurrent, IsFirmFor, IsLaidState}
+use Rattle.vr_volume.specs.Committed.{HasLogged, IsCurrent, IsFirmFor, IsLaidState}
 use Rattle.vr_volume.specs.Committed.{KeepsNoneIf, committed_by, has_commit, is_committing, kept_by}
 use Rattle.vr_volume.specs.Ended.{IsEndOf, ended}
 use Rattle.vr_volume.specs.Laid.{shape_by}
 use Rattle.vr_volume.specs.Logged.{IsFirstBefore}
-use Rattle.vr_volume.specs.PutBack.{image_in, images_of, is_image_of, oldest, put_back}
-use Rattle.vr_volume.specs.Safe.{AreCommitted, IsItemOf, IsSafe, IsSafeBy, item_held}
+use Rattle.vr_volume.specs.PutBack.{AreAlone, images_of, is_image_of, oldest}
+use Rattle.vr_volume.specs.Safe.{IsSafe, IsSafeBy, item_held}
+use Rattle.vr_volume.specs.Volume.{CanPutBack, IsInside}
 use Rattle.vr_volume.proofs.Committing.{are-committed, catalog-same, commit-append}
 use Rattle.vr_volume.proofs.Committing.{before-same, item-now, none-ended}
-use Rattle.vr_volume.proofs.Images.{live-append}
-use Rattle.vr_volume.proofs.Living.{live-or-none, other-images, same-flip}
+use Rattle.vr_volume.proofs.Living.{left-images, live-or-none}
 use Rattle.vr_volume.proofs.PuttingBack.{back-item}
 
 -- ---- what is found among some of the images
@@ -149,6 +146,21 @@ filter-alone keeps part place (first ∷ images) image alone is =
         (sym (ap (λ (b : Bool). cond b (Some first) (find test (filter keeps images))) one) ∙ same)
     by_test false false one same further = further same
 
+-- fewer images are alone
+pub alone-filter : (keeps : BeforeImage → Bool) (images : List BeforeImage) → AreAlone images
+    → AreAlone (filter keeps images)
+alone-filter keeps [] alone = tt
+alone-filter keeps (image ∷ images) alone =
+    by_keep (keeps image) (alone-filter keeps images alone.1)
+  where
+    by_keep : (b : Bool) → AreAlone (filter keeps images)
+        → AreAlone (cond b (image ∷ filter keeps images) (filter keeps images))
+    by_keep true further = (
+      find-none (is_image_of image.part image.place) keeps images alone.0,
+      further,
+    )
+    by_keep false further = further
+
 -- what is found has what all have
 pub found-has : (P : BeforeImage → Type 0) (test : BeforeImage → Bool) (images : List BeforeImage)
     (image : BeforeImage) → All P images → find test images ≡ Some image → P image
@@ -198,9 +210,10 @@ module _ (geometry : Geometry) (state : State) (laid : IsLaidState geometry stat
     first = none;
     item = item ∙ sym (item-there part.0 place none);
     same = before-same state log.records unit part place old;
-    at = subst (λ (found : Option Shape). IfSome found (λ s. IsPlaceOf s place))
-        (sym (ap (λ (catalog : Content). shape_by geometry catalog part.0)
-        (catalog-same geometry state laid log.records) ∙ is)) at;
+    shape = shape;
+    laid = ap (λ (catalog : Content). shape_by geometry catalog part.0)
+        (catalog-same geometry state laid log.records) ∙ is;
+    at = at;
   }
 
   -- ---- the end of a unit
@@ -211,14 +224,7 @@ module _ (geometry : Geometry) (state : State) (laid : IsLaidState geometry stat
 
     -- the images that the log has with the end
     pub images-ended : images_of (ended log unit kind) ≡ filter keeps (images_of log.records)
-    unfolding live_after
-    images-ended =
-        ap (λ (live : List UnitOfRecovery). filter_map (image_in live)
-        (log.records ++ End unit kind ∷ [])) (live-append [] log.records (End unit kind))
-        ∙ filter_map-append (image_in (without unit (live_in log.records))) log.records
-        (End unit kind ∷ [])
-        ∙ append-nil (filter_map (image_in (without unit (live_in log.records))) log.records)
-        ∙ other-images unit log.records
+    images-ended = left-images log.records unit kind
 
     -- a place whose image goes is one of the unit's
     gone-of : (part : ℕ) (place : List ℕ) (image : BeforeImage)
@@ -354,12 +360,34 @@ module _ (geometry : Geometry) (state : State) (laid : IsLaidState geometry stat
             is = refl;
           })))
 
+      -- the parts are on blocks that there are
+      inside-now : (part : ℕ) (shape : Shape)
+          → shape_by geometry (state.contents 0) part ≡ Some shape → IsInside geometry shape
+      inside-now part shape is = by-all.committed.inside part shape
+          (ap (λ (catalog : Content). shape_by geometry catalog part)
+          (catalog-same geometry state laid log.records) ∙ is)
+
+      -- and each before-image that is left may be put back
+      images-left : All (CanPutBack (shape_by geometry (state.contents 0)))
+          (images_of (ended log unit kind))
+      images-left = subst (λ (catalog : Content). All (CanPutBack (shape_by geometry catalog))
+          (images_of (ended log unit kind))) (catalog-same geometry state laid log.records)
+          (subst (All (CanPutBack (shape_by geometry (committed_by state log.records 0))))
+          (sym images-ended)
+          (All-filter keeps (CanPutBack (shape_by geometry (committed_by state log.records 0)))
+          (images_of log.records) by-all.committed.images))
+
+      alone-left : AreAlone (images_of (ended log unit kind))
+      alone-left = subst AreAlone (sym images-ended)
+          (alone-filter keeps (images_of log.records) logged.alone)
+
       -- What has to hold before the end is written.
       pub end-of : IsFirmFor geometry log state unit now → KeepsNoneIf kind state unit
           → IsEndOf geometry log (committed_by state) unit kind now
       end-of firm none = record {
         forced = omega (arith, forced);
-        contents = are-committed geometry state laid (ended log unit kind) olds-ended;
+        contents = are-committed geometry state laid (ended log unit kind) inside-now images-left
+            alone-left olds-ended;
         laid = λ part shape is.
             ap (λ (catalog : Content). shape_by geometry catalog part)
             (catalog-same geometry state laid log.records)

@@ -2,22 +2,20 @@
 -- is what was.
 use Rattle.std.proofs.Common.{◌≡◌, ◌≢◌, ◌⊎◌, inl, inr, ⊎_elim, ℕ, Bool, true, false, cond, List, []}
 use Rattle.std.proofs.Common.{◌∷◌, ◌++◌, ◌+◌, Option, Some, None, refl, sym, ap, subst, ◌∙◌, arith}
-use Rattle.std.proofs.Common.{length, map, bytes_eq, ◌==◌, ◌&&◌, ◌||◌, ◌*◌}
-use Rattle.std.specs.Prelude.{All, find}
+use Rattle.std.proofs.Common.{length, map, ◌==◌, ◌||◌}
+use Rattle.std.specs.Prelude.{All}
 use Rattle.std.specs.List.{list_any}
-use Rattle.std.specs.Option.{option_map, option_or}
+use Rattle.std.specs.Option.{option_or}
 use Rattle.std.proofs.lemmas.Bool.{true≢false}
 use Rattle.std.proofs.lemmas.Bool.Decides.{Decides-eqb}
 use Rattle.std.proofs.lemmas.List.{length-append, map-append}
 use Rattle.std.proofs.lemmas.List.Elements.{All-append, All-cons, All-nil}
-use Rattle.std.proofs.lemmas.Slice.Eq.{bytes_eq-Decides}
-use Rattle.vr_types.specs.Content.{Content, Item, Standing, Ascends, item_at}
+use Rattle.vr_types.specs.Content.{Content, Ascends, item_at}
 use Rattle.vr_types.specs.Locks.{same_unit}
 use Rattle.vr_types.specs.LogSpace.{end_length}
 use Rattle.vr_types.specs.declared.geometry.Geometry.{Geometry}
 use Rattle.vr_types.specs.declared.unit.PartNo.{PartNo}
 use Rattle.vr_types.specs.declared.unit.Unit.{Unit as UnitOfRecovery}
-use Rattle.vr_space.specs.Part.{IsPlaceOf, Shape}
 use Rattle.vr_altkey.specs.Placing.{placed_in}
 use Rattle.vr_altkey.proofs.CallerLemmas.{placed_here, placed_elsewhere, placed_ascends}
 use Rattle.vr_log.specs.Live.{is_in, live_after, live_in, need_of, used_by}
@@ -28,73 +26,24 @@ use Rattle.vr_log.specs.declared.record.LogRecord.TheVariants.{Before}
 use Rattle.vr_history.specs.Committed.{kept_or}
 use Rattle.vr_history.specs.State.{BeforeImage, Logged, State, is_live}
 use Rattle.vr_history.proofs.CallerLemmas.{unit_self}
-use Rattle.vr_history.proofs.Same.{first_holds, second_holds, unit_same}
+use Rattle.vr_history.proofs.Same.{unit_same}
 use Rattle.vr_volume.specs.CatalogRules.{IsCatalog}
-use Rattle.vr_volume.specs.Committed.{AreAlone, HasLogged, IsCurrent, IsKeptIn, IsLaidState, IsPast}
+use Rattle.vr_volume.specs.Committed.{HasLogged, IsCurrent, IsKeptIn, IsLaidState, IsPast}
 use Rattle.vr_volume.specs.Committed.{committed_by, logged_of}
 use Rattle.vr_volume.specs.Laid.{shape_by}
-use Rattle.vr_volume.specs.PutBack.{images_of, is_image_of, oldest}
+use Rattle.vr_volume.specs.PutBack.{AreAlone, images_of, is_image_of, oldest}
 use Rattle.vr_volume.specs.Steps.{Changing, IsChangeOf, IsFirstChange, IsPutIn, image_by}
 use Rattle.vr_volume.specs.Volume.{AreApart}
-use Rattle.vr_volume.proofs.Committing.{all-map, before-same, item-now}
+use Rattle.vr_volume.proofs.Alone.{alone-append, is-own, is-there}
+use Rattle.vr_volume.proofs.Committing.{all-map, item-now}
 use Rattle.vr_volume.proofs.Images.{images-append, live-append, oldest-append}
 use Rattle.vr_volume.proofs.Living.{live-or-none}
-use Rattle.vr_volume.proofs.Meeting.{item-there, none-kept}
 
 some-none : {X : Type 0} {x : X} → Some x ≡ None → ⊥
 some-none same = cc
 
 none-some : {X : Type 0} {x : X} → None ≡ Some x → ⊥
 none-some same = cc
-
--- ---- which place an image is of
-
--- the image is that of a place exactly where part and place are its own
-pub is-there : (part : ℕ) (place : List ℕ) (image : BeforeImage)
-    → is_image_of part place image ≡ true → (image.part ≡ part) × (place ≡ image.place)
-is-there part place image is = (
-  (Decides-eqb image.part part).0 (first_holds (image.part == part) _ is),
-  (bytes_eq-Decides place image.place).0 (second_holds (image.part == part) _ is),
-)
-
-pub is-own : (image : BeforeImage) → is_image_of image.part image.place image ≡ true
-is-own image =
-    ap (λ (b : Bool). b && bytes_eq image.place image.place)
-    ((Decides-eqb image.part image.part).1 refl)
-    ∙ (bytes_eq-Decides image.place image.place).1 refl
-
--- an image more of a place that had none
-pub alone-append : (images : List BeforeImage) (image : BeforeImage) → AreAlone images
-    → oldest images image.part image.place ≡ None → AreAlone (images ++ image ∷ [])
-alone-append [] image alone none = (refl, tt)
-alone-append (first ∷ images) image alone none =
-    by_first (is_image_of image.part image.place first) refl none
-    (alone-append images image alone.1)
-  where
-    apart : is_image_of image.part image.place first ≡ false
-        → is_image_of first.part first.place image ≡ false
-    apart is = by_test (is_image_of first.part first.place image) refl
-      where
-        by_test : (b : Bool) → is_image_of first.part first.place image ≡ b → b ≡ false
-        by_test false same = refl
-        by_test true same =
-            let there = is-there first.part first.place image same in
-            absurd (true≢false (sym (is-own first)
-            ∙ ap (λ (p : ℕ). is_image_of p first.place first) (sym there.0)
-            ∙ ap (λ (q : List ℕ). is_image_of image.part q first) there.1 ∙ is))
-
-    by_first : (here : Bool) → is_image_of image.part image.place first ≡ here
-        → cond here (Some first) (oldest images image.part image.place) ≡ None
-        → (oldest images image.part image.place ≡ None → AreAlone (images ++ image ∷ []))
-        → AreAlone (first ∷ images ++ image ∷ [])
-    by_first true is same further = absurd (some-none same)
-    by_first false is same further = (
-      oldest-append images image first.part first.place
-          ∙ ap (λ (found : Option BeforeImage). option_or found
-          (cond (is_image_of first.part first.place image) (Some image) None)) alone.0
-          ∙ ap (λ (b : Bool). option_or None (cond b (Some image) None)) (apart is),
-      further same,
-    )
 
 -- ---- the contents with an item put in
 

@@ -1,6 +1,7 @@
 -- Why a safe image recovers to the committed contents, and each image of a safe volume is one.
 use Rattle.std.proofs.Common.{◌≡◌, ℕ, List, [], Option, Some, None, refl, sym, ap}
 use Rattle.std.proofs.Common.{subst, ◌∙◌, arith}
+use Rattle.std.specs.Prelude.{All}
 use Rattle.std.specs.List.Sorted.{IsStrictlySortedBy}
 use Rattle.vr_types.specs.Content.{Content, Ascends, item_at}
 use Rattle.vr_types.specs.Image.{Image, block_at}
@@ -19,7 +20,7 @@ use Rattle.vr_volume.specs.CatalogRules.{IsCatalog}
 use Rattle.vr_volume.specs.Laid.{shape_by}
 use Rattle.vr_volume.specs.PutBack.{images_of, oldest, put_back, lengths_kept}
 use Rattle.vr_volume.specs.Safe.{IsImageSafe, IsItemOf, IsPartIn, IsPartSafe, IsSafe, IsSafeImage}
-use Rattle.vr_volume.specs.Volume.{AreApart, Recovers, shapes_by}
+use Rattle.vr_volume.specs.Volume.{AreApart, CanPutBack, Recovers, shapes_by}
 use Rattle.vr_volume.proofs.PuttingBack.{back-ascends, back-item}
 use Rattle.vr_volume.proofs.Standings.{item-read}
 
@@ -107,6 +108,10 @@ module _ (geometry : Geometry) (number : ℕ) (image : Image) (log : LogContent)
       others = λ part is. none-held part (shape_by geometry (committed 0) part) refl
           (sym (laid-same part) ∙ is);
     };
+    inside = λ part shape is. safe.committed.inside part shape (sym (laid-same part) ∙ is);
+    images = subst (λ (c : Content). All (CanPutBack (shape_by geometry c)) images)
+        (sym (is-back 0)) safe.committed.images;
+    alone = safe.committed.alone;
     room = λ part shape is. (safe.parts part shape (sym (laid-same part) ∙ is)).room;
     back = λ part. sym (is-back part);
   }

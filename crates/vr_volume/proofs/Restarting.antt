@@ -1,7 +1,8 @@
 -- What a new generation of the log leaves of a safe volume.
-use Rattle.std.proofs.Common.{◌≡◌, ⊎_elim, inl, inr, ◌≤◌, ◌<◌, ◌+◌, ◌^◌, ℕ, List, [], ◌∷◌, Option}
+use Rattle.std.proofs.Common.{◌≡◌, ⊎_elim, inl, inr, ℕ, List, [], ◌∷◌, Option}
 use Rattle.std.proofs.Common.{Some}
 use Rattle.std.proofs.Common.{None, refl, sym, ap, subst, ◌∙◌, arith, length, take}
+use Rattle.std.specs.Prelude.{All}
 use Rattle.std.specs.List.{filter_map}
 use Rattle.std.proofs.lemmas.List.{take_all}
 use Rattle.vr_types.specs.Content.{Content}
@@ -16,8 +17,10 @@ use Rattle.vr_log.specs.Standing.{InLog, LogStands}
 use Rattle.vr_log.specs.declared.record.LogRecord.{LogRecord}
 use Rattle.vr_log.specs.declared.record.LogRecord.TheVariants.{Before, End}
 use Rattle.vr_log.proofs.CallerLemmas.{stands_has}
-use Rattle.vr_volume.specs.PutBack.{image_in, images_of}
+use Rattle.vr_volume.specs.Laid.{shape_by}
+use Rattle.vr_volume.specs.PutBack.{AreAlone, image_in, images_of}
 use Rattle.vr_volume.specs.Safe.{IsSafe, IsSafeBy}
+use Rattle.vr_volume.specs.Volume.{CanPutBack}
 
 -- without a live unit there is no before-image
 none-in : (records : List LogRecord) → filter_map (image_in []) records ≡ []
@@ -59,7 +62,12 @@ module _ (geometry : Geometry) (number : ℕ) (log : LogNow)
           each = by-last.committed.each;
           catalog = by-last.committed.catalog;
           apart = by-last.committed.apart;
+          inside = by-last.committed.inside;
           others = by-last.committed.others;
+          images = subst
+              (λ (all : List BeforeImage). All (CanPutBack (shape_by geometry
+              (committed log.records 0))) all) (sym images) by-last.committed.images;
+          alone = subst AreAlone (sym images) by-last.committed.alone;
           olds = λ part place image is. by-last.committed.olds part place image
               (ap (λ (all : List BeforeImage). Rattle.vr_volume.specs.PutBack.oldest all part place)
               (sym images) ∙ is);

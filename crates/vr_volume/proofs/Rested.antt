@@ -1,24 +1,24 @@
 -- What calls leave of a volume at rest.
-use Rattle.std.proofs.Common.{◌≡◌, ◌≢◌, ◌⊎◌, inl, inr, ⊎_elim, ◌<◌, ◌≤◌, ◌*◌, ◌+◌, ℕ, Bool, true}
+use Rattle.std.proofs.Common.{◌≡◌, ◌≢◌, inl, inr, ⊎_elim, ◌<◌, ◌+◌, ℕ, Bool, true}
 use Rattle.std.proofs.Common.{false, cond, List, [], ◌∷◌, ◌++◌, Option, Some, None, refl, sym, ap}
 use Rattle.std.proofs.Common.{subst, ◌∙◌, arith, length, ◌==◌, IsTrue}
 use Rattle.std.specs.List.{filter_map}
-use Rattle.std.specs.Option.{option_and_then, option_map}
+use Rattle.std.specs.Option.{option_and_then}
 use Rattle.std.proofs.lemmas.Bool.{true≢false}
-use Rattle.std.proofs.lemmas.List.{length-append, take_all}
+use Rattle.std.proofs.lemmas.List.{take_all}
 use Rattle.std.proofs.lemmas.Bool.Decides.{Decides-eqb}
 use Rattle.std.proofs.lemmas.Slice.Eq.{bytes_eq-Decides}
 use Rattle.std.specs.Prelude.{bytes_eq}
-use Rattle.vr_types.specs.Content.{Content, Item, Standing, item_at, record_of}
+use Rattle.vr_types.specs.Content.{Content, item_at, record_of}
 use Rattle.vr_types.specs.Image.{Block, Image, block_at}
-use Rattle.vr_types.specs.Regions.{IsImageOn, Outside, Touches}
+use Rattle.vr_types.specs.Regions.{Touches}
 use Rattle.vr_types.specs.Seen.{Left, Seen}
 use Rattle.vr_types.specs.declared.geometry.Geometry.{Geometry}
 use Rattle.vr_types.specs.Blocks.{Keeps}
 use Rattle.vr_types.specs.declared.unit.PartNo.{PartNo}
 use Rattle.vr_types.specs.declared.unit.Unit.{Unit as UnitOfRecovery}
 use Rattle.vr_space.specs.Met.{Met}
-use Rattle.vr_space.specs.Part.{DueMore, HasKeptRoom, HasRoom, InPart, IsAtRest, IsOn, KeyedShape}
+use Rattle.vr_space.specs.Part.{DueMore, HasKeptRoom, InPart, IsAtRest, KeyedShape}
 use Rattle.vr_space.specs.Part.{Knows, SameRecords}
 use Rattle.vr_space.specs.Part.{IsPlaceOf, IsSound, SetsOne, Shape, item_of, part_no}
 use Rattle.vr_space.specs.Room.{Lengths}
@@ -29,25 +29,22 @@ use Rattle.vr_space.proofs.CallerLemmas.{within-less}
 use Rattle.vr_space.specs.Keyed.{keyed_way}
 use Rattle.vr_space.specs.Way.{MayOnceForced}
 use Rattle.vr_log.specs.Content.{Content as LogContent}
-use Rattle.vr_log.specs.LogBlock.{room_of}
 use Rattle.vr_log.specs.Live.{live_in}
 use Rattle.vr_log.specs.LogNow.{IsForced, IsLogOf, IsPrefixOf, LogNow}
-use Rattle.vr_log.specs.Records.{bytes_of}
-use Rattle.vr_log.specs.Standing.{InLog, IsExact, LogStands}
+use Rattle.vr_log.specs.Standing.{InLog, LogStands}
 use Rattle.vr_log.specs.declared.record.LogRecord.{LogRecord}
 use Rattle.vr_log.specs.declared.record.LogRecord.TheVariants.{Before, End}
 use Rattle.vr_history.specs.State.{BeforeImage, State}
-use Rattle.vr_volume.specs.Committed.{HasLogged, IsLaidState, committed_by}
+use Rattle.vr_volume.specs.Committed.{IsLaidState, committed_by}
 use Rattle.vr_volume.specs.Laid.{shape_by}
 use Rattle.vr_volume.specs.Laying.{IsFreeIn, IsLaidBy, IsLaidSo, IsLogged}
 use Rattle.vr_volume.specs.Logged.{IsFirstBefore}
-use Rattle.vr_volume.specs.PutBack.{image_in, images_of, length_in, length_of, lengths_kept}
+use Rattle.vr_volume.specs.PutBack.{image_in, images_of, length_of, lengths_kept}
 use Rattle.vr_volume.specs.PutBack.{oldest}
 use Rattle.vr_volume.specs.Rests.{IsGivenFor, IsPartAtRest, IsVolumeAtRest}
 use Rattle.vr_volume.specs.Safe.{IsSafe, item_held}
 use Rattle.vr_volume.specs.Steps.{Changing, IsChangeOf, IsFirstChange, IsNextChange, IsPutBack}
 use Rattle.vr_volume.specs.Steps.{IsPutIn, image_by}
-use Rattle.vr_volume.proofs.Befores.{safe-more}
 use Rattle.vr_volume.proofs.Calls.{safe-keeps}
 use Rattle.vr_volume.proofs.Committing.{catalog-same}
 use Rattle.vr_volume.proofs.Images.{kept-append, kept_more}
@@ -345,36 +342,6 @@ module _ (geometry : Geometry) (number : ℕ) (log : LogNow) (images after : Lis
     kept_is = ap (λ (found : List BeforeImage). lengths_kept found (part_no shape).0)
         (sym images-with);
   }
-
-  -- What is kept then has room.
-  pub room-more : IsPlaceOf shape place
-      → HasKeptRoom shape (lengths_kept after (part_no shape).0) a
-  room-more at = subst (λ (lengths : Lengths). HasKeptRoom shape lengths a)
-      (ap (λ (found : List BeforeImage). lengths_kept found (part_no shape).0) images-with)
-      (((safe-more geometry number log (committed_by old) a change.unit (part_no shape) place
-      change.old rest.safe (first-of at)).by_log
-      (record {
-        generation = log.generation;
-        records = log.records ++ Before change.unit (part_no shape) place change.old ∷ [];
-      })
-      (inl (record {
-        count = length (log.records
-            ++ Before change.unit (part_no shape) place change.old ∷ []);
-        forced = omega (
-          arith,
-          rest.forced,
-          length-append log.records
-              (Before change.unit (part_no shape) place change.old ∷ []),
-        );
-        all = omega arith;
-        is = ap (λ (records : List LogRecord). let c : LogContent = record {
-          generation = log.generation;
-          records = records;
-        } in c) (sym (take_all (length (log.records
-            ++ Before change.unit (part_no shape) place change.old ∷ []))
-            (log.records ++ Before change.unit (part_no shape) place change.old ∷ [])
-            (omega arith)));
-      }))).parts (part_no shape).0 shape laid-by-more.laid).room
 
 -- ---- a place that was logged before
 

@@ -1,31 +1,27 @@
 -- A safe volume whose committed contents are told in another way, and what is committed as the
 -- state goes on.
-use Rattle.std.proofs.Common.{◌≡◌, ◌≢◌, ◌⊎◌, inl, inr, ⊎_elim, ◌≤◌, ℕ, List, [], ◌∷◌, ◌++◌, Option}
-use Rattle.std.proofs.Common.{Some, None, refl, sym, ap, subst, ◌∙◌, arith, length}
-use Rattle.std.proofs.lemmas.List.{length-append, take_all}
+use Rattle.std.proofs.Common.{◌≡◌, ◌⊎◌, inl, inr, ⊎_elim, ◌≤◌, ℕ, List, [], ◌∷◌, ◌++◌}
+use Rattle.std.proofs.Common.{Some, refl, sym, ap, subst, ◌∙◌, arith, length}
+use Rattle.std.proofs.lemmas.List.{take_all}
+use Rattle.std.specs.Prelude.{All}
 use Rattle.vr_types.specs.Content.{Content, Ascends, item_at}
 use Rattle.vr_types.specs.Seen.{Seen}
 use Rattle.vr_types.specs.declared.geometry.Geometry.{Geometry}
-use Rattle.vr_types.specs.declared.unit.Unit.{Unit as UnitOfRecovery}
-use Rattle.vr_space.specs.Part.{Shape}
 use Rattle.vr_altkey.proofs.CallerLemmas.{same_items}
 use Rattle.vr_log.specs.Content.{Content as LogContent}
 use Rattle.vr_log.specs.LogNow.{IsBehind, IsForced, IsLogOf, IsPrefixOf, LogNow, first_of}
-use Rattle.vr_log.specs.declared.record.EndKind.{EndKind}
 use Rattle.vr_log.specs.declared.record.LogRecord.{LogRecord}
 use Rattle.vr_log.specs.declared.record.LogRecord.TheVariants.{Before}
-use Rattle.vr_history.specs.State.{BeforeImage, State}
+use Rattle.vr_history.specs.State.{State}
 use Rattle.vr_volume.specs.CatalogRules.{IsCatalog}
-use Rattle.vr_volume.specs.Committed.{HasLogged, IsCurrent, IsLaidState, KeepsNoneIf, committed_by}
-use Rattle.vr_volume.specs.Ended.{ended}
+use Rattle.vr_volume.specs.Committed.{HasLogged, IsLaidState, committed_by}
 use Rattle.vr_volume.specs.Laid.{shape_by}
-use Rattle.vr_volume.specs.PutBack.{images_of, oldest}
-use Rattle.vr_volume.specs.Safe.{AreCommitted, IsItemOf, IsPartSafe, IsSafe, IsSafeBy, item_held}
-use Rattle.vr_volume.specs.Steps.{Changing, IsChangeOf, IsEndedIn, IsFirstChange, IsNextChange}
+use Rattle.vr_volume.specs.PutBack.{images_of}
+use Rattle.vr_volume.specs.Safe.{AreCommitted, IsPartSafe, IsSafe, IsSafeBy}
+use Rattle.vr_volume.specs.Steps.{Changing, IsChangeOf, IsFirstChange, IsNextChange}
 use Rattle.vr_volume.specs.Steps.{IsPutBack}
-use Rattle.vr_volume.specs.Volume.{AreApart}
-use Rattle.vr_volume.proofs.Committing.{before-same, committed-now}
-use Rattle.vr_volume.proofs.Ending.{committed-end}
+use Rattle.vr_volume.specs.Volume.{AreApart, CanPutBack}
+use Rattle.vr_volume.proofs.Committing.{before-same, committed-ascends}
 use Rattle.vr_volume.proofs.Moving.{items-first-change, laid-first-change, logged-first-change}
 use Rattle.vr_volume.proofs.Undoing.{items-next-change, items-put-back, laid-next-change}
 use Rattle.vr_volume.proofs.Undoing.{laid-put-back, logged-next-change, logged-put-back}
@@ -43,7 +39,11 @@ module _ (geometry : Geometry) (records : List LogRecord) (one other : ℕ → C
     catalog = subst (IsCatalog geometry) (sym (same 0)) are.catalog;
     apart = subst (λ (catalog : Content). AreApart (shape_by geometry catalog)) (sym (same 0))
         are.apart;
+    inside = λ part shape laid. are.inside part shape (sym (shapes-same part) ∙ laid);
     others = λ part none. same part ∙ are.others part (sym (shapes-same part) ∙ none);
+    images = subst (λ (catalog : Content). All (CanPutBack (shape_by geometry catalog))
+        (images_of records)) (sym (same 0)) are.images;
+    alone = are.alone;
     olds = λ part place image is. are.olds part place image is
         ∙ sym (ap (λ (content : Content). item_at content place) (same part));
   }
@@ -114,8 +114,8 @@ module _ (geometry : Geometry) (old new : State) where
       → (part : ℕ) → committed_by new more.records part ≡ committed_by old log.records part
   contents-same log more laid logged laid' logged' items part =
       same_items (committed_by new more.records part) (committed_by old log.records part)
-      ((committed-now geometry new laid' more logged').each part)
-      ((committed-now geometry old laid log logged).each part) (items part)
+      (committed-ascends geometry new laid' more.records part)
+      (committed-ascends geometry old laid log.records part) (items part)
 
   module _ (log : LogNow) (change : Changing) (laid : IsLaidState geometry old)
       (logged : HasLogged log old) (of : IsChangeOf geometry old change) where

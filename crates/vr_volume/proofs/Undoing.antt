@@ -2,29 +2,26 @@
 -- what the state logged, and what is committed is what was.
 use Rattle.std.proofs.Common.{◌≡◌, ◌≢◌, ◌⊎◌, inl, inr, ⊎_elim, ℕ, Bool, true, false, cond, not, List}
 use Rattle.std.proofs.Common.{[], ◌∷◌, Option, Some, None, refl, sym, ap, subst, ◌∙◌, ◌&&◌, ◌||◌}
-use Rattle.std.proofs.Common.{filter, map, bytes_eq, ◌==◌}
-use Rattle.std.specs.Prelude.{All, find}
+use Rattle.std.proofs.Common.{filter}
+use Rattle.std.specs.Prelude.{All}
 use Rattle.std.specs.List.{list_any}
 use Rattle.std.proofs.lemmas.Bool.{true≢false}
-use Rattle.std.proofs.lemmas.Bool.Decides.{Decides-eqb}
-use Rattle.std.proofs.lemmas.List.Elements.{All-cons, All-head, All-nil, All-tail}
-use Rattle.std.proofs.lemmas.Slice.Eq.{bytes_eq-Decides}
-use Rattle.vr_types.specs.Content.{Content, Item, item_at}
+use Rattle.std.proofs.lemmas.List.Elements.{All-cons, All-head, All-tail}
+use Rattle.vr_types.specs.Content.{item_at}
 use Rattle.vr_types.specs.Locks.{same_unit}
 use Rattle.vr_types.specs.declared.geometry.Geometry.{Geometry}
 use Rattle.vr_types.specs.declared.unit.Unit.{Unit as UnitOfRecovery}
-use Rattle.vr_log.specs.Live.{is_in, live_in}
 use Rattle.vr_log.specs.LogNow.{LogNow}
-use Rattle.vr_log.specs.declared.record.LogRecord.{LogRecord}
 use Rattle.vr_history.specs.Committed.{kept_or}
-use Rattle.vr_history.specs.Effects.{keeps_other, last_kept, last_of, without_last}
-use Rattle.vr_history.specs.State.{BeforeImage, Logged, State, is_live}
-use Rattle.vr_volume.specs.Committed.{AreAlone, HasLogged, IsCurrent, IsKeptIn, IsLaidState, IsPast}
-use Rattle.vr_volume.specs.Committed.{committed_by, logged_of}
-use Rattle.vr_volume.specs.PutBack.{images_of, is_image_of, oldest}
-use Rattle.vr_volume.specs.Steps.{Changing, IsChangeOf, IsNextChange, IsPutBack, IsPutIn}
+use Rattle.vr_history.specs.Effects.{keeps_other, last_of, without_last}
+use Rattle.vr_history.specs.State.{BeforeImage, Logged, State}
+use Rattle.vr_volume.specs.Committed.{HasLogged, IsCurrent, IsKeptIn, IsLaidState, IsPast}
+use Rattle.vr_volume.specs.Committed.{committed_by}
+use Rattle.vr_volume.specs.PutBack.{AreAlone, images_of, is_image_of, oldest}
+use Rattle.vr_volume.specs.Steps.{Changing, IsChangeOf, IsNextChange, IsPutBack}
 use Rattle.vr_volume.proofs.Committing.{item-now}
-use Rattle.vr_volume.proofs.Moving.{is-own, is-there, item-else, item-here, laid-stays}
+use Rattle.vr_volume.proofs.Alone.{is-own, is-there}
+use Rattle.vr_volume.proofs.Moving.{item-else, item-here, laid-stays}
 
 some-none : {X : Type 0} {x : X} → Some x ≡ None → ⊥
 some-none same = cc

@@ -1,5 +1,5 @@
 -- When a call that logs and then sets a record may answer what it answers.
-use Rattle.std.specs.Prelude.{◌≡◌, ◌<◌, ◌≤◌, ℕ, Result, IsErrOf, OnOk}
+use Rattle.std.specs.Prelude.{◌≡◌, ◌<◌, ◌≤◌, Result, IsErrOf, OnOk}
 use Rattle.vr_types.specs.Faults.{Faults}
 use Rattle.vr_log.specs.declared.no.LogNo.{LogNo}
 use Rattle.vr_log.specs.declared.no.LogNo.TheVariants.{Read, Write}

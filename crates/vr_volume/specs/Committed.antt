@@ -2,7 +2,7 @@
 -- contents of the state with the before-images put back that its units keep, but for a unit whose
 -- commit the log has already. And what the log of such a volume has. The rules are this project's
 -- own.
-use Rattle.std.specs.Prelude.{◌≡◌, ◌≢◌, ◌<◌, ℕ, Bool, true, false, not, List, [], ◌∷◌, Option, Some}
+use Rattle.std.specs.Prelude.{◌≡◌, ◌≢◌, ◌<◌, ℕ, Bool, true, false, not, List, [], Option, Some}
 use Rattle.std.specs.Prelude.{None, ◌&&◌, filter, map, All}
 use Rattle.std.specs.List.{list_any}
 use Rattle.vr_types.specs.Content.{Content, Ascends, item_at}
@@ -22,7 +22,7 @@ use Rattle.vr_history.specs.Committed.{is_counted}
 use Rattle.vr_history.specs.State.{BeforeImage, Logged, State, is_live}
 use Rattle.vr_volume.specs.CatalogRules.{IsCatalog}
 use Rattle.vr_volume.specs.Laid.{shape_by}
-use Rattle.vr_volume.specs.PutBack.{images_of, oldest, put_back}
+use Rattle.vr_volume.specs.PutBack.{AreAlone, images_of, oldest, put_back}
 use Rattle.vr_volume.specs.Safe.{item_held}
 use Rattle.vr_volume.specs.Volume.{AreApart}
 
@@ -67,11 +67,6 @@ pub record IsLaidState (geometry : Geometry) (state : State) : Type 0 where
 -- the place of a before-image, as the state has it logged
 abbrev pub logged_of : BeforeImage → Logged
 logged_of image = record { unit = image.unit; part = image.part; place = image.place }
-
--- Each place has one image at most.
-abbrev pub AreAlone : List BeforeImage → Type 0
-AreAlone [] = Unit {0}
-AreAlone (image ∷ images) = (oldest images image.part image.place ≡ None) × AreAlone images
 
 -- the unit that a record ends isn't the current one of its deck any more
 abbrev pub IsPast : (ℕ → ℕ) → LogRecord → Type 0

@@ -1,6 +1,6 @@
 -- The before-images that a log has of units that haven't ended, which are put back: what backout is
 -- in the DFSMStvs Planning and Operating Guide, for units of recovery that a crash leaves.
-use Rattle.std.specs.Prelude.{List, [], Option, Some, None, if◌then◌else◌}
+use Rattle.std.specs.Prelude.{◌≡◌, List, [], ◌∷◌, Option, Some, None, if◌then◌else◌}
 use Rattle.std.specs.List.{filter_map}
 use Rattle.std.specs.Option.{option_map}
 use Rattle.vr_types.specs.Content.{Standing}
@@ -27,3 +27,8 @@ image_in units (Before unit part place old) =
 -- the before-images that the log has of units without an end, the oldest first
 abbrev pub images_of : List LogRecord → List BeforeImage
 images_of records = filter_map (image_in (live_in records)) records
+
+-- Each place has one image at most.
+abbrev pub AreAlone : List BeforeImage → Type 0
+AreAlone [] = Unit {0}
+AreAlone (image ∷ images) = (oldest images image.part image.place ≡ None) × AreAlone images

@@ -1,7 +1,7 @@
 -- What makes the blocks of a volume recover to the committed contents: off the places that the log
 -- has free, each block that a crash may leave has the committed item, and each before-image of a
 -- unit without an end is the committed item of its place. The rules are this project's own.
-use Rattle.std.specs.Prelude.{◌≡◌, ℕ, List, [], Option, Some, None}
+use Rattle.std.specs.Prelude.{◌≡◌, ℕ, List, [], All, Option, Some, None}
 use Rattle.std.specs.Option.{option_map}
 use Rattle.vr_types.specs.Content.{Content as ContentOf, Item, Standing, Ascends, item_at}
 use Rattle.vr_types.specs.Geometry.{IsAllowed}
@@ -19,8 +19,8 @@ use Rattle.vr_history.specs.State.{BeforeImage}
 use Rattle.vr_volume.specs.CatalogRules.{IsCatalog}
 use Rattle.vr_volume.specs.Header.{header_block}
 use Rattle.vr_volume.specs.Laid.{shape_by}
-use Rattle.vr_volume.specs.PutBack.{images_of, oldest, lengths_kept}
-use Rattle.vr_volume.specs.Volume.{AreApart}
+use Rattle.vr_volume.specs.PutBack.{AreAlone, images_of, oldest, lengths_kept}
+use Rattle.vr_volume.specs.Volume.{AreApart, CanPutBack, IsInside}
 
 -- what is read in a keyed part is a record, or nothing
 abbrev pub item_held : Shape → Option (List ℕ) → Option Item
@@ -34,14 +34,18 @@ IsItemOf shape part images content place found = oldest images part place ≡ No
 -- ---- the contents
 
 -- These contents are committed, by a log of these records: part 0 is a catalog by which each other
--- part has blocks of its own, a part that isn't laid has no record, and each before-image is the
--- item of its place.
+-- part has blocks of its own, of those that there are, a part that isn't laid has no record, and
+-- each before-image may be put back, and is the only one and the item of its place.
 pub record AreCommitted (geometry : Geometry) (records : List LogRecord)
     (contents : ℕ → ContentOf) : Type 0 where
   pub each : (part : ℕ) → Ascends (contents part)
   pub catalog : IsCatalog geometry (contents 0)
   pub apart : AreApart (shape_by geometry (contents 0))
+  pub inside : (part : ℕ) (shape : Shape) → shape_by geometry (contents 0) part ≡ Some shape
+      → IsInside geometry shape
   pub others : (part : ℕ) → shape_by geometry (contents 0) part ≡ None → contents part ≡ []
+  pub images : All (CanPutBack (shape_by geometry (contents 0))) (images_of records)
+  pub alone : AreAlone (images_of records)
   pub olds : (part : ℕ) (place : List ℕ) (image : BeforeImage)
       → oldest (images_of records) part place ≡ Some image
       → image.old ≡ item_at (contents part) place

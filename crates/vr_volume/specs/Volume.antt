@@ -1,17 +1,19 @@
 -- What the blocks of a whole volume stand for: its log, and a content of each part. And what they
 -- recover to: the contents with the before-images of units that haven't ended put back. The rules
 -- are this project's own.
-use Rattle.std.specs.Prelude.{◌≡◌, ◌≢◌, ℕ, [], Option, Some, None}
-use Rattle.vr_types.specs.Content.{Content as ContentOf}
+use Rattle.std.specs.Prelude.{◌≡◌, ◌≢◌, ◌+◌, ◌<◌, ℕ, [], All, IfSome, Option, Some, None}
+use Rattle.std.specs.Option.{option_and_then}
+use Rattle.vr_types.specs.Content.{Content as ContentOf, record_of}
 use Rattle.vr_types.specs.Image.{Image, block_at}
 use Rattle.vr_types.specs.declared.geometry.Geometry.{Geometry}
-use Rattle.vr_space.specs.Part.{Shape, StandsFor, InPart, HasRoom}
+use Rattle.vr_space.specs.Part.{Shape, KeyedShape, StandsFor, InPart, IsPlaceOf, IsRecordOf, HasRoom}
+use Rattle.vr_history.specs.State.{BeforeImage}
 use Rattle.vr_log.specs.Content.{Content as LogContent}
 use Rattle.vr_log.specs.Spells.{Spells}
 use Rattle.vr_volume.specs.CatalogRules.{IsCatalog}
 use Rattle.vr_volume.specs.Header.{header_block}
 use Rattle.vr_volume.specs.Laid.{shape_by}
-use Rattle.vr_volume.specs.PutBack.{images_of, put_back, lengths_kept}
+use Rattle.vr_volume.specs.PutBack.{AreAlone, images_of, put_back, lengths_kept}
 
 -- no block is in two parts
 abbrev pub AreApart : (ℕ → Option Shape) → Type 0
@@ -37,12 +39,29 @@ pub record VolumeStandsFor (geometry : Geometry) (number : ℕ) (image : Image) 
       → StandsFor shape image (contents part)
   pub others : (part : ℕ) → shapes_by geometry log contents part ≡ None → contents part ≡ []
 
+-- a part is on blocks that the volume has, with their size
+abbrev pub IsInside : Geometry → Shape → Type 0
+IsInside geometry (KeyedShape part) =
+    (part.head + part.area < geometry.blocks) × (part.size ≡ geometry.size)
+
+-- A before-image may be put back: its part is laid, and it is a record that may stand at a place of
+-- it, or none.
+pub record CanPutBack (shapes : ℕ → Option Shape) (image : BeforeImage) : Type 0 where
+  pub shape : Shape
+  pub laid : shapes image.part ≡ Some shape
+  pub place : IsPlaceOf shape image.place
+  pub old : IfSome (option_and_then record_of image.old) (IsRecordOf shape image.place)
+
 -- They recover to these contents.
 pub record Recovers (geometry : Geometry) (number : ℕ) (image : Image)
     (recovered : ℕ → ContentOf) : Type 0 where
   pub log : LogContent
   pub contents : ℕ → ContentOf
   pub stands : VolumeStandsFor geometry number image log contents
+  pub inside : (part : ℕ) (shape : Shape) → shapes_by geometry log contents part ≡ Some shape
+      → IsInside geometry shape
+  pub images : All (CanPutBack (shapes_by geometry log contents)) (images_of log.records)
+  pub alone : AreAlone (images_of log.records)
   -- each interval has room for the before-images of its range beside its records
   pub room : (part : ℕ) (shape : Shape) → shapes_by geometry log contents part ≡ Some shape
       → HasRoom shape (lengths_kept (images_of log.records) part) image

@@ -4,14 +4,16 @@ ghost use Rattle.std.specs.Prelude.{None, IsTrue, OnOk};
 ghost use Rattle.std.specs.Prelude.{IfErr, false};
 ghost use Rattle.vr_types.specs.Content.{Content};
 ghost use Rattle.vr_types.specs.Faults.{HasWriteCause};
+ghost use Rattle.vr_types.specs.Blocks.{Keeps};
 ghost use Rattle.vr_types.specs.Moments.{Guards};
+ghost use Rattle.vr_types.specs.Regions.{Touches};
 ghost use Rattle.vr_types.specs.declared.unit.PartNo.{PartNo};
 ghost use Rattle.vr_types.specs.declared.unit.Unit.{Unit as UnitOfRecovery};
 ghost use Rattle.vr_log.specs.Live.{EndsLive, is_in, live_in, need_of};
-ghost use Rattle.vr_log.specs.LogNow.{HasLogCause, IsAppended, IsFullNo, IsFullWhere, IsOf};
+ghost use Rattle.vr_log.specs.LogNow.{HasLog, HasLogCause, IsAppended, IsFullNo, IsFullWhere, IsOf};
 ghost use Rattle.vr_log.specs.LogNow.{IsForced, forced_now, restarted, with_record};
 ghost use Rattle.vr_log.specs.Records.{HasLengths};
-ghost use Rattle.vr_log.specs.Standing.{LogStands};
+ghost use Rattle.vr_log.specs.Standing.{InLog, LogStands};
 ghost use Rattle.vr_log.specs.declared.record.LogRecord.{LogRecord as Rec};
 ghost use Rattle.vr_log.specs.declared.record.LogRecord.TheVariants.{Before, End};
 ghost use Rattle.vr_volume.specs.Ended.{IsEndOf};
@@ -77,6 +79,7 @@ pub fn force_log<B: Blocks>(blocks: &mut B, log: &mut UndoLog) -> Result<(), Dev
         (committed : List Rec → ℕ → Content)
         → IsSafe log.old.geometry number log.old committed (B.seen blocks.old)
         → IsSafe log.old.geometry number log.new committed (B.seen blocks.new)) }
+    ensures keeps { Keeps B.tells (B.seen blocks.old) (B.seen blocks.new) }
     ensures free { IsTrue B.tells → OnOk result ((part : ℕ) (place : List ℕ)
         → oldest (images_of log.old.records) part place ≢ None → IsFreeIn log.new part place) }
     ensures forced { OnOk result (log.new ≡ forced_now log.old) }
@@ -110,6 +113,8 @@ pub fn append_end<B: Blocks>(
         → IsSafe log.old.geometry number log.old committed (B.seen blocks.old)
         → IsEndOf log.old.geometry log.old committed unit kind (B.seen blocks.old)
         → IsSafe log.old.geometry number log.new committed (B.seen blocks.new)) }
+    ensures touches { IsTrue B.tells → Touches (InLog log.old.geometry)
+        (HasLog (with_record log.old (End unit kind))) (B.seen blocks.old) (B.seen blocks.new) }
     ensures log { OnOk result (IsAppended log.old (End unit kind) log.new) }
     ensures shape { OnOk result (IsOf log.new.geometry (B.seen blocks.new)) }
     ensures stands { IsTrue B.tells → OnOk result (LogStands log.new (B.seen blocks.new)) }

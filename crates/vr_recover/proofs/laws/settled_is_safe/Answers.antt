@@ -2,6 +2,6 @@ use Rattle.vr_recover.proofs.Opened.{settled-safe}
 use Rattle.vr_recover.proofs.laws.settled_is_safe.Goals as goal
 
 pub returns : goal.returns
-returns g c geometry number recovered is allowed of forced stands can =
+returns g c geometry number recovered is allowed of forced stands =
     settled-safe geometry number (g.B.Blocks.seen c.args.blocks.now) recovered is allowed of forced
-    stands can
+    stands

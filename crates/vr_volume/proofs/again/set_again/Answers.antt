@@ -1,11 +1,9 @@
-use Rattle.std.proofs.Common.{◌≡◌, ◌<◌, ap, sym, subst, ℕ, List, Option}
-use Rattle.vr_types.specs.declared.unit.PartNo.{PartNo}
-use Rattle.vr_space.specs.Part.{HasKeptRoom, HasRoom, InPart, Knows, given, part_no}
+use Rattle.std.proofs.Common.{sym, subst, Option}
+use Rattle.vr_space.specs.Part.{HasKeptRoom, HasRoom, Knows, given, part_no}
 use Rattle.vr_space.specs.Room.{Lengths}
 use Rattle.vr_space.specs.Split.{SplitNow}
 use Rattle.vr_volume.specs.Committed.{committed_by}
-use Rattle.vr_volume.specs.PutBack.{lengths_kept, oldest}
-use Rattle.vr_volume.proofs.Rested.{free-again, kept-some, laid-again, other-stays, part-put}
+use Rattle.vr_volume.proofs.Rested.{free-again, laid-again, other-stays, part-put}
 use Rattle.vr_volume.proofs.Rested.{place-some, stands-part, volume-next-change, volume-put-back}
 use Rattle.vr_volume.proofs.Undoing.{put-some}
 use Rattle.vr_volume.proofs.again.set_again.Goals as goal

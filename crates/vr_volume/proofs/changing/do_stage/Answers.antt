@@ -1,4 +1,4 @@
-use Rattle.std.proofs.Common.{◌≡◌, ◌<◌, arith, refl, subst}
+use Rattle.std.proofs.Common.{arith, refl, subst}
 use Rattle.vr_space.specs.Part.{HasKeptRoom, HasRoom, Nothing, part_no}
 use Rattle.vr_space.specs.Room.{Lengths}
 use Rattle.vr_volume.specs.Committed.{committed_by}

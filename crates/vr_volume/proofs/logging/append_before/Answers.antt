@@ -14,7 +14,8 @@ returns-in_err-place-clause-safe g c told number committed unit part place old i
     let a = B.seen c.args.blocks.now in
     let more = subst
     (λ (r : LogRecord). IsSafe log.geometry number (with_record log r) committed a) (sym is)
-    (safe-more log.geometry number log committed a unit part place old safe next) in
+    (safe-more log.geometry number log committed a unit part place old safe
+    (g.met.B.Blocks.cur_may c.args.blocks.now told) next) in
     log-guards log.geometry number committed (with_record log c.args.rec.now) a
     (B.seen c.append.new.blocks) more (c.append.ensures.moments told)
 
@@ -25,7 +26,8 @@ returns-clause-safe g c told number committed unit part place old is safe next =
     let a = B.seen c.args.blocks.now in
     let more = subst
     (λ (r : LogRecord). IsSafe log.geometry number (with_record log r) committed a) (sym is)
-    (safe-more log.geometry number log committed a unit part place old safe next) in
+    (safe-more log.geometry number log committed a unit part place old safe
+    (g.met.B.Blocks.cur_may c.args.blocks.now told) next) in
     log-guards log.geometry number committed (with_record log c.args.rec.now) a
     (B.seen c.append.new.blocks) more (c.append.ensures.moments told)
 
@@ -39,7 +41,8 @@ returns-clause-appended g c told number committed unit part place old is safe ne
     let appended = c.in_ok-place.ensures.log in
     let more = subst
     (λ (r : LogRecord). IsSafe log.geometry number (with_record log r) committed a) (sym is)
-    (safe-more log.geometry number log committed a unit part place old safe next) in (
+    (safe-more log.geometry number log committed a unit part place old safe
+    (g.met.B.Blocks.cur_may c.args.blocks.now told) next) in (
       safe-fewer log.geometry number committed (with_record log c.args.rec.now) new b
           (log-after log.geometry number committed (with_record log c.args.rec.now) a b more
           (c.append.ensures.moments told))

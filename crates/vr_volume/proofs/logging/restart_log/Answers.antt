@@ -1,5 +1,5 @@
 use Rattle.std.proofs.Common.{subst, sym}
-use Rattle.vr_log.specs.LogNow.{LogNow, restarted}
+use Rattle.vr_log.specs.LogNow.{LogNow}
 use Rattle.vr_log.specs.Standing.{LogStands}
 use Rattle.vr_log.proofs.CallerLemmas.{restarted_stands}
 use Rattle.vr_volume.specs.Safe.{IsSafe}

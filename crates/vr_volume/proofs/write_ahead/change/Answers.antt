@@ -87,7 +87,8 @@ returns-in_err-log_forced-clause-any_moment g c told number committed unit old i
     let a = B.seen c.args.blocks.now in
     let more = subst
     (λ (r : LogRecord). IsSafe log.geometry number (with_record log r) committed a) (sym is)
-    (safe-more log.geometry number log committed a unit _ _ old safe next) in
+    (safe-more log.geometry number log committed a unit _ _ old safe
+    (g.met.B.Blocks.cur_may c.args.blocks.now told) next) in
     log-guards log.geometry number committed (with_record log c.args.rec.now) a
     (B.seen c.log_forced.new.blocks) more (c.log_forced.ensures.touches told)
 
@@ -120,7 +121,8 @@ returns-in_err-set_free-clause-any_moment g c told number committed unit old is 
     let d = B.seen c.set_free.new.blocks in
     let more = subst
     (λ (r : LogRecord). IsSafe log.geometry number (with_record log r) committed a) (sym is)
-    (safe-more log.geometry number log committed a unit _ _ old safe next) in
+    (safe-more log.geometry number log committed a unit _ _ old safe
+    (g.met.B.Blocks.cur_may c.args.blocks.now told) next) in
     let touches = c.log_forced.ensures.touches told in
     let logged = c.in_ok-log_forced.ensures.logged told in
     let then = change-then log.geometry number log new rec committed part.0 shape
@@ -149,7 +151,8 @@ returns-clause-any_moment g c told number committed unit old is safe next laid =
     let d = B.seen c.set_free.new.blocks in
     let more = subst
     (λ (r : LogRecord). IsSafe log.geometry number (with_record log r) committed a) (sym is)
-    (safe-more log.geometry number log committed a unit _ _ old safe next) in
+    (safe-more log.geometry number log committed a unit _ _ old safe
+    (g.met.B.Blocks.cur_may c.args.blocks.now told) next) in
     let touches = c.log_forced.ensures.touches told in
     let logged = c.in_ok-log_forced.ensures.logged told in
     let then = change-then log.geometry number log new rec committed part.0 shape
@@ -177,7 +180,8 @@ returns-clause-after g c told number committed unit old is safe next laid =
     let b = B.seen c.log_forced.new.blocks in
     let more = subst
     (λ (r : LogRecord). IsSafe log.geometry number (with_record log r) committed a) (sym is)
-    (safe-more log.geometry number log committed a unit _ _ old safe next) in
+    (safe-more log.geometry number log committed a unit _ _ old safe
+    (g.met.B.Blocks.cur_may c.args.blocks.now told) next) in
     let touches = c.log_forced.ensures.touches told in
     let logged = c.in_ok-log_forced.ensures.logged told in
     let then = change-then log.geometry number log new rec committed part.0 shape
