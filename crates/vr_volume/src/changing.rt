@@ -15,6 +15,7 @@ ghost use Rattle.vr_space.specs.Split.{SplitNow};
 ghost use Rattle.vr_space.specs.Part.{
   CanSet,
   DueMore,
+  DueMoreAt,
   HasKeptRoom,
   HasRoom,
   InPart,
@@ -77,7 +78,8 @@ pub fn set_free<B: Blocks, P: Part, K: Kept>(
     ensures set { IsTrue B.tells → OnOk result (SetsOne (P.shape part.old) place.now
         (given bytes.entry) (B.seen blocks.old).cur (B.seen blocks.new).cur) }
     ensures due { IsTrue B.tells → OnOk result
-        (DueMore (P.shape part.old) (P.put part.new) (B.seen blocks.old) (B.seen blocks.new)) }
+        (DueMoreAt (P.shape part.old) place.now (P.put part.new)
+        (B.seen blocks.old) (B.seen blocks.new)) }
     ensures put { OnOk result (All (InPart (P.shape part.old)) (P.put part.new)) }
     ensures rests { IsTrue B.tells → OnOk result
         (IsAtRest (P.shape part.old) (B.seen blocks.new)) }
