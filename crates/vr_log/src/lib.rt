@@ -8,6 +8,7 @@
 //! they spell none as damaged, with the first block that is misspelled.
 #![tactic(auto)]
 
+mod clearing;
 mod content;
 mod decoding;
 mod gathering;
@@ -25,6 +26,7 @@ mod room;
 mod tail;
 mod writing;
 
+pub use clearing::clear_past;
 pub use content::LogContent;
 pub use laws::{
     blocks_spell_a_log_or_are_damaged, damaged_blocks_spell_no_log, each_image_has_the_log,
