@@ -1,12 +1,12 @@
 -- What clearing the blocks past the end of a log makes of them, call by call.
-use Rattle.std.proofs.Common.{◌≡◌, ◌⊎◌, ◌≢◌, ◌<◌, ◌≤◌, ◌+◌, ℕ, Bool, IsTrue, true, List, [], length}
-use Rattle.std.proofs.Common.{refl, sym, ap, subst, ◌∙◌, arith, inl, inr, ⊎_elim, max, All}
+use Rattle.std.proofs.Common.{◌≡◌, ◌⊎◌, ◌≢◌, ◌<◌, ◌≤◌, ◌+◌, ℕ, Bool, IsTrue, List, [], length}
+use Rattle.std.proofs.Common.{refl, sym, ap, subst, ◌∙◌, arith, inl, inr, ⊎_elim, max}
 use Rattle.std.proofs.Common.{get_or-set_other, get_or-set_same, replicate}
 use Rattle.std.specs.Prelude.{slice_set, Result, Ok, Err, OnOk}
 use Rattle.std.proofs.lemmas.Bool.{cases_lt, cases_eq}
 use Rattle.std.proofs.lemmas.List.{length-replicate}
 use Rattle.std.proofs.lemmas.List.Elements.{All-replicate}
-use Rattle.vr_types.specs.Blocks.{AllForced, Keeps, Puts}
+use Rattle.vr_types.specs.Blocks.{AllForced, Keeps}
 use Rattle.vr_types.specs.Fields.{AreZeros}
 use Rattle.vr_types.specs.Geometry.{IsAllowed}
 use Rattle.vr_types.specs.Image.{Block, Image, MayAlso, block_at}
@@ -17,10 +17,11 @@ use Rattle.vr_types.proofs.CallerLemmas.{block_size_least, cur-elsewhere, keeps-
 use Rattle.vr_types.proofs.CallerLemmas.{only-elsewhere, only-keeps, puts-touches, touches-then}
 use Rattle.vr_log.specs.Clearing.{AreCleared, ClearsOne, IsStale}
 use Rattle.vr_log.specs.Content.{Content}
-use Rattle.vr_log.specs.LogBlock.{generation_in, is_next}
+use Rattle.vr_log.specs.LogBlock.{generation_in}
 use Rattle.vr_log.specs.LogNow.{IsOf, last_index, made}
 use Rattle.vr_log.specs.Records.{bytes_of}
 use Rattle.vr_log.specs.Spells.{Spells}
+use Rattle.vr_log.specs.declared.record.LogRecord.{LogRecord}
 use Rattle.vr_log.specs.Standing.{EndsThere, InLog, IsSettled, LogStands}
 use Rattle.vr_log.proofs.Zeroing.{before_last, stale_cleared}
 use Rattle.vr_log.proofs.Leaving.{next-has}
@@ -60,6 +61,13 @@ zeros_clean generation last index zeros some are long (inr later) =
 -- zeros are zeros
 pub zeros_are_zeros : (count : ℕ) → AreZeros (replicate count 0)
 zeros_are_zeros count = All-replicate (λ (b : ℕ). b ≡ 0) count 0 refl
+
+-- the block to which the bytes after the same records go
+pub last_of_same : (geometry : Geometry) (records same : List LogRecord) (last : ℕ)
+    → last ≡ last_index geometry (bytes_of same) → same ≡ records
+    → last ≡ last_index geometry (bytes_of records)
+last_of_same geometry records same last is are =
+    subst (λ (rs : List LogRecord). last ≡ last_index geometry (bytes_of rs)) are is
 
 -- what comes of an Ok
 pub on_ok : {T E : Type 0} (result : Result T E) (A B : Type 0) → (A → B) → OnOk result A
@@ -137,7 +145,7 @@ module _ (tells : Bool) (told : IsTrue tells) (geometry : Geometry) (content : C
         arith,
         later,
         before_last geometry seen.cur content i allowed (sized_left seen shape left whole) before
-        spells,
+            spells,
       ))
 
   -- what is read is one of the images
@@ -151,7 +159,9 @@ module _ (tells : Bool) (told : IsTrue tells) (geometry : Geometry) (content : C
       (left : Left mid mid.cur)
       (whole : (n : ℕ) (block : Block) → n < mid.count → mid.may n block
       → length block ≡ mid.size) (so_far : HasCleared tells geometry content first mid)
-      (index : ℕ) (below : index < geometry.log) where
+      (index : ℕ) (below : index < geometry.log) (generation last : ℕ)
+      (young : generation ≡ max 1 content.generation)
+      (at : last ≡ last_index geometry (bytes_of content.records)) where
     abbrev zeros : Block
     zeros = replicate mid.size 0
 
@@ -240,8 +250,14 @@ module _ (tells : Bool) (told : IsTrue tells) (geometry : Geometry) (content : C
     Clears = ClearsOne tells (max 1 content.generation)
         (last_index geometry (bytes_of content.records)) index mid now
 
-    pub next_cleared : Clears → HasCleared tells geometry content first now
-    next_cleared (inl keeps) = record {
+    as-made : (P : ℕ → ℕ → Type 0) → P generation last
+        → P (max 1 content.generation) (last_index geometry (bytes_of content.records))
+    as-made P holds =
+        subst (λ (n : ℕ). P n (last_index geometry (bytes_of content.records))) young
+        (subst (λ (m : ℕ). P generation m) at holds)
+
+    call-cleared : Clears → HasCleared tells geometry content first now
+    call-cleared (inl keeps) = record {
       touches = touches-then Region Has first mid now so_far.touches
           (keeps-touches tells Region Has mid now told keeps
           (settled-spells mid shape settled spelled));
@@ -249,7 +265,7 @@ module _ (tells : Bool) (told : IsTrue tells) (geometry : Geometry) (content : C
           (sym (keeps.content told)) so_far.cleared;
       idle = λ ends. keeps-then tells first mid now (so_far.idle ends) keeps;
     }
-    next_cleared (inr (stale, puts)) = record {
+    call-cleared (inr (stale, puts)) = record {
       touches = touches-then Region Has first mid now so_far.touches
           (puts-touches tells Region Has (1 + index) zeros mid now told (in_log index below) puts
           (put-spells stale));
@@ -261,8 +277,13 @@ module _ (tells : Bool) (told : IsTrue tells) (geometry : Geometry) (content : C
       idle = λ ends. absurd (never (was-stale stale) ends);
     }
 
+    pub next_cleared : ClearsOne tells generation last index mid now
+        → HasCleared tells geometry content first now
+    next_cleared clears =
+        call-cleared (as-made (λ (n m : ℕ). ClearsOne tells n m index mid now) clears)
+
     -- where it was Ok
-    pub next_settled : Clears
+    pub next_settled : ClearsOne tells generation last index mid now
         → Only now (1 + index) (λ block. block ≡ block_at now.cur (1 + index))
         → IsSettled geometry now
     next_settled clears only n on =
@@ -270,27 +291,26 @@ module _ (tells : Bool) (told : IsTrue tells) (geometry : Geometry) (content : C
         (λ (same : n ≡ 1 + index).
         subst (λ (m : ℕ). Only now m (λ block. block ≡ block_at now.cur m)) (sym same) only)
         (λ (differ : n ≢ 1 + index) block may.
-        only-other tells (max 1 content.generation)
-        (last_index geometry (bytes_of content.records)) index n mid now told
+        only-other tells generation last index n mid now told
         (omega (arith, on.1, shape.count, allowed.two_areas)) differ clears (settled n on) block may
-        ∙ sym (one-other tells (max 1 content.generation)
-        (last_index geometry (bytes_of content.records)) index n mid now told differ clears))
+        ∙ sym (one-other tells generation last index n mid now told differ clears))
         (cases_eq n (1 + index))
 
-    pub next_clean : Clears → IsCleanTo geometry content index mid.cur
-        → (Stale geometry content index (block_at now.cur (1 + index)) → ⊥)
+    pub next_clean : ClearsOne tells generation last index mid now
+        → IsCleanTo geometry content index mid.cur
+        → (IsStale generation last index (block_at now.cur (1 + index)) → ⊥)
         → IsCleanTo geometry content (index + 1) now.cur
     next_clean clears clean here i low =
         ⊎_elim
         (λ (less : i < index).
         subst (λ (b : Block). Stale geometry content i b → ⊥)
-        (sym (one-other tells (max 1 content.generation)
-        (last_index geometry (bytes_of content.records)) index (1 + i) mid now told
+        (sym (one-other tells generation last index (1 + i) mid now told
         (λ is. omega (arith, is, less)) clears)) (clean i less))
         (λ (most : index ≤ i).
         let same : i ≡ index = omega (arith, low, most) in
         subst (λ (n : ℕ). Stale geometry content n (block_at now.cur (1 + n)) → ⊥) (sym same)
-        here) (cases_lt i index)
+        (as-made (λ (n m : ℕ). IsStale n m index (block_at now.cur (1 + index)) → ⊥) here))
+        (cases_lt i index)
 
   -- all of them
   pub clean_ends : (image : Image) → IsCleanTo geometry content geometry.log image

@@ -1,11 +1,11 @@
 -- A block past the last of a log's may become zeros, and one that has a later generation: the blocks
 -- spell the same log.
-use Rattle.std.proofs.Common.{◌≡◌, ◌≢◌, ◌<◌, ◌≤◌, ◌+◌, ◌-◌, ◌*◌, ◌/◌, ◌^◌, ℕ, zero, suc, Bool, true}
-use Rattle.std.proofs.Common.{false, List, [], ◌∷◌, ◌++◌, length, take, drop, refl, sym, ap, subst}
-use Rattle.std.proofs.Common.{◌∙◌, arith, inl, inr, ⊎_elim, All, get_or-set_other, get_or-set_same}
+use Rattle.std.proofs.Common.{◌≡◌, ◌≢◌, ◌<◌, ◌≤◌, ◌+◌, ◌-◌, ◌*◌, ◌/◌, ℕ, zero, suc, Bool, true}
+use Rattle.std.proofs.Common.{false, List, [], ◌++◌, length, take, drop, refl, sym, ap, subst}
+use Rattle.std.proofs.Common.{◌∙◌, arith, inl, inr, get_or-set_other, get_or-set_same}
 use Rattle.std.proofs.Common.{append_assoc}
-use Rattle.std.proofs.Common.{true≢false, append-nil}
-use Rattle.std.specs.Prelude.{cond, min, max, nat_eq, nat_le, slice_set, ◌&&◌}
+use Rattle.std.proofs.Common.{true≢false}
+use Rattle.std.specs.Prelude.{min, max, nat_eq, nat_le, slice_set}
 use Rattle.std.proofs.Math.Nat.{mul-le-mul_right}
 use Rattle.std.proofs.Math.Seq.{take-append-add, take-nil}
 use Rattle.std.proofs.lemmas.Bool.{cases_lt, eqb-true, leb-true}
@@ -21,8 +21,8 @@ use Rattle.vr_log.specs.Clearing.{IsStale}
 use Rattle.vr_log.specs.Content.{Content}
 use Rattle.vr_log.specs.LogBlock.{generation_in, index_in, is_next, payload_in, room_of, used_in}
 use Rattle.vr_log.specs.LogNow.{last_index}
-use Rattle.vr_log.specs.Records.{IsCut, SpellsRecords, bytes_of, record_bytes}
-use Rattle.vr_log.specs.Spells.{Fits, Spells, SpellsLog, SpellsNone, bytes_from, joined, log_bytes}
+use Rattle.vr_log.specs.Records.{IsCut, SpellsRecords, bytes_of}
+use Rattle.vr_log.specs.Spells.{Fits, Spells, bytes_from, joined, log_bytes}
 use Rattle.vr_log.specs.Standing.{InLog}
 use Rattle.vr_log.specs.declared.record.LogRecord.{LogRecord}
 use Rattle.vr_log.proofs.Leaving.{next-has}

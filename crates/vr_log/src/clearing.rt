@@ -119,12 +119,7 @@ fn clear_block<B: Blocks>(
 }
 
 /// Makes a block zeros, and forces it.
-fn zero_block<B: Blocks>(
-    alloc: Global,
-    blocks: &mut B,
-    n: u32,
-    size: u32,
-) -> Result<(), LogReadNo>
+fn zero_block<B: Blocks>(alloc: Global, blocks: &mut B, n: u32, size: u32) -> Result<(), LogReadNo>
     requires block { n < (B.seen blocks.old).count }
     requires size { size ≡ (B.seen blocks.old).size }
     ensures zeros { IsTrue B.tells → OnOk result

@@ -1,5 +1,6 @@
-use Rattle.std.proofs.Common.{◌≡◌, ◌<◌, ◌≤◌, ◌+◌, ℕ, length, replicate, inr, sym, ap, subst, ◌∙◌}
+use Rattle.std.proofs.Common.{◌≡◌, ◌+◌, ℕ, length, replicate, inr, subst}
 use Rattle.std.proofs.Common.{arith}
+use Rattle.std.specs.Prelude.{slice_set}
 use Rattle.std.proofs.lemmas.List.{length-replicate}
 use Rattle.vr_types.specs.Blocks.{Puts}
 use Rattle.vr_types.specs.Image.{Block, block_at}
@@ -28,9 +29,10 @@ returns-clause-clean g c told =
     let n = 1 + c.args.index in
     let mid = B.seen c.is_stale_at.new.blocks in
     let last = B.seen c.zero_block.new.blocks in
-    let zeros = replicate c.args.size 0 in
+    let zeros : Block = replicate c.args.size 0 in
     on_ok c.zero_block.result _ _
-    (λ put stale.
+    (λ (put : last.cur ≡ slice_set mid.cur n zeros)
+    (stale : IsStale c.args.generation c.args.last c.args.index (block_at last.cur n)).
     let here : block_at last.cur n ≡ zeros =
     cur-put mid n zeros (omega (arith, c.requires.within, c.is_stale_at.ensures.keeps.count_same))
     (g.met.B.Blocks.cur_may c.is_stale_at.new.blocks told).length_is last.cur put in
