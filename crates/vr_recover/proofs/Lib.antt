@@ -7,4 +7,3 @@ pub mod Made
 pub mod NewVolume
 pub mod Safe
 pub mod Opened
-pub mod Clearing
