@@ -4,7 +4,11 @@
 #![tactic(auto)]
 
 mod changed;
+mod no;
 mod parts;
+mod reading;
+mod staging;
 mod store;
 
+pub use no::LookNo;
 pub use store::Store;

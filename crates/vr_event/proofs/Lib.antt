@@ -1,0 +1,7 @@
+pub mod Among
+pub mod Keeping
+pub mod Positions
+pub mod Placing
+pub mod PartsAt
+pub mod Worked
+pub mod Recorded
