@@ -3,6 +3,7 @@ use Rattle.std.proofs.Common.{◌≡◌, ◌≢◌, ◌<◌, ◌==◌, ℕ, List
 use Rattle.std.proofs.Common.{arith, length, map, get_or, set, subst}
 use Rattle.std.specs.List.{position, position_or_len}
 use Rattle.std.proofs.Math.ListN.{get_or-map}
+use Rattle.std.proofs.Math.Seq.{map-set_same}
 use Rattle.std.proofs.lemmas.List.{length-map, map-set}
 use Rattle.vr_types.specs.declared.unit.PartNo.{PartNo}
 use Rattle.vr_space.specs.Met.{Met}
@@ -57,6 +58,10 @@ module _ {P : Type 0} (shape : P → Shape) (split : P → Option SplitNow) (met
               ∙ ap (with_part number (part_now shape split met after)) seen;
         }
 
+    pub laid-found : (at : ℕ) → result ≡ Some at → (laid : Laid P) → laid ≡ get_or items at laid
+        → part_among old number ≡ Some (part_now shape split met laid)
+    laid-found at some laid here = (laid-at at some laid laid here).found
+
     -- where there is no place there is no such part
     pub none-laid : result ≡ None → part_among old number ≡ None
     none-laid none =
@@ -65,6 +70,24 @@ module _ {P : Type 0} (shape : P → Shape) (split : P → Option SplitNow) (met
         ap (λ (parts : List PartNow). part_among parts number) (sym seen)
         ∙ none-found number (map (part_now shape split met) items)
         (omega (arith, past, same-place, length-map items (part_now shape split met)))
+
+abbrev part-of : PartNo → Shape → Option SplitNow → List Met → PartNow
+part-of number shape split met =
+    record { number = number; shape = shape; split = split; met = met }
+
+-- a part that a call left as it was
+pub laid-same : {P : Type 0} (shape : P → Shape) (split : P → Option SplitNow) (met : P → List Met)
+    (items : List (Laid P)) (at : ℕ) (laid : Laid P) (part : P) → laid ≡ get_or items at laid
+    → shape part ≡ shape laid.part → split part ≡ split laid.part → met part ≡ met laid.part
+    → map (part_now shape split met) (set items at (record { number = laid.number; part = part }))
+    ≡ map (part_now shape split met) items
+laid-same {P = P} shape split met items at laid part here same-shape same-split same-met =
+    map-set_same (part_now shape split met) items at
+    (record { number = laid.number; part = part }) laid
+    (ap (λ (s : Shape). part-of laid.number s (split part) (met part)) same-shape
+    ∙ ap (λ (s : Option SplitNow). part-of laid.number (shape laid.part) s (met part)) same-split
+    ∙ ap (λ (m : List Met). part-of laid.number (shape laid.part) (split laid.part) m) same-met
+    ∙ ap (part_now shape split met) here)
 
 -- ---- what is new
 
