@@ -5,3 +5,4 @@ pub mod Placing
 pub mod PartsAt
 pub mod Worked
 pub mod Recorded
+pub mod Rooms

@@ -71,7 +71,7 @@ module _ {P : Type 0} (shape : P → Shape) (split : P → Option SplitNow) (met
         ∙ none-found number (map (part_now shape split met) items)
         (omega (arith, past, same-place, length-map items (part_now shape split met)))
 
-abbrev part-of : PartNo → Shape → Option SplitNow → List Met → PartNow
+abbrev pub part-of : PartNo → Shape → Option SplitNow → List Met → PartNow
 part-of number shape split met =
     record { number = number; shape = shape; split = split; met = met }
 

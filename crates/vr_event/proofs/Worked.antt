@@ -1,18 +1,24 @@
 -- What a call that works on one part leaves of a store.
 use Rattle.std.proofs.Common.{◌≡◌, ◌≢◌, ◌<◌, ℕ, Bool, true, false, List, [], ◌∷◌, Option, Some, refl}
-use Rattle.std.proofs.Common.{sym, ap, subst, ◌∙◌, arith, map, nat_eq, ◌==◌}
+use Rattle.std.proofs.Common.{sym, ap, subst, ◌∙◌, arith, map, nat_eq, ◌==◌, IsTrue}
 use Rattle.std.specs.Prelude.{All}
 use Rattle.std.specs.List.{IsDistinct}
 use Rattle.std.specs.Option.{option_map}
 use Rattle.std.proofs.lemmas.Bool.{true≢false}
 use Rattle.std.proofs.lemmas.Bool.Decides.{Decides-eqb}
 use Rattle.std.proofs.lemmas.List.Elements.{All-cons, All-head, All-nil, All-tail}
-use Rattle.vr_types.specs.Seen.{Seen}
+use Rattle.vr_types.specs.Blocks.{Keeps}
+use Rattle.vr_types.specs.Seen.{Left, Seen}
+use Rattle.vr_types.specs.declared.geometry.Geometry.{Geometry}
 use Rattle.vr_types.specs.declared.unit.PartNo.{PartNo}
-use Rattle.vr_space.specs.Part.{DueMore, InPart, IsOn, Shape, part_no}
-use Rattle.vr_history.specs.State.{State}
+use Rattle.vr_space.specs.Met.{Met}
+use Rattle.vr_space.specs.Part.{DueMore, InPart, IsOn, Knows, Shape, part_no}
+use Rattle.vr_space.specs.Split.{SplitNow}
+use Rattle.vr_space.proofs.CallerLemmas.{due-keeps, rest-sound}
+use Rattle.vr_history.specs.State.{BeforeImage, State}
 use Rattle.vr_undo.specs.Records.{images_in}
-use Rattle.vr_volume.specs.Rests.{IsVolumeAtRest}
+use Rattle.vr_volume.specs.Rests.{IsPartAtRest, IsVolumeAtRest}
+use Rattle.vr_volume.proofs.Rested.{part-keeps, volume-keeps}
 use Rattle.vr_event.specs.Parts.{but_split, with_part}
 use Rattle.vr_event.specs.Store.{IsPartSet, IsRestedPart, IsSet, IsStored, PartNow, StoreNow}
 use Rattle.vr_event.specs.Store.{blocks_of, has_number, part_among, shape_among}
@@ -142,3 +148,49 @@ module _ (store : StoreNow) (number : ℕ) (before after : PartNow) (new : List 
                 (among-all (IsPartSet store.log a) store.parts part has.part set.parts
                 has.found).number
                 ∙ among-number store.parts part has.part has.found
+
+-- ---- a call that puts nothing
+
+-- a part at rest is so with what it met since
+pub rested-met : (geometry : Geometry) (images : List BeforeImage) (state : State)
+    (shape same : Shape) (split after : Option SplitNow) (met now : List Met) (b : Seen)
+    → same ≡ shape → after ≡ split → IsPartAtRest geometry images state shape split met b
+    → Knows shape split now b → IsPartAtRest geometry images state same after now b
+rested-met geometry images state shape same split after met now b shapes splits part knows =
+    subst (λ (s : Shape). IsPartAtRest geometry images state s after now b) (sym shapes)
+    (subst (λ (s : Option SplitNow). IsPartAtRest geometry images state shape s now b) (sym splits)
+    (record {
+      laid = part.laid;
+      on = part.on;
+      rests = part.rests;
+      room = part.room;
+      knows = knows;
+      reads = part.reads;
+    }))
+
+module _ (tells : Bool) (told : IsTrue tells) (a b : Seen) (call : Keeps tells a b)
+    (left : Left a a.cur) (store : StoreNow) (number : ℕ) (before after : PartNow)
+    (new : List PartNow) (space : List (Option PartNo))
+    (at : IsPartAt number before after store.parts new) (same : but_split after ≡ but_split before)
+    (splits : after.split ≡ before.split) where
+  pub stored-met : (volume : ℕ) (state : State) → IsSet store a → IsStored volume store state a
+      → Knows before.shape before.split after.met b
+      → IsStored volume (record store { parts = new; space = space }) state b
+  stored-met volume state set stored knows =
+      stored-worked store number before after new space at same volume state a b set stored
+      (volume-keeps tells told a b call store.log.geometry volume store.log (images_in store.undo)
+      state stored.volume)
+      (rested-met store.log.geometry (images_in store.undo) state before.shape after.shape
+      before.split after.split before.met after.met b
+      (ap (λ (part : PartNow). part.shape) same) splits (kept before mine) knows)
+      (λ other apart rested. kept other rested)
+      (due-keeps tells told before.shape a b call (rest-sound before.shape a mine.rests))
+      (λ other apart rested. due-keeps tells told other.shape a b call
+      (rest-sound other.shape a rested.rests))
+    where
+      mine : IsRestedPart store state a before
+      mine = among-all (IsRestedPart store state a) store.parts number before stored.parts at.found
+
+      kept : (part : PartNow) → IsRestedPart store state a part → IsRestedPart store state b part
+      kept part rested = part-keeps tells told a b call store.log.geometry (images_in store.undo)
+          state part.shape part.split part.met left rested

@@ -106,14 +106,11 @@ impl<P: Part> Store<P> {
         ensures cause { HasCause (B.faults blocks.old) (B.faults blocks.new) result }
     {
         match index_of(&self.parts, number) {
-            Some(at) => do_stage(
-                blocks,
-                &mut self.parts[at].part,
-                &mut self.space,
-                &self.undo,
-                place,
-                length,
-            ),
+            Some(at) => {
+                let part = &mut self.parts[at].part;
+                let kind = do_stage(blocks, part, &mut self.space, &self.undo, place, length)?;
+                Ok(kind)
+            }
             None => unreachable!("the part is laid"),
         }
     }
