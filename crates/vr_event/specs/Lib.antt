@@ -1,0 +1,4 @@
+pub mod Store
+pub mod Parts
+pub mod Room
+pub mod Cause

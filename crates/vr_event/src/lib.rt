@@ -1,0 +1,14 @@
+//! One event of a volume: a request that is answered under one hold of its latch. It stands on what
+//! the blocks of a volume stand for and on the events of its blocks (vr_volume), on the answers of
+//! the record file (vr_answer), locks (vr_locks) and positions (vr_browse).
+#![tactic(auto)]
+
+mod changed;
+mod no;
+mod parts;
+mod reading;
+mod staging;
+mod store;
+
+pub use no::LookNo;
+pub use store::Store;
