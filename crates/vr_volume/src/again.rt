@@ -135,6 +135,8 @@ pub fn set_again<B: Blocks, P: Part, K: Kept>(
         (DueMoreAt (P.shape part.old) place.now (P.put part.new)
         (B.seen blocks.old) (B.seen blocks.new)) }
     ensures put { OnOk result (All (InPart (P.shape part.old)) (P.put part.new)) }
+    ensures count { (B.seen blocks.new).count ≡ (B.seen blocks.old).count }
+    ensures size { (B.seen blocks.new).size ≡ (B.seen blocks.old).size }
     ensures unread { IfErr result (λ fault. fault ≡ Read
         → Keeps B.tells (B.seen blocks.old) (B.seen blocks.new)
         × (IsTrue B.tells → Knows (P.shape part.old) (P.split part.old) (P.met part.new)
