@@ -6,3 +6,4 @@ pub mod PartsAt
 pub mod Worked
 pub mod Recorded
 pub mod Rooms
+pub mod Kept

@@ -2,3 +2,4 @@ pub mod Store
 pub mod Parts
 pub mod Room
 pub mod Cause
+pub mod Changing

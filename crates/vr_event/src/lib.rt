@@ -6,6 +6,7 @@
 mod changed;
 mod no;
 mod parts;
+mod preparing;
 mod reading;
 mod staging;
 mod store;

@@ -123,8 +123,8 @@ returns-clause-still g c told =
       log = c.self.inside.log;
       undo = c.self.inside.undo;
       parts = (map (part_now g.P.Part.shape g.P.Part.split g.P.Part.met)
-    (set c.self.inside.parts.items c.in-Some.at
-    (record { number = c.index_mut.result.now.number; part = c.room.new.self })));
+          (set c.self.inside.parts.items c.in-Some.at
+          (record { number = c.index_mut.result.now.number; part = c.room.new.self })));
       changed = map changed_by c.self.inside.changed.items;
       space = c.self.inside.space;
     } in
@@ -183,8 +183,8 @@ returns-clause-set g c =
     subst (λ (store : StoreNow). IsSet store b)
     (ap (λ (store : StoreNow). record store {
       parts = (map (part_now g.P.Part.shape g.P.Part.split g.P.Part.met)
-    (set c.self.inside.parts.items c.in-Some.at
-    (record { number = c.index_mut.result.now.number; part = c.room.new.self })));
+          (set c.self.inside.parts.items c.in-Some.at
+          (record { number = c.index_mut.result.now.number; part = c.room.new.self })));
     }) (sym c.self.view_is))
     (set-worked c.args.self.now c.args.number.0 (part_now g.P.Part.shape g.P.Part.split g.P.Part.met c.index_mut.result.now)
     (part_now g.P.Part.shape g.P.Part.split g.P.Part.met
@@ -205,8 +205,8 @@ returns-clause-stored g c told volume state stored =
     subst (λ (store : StoreNow). IsStored volume store state b)
     (ap (λ (store : StoreNow). record store {
       parts = (map (part_now g.P.Part.shape g.P.Part.split g.P.Part.met)
-    (set c.self.inside.parts.items c.in-Some.at
-    (record { number = c.index_mut.result.now.number; part = c.room.new.self })));
+          (set c.self.inside.parts.items c.in-Some.at
+          (record { number = c.index_mut.result.now.number; part = c.room.new.self })));
     }) (sym c.self.view_is))
     (stored-met g.B.Blocks.tells told (g.B.Blocks.seen c.args.blocks.now) b c.room.ensures.keeps
     (g.met.B.Blocks.cur_may c.args.blocks.now told) c.args.self.now c.args.number.0
