@@ -7,3 +7,4 @@ pub mod Worked
 pub mod Recorded
 pub mod Rooms
 pub mod Kept
+pub mod Setting

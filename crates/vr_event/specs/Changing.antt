@@ -3,6 +3,9 @@
 use Rattle.std.specs.Prelude.{◌≡◌, ◌+◌, ◌&&◌, ◌∷◌, ◌++◌, ℕ, Bool, true, false, cond, not, List, []}
 use Rattle.std.specs.Prelude.{All, Option, option_map, ◌⊎◌, ◌≢◌}
 use Rattle.vr_types.specs.Content.{Item, Standing, item_at}
+use Rattle.std.specs.List.{Contains}
+use Rattle.vr_types.specs.Blocks.{Forced}
+use Rattle.vr_types.specs.Image.{Block, Image}
 use Rattle.vr_types.specs.Seen.{Seen}
 use Rattle.vr_types.specs.declared.geometry.Geometry.{Geometry}
 use Rattle.vr_types.specs.declared.unit.PartNo.{PartNo}
@@ -19,8 +22,9 @@ use Rattle.vr_history.specs.State.{BeforeImage, Logged, State, is_kept, is_logge
 use Rattle.vr_undo.specs.Records.{befores_of, has_at, images_in, with_record}
 use Rattle.vr_undo.specs.declared.before.Before.{Before}
 use Rattle.vr_undo.specs.declared.record.KeptRecord.{KeptRecord}
-use Rattle.vr_volume.specs.Rests.{IsPartAtRest, IsVolumeAtRest}
-use Rattle.vr_volume.specs.Steps.{Changing, IsFirstChange, IsKeptAgain, IsNextChange}
+use Rattle.vr_volume.specs.Rests.{IsGivenFor, IsPartAtRest, IsVolumeAtRest}
+use Rattle.vr_volume.specs.Steps.{Changing, IsChangeOf, IsFirstChange, IsKeptAgain, IsNextChange}
+use Rattle.vr_volume.specs.Steps.{image_by}
 use Rattle.vr_event.specs.Store.{IsStored, StoreNow}
 use Rattle.vr_event.specs.declared.preparing.Prepared.{Prepared}
 
@@ -96,6 +100,25 @@ log_with true log rec = log
 abbrev pub need_with : Bool → LogNow → LogRecord → ℕ
 need_with false log rec = need_of (live_in log.records) rec
 need_with true log rec = 0
+
+-- What a call that sets a record has to know: the volume and the part are at rest by the state, and
+-- the change of the state is the one that was prepared, whose before-image is kept.
+pub record IsToSet (geometry : Geometry) (number : ℕ) (log : LogNow) (images after : List BeforeImage)
+    (old new : State) (change : Changing) (prepared : Prepared) (shape : Shape)
+    (split : Option SplitNow) (met : List Met) (place : List ℕ) (found : Option (List ℕ))
+    (now : Seen) : Type 0 where
+  pub volume : IsVolumeAtRest geometry number log images old now
+  pub part : IsPartAtRest geometry images old shape split met now
+  pub of : IsChangeOf geometry old change
+  pub step : IsStep prepared.logged log change old new
+  pub rec : prepared.rec ≡ records.Before change.unit change.part change.place change.old
+  pub given : IsGivenFor change shape place found
+  pub kept : after ≡ cond prepared.logged images (images ++ image_by change ∷ [])
+
+-- The blocks that a call put are in the list of changed blocks, or forced.
+abbrev pub IsNoted : List ℕ → List ℕ → Image → (ℕ → Block → Type 0) → Type 0
+IsNoted put listed blocks may =
+    ((n : ℕ) → Contains put n → Contains listed n) ⊎ Forced put blocks may
 
 -- A call that set a record in a part, and logged it or not, made `b` of `a`: the volume, the part
 -- and each other part are at rest by the new state, and of what was due only the place is due to

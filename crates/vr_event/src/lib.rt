@@ -4,6 +4,7 @@
 #![tactic(auto)]
 
 mod changed;
+mod changing;
 mod no;
 mod parts;
 mod preparing;
