@@ -15,6 +15,7 @@ pub mod Committing
 pub mod Meeting
 pub mod Moving
 pub mod Undoing
+pub mod KeptAgain
 pub mod Ending
 pub mod Resting
 pub mod Rested

@@ -107,7 +107,7 @@ rest-records log forced behind content is = ⊎_elim
 
 module _ (geometry : Geometry) (old new : State) where
   -- contents that have the same items are the same
-  contents-same : (log more : LogNow) → IsLaidState geometry old → HasLogged log old
+  pub contents-same : (log more : LogNow) → IsLaidState geometry old → HasLogged log old
       → IsLaidState geometry new → HasLogged more new
       → ((part : ℕ) (place : List ℕ) → item_at (committed_by new more.records part) place
       ≡ item_at (committed_by old log.records part) place)

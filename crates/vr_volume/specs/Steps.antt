@@ -69,6 +69,20 @@ pub record IsNextChange (change : Changing) (old new : State) : Type 0 where
   pub used : new.used ≡ old.used
   pub numbers : new.numbers ≡ old.numbers
 
+-- A change of a place that the unit logged, and whose before-image was put back: it is kept again,
+-- and not logged again.
+pub record IsKeptAgain (log : LogNow) (change : Changing) (old new : State) : Type 0 where
+  pub image : BeforeImage
+  pub image_is : oldest (images_of log.records) change.part.0 change.place ≡ Some image
+  pub own : image.unit ≡ change.unit
+  pub none : oldest old.befores change.part.0 change.place ≡ None
+  pub item : option_map Standing change.old ≡ item_at (old.contents change.part.0) change.place
+  pub contents : IsPutIn change old new
+  pub befores : new.befores ≡ old.befores ++ image_by change ∷ []
+  pub logged : new.logged ≡ old.logged
+  pub used : new.used ≡ old.used
+  pub numbers : new.numbers ≡ old.numbers
+
 -- The last before-image that a unit keeps is put back, and kept no more; its place stays logged.
 pub record IsPutBack (change : Changing) (old new : State) : Type 0 where
   pub last : last_kept old change.unit ≡ Some (record {

@@ -1,5 +1,6 @@
 //! A record set at a place that a unit has logged before.
-ghost use Rattle.std.specs.Prelude.{◌≡◌, ◌≢◌, ◌<◌, ℕ, List, Option, None, IsTrue, OnOk, IfErr, All};
+ghost use Rattle.std.specs.Prelude.{◌≡◌, ◌≢◌, ◌<◌, ℕ, List, [], Option, None, IsTrue, OnOk, IfErr};
+ghost use Rattle.std.specs.Prelude.{All};
 ghost use Rattle.vr_types.specs.Faults.{HasCause};
 ghost use Rattle.vr_types.specs.Moments.{Guards};
 ghost use Rattle.vr_types.specs.declared.fault.DeviceFault.TheVariants.{Read, Write};
@@ -7,6 +8,7 @@ ghost use Rattle.vr_types.specs.Blocks.{Keeps};
 ghost use Rattle.vr_space.specs.Met.{HasMet, Met};
 ghost use Rattle.vr_space.specs.Part.{
   CanSet,
+  DueMore,
   DueMoreAt,
   HasKeptRoom,
   InPart,
@@ -27,7 +29,8 @@ ghost use Rattle.vr_volume.specs.Committed.{committed_by};
 ghost use Rattle.vr_volume.specs.PutBack.{lengths_kept, oldest};
 ghost use Rattle.vr_volume.specs.Rests.{IsGivenFor, IsPartAtRest, IsVolumeAtRest};
 ghost use Rattle.vr_volume.specs.Safe.{IsSafeImage};
-ghost use Rattle.vr_volume.specs.Steps.{Changing, IsChangeOf, IsNextChange, IsPutBack, IsPutIn};
+ghost use Rattle.vr_volume.specs.Steps.{Changing, IsChangeOf, IsKeptAgain, IsNextChange};
+ghost use Rattle.vr_volume.specs.Steps.{IsPutBack, IsPutIn};
 
 use crate::changing::set_free;
 use vr_log::UndoLog;
@@ -35,7 +38,7 @@ use vr_space::{Kept, Part};
 use vr_types::{Blocks, DeviceFault, Place};
 
 /// Makes these bytes the record at a place that a unit has logged, or takes the record there away:
-/// a further change of the unit, or its before-image that is put back. At each moment of it, whether
+/// a further change of the unit, its before-image that is put back, or a change after that. At each moment of it, whether
 /// it fails or not, each image recovers to what was committed. Once it is done the volume is at rest
 /// by the state after it.
 pub fn set_again<B: Blocks, P: Part, K: Kept>(
@@ -80,6 +83,19 @@ pub fn set_again<B: Blocks, P: Part, K: Kept>(
         → IsVolumeAtRest log.now.geometry number log.now images new (B.seen blocks.new)
         × IsPartAtRest log.now.geometry images new (P.shape part.old) (P.split part.new)
         (P.met part.new) (B.seen blocks.new)) }
+    // A change of a place whose before-image was put back, which is kept again.
+    ensures again { IsTrue B.tells → OnOk result ((number : ℕ) (old new : State)
+        (change : Changing) (images : List BeforeImage)
+        → IsVolumeAtRest log.now.geometry number log.now images old (B.seen blocks.old)
+        → IsPartAtRest log.now.geometry images old (P.shape part.old) (P.split part.old)
+        (P.met part.old) (B.seen blocks.old)
+        → IsChangeOf log.now.geometry old change → IsKeptAgain log.now change old new
+        → IsGivenFor change (P.shape part.old) place.now (given bytes.entry)
+        → K.kept kept.now (part_no (P.shape part.old))
+        ≡ lengths_kept images (part_no (P.shape part.old)).0
+        → IsVolumeAtRest log.now.geometry number log.now images new (B.seen blocks.new)
+        × IsPartAtRest log.now.geometry images new (P.shape part.old) (P.split part.new)
+        (P.met part.new) (B.seen blocks.new)) }
     // A before-image that is put back.
     ensures back { IsTrue B.tells → OnOk result ((number : ℕ) (old new : State)
         (change : Changing) (images : List BeforeImage)
@@ -93,7 +109,7 @@ pub fn set_again<B: Blocks, P: Part, K: Kept>(
         → IsVolumeAtRest log.now.geometry number log.now images new (B.seen blocks.new)
         × IsPartAtRest log.now.geometry images new (P.shape part.old) (P.split part.new)
         (P.met part.new) (B.seen blocks.new)) }
-    // Each other part is at rest too, either way.
+    // Each other part is at rest too, in each of these ways.
     ensures others { IsTrue B.tells → OnOk result ((number : ℕ) (old new : State)
         (change : Changing) (images : List BeforeImage) (other : Shape) (split : Option SplitNow)
         (met : List Met)
@@ -104,12 +120,23 @@ pub fn set_again<B: Blocks, P: Part, K: Kept>(
         → part_no (P.shape part.old) ≡ change.part → (part_no other).0 ≢ change.part.0
         → IsPartAtRest log.now.geometry images old other split met (B.seen blocks.old)
         → IsPartAtRest log.now.geometry images new other split met (B.seen blocks.new)) }
+    // What has to be forced for the places of another part stays.
+    ensures others_due { IsTrue B.tells → OnOk result ((number : ℕ) (images : List BeforeImage)
+        (state : State) (other : Shape) (split : Option SplitNow) (met : List Met)
+        → IsVolumeAtRest log.now.geometry number log.now images state (B.seen blocks.old)
+        → IsPartAtRest log.now.geometry images state (P.shape part.old) (P.split part.old)
+        (P.met part.old) (B.seen blocks.old)
+        → (part_no other).0 ≢ (part_no (P.shape part.old)).0
+        → IsPartAtRest log.now.geometry images state other split met (B.seen blocks.old)
+        → DueMore other [] (B.seen blocks.old) (B.seen blocks.new)) }
     ensures set { IsTrue B.tells → OnOk result (SetsOne (P.shape part.old) place.now
         (given bytes.entry) (B.seen blocks.old).cur (B.seen blocks.new).cur) }
     ensures due { IsTrue B.tells → OnOk result
         (DueMoreAt (P.shape part.old) place.now (P.put part.new)
         (B.seen blocks.old) (B.seen blocks.new)) }
     ensures put { OnOk result (All (InPart (P.shape part.old)) (P.put part.new)) }
+    ensures count { (B.seen blocks.new).count ≡ (B.seen blocks.old).count }
+    ensures size { (B.seen blocks.new).size ≡ (B.seen blocks.old).size }
     ensures unread { IfErr result (λ fault. fault ≡ Read
         → Keeps B.tells (B.seen blocks.old) (B.seen blocks.new)
         × (IsTrue B.tells → Knows (P.shape part.old) (P.split part.old) (P.met part.new)

@@ -11,6 +11,7 @@ ghost use Rattle.vr_space.specs.Met.{Met};
 ghost use Rattle.vr_space.specs.Split.{SplitNow};
 ghost use Rattle.vr_space.specs.Part.{
   CanSet,
+  DueMore,
   DueMoreAt,
   HasKeptRoom,
   InPart,
@@ -56,6 +57,8 @@ fn log_forced<B: Blocks>(blocks: &mut B, log: &mut UndoLog, rec: &LogRecord) -> 
         (HasLog (with_record log.old rec.now)) (B.seen blocks.old) (B.seen blocks.new) }
     ensures logged { IsTrue B.tells → OnOk result (IsLogged log.old rec.now log.new) }
     ensures stands { IsTrue B.tells → OnOk result (LogStands log.new (B.seen blocks.new)) }
+    ensures geometry { OnOk result (log.new.geometry ≡ log.old.geometry) }
+    ensures sound { OnOk result (log.new.broken ≡ false) }
     ensures count { OnOk result ((B.seen blocks.new).count ≡ (B.seen blocks.old).count) }
     ensures size { OnOk result ((B.seen blocks.new).size ≡ (B.seen blocks.old).size) }
     ensures full { IsFullWhere log.old (need_of (live_in log.old.records) rec.now) result }
@@ -130,6 +133,10 @@ pub fn change<B: Blocks, P: Part, K: Kept>(
     ensures due { IsTrue B.tells → OnOk result
         (DueMoreAt (P.shape part.old) place.now (P.put part.new)
         (B.seen blocks.old) (B.seen blocks.new)) }
+    ensures geometry { OnOk result (log.new.geometry ≡ log.old.geometry) }
+    ensures sound { OnOk result (log.new.broken ≡ false) }
+    ensures count { OnOk result ((B.seen blocks.new).count ≡ (B.seen blocks.old).count) }
+    ensures size { OnOk result ((B.seen blocks.new).size ≡ (B.seen blocks.old).size) }
     ensures part { OnOk result (P.shape part.new ≡ P.shape part.old) }
     ensures split { OnOk result (P.split part.new ≡ P.split part.old) }
     ensures stands { IsTrue B.tells → OnOk result (LogStands log.new (B.seen blocks.new)) }
@@ -166,6 +173,15 @@ pub fn change<B: Blocks, P: Part, K: Kept>(
         → after ≡ images ++ image_by change ∷ [] → (part_no other).0 ≢ change.part.0
         → IsPartAtRest log.old.geometry images old other split met (B.seen blocks.old)
         → IsPartAtRest log.old.geometry after new other split met (B.seen blocks.new)) }
+    // What has to be forced for the places of another part stays.
+    ensures others_due { IsTrue B.tells → OnOk result ((number : ℕ) (images : List BeforeImage)
+        (state : State) (other : Shape) (split : Option SplitNow) (met : List Met)
+        → IsVolumeAtRest log.old.geometry number log.old images state (B.seen blocks.old)
+        → IsPartAtRest log.old.geometry images state (P.shape part.old) (P.split part.old)
+        (P.met part.old) (B.seen blocks.old)
+        → (part_no other).0 ≢ (part_no (P.shape part.old)).0
+        → IsPartAtRest log.old.geometry images state other split met (B.seen blocks.old)
+        → DueMore other [] (B.seen blocks.old) (B.seen blocks.new)) }
     ensures set { IsTrue B.tells → OnOk result (SetsOne (P.shape part.old) place.now
         (given bytes.entry) (B.seen blocks.old).cur (B.seen blocks.new).cur) }
 {

@@ -3,8 +3,11 @@ use Rattle.vr_space.specs.Part.{HasKeptRoom, HasRoom, Knows, given, part_no}
 use Rattle.vr_space.specs.Room.{Lengths}
 use Rattle.vr_space.specs.Split.{SplitNow}
 use Rattle.vr_volume.specs.Committed.{committed_by}
-use Rattle.vr_volume.proofs.Rested.{free-again, laid-again, other-stays, part-put}
-use Rattle.vr_volume.proofs.Rested.{place-some, stands-part, volume-next-change, volume-put-back}
+use Rattle.vr_space.proofs.CallerLemmas.{rest-sound}
+use Rattle.vr_volume.proofs.KeptAgain.{place-again, volume-kept-again}
+use Rattle.vr_volume.proofs.Rested.{due-stays, free-again, laid-again, other-stays, part-put}
+use Rattle.vr_volume.proofs.Rested.{place-some, stands-part, stays-apart, volume-next-change}
+use Rattle.vr_volume.proofs.Rested.{volume-put-back}
 use Rattle.vr_volume.proofs.Undoing.{put-some}
 use Rattle.vr_volume.proofs.again.set_again.Goals as goal
 
@@ -103,3 +106,47 @@ returns-clause-others g c told number old new change images other split met rest
     (HasRoom shape (g.K.Kept.kept c.args.kept.now (part_no shape))) (g.P.Part.split c.args.part.now)
     (g.P.Part.met c.args.part.now) split met put part at apart (c.set_free.ensures.touches told)
     (g.met.B.Blocks.cur_may c.args.blocks.now told) others
+
+pub returns-clause-again : goal.returns-clause-again
+returns-clause-again g c told number old new change images rest part of made given-for room =
+    let log = c.args.log.now in
+    let shape = g.P.Part.shape c.args.part.now in
+    let split = g.P.Part.split c.args.part.now in
+    let met = g.P.Part.met c.args.part.now in
+    let now = g.P.Part.met c.set_free.new.part in
+    let place = c.args.place.now in
+    let found = given c.args.bytes in
+    let a = g.B.Blocks.seen c.args.blocks.now in
+    let d = g.B.Blocks.seen c.set_free.new.blocks in
+    let some = place-again log.geometry number log images old a rest new change made shape place
+    found given-for in
+    let stands = stands-part log shape
+    (HasRoom shape (g.K.Kept.kept c.args.kept.now (part_no shape))) a d rest.forced rest.stands
+    c.requires.apart (c.set_free.ensures.touches told) in
+    let safe = (c.set_free.ensures.safe told log.geometry number log (committed_by old) rest.safe
+    (laid-again log.geometry number log images old a rest shape split met place part some
+    (g.K.Kept.kept c.args.kept.now (part_no shape)) room)
+    (free-again log.geometry number log images old a rest (part_no shape).0 place some)).1 in (
+      volume-kept-again log.geometry number log images old a rest new change made d of stands safe,
+      part-put log.geometry number log images old a rest new change d of stands safe shape split
+          (g.P.Part.split c.set_free.new.part) met now place found made.contents part given-for
+          c.set_free.ensures.count c.set_free.ensures.size (c.in_ok-set_free.ensures.rests told)
+          (subst (λ (lengths : Lengths). HasKeptRoom shape lengths d) room
+          (c.set_free.ensures.room told))
+          (subst (λ (s : Option SplitNow). Knows shape s now d) (sym c.set_free.ensures.split)
+          (c.in_ok-set_free.ensures.knows told))
+          (c.in_ok-set_free.ensures.set told),
+    )
+
+pub returns-clause-others_due : goal.returns-clause-others_due
+returns-clause-others_due g c told number images state other split met rest part apart others =
+    let B = g.B.Blocks in
+    let shape = g.P.Part.shape c.args.part.now in
+    let kept = g.K.Kept.kept c.args.kept.now (part_no shape) in
+    let a = B.seen c.args.blocks.now in
+    let d = B.seen c.set_free.new.blocks in
+    due-stays other a d
+    (stays-apart shape other (HasRoom shape kept) a d
+    (rest.laid.apart (part_no other).0 (part_no shape).0 other shape others.laid part.laid apart)
+    (c.set_free.ensures.touches told))
+    (rest-sound other a others.rests) (g.met.B.Blocks.cur_may c.args.blocks.now told)

@@ -290,3 +290,24 @@ returns-clause-others g c told number old new change images after other split me
     (λ same. apart (same ∙ here)))
     (c.set_free.ensures.touches told)))
     (g.met.B.Blocks.cur_may c.args.blocks.now told)
+
+pub returns-clause-others_due : goal.returns-clause-others_due
+returns-clause-others_due g c told number images state other split met rest part apart others =
+    let B = g.B.Blocks in
+    let log = c.args.log.now in
+    let shape = g.P.Part.shape c.args.part.now in
+    let a = B.seen c.args.blocks.now in
+    let b = B.seen c.log_forced.new.blocks in
+    let d = B.seen c.set_free.new.blocks in
+    due-stays other a d
+    (stays-then other a b d
+    (stays-part log.geometry other (HasLog (with_record log c.args.rec.now)) a b
+    (λ n inside. omega (
+      arith,
+      part-past log.geometry (state.contents 0) (part_no other).0 other others.laid n inside,
+    ))
+    (c.log_forced.ensures.touches told))
+    (stays-apart shape other (HasRoom shape (g.K.Kept.kept c.args.kept.now (part_no shape))) b d
+    (rest.laid.apart (part_no other).0 (part_no shape).0 other shape others.laid part.laid apart)
+    (c.set_free.ensures.touches told)))
+    (rest-sound other a others.rests) (g.met.B.Blocks.cur_may c.args.blocks.now told)

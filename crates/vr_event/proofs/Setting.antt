@@ -1,0 +1,131 @@
+-- A record that is set in a part, by what was prepared for it.
+use Rattle.std.proofs.Common.{◌≡◌, ◌≢◌, ◌⊎◌, inl, inr, ⊎_elim, ℕ, Bool, true, false, cond, List, []}
+use Rattle.std.proofs.Common.{◌∷◌, ◌++◌, Option, Some, None, refl, sym, ap, subst, ◌∙◌}
+use Rattle.vr_types.specs.Moments.{Guards}
+use Rattle.vr_types.specs.Seen.{Seen}
+use Rattle.vr_types.specs.declared.geometry.Geometry.{Geometry}
+use Rattle.vr_types.specs.declared.unit.PartNo.{PartNo}
+use Rattle.vr_space.specs.Met.{Met}
+use Rattle.vr_space.specs.Part.{DueMore, DueMoreAt, IsPlaceOf, Shape, part_no}
+use Rattle.vr_space.specs.Split.{SplitNow}
+use Rattle.vr_log.specs.LogNow.{LogNow}
+use Rattle.vr_log.specs.declared.record.LogRecord.{LogRecord}
+use Rattle.vr_log.specs.declared.record.LogRecord.TheVariants as records
+use Rattle.vr_history.specs.State.{BeforeImage, State}
+use Rattle.vr_volume.specs.Committed.{committed_by}
+use Rattle.vr_volume.specs.Laying.{IsLaidBy}
+use Rattle.vr_volume.specs.Logged.{IsFirstBefore}
+use Rattle.vr_volume.specs.PutBack.{lengths_kept, oldest}
+use Rattle.vr_volume.specs.Rests.{IsPartAtRest, IsVolumeAtRest}
+use Rattle.vr_volume.specs.Safe.{IsSafeImage}
+use Rattle.vr_volume.specs.Steps.{Changing, IsFirstChange, IsKeptAgain, IsNextChange, IsPutIn}
+use Rattle.vr_volume.specs.Steps.{image_by}
+use Rattle.vr_volume.proofs.KeptAgain.{place-again}
+use Rattle.vr_volume.proofs.Rested.{first-of, laid-by-more, place-some, rec-is}
+use Rattle.vr_event.specs.Changing.{IsSetIn, IsStep, IsToSet, log_with}
+use Rattle.vr_event.specs.declared.preparing.Prepared.{Prepared}
+
+pub step-puts : (logged : Bool) (log : LogNow) (change : Changing) (old new : State)
+    → IsStep logged log change old new → IsPutIn change old new
+step-puts false log change old new step = step.contents
+step-puts true log change old new step =
+    ⊎_elim (λ next. next.contents) (λ again. again.contents) step
+
+module _ (geometry : Geometry) (number : ℕ) (log : LogNow) (images after : List BeforeImage)
+    (old new : State) (change : Changing) (prepared : Prepared) (shape : Shape)
+    (split : Option SplitNow) (met : List Met) (place : List ℕ) (found : Option (List ℕ))
+    (a : Seen) (to : IsToSet geometry number log images after old new change prepared shape split
+    met place found a) where
+  pub same-part : (part_no shape).0 ≡ change.part.0
+  same-part = ap (λ (p : PartNo). p.0) to.given.part
+
+  pub to-puts : IsPutIn change old new
+  to-puts = step-puts prepared.logged log change old new to.step
+
+  abbrev with-image : Bool → List BeforeImage
+  with-image logged = cond logged images (images ++ image_by change ∷ [])
+
+  -- a change of a place that the log has
+  module _ (logged : prepared.logged ≡ true) where
+    pub images-same : after ≡ images
+    images-same = to.kept ∙ ap with-image logged
+
+    pub step-again : IsNextChange change old new ⊎ IsKeptAgain log change old new
+    step-again = subst (λ (b : Bool). IsStep b log change old new) logged to.step
+
+    pub place-logged : oldest images (part_no shape).0 place ≢ None
+    place-logged = ⊎_elim
+        (λ next. place-some geometry number log images old a to.volume change shape place found
+        to.given next.kept)
+        (λ again. place-again geometry number log images old a to.volume new change again shape
+        place found to.given)
+        step-again
+
+    pub lengths-same : lengths_kept after (part_no shape).0 ≡ lengths_kept images (part_no shape).0
+    lengths-same =
+        ap (λ (kept : List BeforeImage). lengths_kept kept (part_no shape).0) images-same
+
+    pub guards-again : (b : Seen)
+        → Guards a b (IsSafeImage geometry number log (committed_by old))
+        → Guards a b (IsSafeImage geometry number (log_with prepared.logged log prepared.rec)
+        (committed_by old))
+    guards-again b = subst (λ (l : Bool). Guards a b (IsSafeImage geometry number
+        (log_with l log prepared.rec) (committed_by old))) (sym logged)
+
+    pub set-again : (b : Seen) (after-split : Option SplitNow) (now : List Met) (put : List ℕ)
+        → IsVolumeAtRest geometry number log images new b
+        × IsPartAtRest geometry images new shape after-split now b
+        → ((other : Shape) (split : Option SplitNow) (met : List Met)
+        → (part_no other).0 ≢ (part_no shape).0
+        → IsPartAtRest geometry images old other split met a
+        → IsPartAtRest geometry images new other split met b)
+        → ((other : Shape) (split : Option SplitNow) (met : List Met)
+        → (part_no other).0 ≢ (part_no shape).0
+        → IsPartAtRest geometry images old other split met a → DueMore other [] a b)
+        → DueMoreAt shape place put a b
+        → IsSetIn geometry number log images after old new shape after-split now place put a b
+    set-again b after-split now put rests others others_due due = record {
+      volume = subst (λ (i : List BeforeImage). IsVolumeAtRest geometry number log i new b)
+          (sym images-same) rests.0;
+      part = subst (λ (i : List BeforeImage). IsPartAtRest geometry i new shape after-split now b)
+          (sym images-same) rests.1;
+      others = λ other split met apart rested.
+          subst (λ (i : List BeforeImage). IsPartAtRest geometry i new other split met b)
+          (sym images-same) (others other split met apart rested);
+      others_due = others_due;
+      due = due;
+    }
+
+  -- the first change of a place
+  module _ (logged : prepared.logged ≡ false) where
+    pub images-more : after ≡ images ++ image_by change ∷ []
+    images-more = to.kept ∙ ap with-image logged
+
+    pub step-first : IsFirstChange log change old new
+    step-first = subst (λ (b : Bool). IsStep b log change old new) logged to.step
+
+    pub rec-here : prepared.rec ≡ records.Before change.unit (part_no shape) place change.old
+    rec-here = to.rec ∙ rec-is geometry number log images after old new change a shape split met
+        place found to.volume to.part to.of step-first to.given images-more
+
+    pub first-here : IsPlaceOf shape place
+        → IsFirstBefore geometry log (committed_by old) change.unit (part_no shape) place
+        change.old
+    first-here at = first-of geometry number log images after old new change a shape split met
+        place found to.volume to.part to.of step-first to.given images-more at
+
+    pub laid-here : IsLaidBy geometry (log.records ++ prepared.rec ∷ []) (committed_by old)
+        (part_no shape).0 shape (lengths_kept after (part_no shape).0)
+    laid-here = subst (λ (rec : LogRecord). IsLaidBy geometry (log.records ++ rec ∷ [])
+        (committed_by old) (part_no shape).0 shape (lengths_kept after (part_no shape).0))
+        (sym rec-here)
+        (laid-by-more geometry number log images after old new change a shape split met place found
+        to.volume to.part to.of step-first to.given images-more)
+
+    pub guards-first : (b : Seen)
+        → Guards a b (IsSafeImage geometry number
+        (Rattle.vr_log.specs.LogNow.with_record log prepared.rec) (committed_by old))
+        → Guards a b (IsSafeImage geometry number (log_with prepared.logged log prepared.rec)
+        (committed_by old))
+    guards-first b = subst (λ (l : Bool). Guards a b (IsSafeImage geometry number
+        (log_with l log prepared.rec) (committed_by old))) (sym logged)

@@ -1,0 +1,68 @@
+use Rattle.std.proofs.Common.{sym, subst, map}
+use Rattle.std.specs.Option.{option_copied}
+use Rattle.vr_undo.specs.Records.{before_of}
+use Rattle.vr_event.specs.Store.{IsSet, IsStored, StoreNow, changed_by}
+use Rattle.vr_event.proofs.Kept.{kept-changed, on-err, set-changed, stored-changed}
+use Rattle.vr_event.proofs.Kept.{stored-unkept}
+use Rattle.vr_event.proofs.store.Store.keep.Goals as goal
+
+pub returns-in_err-make_room-clause-stored : goal.returns-in_err-make_room-clause-stored
+returns-in_err-make_room-clause-stored g c =
+    let now = g.B.Blocks.seen c.args.blocks.now in
+    on-err c.from_residual.result (λ volume state stored.
+    stored-changed _ now (map changed_by c.make_room.new.changed.items) c.make_room.ensures.blocks
+    volume state
+    (subst (λ (store : StoreNow). IsStored volume store state now) (sym c.self.view_is) stored))
+
+pub returns-in_err-make_room-clause-set : goal.returns-in_err-make_room-clause-set
+returns-in_err-make_room-clause-set g c set =
+    let now = g.B.Blocks.seen c.args.blocks.now in
+    set-changed _ now (map changed_by c.make_room.new.changed.items) c.self.inside.undo
+    c.make_room.ensures.each
+    (subst (λ (store : StoreNow). IsSet store now) (sym c.self.view_is) set)
+
+pub returns-in_err-rec-clause-stored : goal.returns-in_err-rec-clause-stored
+returns-in_err-rec-clause-stored g c =
+    let now = g.B.Blocks.seen c.args.blocks.now in
+    on-err c.from_residual-in_err-rec.result (λ volume state stored.
+    stored-changed _ now (map changed_by c.make_room.new.changed.items) c.make_room.ensures.blocks
+    volume state
+    (subst (λ (store : StoreNow). IsStored volume store state now) (sym c.self.view_is) stored))
+
+pub returns-in_err-rec-clause-set : goal.returns-in_err-rec-clause-set
+returns-in_err-rec-clause-set g c set =
+    let now = g.B.Blocks.seen c.args.blocks.now in
+    set-changed _ now (map changed_by c.make_room.new.changed.items) c.self.inside.undo
+    c.make_room.ensures.each
+    (subst (λ (store : StoreNow). IsSet store now) (sym c.self.view_is) set)
+
+pub returns-in_err-first-clause-stored : goal.returns-in_err-first-clause-stored
+returns-in_err-first-clause-stored g c =
+    let now = g.B.Blocks.seen c.args.blocks.now in
+    on-err c.from_residual-in_err-first.result (λ volume state stored.
+    stored-unkept _ now (map changed_by c.make_room.new.changed.items) c.make_room.ensures.blocks
+    volume state c.keep.new.self c.in_err-first.ensures.err
+    (subst (λ (store : StoreNow). IsStored volume store state now) (sym c.self.view_is) stored))
+
+pub returns-in_err-first-clause-set : goal.returns-in_err-first-clause-set
+returns-in_err-first-clause-set g c set =
+    let now = g.B.Blocks.seen c.args.blocks.now in
+    set-changed _ now (map changed_by c.make_room.new.changed.items) c.keep.new.self
+    c.make_room.ensures.each
+    (subst (λ (store : StoreNow). IsSet store now) (sym c.self.view_is) set)
+
+pub returns-clause-kept : goal.returns-clause-kept
+returns-clause-kept g c volume state stored =
+    let now = g.B.Blocks.seen c.args.blocks.now in
+    kept-changed _ now (map changed_by c.make_room.new.changed.items) c.make_room.ensures.blocks
+    volume state c.args.unit
+    (before_of c.args.part c.args.place.now (option_copied c.args.old)) c.keep.new.self
+    c.in_ok-first.ensures.kept
+    (subst (λ (store : StoreNow). IsStored volume store state now) (sym c.self.view_is) stored)
+
+pub returns-clause-set : goal.returns-clause-set
+returns-clause-set g c set =
+    let now = g.B.Blocks.seen c.args.blocks.now in
+    set-changed _ now (map changed_by c.make_room.new.changed.items) c.keep.new.self
+    c.make_room.ensures.each
+    (subst (λ (store : StoreNow). IsSet store now) (sym c.self.view_is) set)

@@ -1,0 +1,5 @@
+pub mod Store
+pub mod Parts
+pub mod Room
+pub mod Cause
+pub mod Changing

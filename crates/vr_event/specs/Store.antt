@@ -1,0 +1,116 @@
+-- What stands behind the blocks of a volume in memory: its parts, its log, its before-images, and
+-- the blocks that units of recovery changed; and when these and the blocks are those of a state of
+-- the record file. The rules are this project's own.
+use Rattle.std.specs.Prelude.{◌≡◌, ◌<◌, ℕ, Bool, false, ◌==◌, List, [], ◌∷◌, All, Option, Some}
+use Rattle.std.specs.Prelude.{None, find, map, option_map}
+use Rattle.std.specs.List.{IsDistinct}
+use Rattle.std.specs.Option.{option_map_or}
+use Rattle.std.specs.Prelude.{nat_eq}
+use Rattle.vr_types.specs.Geometry.{IsAllowed}
+use Rattle.vr_types.specs.Locks.{same_unit}
+use Rattle.vr_types.specs.Seen.{Seen}
+use Rattle.vr_types.specs.declared.unit.PartNo.{PartNo}
+use Rattle.vr_types.specs.declared.unit.Unit.{Unit as UnitOfRecovery}
+use Rattle.vr_space.specs.Met.{Met}
+use Rattle.vr_space.specs.Part.{InPart, IsOn, Shape, part_no}
+use Rattle.vr_space.specs.Split.{SplitNow}
+use Rattle.vr_log.specs.LogNow.{IsOf, LogNow}
+use Rattle.vr_history.specs.State.{State}
+use Rattle.vr_undo.specs.Records.{befores_of, images_in, logged_of}
+use Rattle.vr_undo.specs.declared.record.KeptRecord.{KeptRecord}
+use Rattle.vr_volume.specs.Due.{IsDueFor}
+use Rattle.vr_volume.specs.Laid.{shape_by}
+use Rattle.vr_volume.specs.Rests.{IsPartAtRest, IsVolumeAtRest}
+use Rattle.vr_event.specs.declared.parts.Laid.{Laid}
+use Rattle.vr_event.specs.declared.changed.UnitBlocks.{UnitBlocks}
+
+-- a part with its number, as a call finds it
+pub record PartNow : Type 0 where
+  pub number : PartNo
+  pub shape : Shape
+  pub split : Option SplitNow
+  pub met : List Met
+
+abbrev pub part_now : {P : Type 0} → (P → Shape) → (P → Option SplitNow) → (P → List Met) → Laid P
+    → PartNow
+part_now shape split met laid = record {
+  number = laid.number;
+  shape = shape laid.part;
+  split = split laid.part;
+  met = met laid.part;
+}
+
+-- the part of a number
+abbrev pub has_number : ℕ → PartNow → Bool
+has_number number part = part.number.0 == number
+
+abbrev pub part_among : List PartNow → ℕ → Option PartNow
+part_among parts number = find (has_number number) parts
+
+abbrev pub shape_among : List PartNow → ℕ → Option Shape
+shape_among parts number = option_map (λ (part : PartNow). part.shape) (part_among parts number)
+
+-- the blocks that a unit changed and that were not forced since
+pub record ChangedBy : Type 0 where
+  pub unit : UnitOfRecovery
+  pub blocks : List ℕ
+
+abbrev pub changed_by : UnitBlocks → ChangedBy
+changed_by by = record { unit = by.unit; blocks = by.blocks.items }
+
+abbrev pub is_by : UnitOfRecovery → ChangedBy → Bool
+is_by unit by = same_unit unit by.unit
+
+abbrev pub blocks_of : UnitOfRecovery → List ChangedBy → List ℕ
+blocks_of unit changed = option_map_or (λ (by : ChangedBy). by.blocks) (find (is_by unit) changed) []
+
+-- what a volume has in memory beside its blocks
+pub record StoreNow : Type 0 where
+  pub log : LogNow
+  pub undo : List KeptRecord
+  pub parts : List PartNow
+  pub changed : List ChangedBy
+  pub space : List (Option PartNo)
+
+-- ---- what holds whether or not the device reports its contents
+
+-- a part is on blocks of the device past the log, under its number
+pub record IsPartSet (log : LogNow) (now : Seen) (part : PartNow) : Type 0 where
+  pub number : part_no part.shape ≡ part.number
+  pub on : IsOn part.shape now
+  pub apart : (n : ℕ) → InPart part.shape n → log.geometry.log < n
+
+-- the numbers of the parts differ, and each changed block is one of the device
+pub record IsSet (store : StoreNow) (now : Seen) : Type 0 where
+  pub allowed : IsAllowed store.log.geometry
+  pub blocks : IsOf store.log.geometry now
+  pub sound : store.log.broken ≡ false
+  pub parts : All (IsPartSet store.log now) store.parts
+  pub apart : IsDistinct nat_eq (map (λ (part : PartNow). part.number.0) store.parts)
+  pub changed : All (λ (by : ChangedBy). All (λ n. n < now.count) by.blocks) store.changed
+
+-- ---- what holds where it does
+
+abbrev pub IsRestedPart : StoreNow → State → Seen → PartNow → Type 0
+IsRestedPart store state now part =
+    IsPartAtRest store.log.geometry (images_in store.undo) state part.shape part.split part.met now
+
+-- The volume is at rest by the state, and so is each of its parts, of which none is missing. The
+-- before-images are the state's, and once the blocks that a unit changed are forced, a crash leaves
+-- what stands at its places.
+pub record IsStored (number : ℕ) (store : StoreNow) (state : State) (now : Seen) : Type 0 where
+  pub volume : IsVolumeAtRest store.log.geometry number store.log (images_in store.undo) state now
+  pub parts : All (IsRestedPart store state now) store.parts
+  pub whole : (part : ℕ) (shape : Shape)
+      → shape_by store.log.geometry (state.contents 0) part ≡ Some shape
+      → shape_among store.parts part ≡ Some shape
+  pub befores : befores_of store.undo ≡ state.befores
+  pub logged : logged_of store.undo ≡ state.logged
+  pub due : (unit : UnitOfRecovery)
+      → IsDueFor store.log.geometry store.log state unit (blocks_of unit store.changed) now
+
+-- it is so by some state
+pub record Stands (store : StoreNow) (now : Seen) : Type 0 where
+  pub number : ℕ
+  pub state : State
+  pub stored : IsStored number store state now

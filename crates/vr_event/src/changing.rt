@@ -1,0 +1,137 @@
+//! A change of a place of a store: it is logged where its unit has not logged the place yet, and set.
+ghost use Rattle.std.specs.Prelude.{◌≡◌, ◌≢◌, ◌<◌, ℕ, List, All, IsTrue, OnOk, IfErr, false, map};
+ghost use Rattle.std.specs.List.{Contains};
+ghost use Rattle.vr_types.specs.Blocks.{Keeps};
+ghost use Rattle.vr_types.specs.Faults.{HasWriteCause};
+ghost use Rattle.vr_types.specs.Locks.{same_unit};
+ghost use Rattle.vr_types.specs.Moments.{Guards};
+ghost use Rattle.vr_types.specs.declared.unit.Unit.{Unit as UnitOfRecovery};
+ghost use Rattle.vr_space.specs.Part.{
+  CanSet,
+  HasKeptRoom,
+  InPart,
+  IsAtRest,
+  IsGiven,
+  IsOn,
+  IsPlaceOf,
+  Knows,
+  given,
+  part_no,
+};
+ghost use Rattle.vr_log.specs.Live.{EndsLive, live_in, need_of};
+ghost use Rattle.vr_log.specs.LogNow.{IsFullNo, IsFullWhere, IsOf};
+ghost use Rattle.vr_log.specs.Records.{HasLengths};
+ghost use Rattle.vr_log.specs.Standing.{LogStands};
+ghost use Rattle.vr_history.specs.State.{BeforeImage, State};
+ghost use Rattle.vr_undo.specs.Records.{images_in};
+ghost use Rattle.vr_volume.specs.Cause.{HasChangeCause};
+ghost use Rattle.vr_volume.specs.Committed.{committed_by};
+ghost use Rattle.vr_volume.specs.PutBack.{lengths_kept};
+ghost use Rattle.vr_volume.specs.Safe.{IsSafeImage};
+ghost use Rattle.vr_volume.specs.Steps.{Changing};
+ghost use Rattle.vr_event.specs.Changing.{IsNoted, IsSetIn, IsToSet, log_with};
+ghost use Rattle.vr_event.specs.Store.{ChangedBy, blocks_of, changed_by};
+
+use crate::changed::{UnitBlocks, note};
+use crate::preparing::Prepared;
+use vr_log::{LogNo, UndoLog};
+use vr_space::Part;
+use vr_types::{Blocks, DeviceFault, Place, Unit};
+use vr_undo::Undo;
+use vr_volume::{change, force_blocks, set_again};
+
+/// Makes these bytes the record at a place of a part, or takes the record there away, once its
+/// before-image is logged and forced where it isn't yet.
+fn put_at<B: Blocks, P: Part>(
+    blocks: &mut B,
+    log: &mut UndoLog,
+    part: &mut P,
+    undo: &Undo,
+    place: &Place,
+    prepared: &Prepared,
+    bytes: Option<&[u8]>,
+) -> Result<(), LogNo>
+    requires sound { log.old.broken ≡ false }
+    requires shape { IsOf log.old.geometry (B.seen blocks.old) }
+    requires lengths { HasLengths prepared.now.rec }
+    requires live { EndsLive (live_in log.old.records) prepared.now.rec }
+    requires stands { IsTrue B.tells → LogStands log.old (B.seen blocks.old) }
+    requires on { IsOn (P.shape part.old) (B.seen blocks.old) }
+    requires apart { (n : ℕ) → InPart (P.shape part.old) n → log.old.geometry.log < n }
+    requires place { IsPlaceOf (P.shape part.old) place.now }
+    requires record { IsGiven (P.shape part.old) place.now bytes }
+    requires rests { IsTrue B.tells → IsAtRest (P.shape part.old) (B.seen blocks.old) }
+    requires room { IsTrue B.tells → HasKeptRoom (P.shape part.old)
+        (lengths_kept (images_in undo.now) (part_no (P.shape part.old)).0) (B.seen blocks.old) }
+    requires knows { IsTrue B.tells → Knows (P.shape part.old) (P.split part.old)
+        (P.met part.old) (B.seen blocks.old) }
+    requires can { IsTrue B.tells → CanSet (P.shape part.old) (P.split part.old)
+        (B.seen blocks.old).cur (lengths_kept (images_in undo.now) (part_no (P.shape part.old)).0)
+        place.now (given bytes) }
+    ensures made { IsTrue B.tells → OnOk result ((volume : ℕ) (old new : State)
+        (change : Changing) (images : List BeforeImage)
+        → IsToSet log.old.geometry volume log.old images (images_in undo.now) old new change
+        prepared.now (P.shape part.old) (P.split part.old) (P.met part.old) place.now
+        (given bytes.entry) (B.seen blocks.old)
+        → IsSetIn log.old.geometry volume log.new images (images_in undo.now) old new
+        (P.shape part.old) (P.split part.new) (P.met part.new) place.now (P.put part.new)
+        (B.seen blocks.old) (B.seen blocks.new)) }
+    // At every moment, whether it fails or not.
+    ensures moments { IsTrue B.tells → (volume : ℕ) (old new : State) (change : Changing)
+        (images : List BeforeImage)
+        → IsToSet log.old.geometry volume log.old images (images_in undo.now) old new change
+        prepared.now (P.shape part.old) (P.split part.old) (P.met part.old) place.now
+        (given bytes.entry) (B.seen blocks.old)
+        → Guards (B.seen blocks.old) (B.seen blocks.new) (IsSafeImage log.old.geometry volume
+        (log_with prepared.now.logged log.old prepared.now.rec) (committed_by old)) }
+    ensures put { OnOk result (All (InPart (P.shape part.old)) (P.put part.new)) }
+    ensures geometry { OnOk result (log.new.geometry ≡ log.old.geometry) }
+    ensures sound { OnOk result (log.new.broken ≡ false) }
+    ensures count { OnOk result ((B.seen blocks.new).count ≡ (B.seen blocks.old).count) }
+    ensures size { OnOk result ((B.seen blocks.new).size ≡ (B.seen blocks.old).size) }
+    ensures part { OnOk result (P.shape part.new ≡ P.shape part.old) }
+    ensures split { OnOk result (P.split part.new ≡ P.split part.old) }
+    ensures full { prepared.now.logged ≡ false
+        → IsFullWhere log.old (need_of (live_in log.old.records) prepared.now.rec) result }
+    ensures unchanged { IfErr result (λ no. IsFullNo no
+        → (log.new ≡ log.old) × (blocks.new ≡ blocks.old) × (part.new ≡ part.old)) }
+    ensures cause { HasChangeCause (B.faults blocks.old) (B.faults blocks.new) result }
+{
+    if prepared.logged {
+        set_again(blocks, log, part, undo, place, bytes)?;
+    } else {
+        change(blocks, log, part, undo, &prepared.rec, place, bytes)?;
+    }
+    Ok(())
+}
+
+/// Adds blocks that a change put to those of its unit, or forces them where there is no room for
+/// them. `Write` is the device's.
+fn note_put<B: Blocks>(
+    blocks: &mut B,
+    changed: &mut Vec<UnitBlocks>,
+    unit: Unit,
+    put: &[u32],
+) -> Result<(), DeviceFault>
+    requires { All (λ n. n < (B.seen blocks.old).count) put.now }
+    ensures had { (n : ℕ) → Contains (blocks_of unit (map changed_by changed.old.items)) n
+        → Contains (blocks_of unit (map changed_by changed.new.items)) n }
+    ensures put { IsTrue B.tells → OnOk result (IsNoted put.now
+        (blocks_of unit (map changed_by changed.new.items)) (B.seen blocks.old).cur
+        (B.seen blocks.new).may) }
+    ensures others { (other : UnitOfRecovery) → same_unit other unit ≡ false
+        → blocks_of other (map changed_by changed.new.items)
+        ≡ blocks_of other (map changed_by changed.old.items) }
+    ensures each { All (λ (by : ChangedBy). All (λ n. n < (B.seen blocks.old).count) by.blocks)
+        (map changed_by changed.old.items)
+        → All (λ (by : ChangedBy). All (λ n. n < (B.seen blocks.old).count) by.blocks)
+        (map changed_by changed.new.items) }
+    ensures keeps { Keeps B.tells (B.seen blocks.old) (B.seen blocks.new) }
+    ensures cause { HasWriteCause (B.faults blocks.old) (B.faults blocks.new) result }
+{
+    if note(changed, unit, put) {
+        return Ok(());
+    }
+    force_blocks(blocks, put)?;
+    Ok(())
+}

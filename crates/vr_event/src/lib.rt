@@ -1,0 +1,16 @@
+//! One event of a volume: a request that is answered under one hold of its latch. It stands on what
+//! the blocks of a volume stand for and on the events of its blocks (vr_volume), on the answers of
+//! the record file (vr_answer), locks (vr_locks) and positions (vr_browse).
+#![tactic(auto)]
+
+mod changed;
+mod changing;
+mod no;
+mod parts;
+mod preparing;
+mod reading;
+mod staging;
+mod store;
+
+pub use no::LookNo;
+pub use store::Store;
