@@ -1,0 +1,117 @@
+-- What a volume has in memory of its record file, beside the records: catalog, locks, positions,
+-- unit numbers, the fault that stopped it and its history; and when that is what its history gives.
+-- The rules are those of the record file; how it is kept is this project's own.
+use Rattle.std.specs.Prelude.{◌≡◌, ◌⊎◌, ◌+◌, ℕ, Bool, true, false, not, ◌==◌, ◌&&◌, ◌||◌, List, []}
+use Rattle.std.specs.Prelude.{◌∷◌, ◌++◌, Option, Some, None, find, map}
+use Rattle.std.specs.List.{AllByRecursion, list_any}
+use Rattle.std.specs.Option.{option_map_or}
+use Rattle.vr_browse.specs.Positions.{position_of}
+use Rattle.vr_browse.specs.declared.positions.FilePosition.{FilePosition}
+use Rattle.vr_catalog.specs.declared.entry.CatEntry.{CatEntry}
+use Rattle.vr_types.specs.Locks.{Lock, same_unit}
+use Rattle.vr_types.specs.declared.geometry.Geometry.{Geometry}
+use Rattle.vr_types.specs.declared.lock_name.LockName.TheVariants.{Record}
+use Rattle.vr_types.specs.declared.reply.Reply.{Reply}
+use Rattle.vr_types.specs.declared.request.Request.{Request}
+use Rattle.vr_types.specs.declared.unit.Unit.{Unit as UnitOfRecovery}
+use Rattle.vr_history.specs.declared.entry.Entry.{Entry}
+use Rattle.vr_history.specs.declared.entry.What.{What}
+use Rattle.vr_history.specs.declared.entry.What.TheVariants.{Asked, Undone, Claimed, Split, Faulted}
+use Rattle.vr_history.specs.Effects.{has_part, parts_laid}
+use Rattle.vr_history.specs.Legal.{IsLegal, is_backout, state_of}
+use Rattle.vr_history.specs.Merged.{last_stamp}
+use Rattle.vr_history.specs.Opened.{catalog_of}
+use Rattle.vr_history.specs.Replies.{MayReply}
+use Rattle.vr_history.specs.State.{Logged, State}
+use Rattle.vr_history.specs.Step.{IsOfUnit, case_of}
+use Rattle.vr_answer.specs.Kept.{is_under}
+use Rattle.vr_answer.specs.Scope.{HasClustersAlone}
+use Rattle.vr_record_file.specs.declared.numbers.DeckNumber.{DeckNumber}
+
+-- what it is seen as
+pub record FileNow : Type 0 where
+  pub geometry : Geometry
+  pub catalog : List CatEntry
+  pub locks : List Lock
+  pub files : List FilePosition
+  -- the decks that were entered, with the numbers of their units
+  pub numbers : List DeckNumber
+  pub stopped : Option ℕ
+  pub entries : List Entry
+  -- for how many more entries, and files, there is room
+  pub room : ℕ
+  pub files_room : ℕ
+
+-- the number of a deck's unit: the first, where it wasn't entered
+abbrev pub is_of_deck : ℕ → DeckNumber → Bool
+is_of_deck deck number = number.deck == deck
+
+abbrev pub number_of : List DeckNumber → ℕ → ℕ
+number_of numbers deck =
+    option_map_or (λ (number : DeckNumber). number.number) (find (is_of_deck deck) numbers) 1
+
+-- the state that its history gives
+abbrev pub state_now : State → FileNow → State
+state_now opening file = state_of file.geometry opening file.entries
+
+-- ---- what goes on from one entry to the next
+
+-- a place that the log has is under its unit's exclusive lock
+abbrev pub IsLockedIn : List Lock → Logged → Type 0
+IsLockedIn locks logged =
+    list_any (is_under logged.unit (Record (record { 0 = logged.part }) logged.place)) locks ≡ true
+
+-- it is of a deck, and not of the utilities; nor is it in the catalog
+abbrev pub IsOfDeck : Logged → Type 0
+IsOfDeck logged = ((logged.unit.deck == 0) ≡ false) × ((logged.part == 0) ≡ false)
+
+-- A unit that has put a before-image back asks for BACKOUT next: it has begun to undo until its
+-- next request.
+abbrev pub undoing_after : UnitOfRecovery → Bool → Entry → What → Bool
+undoing_after unit before entry (Asked request reply) =
+    before && not (same_unit unit entry.unit)
+undoing_after unit before entry (Undone part place) = before || same_unit unit entry.unit
+undoing_after unit before entry (Claimed part area) = before
+undoing_after unit before entry (Split part) = before
+undoing_after unit before entry (Faulted fault) = before
+
+abbrev pub is_undoing_from : UnitOfRecovery → Bool → List Entry → Bool
+is_undoing_from unit before [] = before
+is_undoing_from unit before (entry ∷ entries) =
+    is_undoing_from unit (undoing_after unit before entry entry.what) entries
+
+abbrev pub is_undoing : UnitOfRecovery → List Entry → Bool
+is_undoing unit entries = is_undoing_from unit false entries
+
+-- ---- the record file in memory
+
+-- What is in memory is what the history gives from this opening. Once the volume has stopped, no
+-- answer looks at locks.
+pub record IsStateOf (opening : State) (file : FileNow) : Type 0 where
+  pub legal : IsLegal file.geometry opening file.entries
+  pub catalog : file.catalog ≡ catalog_of (state_now opening file)
+  pub locks : file.stopped ≡ None → file.locks ≡ (state_now opening file).locks
+  pub positions : (deck slot : ℕ) → position_of file.files deck slot
+      ≡ (state_now opening file).positions deck slot
+  pub numbers : (deck : ℕ) → number_of file.numbers deck ≡ (state_now opening file).numbers deck
+  pub stopped : file.stopped ≡ (state_now opening file).stopped
+  pub alone : HasClustersAlone (state_now opening file)
+  pub owned : AllByRecursion (λ owned. has_part (parts_laid file.catalog) owned.part ≡ true)
+      (state_now opening file).owned
+  pub locked : AllByRecursion (IsLockedIn (state_now opening file).locks)
+      (state_now opening file).logged
+  pub of_decks : AllByRecursion IsOfDeck (state_now opening file).logged
+
+-- A request may be entered with this reply: it is of its deck's current unit, which asks for BACKOUT
+-- where it has begun to undo.
+pub record MayBeAsked (opening : State) (file : FileNow) (unit : UnitOfRecovery) (request : Request)
+    (reply : Reply) : Type 0 where
+  pub current : IsOfUnit (state_now opening file) unit
+  pub of_deck : (unit.deck == 0) ≡ false
+  pub reply_is : MayReply (case_of file.geometry (state_now opening file) unit request) reply
+  pub goes_on : (is_undoing unit file.entries ≡ false) ⊎ (is_backout request ≡ true)
+
+-- the entry of an event, at the next stamp
+abbrev pub entry_next : FileNow → ℕ → UnitOfRecovery → ℕ → What → Entry
+entry_next file stamp unit line what =
+    record { stamp = stamp; unit = unit; line = line; what = what }
