@@ -1,18 +1,20 @@
 -- What a volume has in memory of its record file, beside the records: catalog, locks, positions,
 -- unit numbers, the fault that stopped it and its history; and when that is what its history gives.
 -- The rules are those of the record file; how it is kept is this project's own.
-use Rattle.std.specs.Prelude.{◌≡◌, ◌⊎◌, ◌+◌, ℕ, Bool, true, false, not, ◌==◌, ◌&&◌, ◌||◌, List, []}
+use Rattle.std.specs.Prelude.{◌≡◌, ◌⊎◌, ◌+◌, ◌-◌, ℕ, max, Bool, true, false, not, ◌==◌, ◌&&◌, ◌||◌, List, []}
 use Rattle.std.specs.Prelude.{◌∷◌, ◌++◌, Option, Some, None, find, map}
 use Rattle.std.specs.List.{AllByRecursion, list_any}
 use Rattle.std.specs.Option.{option_map_or}
-use Rattle.vr_browse.specs.Positions.{position_of}
+use Rattle.vr_browse.specs.Positions.{position_of, without_held}
 use Rattle.vr_browse.specs.declared.positions.FilePosition.{FilePosition}
 use Rattle.vr_catalog.specs.declared.entry.CatEntry.{CatEntry}
 use Rattle.vr_types.specs.Locks.{Lock, same_unit}
 use Rattle.vr_types.specs.declared.geometry.Geometry.{Geometry}
 use Rattle.vr_types.specs.declared.lock_name.LockName.TheVariants.{Record}
 use Rattle.vr_types.specs.declared.reply.Reply.{Reply}
+use Rattle.vr_types.specs.declared.request.FileRef.{FileRef}
 use Rattle.vr_types.specs.declared.request.Request.{Request}
+use Rattle.vr_history.specs.Case.{file_of}
 use Rattle.vr_types.specs.declared.unit.Unit.{Unit as UnitOfRecovery}
 use Rattle.vr_history.specs.declared.entry.Entry.{Entry}
 use Rattle.vr_history.specs.declared.entry.What.{What}
@@ -85,22 +87,25 @@ is_undoing unit entries = is_undoing_from unit false entries
 
 -- ---- the record file in memory
 
--- What is in memory is what the history gives from this opening. Once the volume has stopped, no
--- answer looks at locks.
+-- What is in memory is what this state has, and the state is one that only decks have changed. Once
+-- the volume has stopped, no answer looks at locks.
+pub record IsOf (file : FileNow) (state : State) : Type 0 where
+  pub catalog : file.catalog ≡ catalog_of state
+  pub locks : file.stopped ≡ None → file.locks ≡ state.locks
+  pub positions : (deck slot : ℕ) → position_of file.files deck slot
+      ≡ state.positions deck slot
+  pub numbers : (deck : ℕ) → number_of file.numbers deck ≡ state.numbers deck
+  pub stopped : file.stopped ≡ state.stopped
+  pub alone : HasClustersAlone state
+  pub owned : AllByRecursion (λ owned. has_part (parts_laid file.catalog) owned.part ≡ true)
+      state.owned
+  pub locked : AllByRecursion (IsLockedIn state.locks) state.logged
+  pub of_decks : AllByRecursion IsOfDeck state.logged
+
+-- Its history is legal from this opening, and what is in memory is what it gives.
 pub record IsStateOf (opening : State) (file : FileNow) : Type 0 where
   pub legal : IsLegal file.geometry opening file.entries
-  pub catalog : file.catalog ≡ catalog_of (state_now opening file)
-  pub locks : file.stopped ≡ None → file.locks ≡ (state_now opening file).locks
-  pub positions : (deck slot : ℕ) → position_of file.files deck slot
-      ≡ (state_now opening file).positions deck slot
-  pub numbers : (deck : ℕ) → number_of file.numbers deck ≡ (state_now opening file).numbers deck
-  pub stopped : file.stopped ≡ (state_now opening file).stopped
-  pub alone : HasClustersAlone (state_now opening file)
-  pub owned : AllByRecursion (λ owned. has_part (parts_laid file.catalog) owned.part ≡ true)
-      (state_now opening file).owned
-  pub locked : AllByRecursion (IsLockedIn (state_now opening file).locks)
-      (state_now opening file).logged
-  pub of_decks : AllByRecursion IsOfDeck (state_now opening file).logged
+  pub now : IsOf file (state_now opening file)
 
 -- A request may be entered with this reply: it is of its deck's current unit, which asks for BACKOUT
 -- where it has begun to undo.
@@ -111,7 +116,32 @@ pub record MayBeAsked (opening : State) (file : FileNow) (unit : UnitOfRecovery)
   pub reply_is : MayReply (case_of file.geometry (state_now opening file) unit request) reply
   pub goes_on : (is_undoing unit file.entries ≡ false) ⊎ (is_backout request ≡ true)
 
+-- the next stamp: above those of its history, and above one that is handed in
+abbrev pub next_stamp : List Entry → ℕ → ℕ
+next_stamp entries after = max (last_stamp 0 entries) after + 1
+
 -- the entry of an event, at the next stamp
-abbrev pub entry_next : FileNow → ℕ → UnitOfRecovery → ℕ → What → Entry
-entry_next file stamp unit line what =
-    record { stamp = stamp; unit = unit; line = line; what = what }
+abbrev pub entry_next : List Entry → ℕ → UnitOfRecovery → ℕ → What → Entry
+entry_next entries after unit line what =
+    record { stamp = next_stamp entries after; unit = unit; line = line; what = what }
+
+-- the record file with an event more in its history, and nothing else changed
+abbrev pub with_event : ℕ → UnitOfRecovery → ℕ → What → FileNow → FileNow
+with_event after unit line what file =
+    record file {
+      entries = file.entries ++ entry_next file.entries after unit line what ∷ [];
+      room = file.room - 1;
+    }
+
+-- the record file with what is in memory changed, and its history as it was
+abbrev pub with_memory : FileNow → FileNow → FileNow
+with_memory file to = record to { geometry = file.geometry; entries = file.entries }
+
+-- what a request's file holds for update is dropped
+abbrev pub files_let_go : ℕ → Option FileRef → List FilePosition → List FilePosition
+files_let_go deck None files = files
+files_let_go deck (Some on) files = without_held deck on.slot files
+
+abbrev pub lets_go : ℕ → Request → FileNow → FileNow
+lets_go deck request file =
+    record file { files = files_let_go deck (file_of request) file.files }

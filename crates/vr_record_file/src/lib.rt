@@ -6,5 +6,6 @@
 
 mod file;
 mod numbers;
+mod refusing;
 
 pub use file::RecordFile;
