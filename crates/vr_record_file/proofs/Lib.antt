@@ -1,2 +1,3 @@
 pub mod Legal
+pub mod Resting
 pub mod Steps

@@ -2,9 +2,9 @@
 -- unit numbers, the fault that stopped it and its history; and when that is what its history gives.
 -- The rules are those of the record file; how it is kept is this project's own.
 use Rattle.std.specs.Prelude.{◌≡◌, ◌⊎◌, ◌+◌, ◌-◌, ℕ, max, Bool, true, false, not, ◌==◌, ◌&&◌, ◌||◌, List, []}
-use Rattle.std.specs.Prelude.{◌∷◌, ◌++◌, Option, Some, None, find, map}
+use Rattle.std.specs.Prelude.{◌∷◌, ◌++◌, Option, Some, None, find, map, if◌then◌else◌}
 use Rattle.std.specs.List.{AllByRecursion, list_any}
-use Rattle.std.specs.Option.{option_map_or}
+use Rattle.std.specs.Option.{option_and_then, option_map_or}
 use Rattle.vr_browse.specs.Positions.{position_of, without_held}
 use Rattle.vr_browse.specs.declared.positions.FilePosition.{FilePosition}
 use Rattle.vr_catalog.specs.declared.entry.CatEntry.{CatEntry}
@@ -51,6 +51,22 @@ is_of_deck deck number = number.deck == deck
 abbrev pub number_of : List DeckNumber → ℕ → ℕ
 number_of numbers deck =
     option_map_or (λ (number : DeckNumber). number.number) (find (is_of_deck deck) numbers) 1
+
+-- a deck was entered
+abbrev pub has_deck : ℕ → List DeckNumber → Bool
+has_deck deck numbers = list_any (is_of_deck deck) numbers
+
+-- the deck's next unit begins
+abbrev pub with_next : ℕ → List DeckNumber → List DeckNumber
+with_next deck [] = []
+with_next deck (number ∷ numbers) =
+    if is_of_deck deck number then record number { number = number.number + 1 } ∷ numbers else
+    number ∷ with_next deck numbers
+
+-- the place that the file of a request holds for update
+abbrev pub held_in : List FilePosition → ℕ → Option FileRef → Option (List ℕ)
+held_in files deck on =
+    option_and_then (λ (file : FileRef). (position_of files deck file.slot).held) on
 
 -- the state that its history gives
 abbrev pub state_now : State → FileNow → State

@@ -4,6 +4,7 @@
 //! (vr_locks) and positions (vr_browse), and on no device.
 #![tactic(auto)]
 
+mod asked;
 mod file;
 mod numbers;
 mod refusing;

@@ -1,9 +1,78 @@
 //! The numbers of the units of recovery of decks.
-ghost use Rattle.std.specs.Prelude.{◌≡◌};
+ghost use Rattle.std.specs.Prelude.{◌≡◌, ◌<◌, ◌^◌, ◌-◌, ℕ, OnOk, true};
+ghost use Rattle.vr_history.specs.State.{State};
+ghost use Rattle.vr_record_file.specs.Now.{IsStateOf, has_deck, number_of, state_now, with_next};
+
+use crate::file::RecordFile;
+use vr_types::OutOfMemory;
 
 /// A deck with the number of its current unit of recovery.
 #[derive(Clone, Copy, Debug)]
 pub struct DeckNumber {
     pub deck: u32,
     pub number: u32,
+}
+
+/// The number of a deck's unit: 1 where the deck wasn't entered.
+fn number_in(numbers: &[DeckNumber], deck: u32) -> u32
+    ensures { result ≡ number_of numbers.now deck }
+{
+    match numbers.iter().find(|number| number.deck == deck) {
+        Some(number) => number.number,
+        None => 1,
+    }
+}
+
+/// Whether a deck was entered.
+fn is_entered(numbers: &[DeckNumber], deck: u32) -> bool
+    ensures { result ≡ has_deck deck numbers.now }
+{
+    numbers.iter().any(|number| number.deck == deck)
+}
+
+/// Begins the next unit of a deck.
+pub(crate) fn raise_number(numbers: &mut [DeckNumber], deck: u32)
+    requires { number_of numbers.old deck < 2 ^ 32 - 1 }
+    ensures { numbers.new ≡ with_next deck numbers.old }
+{
+    match numbers {
+        [] => {}
+        [first, rest @ ..] => {
+            if first.deck == deck {
+                first.number += 1;
+            } else {
+                raise_number(rest, deck);
+            }
+        }
+    }
+}
+
+impl RecordFile {
+    /// The number of a deck's unit: 1 where the deck wasn't entered.
+    pub fn number(&self, deck: u32) -> u32
+        ensures value { result ≡ number_of self.now.numbers deck }
+        ensures state { (opening : State) → IsStateOf opening self.now
+            → result ≡ (state_now opening self.now).numbers deck }
+    {
+        number_in(&self.numbers, deck)
+    }
+
+    /// Enters a deck, whose first unit has the number 1; one that was entered stays as it is. It
+    /// fails only if memory runs out. The number of each deck's unit stays, whatever the answer.
+    pub fn enter_deck(&mut self, deck: u32) -> Result<(), OutOfMemory>
+        ensures entered { OnOk result (has_deck deck self.new.numbers ≡ true) }
+        ensures others { (other : ℕ) → has_deck other self.old.numbers ≡ true
+            → has_deck other self.new.numbers ≡ true }
+        ensures numbers { (other : ℕ) → number_of self.new.numbers other
+            ≡ number_of self.old.numbers other }
+        ensures same { self.new ≡ record self.old { numbers = self.new.numbers } }
+        ensures state { (opening : State) → IsStateOf opening self.old
+            → IsStateOf opening self.new }
+    {
+        if is_entered(&self.numbers, deck) {
+            return Ok(());
+        }
+        self.numbers.push(DeckNumber { deck, number: 1 })?;
+        Ok(())
+    }
 }
