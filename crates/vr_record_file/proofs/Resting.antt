@@ -109,23 +109,23 @@ last_by : (b : Bool) (deck : ℕ)
 last_by true deck = refl
 last_by false deck = refl
 
-pub number_of-more : (numbers : List DeckNumber) (deck other : ℕ)
+pub number_of_more : (numbers : List DeckNumber) (deck other : ℕ)
     → number_of (numbers ++ first_unit deck ∷ []) other ≡ number_of numbers other
-number_of-more [] deck other = last_by (deck == other) deck
-number_of-more (number ∷ numbers) deck other =
+number_of_more [] deck other = last_by (deck == other) deck
+number_of_more (number ∷ numbers) deck other =
     number_by (number.deck == other) number (find (is_of_deck other) numbers)
-    (find (is_of_deck other) (numbers ++ first_unit deck ∷ [])) (number_of-more numbers deck other)
+    (find (is_of_deck other) (numbers ++ first_unit deck ∷ [])) (number_of_more numbers deck other)
 
 or_later : (a b c : Bool) → (b ≡ true → c ≡ true) → (a || b) ≡ true → (a || c) ≡ true
 or_later true b c so is = refl
 or_later false b c so is = so is
 
-pub has_deck-more : (numbers : List DeckNumber) (deck other : ℕ)
+pub has_deck_more : (numbers : List DeckNumber) (deck other : ℕ)
     → has_deck other numbers ≡ true → has_deck other (numbers ++ first_unit deck ∷ []) ≡ true
-has_deck-more [] deck other is = absurd (cc)
-has_deck-more (number ∷ numbers) deck other is =
+has_deck_more [] deck other is = absurd (cc)
+has_deck_more (number ∷ numbers) deck other is =
     or_later (number.deck == other) (has_deck other numbers)
-    (has_deck other (numbers ++ first_unit deck ∷ [])) (has_deck-more numbers deck other) is
+    (has_deck other (numbers ++ first_unit deck ∷ [])) (has_deck_more numbers deck other) is
 
 -- no unit of the utilities changes the catalog
 none_of_two : (a b c : Bool) → a ≡ false → c ≡ false → (a && b || c) ≡ false

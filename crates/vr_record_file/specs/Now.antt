@@ -1,7 +1,7 @@
 -- What a volume has in memory of its record file, beside the records: catalog, locks, positions,
 -- unit numbers, the fault that stopped it and its history; and when that is what its history gives.
 -- The rules are those of the record file; how it is kept is this project's own.
-use Rattle.std.specs.Prelude.{◌≡◌, ◌⊎◌, ◌+◌, ◌-◌, ℕ, max, Bool, true, false, not, ◌==◌, ◌&&◌, ◌||◌, List, []}
+use Rattle.std.specs.Prelude.{◌≡◌, ◌⊎◌, ◌+◌, ◌-◌, ◌^◌, nat_lt, ℕ, max, Bool, true, false, not, ◌==◌, ◌&&◌, ◌||◌, List, []}
 use Rattle.std.specs.Prelude.{◌∷◌, ◌++◌, Option, Some, None, find, map, if◌then◌else◌}
 use Rattle.std.specs.List.{AllByRecursion, list_any}
 use Rattle.std.specs.Option.{option_and_then, option_map_or}
@@ -56,12 +56,12 @@ number_of numbers deck =
 abbrev pub has_deck : ℕ → List DeckNumber → Bool
 has_deck deck numbers = list_any (is_of_deck deck) numbers
 
--- the deck's next unit begins
-abbrev pub with_next : ℕ → List DeckNumber → List DeckNumber
-with_next deck [] = []
-with_next deck (number ∷ numbers) =
-    if is_of_deck deck number then record number { number = number.number + 1 } ∷ numbers else
-    number ∷ with_next deck numbers
+-- the deck's next unit begins; the last number stays
+abbrev pub raised_for : ℕ → DeckNumber → DeckNumber
+raised_for deck number =
+    if number.deck == deck
+      && nat_lt number.number (2 ^ 32 - 1) then record number { number = number.number + 1 } else
+    number
 
 -- the place that the file of a request holds for update
 abbrev pub held_in : List FilePosition → ℕ → Option FileRef → Option (List ℕ)

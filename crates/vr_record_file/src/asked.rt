@@ -58,16 +58,16 @@ impl RecordFile {
             → free ≡ free_areas (case_of self.now.geometry (state_now opening self.now) unit
             request.now)
             → IsCaseOf result (record (state_now opening self.now) { locks = self.now.locks }) }
-        ensures asked { result.request ≡ request }
+        ensures asked { result.request.now ≡ request.now }
         ensures unit { result.unit ≡ unit }
         ensures geometry { result.geometry ≡ self.now.geometry }
     {
         Case {
-            geometry: self.geometry,
-            catalog: &self.catalog,
-            locks: &self.locks,
+            geometry: self.geometry(),
+            catalog: self.catalog(),
+            locks: self.locks(),
             held: self.held(unit.deck, request),
-            stopped: self.stopped,
+            stopped: self.stopped(),
             free,
             used,
             unit,

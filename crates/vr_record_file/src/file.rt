@@ -94,6 +94,13 @@ impl RecordFile {
         &self.catalog
     }
 
+    /// The locks.
+    pub(crate) fn locks(&self) -> &LockTable
+        ensures { result.now ≡ self.now.locks }
+    {
+        &self.locks
+    }
+
     /// The stamp of the write fault that stopped the volume, where one did.
     pub fn stopped(&self) -> Option<u64>
         ensures { result ≡ self.now.stopped }

@@ -1,7 +1,9 @@
 //! The numbers of the units of recovery of decks.
-ghost use Rattle.std.specs.Prelude.{◌≡◌, ◌<◌, ◌^◌, ◌-◌, ℕ, OnOk, true};
+ghost use Rattle.std.specs.Prelude.{◌≡◌, ℕ, OnOk, true, find, map};
+ghost use Rattle.std.specs.Option.{option_copied};
 ghost use Rattle.vr_history.specs.State.{State};
-ghost use Rattle.vr_record_file.specs.Now.{IsStateOf, has_deck, number_of, state_now, with_next};
+ghost use Rattle.vr_record_file.specs.Now.{IsStateOf, has_deck, is_of_deck, number_of};
+ghost use Rattle.vr_record_file.specs.Now.{raised_for, state_now};
 
 use crate::file::RecordFile;
 use vr_types::OutOfMemory;
@@ -13,11 +15,18 @@ pub struct DeckNumber {
     pub number: u32,
 }
 
+/// The deck with its number, where it was entered.
+fn find_deck(numbers: &[DeckNumber], deck: u32) -> Option<&DeckNumber>
+    ensures { option_copied result ≡ find (is_of_deck deck) numbers.now }
+{
+    numbers.iter().find(|number| number.deck == deck)
+}
+
 /// The number of a deck's unit: 1 where the deck wasn't entered.
 fn number_in(numbers: &[DeckNumber], deck: u32) -> u32
     ensures { result ≡ number_of numbers.now deck }
 {
-    match numbers.iter().find(|number| number.deck == deck) {
+    match find_deck(numbers, deck) {
         Some(number) => number.number,
         None => 1,
     }
@@ -30,20 +39,21 @@ fn is_entered(numbers: &[DeckNumber], deck: u32) -> bool
     numbers.iter().any(|number| number.deck == deck)
 }
 
+/// Begins the next unit of a deck, where this is it. The last number stays.
+fn raise_if(number: &mut DeckNumber, deck: u32)
+    ensures { number.new ≡ raised_for deck number.old }
+{
+    if number.deck == deck && number.number < u32::MAX {
+        number.number += 1;
+    }
+}
+
 /// Begins the next unit of a deck.
 pub(crate) fn raise_number(numbers: &mut [DeckNumber], deck: u32)
-    requires { number_of numbers.old deck < 2 ^ 32 - 1 }
-    ensures { numbers.new ≡ with_next deck numbers.old }
+    ensures { numbers.new ≡ map (raised_for deck) numbers.old }
 {
-    match numbers {
-        [] => {}
-        [first, rest @ ..] => {
-            if first.deck == deck {
-                first.number += 1;
-            } else {
-                raise_number(rest, deck);
-            }
-        }
+    for number in numbers.iter_mut() {
+        raise_if(number, deck);
     }
 }
 
