@@ -139,7 +139,7 @@ MayCome entries unit (Claimed part area) = Unit {0}
 MayCome entries unit (Split part) = Unit {0}
 MayCome entries unit (Faulted fault) = Unit {0}
 
-if_true : (b : Bool) → cond b true true ≡ true
+pub if_true : (b : Bool) → cond b true true ≡ true
 if_true true = refl
 if_true false = refl
 
@@ -179,7 +179,7 @@ module _ (entries : List Entry) (entry : Entry) (rest : List Entry)
   backs_quiet (Split part) = tt
   backs_quiet (Faulted fault) = tt
 
-  begun_more : BackOutOnceBegun entries → BackOutOnceBegun rest
+  pub begun_more : BackOutOnceBegun entries → BackOutOnceBegun rest
       → MayCome entries entry.unit entry.what → BackOutOnceBegun (entries ++ entry ∷ rest)
   begun_more begun further may =
       begun-append (λ unit. false) entries (entry ∷ rest) begun (

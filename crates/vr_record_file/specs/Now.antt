@@ -2,24 +2,28 @@
 -- unit numbers, the fault that stopped it and its history; and when that is what its history gives.
 -- The rules are those of the record file; how it is kept is this project's own.
 use Rattle.std.specs.Prelude.{◌≡◌, ◌⊎◌, ◌+◌, ◌-◌, ◌^◌, nat_lt, ℕ, max, Bool, true, false, not, ◌==◌, ◌&&◌, ◌||◌, List, []}
-use Rattle.std.specs.Prelude.{◌∷◌, ◌++◌, Option, Some, None, find, map, if◌then◌else◌}
+use Rattle.std.specs.Prelude.{◌∷◌, ◌++◌, Option, Some, None, filter, find, map, if◌then◌else◌}
 use Rattle.std.specs.List.{AllByRecursion, list_any}
 use Rattle.std.specs.Option.{option_and_then, option_map_or}
-use Rattle.vr_browse.specs.Positions.{position_of, without_held}
+use Rattle.vr_browse.specs.Positions.{position_of, without_deck, without_held}
 use Rattle.vr_browse.specs.declared.positions.FilePosition.{FilePosition}
 use Rattle.vr_catalog.specs.declared.entry.CatEntry.{CatEntry}
 use Rattle.vr_types.specs.Locks.{Lock, same_unit}
 use Rattle.vr_types.specs.declared.geometry.Geometry.{Geometry}
 use Rattle.vr_types.specs.declared.lock_name.LockName.TheVariants.{Record}
+use Rattle.vr_types.specs.declared.fault.DeviceFault.TheVariants.{Write}
+use Rattle.vr_types.specs.declared.reply.Refusal.TheVariants.{WriteFault}
 use Rattle.vr_types.specs.declared.reply.Reply.{Reply}
+use Rattle.vr_types.specs.declared.reply.Reply.TheVariants.{Refused}
 use Rattle.vr_types.specs.declared.request.FileRef.{FileRef}
 use Rattle.vr_types.specs.declared.request.Request.{Request}
+use Rattle.vr_types.specs.declared.request.Request.TheVariants.{Commit, Backout}
 use Rattle.vr_history.specs.Case.{file_of}
 use Rattle.vr_types.specs.declared.unit.Unit.{Unit as UnitOfRecovery}
 use Rattle.vr_history.specs.declared.entry.Entry.{Entry}
 use Rattle.vr_history.specs.declared.entry.What.{What}
 use Rattle.vr_history.specs.declared.entry.What.TheVariants.{Asked, Undone, Claimed, Split, Faulted}
-use Rattle.vr_history.specs.Effects.{has_part, parts_laid}
+use Rattle.vr_history.specs.Effects.{has_part, is_other, parts_laid}
 use Rattle.vr_history.specs.Legal.{IsLegal, is_backout, state_of}
 use Rattle.vr_history.specs.Merged.{last_stamp}
 use Rattle.vr_history.specs.Opened.{catalog_of}
@@ -161,3 +165,29 @@ files_let_go deck (Some on) files = without_held deck on.slot files
 abbrev pub lets_go : ℕ → Request → FileNow → FileNow
 lets_go deck request file =
     record file { files = files_let_go deck (file_of request) file.files }
+
+-- A write failed: the request is refused, and at the next stamp the fault stops the volume.
+abbrev pub asked_failing : ℕ → UnitOfRecovery → ℕ → Request → FileNow → FileNow
+asked_failing after unit line request file =
+    with_event after unit line (Asked request (Refused WriteFault))
+    (lets_go unit.deck request file)
+
+abbrev pub failed : ℕ → UnitOfRecovery → ℕ → Request → FileNow → FileNow
+failed after unit line request file =
+    let asked = asked_failing after unit line request file in
+    record (with_event 0 unit line (Faulted Write) asked) {
+      stopped = Some (next_stamp asked.entries 0);
+    }
+
+-- a unit ends: its locks go, its deck's files let go what they hold, and its deck's number rises
+abbrev pub ended : UnitOfRecovery → FileNow → FileNow
+ended unit file =
+    record file {
+      locks = filter (λ lock. is_other unit lock.unit) file.locks;
+      files = without_deck unit.deck file.files;
+      numbers = map (raised_for unit.deck) file.numbers;
+    }
+
+-- a request that ends its unit
+abbrev pub EndsUnit : Request → Type 0
+EndsUnit request = (request ≡ Commit) ⊎ (request ≡ Backout)

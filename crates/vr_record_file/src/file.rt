@@ -143,19 +143,21 @@ impl RecordFile {
 
     /// The stamp of the next entry: above those of the history, and above one that is handed in.
     pub(crate) fn next_stamp(&self, after: u64) -> u64
-        requires last { last_stamp 0 self.now.entries < 2 ^ 64 - 2 }
-        requires after { after < 2 ^ 64 - 2 }
+        requires last { last_stamp 0 self.now.entries < 2 ^ 64 - 1 }
+        requires after { after < 2 ^ 64 - 1 }
         ensures { result ≡ next_stamp self.now.entries after }
     {
         self.history.last().max(after) + 1
     }
 
     /// Enters an event at the next stamp, in room that was reserved. It takes no memory.
+    #[tactic(auto, using(crate::proofs::Steps::last_entered))]
     pub(crate) fn enter(&mut self, unit: Unit, line: u32, what: What, after: u64)
         requires room { 0 < self.old.room }
-        requires last { last_stamp 0 self.old.entries < 2 ^ 64 - 2 }
-        requires after { after < 2 ^ 64 - 2 }
-        ensures { self.new ≡ with_event after unit line what self.old }
+        requires last { last_stamp 0 self.old.entries < 2 ^ 64 - 1 }
+        requires after { after < 2 ^ 64 - 1 }
+        ensures leaves { self.new ≡ with_event after unit line what self.old }
+        ensures last { last_stamp 0 self.new.entries ≡ next_stamp self.old.entries after }
     {
         let stamp = self.next_stamp(after);
         self.history.push(Entry {

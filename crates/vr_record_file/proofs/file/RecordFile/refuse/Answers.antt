@@ -11,7 +11,7 @@ returns-clause-state c = λ opening is may stays none.
     let file : FileNow = c.args.self.now in
     let leaves : c.enter.new.self ≡ with_event c.args.after c.args.unit c.args.line (Asked
     c.args.request (Refused c.args.refusal)) (lets_go c.args.unit.deck c.args.request file) =
-    c.enter.ensures
+    c.enter.ensures.leaves
     ∙ ap (λ (to : FileNow). with_event c.args.after c.args.unit c.args.line (Asked
     c.args.request (Refused c.args.refusal)) to) (c.let_go.ensures
     ∙ ap (λ (request : Request). lets_go c.args.unit.deck request file) c.get.ensures) in
