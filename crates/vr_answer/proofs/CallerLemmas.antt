@@ -32,6 +32,10 @@ pub use Rattle.vr_answer.proofs.AfterLemmas.{after_backout, after_change, after_
 pub use Rattle.vr_answer.proofs.AfterLemmas.{after_endreq, after_read, after_refused}
 -- before-images are under locks, and locks are taken as the record file says
 pub use Rattle.vr_answer.proofs.KeptLemmas.{kept_in_the_way, kept_throughout}
+-- an exclusive lock is there once it is taken, stays as others are taken, and as another unit ends
+pub use Rattle.vr_answer.proofs.KeptLemmas.{any_left, kept_with, other_held, taken}
+-- no alternate index stands over a part, and no pair of one moves
+pub use Rattle.vr_answer.proofs.OpeningLemmas.{moves_none}
 pub use Rattle.vr_answer.proofs.TakingLemmas.{taken_alike}
 
 -- the first of two lists

@@ -115,7 +115,8 @@ module _ (unit : UnitOfRecovery) (name : LockName) (mode : Mode) where
   kept_with_one owner held locks is =
       kept_by_one (list_any (is_own unit name) locks) owner held locks is
 
-kept_with : (unit : UnitOfRecovery) (mode : Mode) (names : List LockName) (owner : UnitOfRecovery)
+-- it stays, whatever locks are taken
+pub kept_with : (unit : UnitOfRecovery) (mode : Mode) (names : List LockName) (owner : UnitOfRecovery)
     (held : LockName) (locks : List Lock) → list_any (is_under owner held) locks ≡ true
     → list_any (is_under owner held) (with_locks unit mode names locks) ≡ true
 kept_with unit mode [] owner held locks is = is
@@ -144,7 +145,7 @@ module _ (unit : UnitOfRecovery) (name : LockName) where
       (and_from (same_unit unit unit) (lock_name_eq name name) (unit_self unit) (name_self name))
       refl)
 
-  taken : (locks : List Lock)
+  pub taken : (locks : List Lock)
       → list_any (is_under unit name) (with_lock unit Exclusive name locks) ≡ true
   taken locks = taken_by (list_any (is_own unit name) locks) locks refl
 
@@ -184,7 +185,7 @@ all_less unit locks (kept ∷ befores) are =
     (without_last unit befores) are.0 are.1 (all_less unit locks befores are.1)
 
 -- a unit ends with its own locks and before-images
-other_held : (unit owner : UnitOfRecovery) (held : LockName) → is_other unit owner ≡ true
+pub other_held : (unit owner : UnitOfRecovery) (held : LockName) → is_other unit owner ≡ true
     → (lock : Lock) → is_under owner held lock ≡ true → is_other unit lock.unit ≡ true
 other_held unit owner held other lock is =
     let own = (and_parts (is_own owner held lock) (is_exclusive lock.mode) is).0 in
@@ -203,7 +204,7 @@ more_left : (under : Lock → Bool) (lock : Lock) (rest : List Lock) → list_an
 more_left under lock rest is true = or_of_second (under lock) _ is
 more_left under lock rest is false = is
 
-any_left : (test under : Lock → Bool) → ((lock : Lock) → under lock ≡ true → test lock ≡ true)
+pub any_left : (test under : Lock → Bool) → ((lock : Lock) → under lock ≡ true → test lock ≡ true)
     → (locks : List Lock) → list_any under locks ≡ true
     → list_any under (filter test locks) ≡ true
 any_left test under kept [] is = is

@@ -31,7 +31,7 @@ pub struct Case<'a> {
 }
 
 /// The file that a request is on.
-pub(crate) fn file_of(request: &Request) -> Option<FileRef>
+pub fn file_of(request: &Request) -> Option<FileRef>
     ensures { result ≡ cases.file_of request.now }
 {
     match request {

@@ -20,7 +20,7 @@ mod scope;
 pub use answering::{answer, done};
 pub use by_file::{refused_before_all, refused_by_file};
 pub use by_record::refused_by_record;
-pub use case::{Case, opened};
+pub use case::{Case, file_of, opened};
 pub use effects::{change_leaves, end_leaves, read_leaves, refusal_leaves};
 pub use laws::{
     answer_comes_in_order, before_images_are_locked, locks_are_taken_alike, may_come_instead,

@@ -1,0 +1,4 @@
+pub mod Ends
+pub mod Legal
+pub mod Resting
+pub mod Steps

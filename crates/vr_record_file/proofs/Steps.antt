@@ -1,0 +1,205 @@
+-- What an event leaves of what is in memory.
+use Rattle.std.proofs.Common.{◌≡◌, ℕ, ◌==◌, ◌&&◌, if◌then◌else◌, Bool, true, false, not, List, [], ◌∷◌}
+use Rattle.std.proofs.Common.{◌+◌, max, append_assoc, ◌++◌, Option, Some, None, refl, sym, ap, ◌∙◌, subst, arith}
+use Rattle.std.proofs.lemmas.Bool.Decides.{nat_tests}
+use Rattle.vr_browse.specs.Positions.{position_of, without_deck, without_held}
+use Rattle.vr_browse.specs.declared.positions.FilePosition.{FilePosition}
+use Rattle.vr_types.specs.Position.{unheld}
+use Rattle.vr_types.specs.declared.position.Position.{Position}
+use Rattle.std.proofs.lemmas.Option.{none-some}
+use Rattle.vr_types.specs.Locks.{Lock, same_unit}
+use Rattle.vr_types.specs.declared.fault.DeviceFault.TheVariants.{Write}
+use Rattle.vr_types.specs.declared.reply.Refusal.{Refusal}
+use Rattle.vr_types.specs.declared.reply.Refusal.TheVariants.{WriteFault}
+use Rattle.vr_types.specs.declared.reply.Reply.TheVariants.{Refused}
+use Rattle.vr_types.specs.declared.request.FileRef.{FileRef}
+use Rattle.vr_types.specs.declared.request.Request.{Request}
+use Rattle.vr_types.specs.declared.unit.Unit.{Unit as UnitOfRecovery}
+use Rattle.vr_history.specs.declared.entry.Entry.{Entry}
+use Rattle.vr_history.specs.declared.entry.What.{What}
+use Rattle.vr_history.specs.declared.entry.What.TheVariants.{Asked, Faulted}
+use Rattle.vr_history.specs.Case.{file_of}
+use Rattle.vr_history.specs.Effects.{drops_held, stops}
+use Rattle.vr_history.specs.Legal.{BackOutOnceBegun, IsLegal, StopAtWriteFaults}
+use Rattle.vr_history.specs.Legal.{is_write_fault, state_of}
+use Rattle.vr_history.specs.Merged.{last_stamp}
+use Rattle.vr_history.specs.State.{State}
+use Rattle.vr_history.specs.Step.{MayEnter, Step, after_what, case_of, stand_refused}
+use Rattle.vr_history.proofs.CallerLemmas.{last_stamp-append, state_of-append, steps-append}
+use Rattle.vr_answer.proofs.CallerLemmas.{after_refused}
+use Rattle.vr_record_file.specs.Now.{FileNow, IsOf, IsStateOf, MayBeAsked, entry_next, files_let_go}
+use Rattle.vr_record_file.specs.Now.{failed, lets_go, next_stamp, state_now, with_event, with_memory}
+use Rattle.vr_record_file.proofs.Legal.{MayCome, begun_more, if_true, is_no_fault, legal-append}
+use Rattle.vr_record_file.proofs.Legal.{stops-append}
+
+-- what a file, or a deck, holds is dropped among the positions that were set
+pub without_held-of : (deck slot : ℕ) (files : List FilePosition) (d s : ℕ)
+    → position_of (without_held deck slot files) d s
+    ≡ (if d == deck && s == slot then unheld (position_of files d s) else position_of files d s)
+without_held-of deck slot [] d s = grind (arith, nat_tests)
+without_held-of deck slot (file ∷ files) d s =
+    grind (arith, nat_tests, without_held-of deck slot files d s)
+
+pub without_deck-of : (deck : ℕ) (files : List FilePosition) (d s : ℕ)
+    → position_of (without_deck deck files) d s
+    ≡ (if d == deck then unheld (position_of files d s) else position_of files d s)
+without_deck-of deck [] d s = grind (arith, nat_tests)
+without_deck-of deck (file ∷ files) d s = grind (arith, nat_tests, without_deck-of deck files d s)
+
+-- a request's file lets go what it held
+pub let_go_is : (file : FileNow) (state : State) (deck : ℕ) (o : Option FileRef) → IsOf file state
+    → IsOf (record file { files = files_let_go deck o file.files }) (drops_held deck o state)
+let_go_is file state deck None is = is
+let_go_is file state deck (Some on) is = record {
+  catalog = is.catalog;
+  locks = is.locks;
+  positions = λ d s. without_held-of deck on.slot file.files d s
+      ∙ ap (λ (p : Position). if d == deck && s == on.slot then unheld p else p) (is.positions d s);
+  numbers = is.numbers;
+  stopped = is.stopped;
+  alone = is.alone;
+  owned = is.owned;
+  locked = is.locked;
+  of_decks = is.of_decks;
+}
+
+-- An event is entered: what is in memory is then what the state after it has.
+pub entered : (opening : State) (file to : FileNow) (after line : ℕ) (unit : UnitOfRecovery)
+    (what : What) → IsStateOf opening file
+    → MayEnter file.geometry (state_now opening file) unit what
+    → MayCome file.entries unit what → is_no_fault what ≡ true
+    → IsOf to (after_what file.geometry (state_now opening file) unit
+    (next_stamp file.entries after) what)
+    → IsStateOf opening (with_event after unit line what (with_memory file to))
+entered opening file to after line unit what is enters may none now =
+    let entry : Entry = entry_next file.entries after unit line what in
+    let whole : IsOf (with_event after unit line what (with_memory file to)) (after_what
+    file.geometry (state_now opening file) unit (next_stamp file.entries after) what) = record {
+      catalog = now.catalog;
+      locks = now.locks;
+      positions = now.positions;
+      numbers = now.numbers;
+      stopped = now.stopped;
+      alone = now.alone;
+      owned = now.owned;
+      locked = now.locked;
+      of_decks = now.of_decks;
+    } in
+    record {
+      legal = legal-append file.geometry opening file.entries entry is.legal enters may none;
+      now = subst (λ (s : State). IsOf (with_event after unit line what (with_memory file to)) s)
+          (sym (state_of-append file.geometry opening file.entries entry)) whole;
+    }
+
+-- a refusal
+pub refused_state : (opening : State) (file : FileNow) (after line : ℕ) (unit : UnitOfRecovery)
+    (request : Request) (refusal : Refusal) → IsStateOf opening file
+    → MayBeAsked opening file unit request (Refused refusal)
+    → stand_refused request refusal ≡ None → is_write_fault (Refused refusal) ≡ false
+    → IsStateOf opening (with_event after unit line (Asked request (Refused refusal))
+    (lets_go unit.deck request file))
+refused_state opening file after line unit request refusal is may stays none =
+    let state = state_now opening file in
+    let to = lets_go unit.deck request file in
+    entered opening file to after line unit (Asked request (Refused refusal)) is (
+      may.current,
+      may.reply_is,
+    ) may.goes_on (ap not none) (subst (λ (s : State). IsOf to s)
+    (sym (after_refused (case_of file.geometry state unit request) refusal stays))
+    (let_go_is file state unit.deck (file_of request) is.now))
+
+max_zero : (n : ℕ) → max n 0 ≡ n
+max_zero n = omega arith
+
+-- a fault of a write
+module _ (opening : State) (file : FileNow) (after line : ℕ) (unit : UnitOfRecovery)
+    (request : Request) (before : List Lock) (going : file.stopped ≡ None)
+    (is : IsStateOf opening (record file { locks = before }))
+    (may : MayBeAsked opening (record file { locks = before }) unit request
+    (Refused WriteFault)) where
+  abbrev was : State
+  was = state_now opening (record file { locks = before })
+
+  abbrev asked : Entry
+  asked = entry_next file.entries after unit line (Asked request (Refused WriteFault))
+
+  abbrev fault : Entry
+  fault = entry_next (file.entries ++ asked ∷ []) 0 unit line (Faulted Write)
+
+  abbrev dropped_state : State
+  dropped_state = drops_held unit.deck (file_of request) was
+
+  after_both : state_of file.geometry opening ((file.entries ++ asked ∷ []) ++ fault ∷ [])
+      ≡ stops fault.stamp dropped_state
+  after_both =
+      state_of-append file.geometry opening (file.entries ++ asked ∷ []) fault
+      ∙ ap (stops fault.stamp) (state_of-append file.geometry opening file.entries asked
+      ∙ after_refused (case_of file.geometry was unit request) WriteFault refl)
+
+  still_going : (deck : ℕ) (o : Option FileRef) → (drops_held deck o was).stopped ≡ None
+  still_going deck None = sym is.now.stopped ∙ going
+  still_going deck (Some on) = sym is.now.stopped ∙ going
+
+  may_fault : Step file.geometry (state_of file.geometry opening (file.entries ++ asked ∷ []))
+      fault
+  may_fault = (
+    refl,
+    ap (λ (s : State). s.stopped) (state_of-append file.geometry opening file.entries asked
+        ∙ after_refused (case_of file.geometry was unit request) WriteFault refl)
+        ∙ still_going unit.deck (file_of request),
+  )
+
+  at_next : fault.stamp ≡ asked.stamp + 1
+  at_next = ap (λ n. n + 1) (max_zero (last_stamp 0 (file.entries ++ asked ∷ []))
+      ∙ last_stamp-append 0 file.entries asked)
+
+  faulted_legal : IsLegal file.geometry opening ((file.entries ++ asked ∷ []) ++ fault ∷ [])
+  faulted_legal = record {
+    steps = steps-append file.geometry opening (file.entries ++ asked ∷ []) fault
+        (steps-append file.geometry opening file.entries asked is.legal.steps (
+          may.current,
+          may.reply_is,
+        )) may_fault;
+    backs_out = subst BackOutOnceBegun (sym (append_assoc file.entries (asked ∷ []) (fault ∷ [])))
+        (begun_more file.entries asked (fault ∷ []) (λ other. if_true (same_unit other unit))
+        is.legal.backs_out (
+          tt,
+          tt,
+        ) may.goes_on);
+    stops = subst StopAtWriteFaults (sym (append_assoc file.entries (asked ∷ []) (fault ∷ [])))
+        (stops-append file.entries (asked ∷ fault ∷ []) is.legal.stops (
+          λ met. (
+            at_next,
+            refl,
+          ),
+          (tt, tt),
+        ));
+  }
+
+  pub failed_state : IsStateOf opening (failed after unit line request file)
+  failed_state =
+      let now = let_go_is (record file { locks = before }) was unit.deck (file_of request)
+      is.now in
+      let stopped : IsOf (failed after unit line request file) (stops fault.stamp
+      dropped_state) = record {
+        catalog = now.catalog;
+        locks = λ none. absurd (none-some fault.stamp (sym none));
+        positions = now.positions;
+        numbers = now.numbers;
+        stopped = refl;
+        alone = now.alone;
+        owned = now.owned;
+        locked = now.locked;
+        of_decks = now.of_decks;
+      } in
+      record {
+        legal = faulted_legal;
+        now = subst (λ (s : State). IsOf (failed after unit line request file) s)
+            (sym after_both) stopped;
+      }
+
+-- the last stamp once an event is entered
+pub last_entered : (file : FileNow) (after line : ℕ) (unit : UnitOfRecovery) (what : What)
+    → last_stamp 0 (with_event after unit line what file).entries ≡ next_stamp file.entries after
+last_entered file after line unit what =
+    last_stamp-append 0 file.entries (entry_next file.entries after unit line what)

@@ -1,0 +1,193 @@
+-- What a volume has in memory of its record file, beside the records: catalog, locks, positions,
+-- unit numbers, the fault that stopped it and its history; and when that is what its history gives.
+-- The rules are those of the record file; how it is kept is this project's own.
+use Rattle.std.specs.Prelude.{◌≡◌, ◌⊎◌, ◌+◌, ◌-◌, ◌^◌, nat_lt, ℕ, max, Bool, true, false, not, ◌==◌, ◌&&◌, ◌||◌, List, []}
+use Rattle.std.specs.Prelude.{◌∷◌, ◌++◌, Option, Some, None, filter, find, map, if◌then◌else◌}
+use Rattle.std.specs.List.{AllByRecursion, list_any}
+use Rattle.std.specs.Option.{option_and_then, option_map_or}
+use Rattle.vr_browse.specs.Positions.{position_of, without_deck, without_held}
+use Rattle.vr_browse.specs.declared.positions.FilePosition.{FilePosition}
+use Rattle.vr_catalog.specs.declared.entry.CatEntry.{CatEntry}
+use Rattle.vr_types.specs.Locks.{Lock, same_unit}
+use Rattle.vr_types.specs.declared.geometry.Geometry.{Geometry}
+use Rattle.vr_types.specs.declared.lock_name.LockName.TheVariants.{Record}
+use Rattle.vr_types.specs.declared.fault.DeviceFault.TheVariants.{Write}
+use Rattle.vr_types.specs.declared.reply.Refusal.TheVariants.{WriteFault}
+use Rattle.vr_types.specs.declared.reply.Reply.{Reply}
+use Rattle.vr_types.specs.declared.reply.Reply.TheVariants.{Refused}
+use Rattle.vr_types.specs.declared.request.FileRef.{FileRef}
+use Rattle.vr_types.specs.declared.request.Request.{Request}
+use Rattle.vr_types.specs.declared.request.Request.TheVariants.{Commit, Backout}
+use Rattle.vr_history.specs.Case.{file_of}
+use Rattle.vr_types.specs.declared.unit.Unit.{Unit as UnitOfRecovery}
+use Rattle.vr_history.specs.declared.entry.Entry.{Entry}
+use Rattle.vr_history.specs.declared.entry.What.{What}
+use Rattle.vr_history.specs.declared.entry.What.TheVariants.{Asked, Undone, Claimed, Split, Faulted}
+use Rattle.vr_history.specs.Effects.{has_part, is_other, parts_laid}
+use Rattle.vr_history.specs.Legal.{IsLegal, is_backout, state_of}
+use Rattle.vr_history.specs.Merged.{last_stamp}
+use Rattle.vr_history.specs.Opened.{catalog_of}
+use Rattle.vr_history.specs.Replies.{MayReply}
+use Rattle.vr_history.specs.State.{Logged, State}
+use Rattle.vr_history.specs.Step.{IsOfUnit, case_of}
+use Rattle.vr_answer.specs.Kept.{is_under}
+use Rattle.vr_answer.specs.Scope.{HasClustersAlone}
+use Rattle.vr_record_file.specs.declared.numbers.DeckNumber.{DeckNumber}
+
+-- what it is seen as
+pub record FileNow : Type 0 where
+  pub geometry : Geometry
+  pub catalog : List CatEntry
+  pub locks : List Lock
+  pub files : List FilePosition
+  -- the decks that were entered, with the numbers of their units
+  pub numbers : List DeckNumber
+  pub stopped : Option ℕ
+  pub entries : List Entry
+  -- for how many more entries, and files, there is room
+  pub room : ℕ
+  pub files_room : ℕ
+
+-- the number of a deck's unit: the first, where it wasn't entered
+abbrev pub is_of_deck : ℕ → DeckNumber → Bool
+is_of_deck deck number = number.deck == deck
+
+abbrev pub number_of : List DeckNumber → ℕ → ℕ
+number_of numbers deck =
+    option_map_or (λ (number : DeckNumber). number.number) (find (is_of_deck deck) numbers) 1
+
+-- a deck was entered
+abbrev pub has_deck : ℕ → List DeckNumber → Bool
+has_deck deck numbers = list_any (is_of_deck deck) numbers
+
+-- the deck's next unit begins; the last number stays
+abbrev pub raised_for : ℕ → DeckNumber → DeckNumber
+raised_for deck number =
+    if number.deck == deck
+      && nat_lt number.number (2 ^ 32 - 1) then record number { number = number.number + 1 } else
+    number
+
+-- the place that the file of a request holds for update
+abbrev pub held_in : List FilePosition → ℕ → Option FileRef → Option (List ℕ)
+held_in files deck on =
+    option_and_then (λ (file : FileRef). (position_of files deck file.slot).held) on
+
+-- the state that its history gives
+abbrev pub state_now : State → FileNow → State
+state_now opening file = state_of file.geometry opening file.entries
+
+-- ---- what goes on from one entry to the next
+
+-- a place that the log has is under its unit's exclusive lock
+abbrev pub IsLockedIn : List Lock → Logged → Type 0
+IsLockedIn locks logged =
+    list_any (is_under logged.unit (Record (record { 0 = logged.part }) logged.place)) locks ≡ true
+
+-- it is of a deck, and not of the utilities; nor is it in the catalog
+abbrev pub IsOfDeck : Logged → Type 0
+IsOfDeck logged = ((logged.unit.deck == 0) ≡ false) × ((logged.part == 0) ≡ false)
+
+-- A unit that has put a before-image back asks for BACKOUT next: it has begun to undo until its
+-- next request.
+abbrev pub undoing_after : UnitOfRecovery → Bool → Entry → What → Bool
+undoing_after unit before entry (Asked request reply) =
+    before && not (same_unit unit entry.unit)
+undoing_after unit before entry (Undone part place) = before || same_unit unit entry.unit
+undoing_after unit before entry (Claimed part area) = before
+undoing_after unit before entry (Split part) = before
+undoing_after unit before entry (Faulted fault) = before
+
+abbrev pub is_undoing_from : UnitOfRecovery → Bool → List Entry → Bool
+is_undoing_from unit before [] = before
+is_undoing_from unit before (entry ∷ entries) =
+    is_undoing_from unit (undoing_after unit before entry entry.what) entries
+
+abbrev pub is_undoing : UnitOfRecovery → List Entry → Bool
+is_undoing unit entries = is_undoing_from unit false entries
+
+-- ---- the record file in memory
+
+-- What is in memory is what this state has, and the state is one that only decks have changed. Once
+-- the volume has stopped, no answer looks at locks.
+pub record IsOf (file : FileNow) (state : State) : Type 0 where
+  pub catalog : file.catalog ≡ catalog_of state
+  pub locks : file.stopped ≡ None → file.locks ≡ state.locks
+  pub positions : (deck slot : ℕ) → position_of file.files deck slot
+      ≡ state.positions deck slot
+  pub numbers : (deck : ℕ) → number_of file.numbers deck ≡ state.numbers deck
+  pub stopped : file.stopped ≡ state.stopped
+  pub alone : HasClustersAlone state
+  pub owned : AllByRecursion (λ owned. has_part (parts_laid file.catalog) owned.part ≡ true)
+      state.owned
+  pub locked : AllByRecursion (IsLockedIn state.locks) state.logged
+  pub of_decks : AllByRecursion IsOfDeck state.logged
+
+-- Its history is legal from this opening, and what is in memory is what it gives.
+pub record IsStateOf (opening : State) (file : FileNow) : Type 0 where
+  pub legal : IsLegal file.geometry opening file.entries
+  pub now : IsOf file (state_now opening file)
+
+-- A request may be entered with this reply: it is of its deck's current unit, which asks for BACKOUT
+-- where it has begun to undo.
+pub record MayBeAsked (opening : State) (file : FileNow) (unit : UnitOfRecovery) (request : Request)
+    (reply : Reply) : Type 0 where
+  pub current : IsOfUnit (state_now opening file) unit
+  pub of_deck : (unit.deck == 0) ≡ false
+  pub reply_is : MayReply (case_of file.geometry (state_now opening file) unit request) reply
+  pub goes_on : (is_undoing unit file.entries ≡ false) ⊎ (is_backout request ≡ true)
+
+-- the next stamp: above those of its history, and above one that is handed in
+abbrev pub next_stamp : List Entry → ℕ → ℕ
+next_stamp entries after = max (last_stamp 0 entries) after + 1
+
+-- the entry of an event, at the next stamp
+abbrev pub entry_next : List Entry → ℕ → UnitOfRecovery → ℕ → What → Entry
+entry_next entries after unit line what =
+    record { stamp = next_stamp entries after; unit = unit; line = line; what = what }
+
+-- the record file with an event more in its history, and nothing else changed
+abbrev pub with_event : ℕ → UnitOfRecovery → ℕ → What → FileNow → FileNow
+with_event after unit line what file =
+    record file {
+      entries = file.entries ++ entry_next file.entries after unit line what ∷ [];
+      room = file.room - 1;
+    }
+
+-- the record file with what is in memory changed, and its history as it was
+abbrev pub with_memory : FileNow → FileNow → FileNow
+with_memory file to = record to { geometry = file.geometry; entries = file.entries }
+
+-- what a request's file holds for update is dropped
+abbrev pub files_let_go : ℕ → Option FileRef → List FilePosition → List FilePosition
+files_let_go deck None files = files
+files_let_go deck (Some on) files = without_held deck on.slot files
+
+abbrev pub lets_go : ℕ → Request → FileNow → FileNow
+lets_go deck request file =
+    record file { files = files_let_go deck (file_of request) file.files }
+
+-- A write failed: the request is refused, and at the next stamp the fault stops the volume.
+abbrev pub asked_failing : ℕ → UnitOfRecovery → ℕ → Request → FileNow → FileNow
+asked_failing after unit line request file =
+    with_event after unit line (Asked request (Refused WriteFault))
+    (lets_go unit.deck request file)
+
+abbrev pub failed : ℕ → UnitOfRecovery → ℕ → Request → FileNow → FileNow
+failed after unit line request file =
+    let asked = asked_failing after unit line request file in
+    record (with_event 0 unit line (Faulted Write) asked) {
+      stopped = Some (next_stamp asked.entries 0);
+    }
+
+-- a unit ends: its locks go, its deck's files let go what they hold, and its deck's number rises
+abbrev pub ended : UnitOfRecovery → FileNow → FileNow
+ended unit file =
+    record file {
+      locks = filter (λ lock. is_other unit lock.unit) file.locks;
+      files = without_deck unit.deck file.files;
+      numbers = map (raised_for unit.deck) file.numbers;
+    }
+
+-- a request that ends its unit
+abbrev pub EndsUnit : Request → Type 0
+EndsUnit request = (request ≡ Commit) ⊎ (request ≡ Backout)

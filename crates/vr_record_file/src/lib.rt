@@ -1,0 +1,13 @@
+//! The record file in memory: what a volume has in memory of its state beside the records, its
+//! catalog, locks, positions, unit numbers, the fault that stopped it and its history. It stands on
+//! the record file's definition (vr_history), the answers to requests (vr_answer), the lock table
+//! (vr_locks) and positions (vr_browse), and on no device.
+#![tactic(auto)]
+
+mod asked;
+mod ending;
+mod file;
+mod numbers;
+mod refusing;
+
+pub use file::RecordFile;
