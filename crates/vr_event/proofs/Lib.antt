@@ -8,3 +8,4 @@ pub mod Recorded
 pub mod Rooms
 pub mod Kept
 pub mod Setting
+mod Like

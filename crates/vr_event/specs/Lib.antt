@@ -3,3 +3,5 @@ pub mod Parts
 pub mod Room
 pub mod Cause
 pub mod Changing
+pub mod Volume
+pub mod Alike

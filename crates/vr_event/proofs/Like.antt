@@ -1,0 +1,95 @@
+-- A store that is a state's is that of each state which differs in nothing that it knows of.
+use Rattle.std.proofs.Common.{◌≡◌, ℕ, List, Option, refl, subst, sym}
+use Rattle.std.specs.Prelude.{All}
+use Rattle.std.proofs.lemmas.List.Elements.{All-weaker}
+use Rattle.vr_types.specs.Content.{Content}
+use Rattle.vr_types.specs.Locks.{Lock}
+use Rattle.vr_types.specs.Seen.{Seen}
+use Rattle.vr_types.specs.declared.position.Position.{Position}
+use Rattle.vr_history.specs.State.{BeforeImage, Logged, Owned, State}
+use Rattle.vr_volume.specs.Committed.{HasLogged, IsKeptIn, IsLaidState}
+use Rattle.vr_volume.specs.Rests.{IsPartAtRest, IsVolumeAtRest}
+use Rattle.vr_undo.specs.Records.{images_in}
+use Rattle.vr_event.specs.Alike.{AreAlike}
+use Rattle.vr_event.specs.Store.{IsRestedPart, IsStored, PartNow, StoreNow}
+
+-- the state with other locks, positions, areas and stop
+abbrev other : State → State → State
+other old new = record old {
+  locks = new.locks;
+  positions = new.positions;
+  owned = new.owned;
+  stopped = new.stopped;
+}
+
+module _ (number : ℕ) (store : StoreNow) (old new : State) (now : Seen)
+    (stored : IsStored number store old now) where
+  laid_other : IsLaidState store.log.geometry (other old new)
+  laid_other =
+      let laid = stored.volume.laid in
+      record {
+        each = laid.each;
+        catalog = laid.catalog;
+        apart = laid.apart;
+        others = laid.others;
+        kept = All-weaker (IsKeptIn store.log.geometry old)
+            (IsKeptIn store.log.geometry (other old new))
+            (λ image kept. record {
+              not_catalog = kept.not_catalog;
+              shape = kept.shape;
+              laid = kept.laid;
+              place = kept.place;
+            }) old.befores laid.kept;
+      }
+
+  logged_other : HasLogged store.log (other old new)
+  logged_other =
+      let logged = stored.volume.logged in
+      record {
+        alone = logged.alone;
+        once = logged.once;
+        kept = logged.kept;
+        back = logged.back;
+        logged = logged.logged;
+        live = logged.live;
+        used = logged.used;
+        ended = logged.ended;
+        current = logged.current;
+      }
+
+  stored_other : IsStored number store (other old new) now
+  stored_other = record {
+    volume = record {
+      safe = stored.volume.safe;
+      stands = stored.volume.stands;
+      sound = stored.volume.sound;
+      forced = stored.volume.forced;
+      laid = laid_other;
+      logged = logged_other;
+      kept = stored.volume.kept;
+    };
+    parts = All-weaker (IsRestedPart store old now) (IsRestedPart store (other old new) now)
+        (λ part rested. record {
+          laid = rested.laid;
+          on = rested.on;
+          rests = rested.rests;
+          room = rested.room;
+          knows = rested.knows;
+          reads = rested.reads;
+        }) store.parts stored.parts;
+    whole = stored.whole;
+    befores = stored.befores;
+    logged = stored.logged;
+    due = stored.due;
+  }
+
+-- what is the same of two states makes one of the other
+same_state : (old new : State) → AreAlike old new → other old new ≡ new
+same_state old new alike = cc (alike.contents, alike.befores, alike.logged, alike.used, alike.numbers)
+
+-- a store is that of a state that is alike
+pub stored-alike : (number : ℕ) (store : StoreNow) (old new : State) (now : Seen)
+    → AreAlike old new → IsStored number store old now → IsStored number store new now
+stored-alike number store old new now alike stored =
+    subst (λ (s : State). IsStored number store s now) (same_state old new alike)
+    (stored_other number store old new now stored)

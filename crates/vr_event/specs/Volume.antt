@@ -1,0 +1,45 @@
+-- A volume between two events: what it has in memory is what its history gives from its opening, and
+-- its blocks are at rest by that state. The rules are this project's own.
+use Rattle.std.specs.Prelude.{◌≡◌, ◌≢◌, ◌⊎◌, ℕ, Bool, IsTrue, List, Option, Some, None, All}
+use Rattle.vr_types.specs.Content.{item_at}
+use Rattle.vr_types.specs.Image.{Image}
+use Rattle.vr_types.specs.Seen.{Left, Seen}
+use Rattle.vr_types.specs.Space.{free_count}
+use Rattle.vr_types.specs.declared.geometry.Geometry.{Geometry}
+use Rattle.vr_types.specs.declared.unit.Unit.{Unit as UnitOfRecovery}
+use Rattle.vr_history.specs.RefusedRoom.{free_areas}
+use Rattle.vr_history.specs.State.{State}
+use Rattle.vr_history.specs.Step.{case_of}
+use Rattle.vr_types.specs.declared.request.Request.TheVariants.{Commit}
+use Rattle.vr_record_file.specs.Now.{FileNow, IsStateOf, state_now}
+use Rattle.vr_volume.specs.Laid.{shape_in}
+use Rattle.vr_event.specs.Store.{IsSet, IsStored, StoreNow, shape_among}
+
+-- what a volume is seen as, beside its blocks
+pub record VolumeNow : Type 0 where
+  pub number : ℕ
+  pub store : StoreNow
+  pub file : FileNow
+
+-- Whether or not the device reports its contents: as long as no write failed, the store is set; its
+-- parts are those of the catalog.
+pub record IsWhole (volume : VolumeNow) (now : Seen) : Type 0 where
+  pub geometry : volume.store.log.geometry ≡ volume.file.geometry
+  pub laid : (part : ℕ) → shape_among volume.store.parts part
+      ≡ shape_in volume.file.geometry volume.file.catalog part
+  pub set : volume.file.stopped ≡ None → IsSet volume.store now
+
+-- Where it does: the history is legal from this opening and gives what is in memory, and, as long as
+-- no write failed, the volume is at rest by the state that it gives.
+pub record IsHeld (opening : State) (volume : VolumeNow) (now : Seen) : Type 0 where
+  pub file : IsStateOf opening volume.file
+  pub free : free_count volume.store.space
+      ≡ free_areas (case_of volume.file.geometry (state_now opening volume.file)
+      (record { deck = 0; number = 0 }) Commit)
+  pub stored : volume.file.stopped ≡ None
+      → IsStored volume.number volume.store (state_now opening volume.file) now
+
+-- it is so from some opening
+pub record Holds (volume : VolumeNow) (now : Seen) : Type 0 where
+  pub opening : State
+  pub held : IsHeld opening volume now
