@@ -59,6 +59,9 @@ held-record (KeyedShape part) content place found is =
 
 -- ---- in a store
 
+abbrev part-no : ℕ → PartNo
+part-no n = record { 0 = n }
+
 module _ (store : StoreNow) (now : Seen) (set : IsSet store now) where
   -- the part that is found is at rest
   pub rested-at : (volume : ℕ) (state : State) (number : ℕ) (part : PartNow)
@@ -76,6 +79,11 @@ module _ (store : StoreNow) (now : Seen) (set : IsSet store now) where
       → (part_no part.shape).0 ≡ number
   number-at number part found = ap (λ (n : PartNo). n.0) (set-at number part found).number
       ∙ among-number store.parts number part found
+
+  pub part-number-at : (number : PartNo) (part : PartNow)
+      → part_among store.parts number.0 ≡ Some part → part_no part.shape ≡ number
+  part-number-at number part found =
+      ap (λ (n : ℕ). part-no n) (number-at number.0 part found)
 
   -- its blocks stand for a content
   pub stand-at : (number : ℕ) (part : PartNow) → part_among store.parts number ≡ Some part
