@@ -1,6 +1,7 @@
 -- A part put in the place of the one that has its number.
 use Rattle.std.proofs.Common.{◌≡◌, ◌≢◌, ◌<◌, ◌+◌, ℕ, Bool, true, false, cond, not, List, [], ◌∷◌}
-use Rattle.std.proofs.Common.{Option, Some, None, refl, sym, ap, subst, ◌∙◌, arith, length, map, set}
+use Rattle.std.proofs.Common.{Option, Some, None, refl, sym, ap, subst, ◌∙◌, arith, length, map}
+use Rattle.std.proofs.Common.{set}
 use Rattle.std.proofs.Common.{nat_eq, ◌==◌, ◌≤◌, get_or, suc}
 use Rattle.std.specs.Prelude.{All}
 use Rattle.std.specs.List.{AllByRecursion, IsDistinct, position_or_len, slice_get}
@@ -183,27 +184,27 @@ others-with number after same (one ∷ parts) other apart =
 -- a part is found among parts that have the same numbers
 module _ (f : PartNow → PartNow) (numbers : (part : PartNow) → (f part).number.0 ≡ part.number.0)
   where
-  among-map : (parts : List PartNow) (number : ℕ)
-      → part_among (map f parts) number ≡ option_map f (part_among parts number)
-  among-map [] number = refl
-  among-map (one ∷ parts) number =
-      ap (λ (n : ℕ). cond (n == number) (Some (f one)) (part_among (map f parts) number))
-      (numbers one)
-      ∙ by_test (has_number number one) (among-map parts number)
-    where
-      by_test : (test : Bool) → part_among (map f parts) number
-          ≡ option_map f (part_among parts number)
-          → cond test (Some (f one)) (part_among (map f parts) number)
-          ≡ option_map f (cond test (Some one) (part_among parts number))
-      by_test true further = refl
-      by_test false further = further
+    among-map : (parts : List PartNow) (number : ℕ)
+        → part_among (map f parts) number ≡ option_map f (part_among parts number)
+    among-map [] number = refl
+    among-map (one ∷ parts) number =
+        ap (λ (n : ℕ). cond (n == number) (Some (f one)) (part_among (map f parts) number))
+        (numbers one)
+        ∙ by_test (has_number number one) (among-map parts number)
+      where
+        by_test : (test : Bool) → part_among (map f parts) number
+            ≡ option_map f (part_among parts number)
+            → cond test (Some (f one)) (part_among (map f parts) number)
+            ≡ option_map f (cond test (Some one) (part_among parts number))
+        by_test true further = refl
+        by_test false further = further
 
-  pub among-same : (one other : List PartNow) → map f one ≡ map f other → (number : ℕ)
-      → option_map f (part_among one number) ≡ option_map f (part_among other number)
-  among-same one other same number =
-      sym (among-map one number)
-      ∙ ap (λ (parts : List PartNow). part_among parts number) same
-      ∙ among-map other number
+    pub among-same : (one other : List PartNow) → map f one ≡ map f other → (number : ℕ)
+        → option_map f (part_among one number) ≡ option_map f (part_among other number)
+    among-same one other same number =
+        sym (among-map one number)
+        ∙ ap (λ (parts : List PartNow). part_among parts number) same
+        ∙ among-map other number
 
 shape-but : (found : Option PartNow) → option_map (λ (part : PartNow). part.shape) found
     ≡ option_map (λ (part : PartNow). part.shape) (option_map but_split found)

@@ -1,11 +1,11 @@
 -- The record that is read at a place of a store.
-use Rattle.std.proofs.Common.{◌≡◌, ℕ, IsTrue, List, [], ◌∷◌, Option, Some, None, refl, sym, ap, ◌∙◌}
+use Rattle.std.proofs.Common.{◌≡◌, ℕ, List, [], ◌∷◌, Option, Some, None, refl, sym, ap, ◌∙◌}
 use Rattle.std.proofs.Common.{subst}
 use Rattle.std.specs.Prelude.{IfSome}
 use Rattle.std.specs.Option.{option_and_then, option_map}
 use Rattle.std.specs.declared.cmp.Ordering.{Ordering}
 use Rattle.std.specs.declared.cmp.Ordering.TheVariants.{Less, Equal, Greater}
-use Rattle.vr_types.specs.Content.{Content, Item, Standing, found_by, item_at, place_cmp, record_at}
+use Rattle.vr_types.specs.Content.{Content, Standing, found_by, item_at, place_cmp, record_at}
 use Rattle.vr_types.specs.Content.{record_of}
 use Rattle.vr_types.specs.Seen.{Left, Seen}
 use Rattle.vr_space.specs.Part.{KeyedShape, Shape, Stands as StandFor, item_of}
@@ -13,8 +13,8 @@ use Rattle.vr_space.proofs.CallerLemmas.{rest-sound, rest-stands}
 use Rattle.vr_history.specs.State.{State}
 use Rattle.vr_volume.specs.Laid.{shape_by}
 use Rattle.vr_volume.specs.Safe.{item_held}
-use Rattle.vr_undo.specs.Records.{images_in}
-use Rattle.vr_event.specs.Store.{IsPartSet, IsRestedPart, IsSet, IsStored, PartNow, Stands, StoreNow}
+use Rattle.vr_event.specs.Store.{IsPartSet, IsRestedPart, IsSet, IsStored, PartNow, Stands}
+use Rattle.vr_event.specs.Store.{StoreNow}
 use Rattle.vr_event.specs.Store.{part_among, shape_among}
 use Rattle.vr_event.proofs.Among.{among-all, among-number}
 use Rattle.vr_types.specs.declared.unit.PartNo.{PartNo}
