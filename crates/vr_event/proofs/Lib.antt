@@ -8,4 +8,5 @@ pub mod Recorded
 pub mod Rooms
 pub mod Kept
 pub mod Setting
-mod Like
+pub mod Like
+pub mod Entering

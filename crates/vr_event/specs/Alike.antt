@@ -3,7 +3,7 @@
 use Rattle.std.specs.Prelude.{◌≡◌}
 use Rattle.vr_history.specs.State.{State}
 
--- Records, before-images, what the log has and unit numbers are the same; locks, positions, areas
+-- Records, before-images, what the log has, unit numbers and areas are the same; locks, positions
 -- and the stop may differ.
 pub record AreAlike (old new : State) : Type 0 where
   pub contents : new.contents ≡ old.contents
@@ -11,3 +11,4 @@ pub record AreAlike (old new : State) : Type 0 where
   pub logged : new.logged ≡ old.logged
   pub used : new.used ≡ old.used
   pub numbers : new.numbers ≡ old.numbers
+  pub owned : new.owned ≡ old.owned

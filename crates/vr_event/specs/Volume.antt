@@ -15,31 +15,33 @@ use Rattle.vr_record_file.specs.Now.{FileNow, IsStateOf, state_now}
 use Rattle.vr_volume.specs.Laid.{shape_in}
 use Rattle.vr_event.specs.Store.{IsSet, IsStored, StoreNow, shape_among}
 
--- what a volume is seen as, beside its blocks
-pub record VolumeNow : Type 0 where
+-- what a volume is seen as
+pub record VolumeNow (B : Type 0) : Type 0 where
+  pub blocks : B
   pub number : ℕ
   pub store : StoreNow
   pub file : FileNow
 
 -- Whether or not the device reports its contents: as long as no write failed, the store is set; its
 -- parts are those of the catalog.
-pub record IsWhole (volume : VolumeNow) (now : Seen) : Type 0 where
+pub record IsWhole {B : Type 0} (seen : B → Seen) (volume : VolumeNow B) : Type 0 where
   pub geometry : volume.store.log.geometry ≡ volume.file.geometry
   pub laid : (part : ℕ) → shape_among volume.store.parts part
       ≡ shape_in volume.file.geometry volume.file.catalog part
-  pub set : volume.file.stopped ≡ None → IsSet volume.store now
+  pub set : volume.file.stopped ≡ None → IsSet volume.store (seen volume.blocks)
 
 -- Where it does: the history is legal from this opening and gives what is in memory, and, as long as
 -- no write failed, the volume is at rest by the state that it gives.
-pub record IsHeld (opening : State) (volume : VolumeNow) (now : Seen) : Type 0 where
-  pub file : IsStateOf opening volume.file
-  pub free : free_count volume.store.space
-      ≡ free_areas (case_of volume.file.geometry (state_now opening volume.file)
-      (record { deck = 0; number = 0 }) Commit)
-  pub stored : volume.file.stopped ≡ None
-      → IsStored volume.number volume.store (state_now opening volume.file) now
+pub record IsHeld {B : Type 0} (seen : B → Seen) (opening : State) (volume : VolumeNow B) : Type 0
+  where
+    pub file : IsStateOf opening volume.file
+    pub free : free_count volume.store.space
+        ≡ free_areas (case_of volume.file.geometry (state_now opening volume.file)
+        (record { deck = 0; number = 0 }) Commit)
+    pub stored : volume.file.stopped ≡ None → IsStored volume.number volume.store
+        (state_now opening volume.file) (seen volume.blocks)
 
 -- it is so from some opening
-pub record Holds (volume : VolumeNow) (now : Seen) : Type 0 where
+pub record Holds {B : Type 0} (seen : B → Seen) (volume : VolumeNow B) : Type 0 where
   pub opening : State
-  pub held : IsHeld opening volume now
+  pub held : IsHeld seen opening volume

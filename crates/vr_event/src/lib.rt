@@ -9,8 +9,11 @@ mod no;
 mod parts;
 mod preparing;
 mod reading;
+mod refusing;
 mod staging;
 mod store;
+mod volume;
 
 pub use no::LookNo;
 pub use store::Store;
+pub use volume::Volume;
