@@ -16,7 +16,12 @@ use Rattle.vr_history.specs.State.{State}
 use Rattle.vr_history.specs.Step.{after_what, case_of, stand_refused, state_after}
 use Rattle.vr_history.proofs.CallerLemmas.{state_of-append}
 use Rattle.vr_answer.proofs.CallerLemmas.{after_refused}
+use Rattle.vr_types.specs.Seen.{Seen}
+use Rattle.vr_types.specs.declared.unit.Unit.{Unit as UnitOfRecovery}
+use Rattle.vr_record_file.specs.Now.{FileNow, IsStateOf, entry_next, lets_go, state_now, with_event}
 use Rattle.vr_event.specs.Alike.{AreAlike}
+use Rattle.vr_event.specs.Volume.{IsHeld, VolumeNow}
+use Rattle.vr_event.proofs.Like.{stored-alike}
 
 -- a file that lets go
 alike_dropped : (deck : ℕ) (file : Option FileRef) (state : State)
@@ -38,3 +43,36 @@ alike_refused geometry opening entries entry request refusal what stays =
     ∙ after_refused (case_of geometry before entry.unit request) refusal stays in
     subst (AreAlike before) (sym leaves)
     (alike_dropped entry.unit.deck (file_of request) before)
+
+-- ---- a volume that is held
+
+-- An event that touches no block and leaves the state alike leaves a volume that is held so.
+pub held-alike : {B : Type 0} (seen : B → Seen) (opening : State) (volume : VolumeNow B)
+    (to : FileNow) → to.geometry ≡ volume.file.geometry → to.stopped ≡ volume.file.stopped
+    → AreAlike (state_now opening volume.file) (state_now opening to)
+    → IsHeld seen opening volume → IsStateOf opening to
+    → IsHeld seen opening (record volume { file = to })
+held-alike seen opening volume to geometry stopped alike held file = record {
+  file = file;
+  free = cc (held.free, geometry, alike.owned);
+  stored = λ going. stored-alike volume.number volume.store (state_now opening volume.file)
+      (state_now opening to) (seen volume.blocks) alike (held.stored (sym stopped ∙ going));
+}
+
+-- so does a request that is refused
+pub held-refused : {B : Type 0} (seen : B → Seen) (opening : State) (volume : VolumeNow B)
+    (to : FileNow) (after : ℕ) (unit : UnitOfRecovery) (line : ℕ) (request : Request)
+    (refusal : Refusal) → to ≡ with_event after unit line (Asked request (Refused refusal))
+    (lets_go unit.deck request volume.file)
+    → stand_refused request refusal ≡ None → IsHeld seen opening volume → IsStateOf opening to
+    → IsHeld seen opening (record volume { file = to })
+held-refused seen opening volume to after unit line request refusal leaves stays held file =
+    let gone : FileNow = lets_go unit.deck request volume.file in
+    let entered : FileNow = with_event after unit line (Asked request (Refused refusal)) gone in
+    held-alike seen opening volume to (ap (λ (f : FileNow). f.geometry) leaves)
+    (ap (λ (f : FileNow). f.stopped) leaves)
+    (subst (λ (f : FileNow). AreAlike (state_now opening volume.file) (state_now opening f))
+    (sym leaves)
+    (alike_refused volume.file.geometry opening volume.file.entries
+    (entry_next gone.entries after unit line (Asked request (Refused refusal))) request refusal refl
+    stays)) held file

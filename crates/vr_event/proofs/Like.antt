@@ -1,5 +1,5 @@
 -- A store that is a state's is that of each state which differs in nothing that it knows of.
-use Rattle.std.proofs.Common.{◌≡◌, ℕ, List, Option, refl, subst, sym}
+use Rattle.std.proofs.Common.{◌≡◌, ◌∙◌, ℕ, List, ap, subst, sym}
 use Rattle.std.specs.Prelude.{All}
 use Rattle.std.proofs.lemmas.List.Elements.{All-weaker}
 use Rattle.vr_types.specs.Content.{Content}
@@ -84,8 +84,27 @@ module _ (number : ℕ) (store : StoreNow) (old new : State) (now : Seen)
   }
 
 -- what is the same of two states makes one of the other
+abbrev with_fields : State → (ℕ → Content) → List BeforeImage → List Logged → ℕ → (ℕ → ℕ) → State
+with_fields new contents befores logged used numbers = record new {
+  contents = contents;
+  befores = befores;
+  logged = logged;
+  used = used;
+  numbers = numbers;
+}
+
 same_state : (old new : State) → AreAlike old new → other old new ≡ new
-same_state old new alike = cc (alike.contents, alike.befores, alike.logged, alike.used, alike.numbers)
+same_state old new alike =
+    ap (λ (c : ℕ → Content). with_fields new c old.befores old.logged old.used old.numbers)
+    (sym alike.contents)
+    ∙ ap (λ (b : List BeforeImage). with_fields new new.contents b old.logged old.used old.numbers)
+    (sym alike.befores)
+    ∙ ap (λ (l : List Logged). with_fields new new.contents new.befores l old.used old.numbers)
+    (sym alike.logged)
+    ∙ ap (λ (u : ℕ). with_fields new new.contents new.befores new.logged u old.numbers)
+    (sym alike.used)
+    ∙ ap (λ (n : ℕ → ℕ). with_fields new new.contents new.befores new.logged new.used n)
+    (sym alike.numbers)
 
 -- a store is that of a state that is alike
 pub stored-alike : (number : ℕ) (store : StoreNow) (old new : State) (now : Seen)
