@@ -1,3 +1,4 @@
+pub mod Changes
 pub mod Ends
 pub mod Legal
 pub mod Resting

@@ -5,6 +5,7 @@
 #![tactic(auto)]
 
 mod asked;
+mod changing;
 mod ending;
 mod file;
 mod numbers;
