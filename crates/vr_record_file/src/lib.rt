@@ -9,6 +9,7 @@ mod changing;
 mod ending;
 mod file;
 mod numbers;
+mod reading;
 mod refusing;
 
 pub use file::RecordFile;
