@@ -46,7 +46,7 @@ only_positions deck (Some on) state = refl
 -- A change is made.
 module _ (case : Case) (place : List ℕ) (alone : HasClustersAlone case.state)
     (at : place_changed case ≡ Some place) where
-  names_at : change_names case ≡ record_name case place ∷ []
+  pub names_at : change_names case ≡ record_name case place ∷ []
   names_at =
       ap (λ (moves : List PairMove). map (record_name case) (option_to_list (place_changed case))
       ++ flat_map keys_moved (filter (λ move. move.alternate.unique) moves))

@@ -29,7 +29,7 @@ use Rattle.vr_answer.specs.Looked.{place_looked_at}
 use Rattle.vr_answer.specs.Tried.{file_refusals, record_refusals}
 -- what an entry leaves
 pub use Rattle.vr_answer.proofs.AfterLemmas.{after_backout, after_change, after_commit}
-pub use Rattle.vr_answer.proofs.AfterLemmas.{after_endreq, after_read, after_refused}
+pub use Rattle.vr_answer.proofs.AfterLemmas.{after_endreq, after_read, after_refused, names_at}
 -- before-images are under locks, and locks are taken as the record file says
 pub use Rattle.vr_answer.proofs.KeptLemmas.{kept_in_the_way, kept_throughout}
 -- an exclusive lock is there once it is taken, stays as others are taken, and as another unit ends

@@ -1,4 +1,6 @@
+pub mod Changes
 pub mod Ends
 pub mod Legal
+pub mod Placed
 pub mod Resting
 pub mod Steps

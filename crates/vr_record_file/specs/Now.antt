@@ -1,23 +1,31 @@
 -- What a volume has in memory of its record file, beside the records: catalog, locks, positions,
 -- unit numbers, the fault that stopped it and its history; and when that is what its history gives.
 -- The rules are those of the record file; how it is kept is this project's own.
-use Rattle.std.specs.Prelude.{◌≡◌, ◌⊎◌, ◌+◌, ◌-◌, ◌^◌, nat_lt, ℕ, max, Bool, true, false, not, ◌==◌, ◌&&◌, ◌||◌, List, []}
+use Rattle.std.specs.Prelude.{◌≡◌, ◌⊎◌, ◌+◌, ◌-◌, ◌^◌, ◌<◌, IsSome, nat_lt, ℕ, max, Bool, true, false, not, ◌==◌, ◌&&◌, ◌||◌, List, []}
 use Rattle.std.specs.Prelude.{◌∷◌, ◌++◌, Option, Some, None, filter, find, map, if◌then◌else◌}
 use Rattle.std.specs.List.{AllByRecursion, list_any}
 use Rattle.std.specs.Option.{option_and_then, option_map_or}
-use Rattle.vr_browse.specs.Positions.{position_of, without_deck, without_held}
+use Rattle.vr_browse.specs.Positions.{position_at, position_of, without_deck, without_held}
 use Rattle.vr_browse.specs.declared.positions.FilePosition.{FilePosition}
 use Rattle.vr_catalog.specs.declared.entry.CatEntry.{CatEntry}
-use Rattle.vr_types.specs.Locks.{Lock, same_unit}
+use Rattle.vr_types.specs.Locks.{Lock, conflict_on, same_unit}
 use Rattle.vr_types.specs.declared.geometry.Geometry.{Geometry}
+use Rattle.vr_types.specs.declared.lock_name.LockName.{LockName}
 use Rattle.vr_types.specs.declared.lock_name.LockName.TheVariants.{Record}
+use Rattle.vr_types.specs.declared.position.Position.{Position}
+use Rattle.vr_types.specs.declared.position.Stand.{Stand}
+use Rattle.vr_types.specs.declared.unit.Integrity.{Integrity}
+use Rattle.vr_types.specs.declared.unit.Integrity.TheVariants.{Nri, Cr, Cre}
+use Rattle.vr_types.specs.declared.unit.Mode.{Mode}
+use Rattle.vr_types.specs.declared.unit.Mode.TheVariants.{Shared, Exclusive}
 use Rattle.vr_types.specs.declared.fault.DeviceFault.TheVariants.{Write}
 use Rattle.vr_types.specs.declared.reply.Refusal.TheVariants.{WriteFault}
 use Rattle.vr_types.specs.declared.reply.Reply.{Reply}
 use Rattle.vr_types.specs.declared.reply.Reply.TheVariants.{Refused}
 use Rattle.vr_types.specs.declared.request.FileRef.{FileRef}
 use Rattle.vr_types.specs.declared.request.Request.{Request}
-use Rattle.vr_types.specs.declared.request.Request.TheVariants.{Commit, Backout}
+use Rattle.vr_types.specs.declared.request.Request.TheVariants.{Get, Point, Add, Update, Erase}
+use Rattle.vr_types.specs.declared.request.Request.TheVariants.{EndReq, Commit, Backout}
 use Rattle.vr_history.specs.Case.{file_of}
 use Rattle.vr_types.specs.declared.unit.Unit.{Unit as UnitOfRecovery}
 use Rattle.vr_history.specs.declared.entry.Entry.{Entry}
@@ -26,6 +34,7 @@ use Rattle.vr_history.specs.declared.entry.What.TheVariants.{Asked, Undone, Clai
 use Rattle.vr_history.specs.Effects.{has_part, is_other, parts_laid}
 use Rattle.vr_history.specs.Legal.{IsLegal, is_backout, state_of}
 use Rattle.vr_history.specs.Merged.{last_stamp}
+use Rattle.vr_history.specs.Names.{with_locks}
 use Rattle.vr_history.specs.Opened.{catalog_of}
 use Rattle.vr_history.specs.Replies.{MayReply}
 use Rattle.vr_history.specs.State.{Logged, State}
@@ -191,3 +200,39 @@ ended unit file =
 -- a request that ends its unit
 abbrev pub EndsUnit : Request → Type 0
 EndsUnit request = (request ≡ Commit) ⊎ (request ≡ Backout)
+
+-- there is room for the position of a request's file, or it was set before
+abbrev pub CanSet : FileNow → ℕ → Option FileRef → Type 0
+CanSet file deck None = Unit {0}
+CanSet file deck (Some on) =
+    IsSome (position_at file.files deck on.slot) ⊎ (0 < file.files_room)
+
+-- how a read that is done locks its record, where it keeps the lock
+abbrev pub by_integrity : Integrity → Option Mode
+by_integrity Nri = None
+by_integrity Cr = None
+by_integrity Cre = Some Shared
+
+abbrev pub mode_kept : Request → Option Mode
+mode_kept (Get on find true integrity) = Some Exclusive
+mode_kept (Get on find false integrity) = by_integrity integrity
+mode_kept (Point on find) = None
+mode_kept (Add on place bytes) = None
+mode_kept (Update on bytes) = None
+mode_kept (Erase on) = None
+mode_kept (EndReq on) = None
+mode_kept Commit = None
+mode_kept Backout = None
+
+abbrev pub locks_kept : UnitOfRecovery → Option Mode → List LockName → List Lock → List Lock
+locks_kept unit None names locks = locks
+locks_kept unit (Some mode) names locks = with_locks unit mode names locks
+
+-- the lock that is in the way of those that are kept
+abbrev pub conflict_kept : UnitOfRecovery → Option Mode → List LockName → List Lock → Option Lock
+conflict_kept unit None names locks = None
+conflict_kept unit (Some mode) names locks = conflict_on locks unit mode names
+
+-- where a file stands, and holds this place for update
+abbrev pub holds_at : Stand → List ℕ → Position
+holds_at stand place = record { stand = stand; held = Some place }

@@ -7,16 +7,18 @@ ghost use Rattle.vr_history.specs.Effects.{has_part, parts_laid};
 ghost use Rattle.vr_history.specs.Merged.{last_stamp};
 ghost use Rattle.vr_history.specs.State.{Owned, State, opening_state};
 ghost use Rattle.vr_answer.specs.Scope.{AreKeyedClusters};
-ghost use Rattle.vr_record_file.specs.Now.{IsStateOf, next_stamp, with_event};
+ghost use Rattle.vr_record_file.specs.Now.{IsStateOf, lets_go, next_stamp, with_event};
+ghost use Rattle.vr_history.specs.declared.entry.What.TheVariants.{Asked};
 
 use crate::numbers::DeckNumber;
 use std::alloc::Global;
 use std::marker::Model;
+use vr_answer::file_of;
 use vr_browse::Positions;
 use vr_catalog::Catalog;
 use vr_history::{Entry, History, What};
 use vr_locks::{LockTable, lock_table};
-use vr_types::{Geometry, OutOfMemory, Unit};
+use vr_types::{Geometry, OutOfMemory, Reply, Request, SharedRequest, Unit};
 
 /// What a volume has in memory of its record file, beside the records.
 #[derive(Drop)]
@@ -166,5 +168,35 @@ impl RecordFile {
             line,
             what,
         });
+    }
+
+    /// The file of a request lets go what it held for update.
+    pub(crate) fn let_go(&mut self, deck: u32, request: &Request)
+        ensures { self.new ≡ lets_go deck request.now self.old }
+    {
+        if let Some(on) = file_of(request) {
+            self.positions.drop_held(deck, on.slot);
+        }
+    }
+
+    /// Enters a request with its reply at the next stamp: its file lets go what it held for update,
+    /// and nothing else changes. It takes no memory.
+    pub(crate) fn enter_asked(
+        &mut self,
+        unit: Unit,
+        line: u32,
+        request: SharedRequest,
+        reply: Reply,
+        after: u64,
+    )
+        requires room { 0 < self.old.room }
+        requires last { last_stamp 0 self.old.entries < 2 ^ 64 - 1 }
+        requires after { after < 2 ^ 64 - 1 }
+        ensures leaves { self.new ≡ with_event after unit line (Asked request reply)
+            (lets_go unit.deck request self.old) }
+        ensures last { last_stamp 0 self.new.entries ≡ next_stamp self.old.entries after }
+    {
+        self.let_go(unit.deck, request.get());
+        self.enter(unit, line, What::Asked { request, reply }, after);
     }
 }

@@ -5,9 +5,11 @@
 #![tactic(auto)]
 
 mod asked;
+mod changing;
 mod ending;
 mod file;
 mod numbers;
+mod reading;
 mod refusing;
 
 pub use file::RecordFile;

@@ -11,20 +11,10 @@ ghost use Rattle.vr_history.specs.Step.{stand_refused};
 ghost use Rattle.vr_record_file.specs.Now.{IsStateOf, MayBeAsked, failed, lets_go, with_event};
 
 use crate::file::RecordFile;
-use vr_answer::file_of;
 use vr_history::What;
-use vr_types::{DeviceFault, Refusal, Reply, Request, SharedRequest, Unit};
+use vr_types::{DeviceFault, Refusal, Reply, SharedRequest, Unit};
 
 impl RecordFile {
-    /// The file of a request lets go what it held for update.
-    pub(crate) fn let_go(&mut self, deck: u32, request: &Request)
-        ensures { self.new ≡ lets_go deck request.now self.old }
-    {
-        if let Some(on) = file_of(request) {
-            self.positions.drop_held(deck, on.slot);
-        }
-    }
-
     /// Enters a request that was refused, but for a fault of a write: its file lets go what it held
     /// for update, and nothing else changes (`leaves`). The request moves no file, as no direct one
     /// does that is refused. It takes no memory.
@@ -46,9 +36,7 @@ impl RecordFile {
             → stand_refused request refusal ≡ None → is_write_fault (Refused refusal) ≡ false
             → IsStateOf opening self.new }
     {
-        self.let_go(unit.deck, request.get());
-        let reply = Reply::Refused(refusal);
-        self.enter(unit, line, What::Asked { request, reply }, after);
+        self.enter_asked(unit, line, request, Reply::Refused(refusal), after);
     }
 
     /// The fault at this stamp stops the volume.
@@ -73,9 +61,8 @@ impl RecordFile {
             (Refused WriteFault)
             → IsStateOf opening self.new }
     {
-        self.let_go(unit.deck, request.get());
         let reply = Reply::Refused(Refusal::WriteFault);
-        self.enter(unit, line, What::Asked { request, reply }, after);
+        self.enter_asked(unit, line, request, reply, after);
         let stamp = self.next_stamp(0);
         let fault = DeviceFault::Write;
         self.enter(unit, line, What::Faulted { fault }, 0);

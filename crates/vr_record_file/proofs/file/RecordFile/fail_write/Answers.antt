@@ -12,11 +12,7 @@ use Rattle.vr_record_file.proofs.file.RecordFile.fail_write.Goals as goal
 pub returns-clause-state : goal.returns-clause-state
 returns-clause-state c = λ opening before is may.
     let file : FileNow = c.args.self.now in
-    let first : c.enter.new.self ≡ asked_failing c.args.after c.args.unit c.args.line
-    c.args.request file = c.enter.ensures.leaves
-    ∙ ap (λ (to : FileNow). with_event c.args.after c.args.unit c.args.line (Asked
-    c.args.request (Refused WriteFault)) to) (c.let_go.ensures
-    ∙ ap (λ (request : Request). lets_go c.args.unit.deck request file) c.get.ensures) in
+    let first = c.enter_asked.ensures.leaves in
     let stopping : FileNow → FileNow = λ to. record
     (with_event 0 c.args.unit c.args.line (Faulted Write) to) {
       stopped = Some (next_stamp to.entries 0);
@@ -24,9 +20,9 @@ returns-clause-state c = λ opening before is may.
     let leaves : c.stop.new.self ≡ failed c.args.after c.args.unit c.args.line c.args.request
     file = c.stop.ensures
     ∙ ap (λ (to : FileNow). record to { stopped = Some c.next_stamp-stamp.result })
-    c.enter-2.ensures.leaves
+    c.enter.ensures.leaves
     ∙ ap (λ (stamp : ℕ). record (with_event 0 c.args.unit c.args.line (Faulted Write)
-    c.enter.new.self) { stopped = Some stamp }) c.next_stamp-stamp.ensures
+    c.enter_asked.new.self) { stopped = Some stamp }) c.next_stamp-stamp.ensures
     ∙ ap stopping first in
     subst (IsStateOf opening) (sym leaves) (failed_state opening file c.args.after c.args.line
     c.args.unit c.args.request before c.requires.going is may)

@@ -1,0 +1,10 @@
+use Rattle.std.proofs.Common.{sym, subst}
+use Rattle.vr_record_file.specs.Now.{IsStateOf}
+use Rattle.vr_record_file.proofs.Changes.{undone_state}
+use Rattle.vr_record_file.proofs.file.RecordFile.undone.Goals as goal
+
+pub returns-clause-state : goal.returns-clause-state
+returns-clause-state c = λ opening is last other.
+    subst (IsStateOf opening) (sym c.enter.ensures.leaves)
+    (undone_state opening c.args.self.now c.args.after c.args.unit c.args.part c.args.place is last
+    other)
