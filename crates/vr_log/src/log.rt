@@ -230,8 +230,8 @@ impl UndoLog {
         Ok(())
     }
 
-    /// The bytes in use.
-    fn used(&self) -> u64
+    /// The bytes in use: those of the records, and the room kept for the ends of the live units.
+    pub fn used(&self) -> u64
         requires { self.now.broken ≡ false }
         ensures value { result ≡ used_by self.now.records }
         ensures most { result ≤ log_size self.now.geometry }
