@@ -3,10 +3,13 @@ use Rattle.std.proofs.Common.{◌≡◌, ◌<◌, ◌+◌, ◌≤◌, ◌==◌, 
 use Rattle.std.proofs.Common.{List, [], ◌∷◌, Option, Some, None, refl, sym, ap, subst, ◌∙◌, arith}
 use Rattle.std.proofs.Common.{length, map, set, get_or, filter}
 use Rattle.std.specs.Prelude.{All, find}
-use Rattle.std.specs.List.{position_or_len, slice_get}
+use Rattle.std.specs.List.{position, position_or_len, slice_get}
 use Rattle.std.specs.Option.{option_map_or}
 use Rattle.std.proofs.lemmas.Bool.{true≢false}
-use Rattle.std.proofs.lemmas.List.Elements.{All-filter}
+use Rattle.std.proofs.Math.ListN.{get_or-map}
+use Rattle.std.proofs.Math.Seq.{map-set_same}
+use Rattle.std.proofs.lemmas.List.{length-map, map-set}
+use Rattle.std.proofs.lemmas.List.Elements.{All-filter, All-get_or, All-set}
 use Rattle.std.proofs.lemmas.List.Folds.{find_at, find_past}
 use Rattle.std.proofs.lemmas.List.Sums.{passes_at_first}
 use Rattle.std.proofs.lemmas.Option.{slice_get-get_or}
@@ -16,9 +19,13 @@ use Rattle.vr_history.specs.Effects.{is_other}
 use Rattle.vr_history.proofs.Same.{unit_same}
 use Rattle.vr_event.specs.Store.{ChangedBy, blocks_of, changed_by, is_by}
 use Rattle.vr_event.specs.declared.changed.UnitBlocks.{UnitBlocks}
+use Rattle.vr_event.proofs.Positions.{position-first, position-map, position-past}
 
 abbrev pub listed_of : Option ChangedBy → List ℕ
 listed_of found = option_map_or (λ (by : ChangedBy). by.blocks) found []
+
+abbrev the-by : UnitOfRecovery → List ℕ → ChangedBy
+the-by unit blocks = record { unit = unit; blocks = blocks }
 
 -- what is another unit's isn't by the unit
 pub other-by : (unit other : UnitOfRecovery) (by : ChangedBy) → same_unit other unit ≡ false
@@ -163,3 +170,88 @@ module _ (unit : UnitOfRecovery) where
       → All (λ (by : ChangedBy). All (λ n. n < count) by.blocks) (forgotten unit changed)
   forgotten-each count changed = All-filter (λ (by : ChangedBy). is_other unit by.unit)
       (λ (by : ChangedBy). All (λ n. n < count) by.blocks) changed
+
+-- ---- the entry of a unit that a call works on
+
+module _ (unit : UnitOfRecovery) (items listed : List UnitBlocks) (result : Option ℕ)
+    (same : listed ≡ items)
+    (is : result ≡ position (λ (by : UnitBlocks). same_unit unit by.unit) listed) where
+  of-items : result ≡ position (λ (by : UnitBlocks). same_unit unit by.unit) items
+  of-items = is ∙ ap (position (λ (by : UnitBlocks). same_unit unit by.unit)) same
+
+  -- a unit that has none
+  pub none-listed : result ≡ None → blocks_of unit (map changed_by items) ≡ []
+  none-listed none =
+      let past = position-past (λ (by : UnitBlocks). same_unit unit by.unit) items
+      (sym of-items ∙ none) in
+      blocks-none unit (map changed_by items)
+      (omega (arith, past, position-map (is_by unit) changed_by items,
+      length-map items changed_by))
+
+  module _ (at : ℕ) (one : UnitBlocks) (some : result ≡ Some at)
+      (here : one ≡ get_or items at one) where
+    first : (at ≡ position_or_len (λ (by : UnitBlocks). same_unit unit by.unit) items)
+        × (at < length items)
+    first = position-first (λ (by : UnitBlocks). same_unit unit by.unit) items at
+        (sym of-items ∙ some)
+
+    place : at ≡ position_or_len (is_by unit) (map changed_by items)
+    place = first.0 ∙ sym (position-map (is_by unit) changed_by items)
+
+    below : at < length (map changed_by items)
+    below = omega (arith, first.1, length-map items changed_by)
+
+    seen : get_or (map changed_by items) at (changed_by one) ≡ changed_by one
+    seen = get_or-map changed_by items at one ∙ ap changed_by (sym here)
+
+    pub unit-listed : blocks_of unit (map changed_by items) ≡ one.blocks.items
+    unit-listed = blocks-at unit (map changed_by items) at (changed_by one) place below
+        ∙ ap (λ (by : ChangedBy). by.blocks) seen
+
+    by-unit : is_by unit (changed_by one) ≡ true
+    by-unit = ap (is_by unit) (sym seen)
+        ∙ by-at unit (map changed_by items) at (changed_by one) place below
+
+    pub unit-each : (count : ℕ)
+        → All (λ (by : ChangedBy). All (λ n. n < count) by.blocks) (map changed_by items)
+        → All (λ n. n < count) one.blocks.items
+    unit-each count all = subst (λ (by : ChangedBy). All (λ n. n < count) by.blocks) seen
+        (All-get_or (λ (by : ChangedBy). All (λ n. n < count) by.blocks) (map changed_by items)
+        at (changed_by one) below all)
+
+    -- as the call leaves it
+    module _ (after : UnitBlocks) (kept : after.unit ≡ one.unit) where
+      by-after : is_by unit (changed_by after) ≡ true
+      by-after = ap (same_unit unit) kept ∙ by-unit
+
+      pub unit-after : blocks_of unit (map changed_by (set items at after)) ≡ after.blocks.items
+      unit-after = ap (blocks_of unit) (map-set changed_by items at after)
+          ∙ blocks-set unit (changed_by after) (map changed_by items) at place below by-after
+
+      pub others-after : (other : UnitOfRecovery) → same_unit other unit ≡ false
+          → blocks_of other (map changed_by (set items at after))
+          ≡ blocks_of other (map changed_by items)
+      others-after other apart = ap (blocks_of other) (map-set changed_by items at after)
+          ∙ others-set unit (changed_by after) (map changed_by items) at place below by-after other
+          apart
+
+      pub each-after : (count : ℕ) → All (λ n. n < count) after.blocks.items
+          → All (λ (by : ChangedBy). All (λ n. n < count) by.blocks) (map changed_by items)
+          → All (λ (by : ChangedBy). All (λ n. n < count) by.blocks)
+          (map changed_by (set items at after))
+      each-after count mine all =
+          subst (All (λ (by : ChangedBy). All (λ n. n < count) by.blocks))
+          (sym (map-set changed_by items at after))
+          (All-set (λ (by : ChangedBy). All (λ n. n < count) by.blocks) (map changed_by items) at
+          (changed_by after) mine all)
+
+      pub same-after : after.blocks.items ≡ one.blocks.items
+          → map changed_by (set items at after) ≡ map changed_by items
+      same-after same = map-set_same changed_by items at after one
+          (two-parts after.unit one.unit after.blocks.items one.blocks.items kept same
+          ∙ ap changed_by here)
+        where
+          two-parts : (a b : UnitOfRecovery) (xs ys : List ℕ) → a ≡ b → xs ≡ ys
+              → the-by a xs ≡ the-by b ys
+          two-parts a b xs ys units blocks =
+              ap (λ (u : UnitOfRecovery). the-by u xs) units ∙ ap (the-by b) blocks
