@@ -11,3 +11,4 @@ pub mod Setting
 pub mod Like
 pub mod Entering
 pub mod Listed
+pub mod Ends
