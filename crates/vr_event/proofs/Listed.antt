@@ -185,8 +185,12 @@ module _ (unit : UnitOfRecovery) (items listed : List UnitBlocks) (result : Opti
       let past = position-past (λ (by : UnitBlocks). same_unit unit by.unit) items
       (sym of-items ∙ none) in
       blocks-none unit (map changed_by items)
-      (omega (arith, past, position-map (is_by unit) changed_by items,
-      length-map items changed_by))
+      (omega (
+        arith,
+        past,
+        position-map (is_by unit) changed_by items,
+        length-map items changed_by,
+      ))
 
   module _ (at : ℕ) (one : UnitBlocks) (some : result ≡ Some at)
       (here : one ≡ get_or items at one) where

@@ -98,7 +98,10 @@ impl<P: Part> Store<P> {
         ensures others { (other : UnitOfRecovery) → same_unit other unit ≡ false
             → blocks_of other self.new.changed ≡ blocks_of other self.old.changed }
         ensures rest { self.new ≡ record self.old {
-            log = self.new.log; undo = self.new.undo; changed = self.new.changed } }
+          log = self.new.log;
+          undo = self.new.undo;
+          changed = self.new.changed;
+        } }
         ensures cause { HasWriteCause (B.faults blocks.old) (B.faults blocks.new) result }
     {
         end_unit(blocks, &mut self.log, &mut self.undo, unit, kind)?;

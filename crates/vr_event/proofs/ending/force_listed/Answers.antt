@@ -1,11 +1,10 @@
-use Rattle.std.proofs.Common.{◌≡◌, ◌<◌, ◌-◌, ◌∙◌, ℕ, List, [], sym, ap, subst, length, map, min, take}
+use Rattle.std.proofs.Common.{◌≡◌, ◌<◌, ◌-◌, ◌∙◌, ℕ, List, sym, ap, subst, length, min, take}
 use Rattle.std.proofs.Common.{refl, Result, Ok, Err}
 use Rattle.std.specs.Prelude.{All, OnErr, OnOk}
 use Rattle.std.proofs.lemmas.List.Elements.{All-take}
 use Rattle.std.proofs.lemmas.Result.{IfOk-weaker, on_err_weaker, on_ok_weaker}
 use Rattle.vr_types.proofs.CallerLemmas.{keeps-none}
 use Rattle.vr_space.specs.Part.{IsDueTo}
-use Rattle.vr_event.specs.Store.{blocks_of, changed_by}
 use Rattle.vr_event.specs.declared.changed.UnitBlocks.{UnitBlocks}
 use Rattle.vr_event.proofs.Listed.{each-after, none-listed, others-after, same-after, unit-after}
 use Rattle.vr_event.proofs.Listed.{unit-each, unit-listed}

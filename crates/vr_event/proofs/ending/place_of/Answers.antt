@@ -1,4 +1,4 @@
-use Rattle.std.proofs.Common.{arith, sym, ◌∙◌, ap, Bool, true, ◌≡◌}
+use Rattle.std.proofs.Common.{arith, sym, ◌∙◌, ap}
 use Rattle.vr_types.specs.Locks.{same_unit}
 use Rattle.vr_event.proofs.Positions.{position-found, position-none}
 use Rattle.vr_event.specs.declared.changed.UnitBlocks.{UnitBlocks}

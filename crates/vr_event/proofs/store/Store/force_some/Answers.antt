@@ -1,4 +1,4 @@
-use Rattle.std.proofs.Common.{map, ◌≡◌}
+use Rattle.std.proofs.Common.{map}
 use Rattle.vr_event.specs.Store.{IsStored, StoreNow, changed_by, part_now}
 use Rattle.vr_event.proofs.Ends.{stored-forced}
 use Rattle.vr_event.proofs.Keeping.{moments-keeps}
