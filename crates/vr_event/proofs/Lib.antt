@@ -8,3 +8,5 @@ pub mod Recorded
 pub mod Rooms
 pub mod Kept
 pub mod Setting
+pub mod Noting
+pub mod Steps
