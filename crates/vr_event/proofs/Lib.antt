@@ -10,3 +10,5 @@ pub mod Kept
 pub mod Setting
 pub mod Noting
 pub mod Steps
+pub mod Readying
+pub mod Storing
