@@ -1,5 +1,5 @@
 -- What a call that puts nothing leaves of a store: it is set, and what was a state's stays so.
-use Rattle.std.proofs.Common.{◌≡◌, ◌<◌, ℕ, Bool, IsTrue, List, refl, sym, subst, ◌∙◌}
+use Rattle.std.proofs.Common.{◌≡◌, ◌<◌, ℕ, Bool, IsTrue, sym, subst, ◌∙◌}
 use Rattle.std.specs.Prelude.{All, Some}
 use Rattle.std.proofs.lemmas.List.Elements.{All-weaker}
 use Rattle.vr_types.specs.Blocks.{Keeps}
@@ -15,7 +15,7 @@ use Rattle.vr_volume.specs.Safe.{IsSafeImage}
 use Rattle.vr_volume.proofs.Calls.{guards-keeps}
 use Rattle.vr_volume.proofs.ForceCalls.{due-kept}
 use Rattle.vr_volume.proofs.Rested.{part-keeps, volume-keeps}
-use Rattle.vr_event.specs.Store.{ChangedBy, IsPartSet, IsRestedPart, IsSet, IsStored, PartNow}
+use Rattle.vr_event.specs.Store.{ChangedBy, IsPartSet, IsRestedPart, IsSet, IsStored}
 use Rattle.vr_event.specs.Store.{Stands, StoreNow, blocks_of}
 use Rattle.vr_event.proofs.Among.{among-all, among-shape}
 

@@ -1,6 +1,6 @@
 -- A part of a store that a call works on, as the store is seen.
-use Rattle.std.proofs.Common.{◌≡◌, ◌≢◌, ◌<◌, ◌==◌, ℕ, List, Option, Some, None, refl, sym, ap, ◌∙◌}
-use Rattle.std.proofs.Common.{arith, length, map, get_or, set, subst}
+use Rattle.std.proofs.Common.{◌≡◌, ◌≢◌, ◌<◌, ◌==◌, ℕ, List, Option, Some, None, sym, ap, ◌∙◌}
+use Rattle.std.proofs.Common.{arith, length, map, get_or, set}
 use Rattle.std.specs.List.{position, position_or_len}
 use Rattle.std.proofs.Math.ListN.{get_or-map}
 use Rattle.std.proofs.Math.Seq.{map-set_same}
@@ -13,7 +13,8 @@ use Rattle.vr_event.specs.Parts.{OnlyMet, OnlySplit, but_met, but_split, with_pa
 use Rattle.vr_event.specs.Store.{PartNow, has_number, part_among, part_now}
 use Rattle.vr_event.specs.declared.parts.Laid.{Laid}
 use Rattle.vr_event.proofs.Among.{among-number}
-use Rattle.vr_event.proofs.Placing.{among-with, found-at, map-with, none-found, others-with, with-set}
+use Rattle.vr_event.proofs.Placing.{among-with, found-at, map-with, none-found, others-with}
+use Rattle.vr_event.proofs.Placing.{with-set}
 use Rattle.vr_event.proofs.Positions.{position-first, position-map, position-past}
 
 -- the part that was found, and what the call made of it
@@ -42,7 +43,8 @@ module _ {P : Type 0} (shape : P → Shape) (split : P → Option SplitNow) (met
     laid-at at some before after here =
         let first = position-first (λ (laid : Laid P). laid.number.0 == number) items at
         (sym of-items ∙ some) in
-        let place : at ≡ position_or_len (has_number number) (map (part_now shape split met) items) =
+        let place : at
+        ≡ position_or_len (has_number number) (map (part_now shape split met) items) =
         first.0 ∙ sym same-place in
         let below : at < length (map (part_now shape split met) items) =
         omega (arith, first.1, length-map items (part_now shape split met)) in

@@ -1,6 +1,7 @@
 -- A part put in the place of the one that has its number.
 use Rattle.std.proofs.Common.{◌≡◌, ◌≢◌, ◌<◌, ◌+◌, ℕ, Bool, true, false, cond, not, List, [], ◌∷◌}
-use Rattle.std.proofs.Common.{Option, Some, None, refl, sym, ap, subst, ◌∙◌, arith, length, map, set}
+use Rattle.std.proofs.Common.{Option, Some, None, refl, sym, ap, subst, ◌∙◌, arith, length, map}
+use Rattle.std.proofs.Common.{set}
 use Rattle.std.proofs.Common.{nat_eq, ◌==◌, ◌≤◌, get_or, suc}
 use Rattle.std.specs.Prelude.{All}
 use Rattle.std.specs.List.{AllByRecursion, IsDistinct, position_or_len, slice_get}

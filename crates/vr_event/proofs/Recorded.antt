@@ -1,11 +1,11 @@
 -- The record that is read at a place of a store.
-use Rattle.std.proofs.Common.{◌≡◌, ℕ, IsTrue, List, [], ◌∷◌, Option, Some, None, refl, sym, ap, ◌∙◌}
+use Rattle.std.proofs.Common.{◌≡◌, ℕ, List, [], ◌∷◌, Option, Some, None, refl, sym, ap, ◌∙◌}
 use Rattle.std.proofs.Common.{subst}
 use Rattle.std.specs.Prelude.{IfSome}
 use Rattle.std.specs.Option.{option_and_then, option_map}
 use Rattle.std.specs.declared.cmp.Ordering.{Ordering}
 use Rattle.std.specs.declared.cmp.Ordering.TheVariants.{Less, Equal, Greater}
-use Rattle.vr_types.specs.Content.{Content, Item, Standing, found_by, item_at, place_cmp, record_at}
+use Rattle.vr_types.specs.Content.{Content, Standing, found_by, item_at, place_cmp, record_at}
 use Rattle.vr_types.specs.Content.{record_of}
 use Rattle.vr_types.specs.Seen.{Left, Seen}
 use Rattle.vr_space.specs.Part.{KeyedShape, Shape, Stands as StandFor, item_of}
@@ -13,8 +13,8 @@ use Rattle.vr_space.proofs.CallerLemmas.{rest-sound, rest-stands}
 use Rattle.vr_history.specs.State.{State}
 use Rattle.vr_volume.specs.Laid.{shape_by}
 use Rattle.vr_volume.specs.Safe.{item_held}
-use Rattle.vr_undo.specs.Records.{images_in}
-use Rattle.vr_event.specs.Store.{IsPartSet, IsRestedPart, IsSet, IsStored, PartNow, Stands, StoreNow}
+use Rattle.vr_event.specs.Store.{IsPartSet, IsRestedPart, IsSet, IsStored, PartNow, Stands}
+use Rattle.vr_event.specs.Store.{StoreNow}
 use Rattle.vr_event.specs.Store.{part_among, shape_among}
 use Rattle.vr_event.proofs.Among.{among-all, among-number}
 use Rattle.vr_types.specs.declared.unit.PartNo.{PartNo}
@@ -59,6 +59,9 @@ held-record (KeyedShape part) content place found is =
 
 -- ---- in a store
 
+abbrev part-no : ℕ → PartNo
+part-no n = record { 0 = n }
+
 module _ (store : StoreNow) (now : Seen) (set : IsSet store now) where
   -- the part that is found is at rest
   pub rested-at : (volume : ℕ) (state : State) (number : ℕ) (part : PartNow)
@@ -76,6 +79,11 @@ module _ (store : StoreNow) (now : Seen) (set : IsSet store now) where
       → (part_no part.shape).0 ≡ number
   number-at number part found = ap (λ (n : PartNo). n.0) (set-at number part found).number
       ∙ among-number store.parts number part found
+
+  pub part-number-at : (number : PartNo) (part : PartNow)
+      → part_among store.parts number.0 ≡ Some part → part_no part.shape ≡ number
+  part-number-at number part found =
+      ap (λ (n : ℕ). part-no n) (number-at number.0 part found)
 
   -- its blocks stand for a content
   pub stand-at : (number : ℕ) (part : PartNow) → part_among store.parts number ≡ Some part

@@ -60,8 +60,8 @@ pub room-still : (old new : StoreNow) (number : ℕ) (before after : PartNow) (a
     → after.shape ≡ before.shape → after.split ≡ before.split → new.space ≡ old.space
     → new.undo ≡ old.undo → b ≡ a → (place : List ℕ) (n : ℕ) (room : Room)
     → IsRoomAt old a number place n room → IsRoomAt new b number place n room
-room-still old new number before after a b found there shapes splits spaces undos images place n room
-    is = at-part (λ (one : PartNow).
+room-still old new number before after a b found there shapes splits spaces undos images place n
+    room is = at-part (λ (one : PartNow).
     room ≡ room_by one.shape one.split b new.space new.undo number place n) new.parts number after
     there
     (subst (λ (found : Option PartNow). IfSome found (λ (one : PartNow).

@@ -1,9 +1,9 @@
 -- What a call that works on one part leaves of a store.
-use Rattle.std.proofs.Common.{◌≡◌, ◌≢◌, ◌<◌, ℕ, Bool, true, false, List, [], ◌∷◌, Option, Some, refl}
+use Rattle.std.proofs.Common.{◌≡◌, ◌≢◌, ◌<◌, ℕ, Bool, true, false, List, [], ◌∷◌, Option, Some}
+use Rattle.std.proofs.Common.{refl}
 use Rattle.std.proofs.Common.{sym, ap, subst, ◌∙◌, arith, map, nat_eq, ◌==◌, IsTrue}
 use Rattle.std.specs.Prelude.{All}
 use Rattle.std.specs.List.{IsDistinct}
-use Rattle.std.specs.Option.{option_map}
 use Rattle.std.proofs.lemmas.Bool.{true≢false}
 use Rattle.std.proofs.lemmas.Bool.Decides.{Decides-eqb}
 use Rattle.std.proofs.lemmas.List.Elements.{All-cons, All-head, All-nil, All-tail}
@@ -19,9 +19,9 @@ use Rattle.vr_history.specs.State.{BeforeImage, State}
 use Rattle.vr_undo.specs.Records.{images_in}
 use Rattle.vr_volume.specs.Rests.{IsPartAtRest, IsVolumeAtRest}
 use Rattle.vr_volume.proofs.Rested.{part-keeps, volume-keeps}
-use Rattle.vr_event.specs.Parts.{but_split, with_part}
+use Rattle.vr_event.specs.Parts.{but_split}
 use Rattle.vr_event.specs.Store.{IsPartSet, IsRestedPart, IsSet, IsStored, PartNow, StoreNow}
-use Rattle.vr_event.specs.Store.{blocks_of, has_number, part_among, shape_among}
+use Rattle.vr_event.specs.Store.{blocks_of, part_among}
 use Rattle.vr_event.proofs.Among.{HasShape, among-all, among-number, among-shape}
 use Rattle.vr_event.proofs.Keeping.{set-still}
 use Rattle.vr_event.proofs.PartsAt.{IsPartAt}
@@ -104,7 +104,8 @@ module _ (store : StoreNow) (number : ℕ) (before after : PartNow) (new : List 
     stored-worked rest mine others due-mine due-others = record {
       volume = rest;
       parts = subst (All (IsRestedPart store state b)) (sym at.is)
-          (all-with (λ (part : PartNow). IsPartSet store.log a part × IsRestedPart store state a part)
+          (all-with
+          (λ (part : PartNow). IsPartSet store.log a part × IsRestedPart store state a part)
           (IsRestedPart store state b) number after
           (λ part apart both. others part
           (λ same. apart (ap (λ (n : PartNo). n.0) (sym both.0.number) ∙ same ∙ numbered))

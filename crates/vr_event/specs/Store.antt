@@ -1,8 +1,8 @@
 -- What stands behind the blocks of a volume in memory: its parts, its log, its before-images, and
 -- the blocks that units of recovery changed; and when these and the blocks are those of a state of
 -- the record file. The rules are this project's own.
-use Rattle.std.specs.Prelude.{◌≡◌, ◌<◌, ℕ, Bool, false, ◌==◌, List, [], ◌∷◌, All, Option, Some}
-use Rattle.std.specs.Prelude.{None, find, map, option_map}
+use Rattle.std.specs.Prelude.{◌≡◌, ◌<◌, ℕ, Bool, false, ◌==◌, List, [], All, Option, Some}
+use Rattle.std.specs.Prelude.{find, map, option_map}
 use Rattle.std.specs.List.{IsDistinct}
 use Rattle.std.specs.Option.{option_map_or}
 use Rattle.std.specs.Prelude.{nat_eq}
@@ -62,7 +62,8 @@ abbrev pub is_by : UnitOfRecovery → ChangedBy → Bool
 is_by unit by = same_unit unit by.unit
 
 abbrev pub blocks_of : UnitOfRecovery → List ChangedBy → List ℕ
-blocks_of unit changed = option_map_or (λ (by : ChangedBy). by.blocks) (find (is_by unit) changed) []
+blocks_of unit changed =
+    option_map_or (λ (by : ChangedBy). by.blocks) (find (is_by unit) changed) []
 
 -- what a volume has in memory beside its blocks
 pub record StoreNow : Type 0 where

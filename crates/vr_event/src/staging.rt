@@ -96,10 +96,11 @@ impl<P: Part> Store<P> {
             → Guards (B.seen blocks.old) (B.seen blocks.new)
             (IsSafeImage self.old.log.geometry volume self.old.log (committed_by state)) }
         // It reads before it puts.
-        ensures unread { IsTrue B.tells → IfErr result (λ fault. fault ≡ Read
-            → (volume : ℕ) (state : State)
+        ensures unread { IfErr result (λ fault. fault ≡ Read
+            → Keeps B.tells (B.seen blocks.old) (B.seen blocks.new)
+            × (IsTrue B.tells → (volume : ℕ) (state : State)
             → IsStored volume self.old state (B.seen blocks.old)
-            → IsStored volume self.new state (B.seen blocks.new)) }
+            → IsStored volume self.new state (B.seen blocks.new))) }
         ensures parts { OnlySplit number.0 self.old.parts self.new.parts }
         ensures rest { self.new
             ≡ record self.old { parts = self.new.parts; space = self.new.space } }

@@ -10,8 +10,8 @@ use vr_space::Part;
 use vr_types::Space;
 use vr_undo::Undo;
 
-/// The parts of a volume, its log, its before-images, the blocks that its units of recovery changed,
-/// and the owners of its areas.
+/// The parts of a volume, its log, its before-images, the blocks that its units of recovery
+/// changed, and the owners of its areas.
 #[derive(Drop)]
 pub struct Store<P: Part> {
     pub(crate) parts: Vec<Laid<P>>,

@@ -13,4 +13,5 @@ returns-then-laid-number g c =
 
 pub returns : goal.returns
 returns g c = position-none (λ (laid : Laid g.row.P.Denot). laid.number.0 == c.args.number.0)
-    c.args.parts.now (λ k d less. c.loop-at.invariant k d (omega (arith, less, c.loop-at-test.false)))
+    c.args.parts.now
+    (λ k d less. c.loop-at.invariant k d (omega (arith, less, c.loop-at-test.false)))
