@@ -8,6 +8,7 @@ ghost use Rattle.vr_types.specs.Faults.{HasWriteCause};
 ghost use Rattle.vr_types.specs.Locks.{same_unit};
 ghost use Rattle.vr_types.specs.Moments.{Guards};
 ghost use Rattle.vr_types.specs.declared.unit.Unit.{Unit as UnitOfRecovery};
+ghost use Rattle.vr_space.specs.Met.{HasMet};
 ghost use Rattle.vr_space.specs.Part.{
   CanSet,
   HasKeptRoom,
@@ -24,6 +25,7 @@ ghost use Rattle.vr_log.specs.Live.{EndsLive, live_in, need_of};
 ghost use Rattle.vr_log.specs.LogNow.{IsFullNo, IsFullWhere, IsOf};
 ghost use Rattle.vr_log.specs.Records.{HasLengths};
 ghost use Rattle.vr_log.specs.Standing.{LogStands};
+ghost use Rattle.vr_log.specs.declared.no.LogNo.TheVariants.{Read};
 ghost use Rattle.vr_history.specs.State.{BeforeImage, State};
 ghost use Rattle.vr_undo.specs.Records.{images_in};
 ghost use Rattle.vr_volume.specs.Cause.{HasChangeCause};
@@ -66,7 +68,7 @@ fn put_at<B: Blocks, P: Part>(
     requires on { IsOn (P.shape part.old) (B.seen blocks.old) }
     requires apart { (n : ℕ) → InPart (P.shape part.old) n → log.old.geometry.log < n }
     requires place { IsPlaceOf (P.shape part.old) place.now }
-    requires record { IsGiven (P.shape part.old) place.now bytes }
+    requires item { IsGiven (P.shape part.old) place.now bytes }
     requires rests { IsTrue B.tells → IsAtRest (P.shape part.old) (B.seen blocks.old) }
     requires room { IsTrue B.tells → HasKeptRoom (P.shape part.old)
         (lengths_kept (images_in undo.now) (part_no (P.shape part.old)).0) (B.seen blocks.old) }
@@ -102,6 +104,8 @@ fn put_at<B: Blocks, P: Part>(
         → IsFullWhere log.old (need_of (live_in log.old.records) prepared.now.rec) result }
     ensures unchanged { IfErr result (λ no. IsFullNo no
         → (log.new ≡ log.old) × (blocks.new ≡ blocks.old) × (part.new ≡ part.old)) }
+    // Where the place is met, no read is made of it.
+    ensures reads { HasMet (P.met part.old) place.now → IfErr result (λ no. no ≢ Read) }
     ensures cause { HasChangeCause (B.faults blocks.old) (B.faults blocks.new) result }
 {
     if prepared.logged {
@@ -164,7 +168,7 @@ fn set_at<B: Blocks, P: Part>(
     requires on { IsOn (P.shape part.old) (B.seen blocks.old) }
     requires apart { (n : ℕ) → InPart (P.shape part.old) n → log.old.geometry.log < n }
     requires place { IsPlaceOf (P.shape part.old) place.now }
-    requires record { IsGiven (P.shape part.old) place.now bytes }
+    requires item { IsGiven (P.shape part.old) place.now bytes }
     requires rests { IsTrue B.tells → IsAtRest (P.shape part.old) (B.seen blocks.old) }
     requires room { IsTrue B.tells → HasKeptRoom (P.shape part.old)
         (lengths_kept (images_in undo.now) (part_no (P.shape part.old)).0) (B.seen blocks.old) }
@@ -210,6 +214,8 @@ fn set_at<B: Blocks, P: Part>(
     ensures unchanged { IfErr result (λ no. IsFullNo no
         → (log.new ≡ log.old) × (blocks.new ≡ blocks.old) × (part.new ≡ part.old)
         × (changed.new ≡ changed.old)) }
+    // Where the place is met, no read is made of it.
+    ensures reads { HasMet (P.met part.old) place.now → IfErr result (λ no. no ≢ Read) }
     ensures cause { HasChangeCause (B.faults blocks.old) (B.faults blocks.new) result }
 {
     put_at(blocks, log, part, undo, place, prepared, bytes)?;
@@ -234,7 +240,7 @@ impl<P: Part> Store<P> {
         requires part { part_among self.old.parts number.0 ≢ None }
         requires place { IfSome (shape_among self.old.parts number.0)
             (λ shape. IsPlaceOf shape place.now) }
-        requires record { IfSome (shape_among self.old.parts number.0)
+        requires item { IfSome (shape_among self.old.parts number.0)
             (λ shape. IsGiven shape place.now bytes) }
         requires lengths { HasLengths prepared.now.rec }
         requires live { EndsLive (live_in self.old.log.records) prepared.now.rec }
@@ -260,10 +266,15 @@ impl<P: Part> Store<P> {
         ensures undo { self.new.undo ≡ self.old.undo }
         ensures space { self.new.space ≡ self.old.space }
         ensures parts { OnOk result (OnlyMet number.0 self.old.parts self.new.parts) }
+        ensures others { (other : UnitOfRecovery) → same_unit other unit ≡ false
+            → blocks_of other self.new.changed ≡ blocks_of other self.old.changed }
         ensures full { prepared.now.logged ≡ false → IsFullWhere self.old.log
             (need_of (live_in self.old.log.records) prepared.now.rec) result }
         ensures unchanged { IfErr result (λ no. IsFullNo no
             → (self.new ≡ self.old) × (blocks.new ≡ blocks.old)) }
+        // Where room was asked for at the place, no read is made of it.
+        ensures reads { IfSome (part_among self.old.parts number.0)
+            (λ part. HasMet part.met place.now) → IfErr result (λ no. no ≢ Read) }
         ensures cause { HasChangeCause (B.faults blocks.old) (B.faults blocks.new) result }
     {
         match index_of(&self.parts, number) {
