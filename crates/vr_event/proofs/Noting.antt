@@ -1,17 +1,17 @@
 -- What is left of a record that was set once its blocks are noted, or forced.
-use Rattle.std.proofs.Common.{◌≡◌, ◌≢◌, ◌⊎◌, inl, inr, ⊎_elim, ◌<◌, ℕ, Bool, IsTrue, List, [], ◌++◌}
-use Rattle.std.proofs.Common.{Option, refl, sym, ap, ◌∙◌, arith}
+use Rattle.std.proofs.Common.{inl, inr, ⊎_elim, ℕ, Bool, IsTrue, List, [], ◌++◌}
+use Rattle.std.proofs.Common.{Option, refl, ap, ◌∙◌, arith}
 use Rattle.std.specs.List.{Contains}
 use Rattle.std.proofs.lemmas.List.Elements.{Contains-append_cases, Contains-append_left}
 use Rattle.std.proofs.lemmas.List.Elements.{Contains-append_right}
 use Rattle.vr_types.specs.Blocks.{Forced, Keeps}
-use Rattle.vr_types.specs.Image.{Block, Image, block_at}
+use Rattle.vr_types.specs.Image.{Image, block_at}
 use Rattle.vr_types.specs.Moments.{Guards}
 use Rattle.vr_types.specs.Seen.{Left, Seen}
 use Rattle.vr_types.specs.declared.geometry.Geometry.{Geometry}
 use Rattle.vr_types.proofs.CallerLemmas.{during-weaken, guards-then}
 use Rattle.vr_space.specs.Met.{Met}
-use Rattle.vr_space.specs.Part.{DueMoreAt, IsSound, Shape, part_no}
+use Rattle.vr_space.specs.Part.{DueMoreAt, IsSound, Shape}
 use Rattle.vr_space.specs.Split.{SplitNow}
 use Rattle.vr_space.proofs.CallerLemmas.{due-keeps, due-then, rest-sound}
 use Rattle.vr_log.specs.LogNow.{LogNow}

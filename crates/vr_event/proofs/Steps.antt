@@ -1,14 +1,13 @@
 -- What a change makes of the state, as a first change of the place, a further one, or one that is
 -- kept again.
-use Rattle.std.proofs.Common.{◌≡◌, ◌≢◌, ◌⊎◌, inl, inr, ⊎_elim, ℕ, Bool, true, false, cond, List, []}
+use Rattle.std.proofs.Common.{◌≡◌, ◌⊎◌, inl, inr, ℕ, Bool, true, false, cond, List, []}
 use Rattle.std.proofs.Common.{◌∷◌, ◌++◌, Option, Some, None, refl, sym, ap, subst, ◌∙◌, arith, map}
-use Rattle.std.proofs.Common.{◌&&◌, ◌||◌, ◌+◌, bytes_eq, ◌==◌}
+use Rattle.std.proofs.Common.{◌&&◌, ◌||◌, ◌+◌}
 use Rattle.std.specs.Prelude.{All}
-use Rattle.std.specs.Option.{option_map}
 use Rattle.std.proofs.lemmas.Bool.{true≢false}
 use Rattle.std.proofs.lemmas.List.{append-nil}
 use Rattle.std.proofs.lemmas.List.Elements.{All-cons, All-head, All-nil, All-tail}
-use Rattle.vr_types.specs.Content.{Item, Standing, item_at}
+use Rattle.vr_types.specs.Content.{Item, item_at}
 use Rattle.vr_types.specs.Locks.{same_unit}
 use Rattle.vr_types.specs.Seen.{Seen}
 use Rattle.vr_types.specs.declared.unit.PartNo.{PartNo}
@@ -17,7 +16,7 @@ use Rattle.vr_history.specs.State.{BeforeImage, Logged, State, is_kept, is_logge
 use Rattle.vr_history.proofs.CallerLemmas.{unit_self}
 use Rattle.vr_log.specs.LogNow.{LogNow}
 use Rattle.vr_log.specs.declared.record.LogRecord.{LogRecord}
-use Rattle.vr_undo.specs.Records.{before_of, has_at, images_in, is_at, is_logged_in, logged_of}
+use Rattle.vr_undo.specs.Records.{has_at, images_in, is_at, is_logged_in}
 use Rattle.vr_undo.specs.Records.{place_of}
 use Rattle.vr_undo.proofs.CallerLemmas.{logged-at}
 use Rattle.vr_volume.specs.PutBack.{images_of, is_image_of, oldest}

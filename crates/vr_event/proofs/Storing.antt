@@ -1,27 +1,25 @@
 -- A store whose part had a record set is the new state's.
-use Rattle.std.proofs.Common.{◌≡◌, ◌≢◌, ◌⊎◌, ⊎_elim, inl, inr, ◌<◌, ℕ, Bool, true, false, cond, List}
+use Rattle.std.proofs.Common.{◌≡◌, ◌≢◌, ◌⊎◌, inl, inr, ◌<◌, ℕ, Bool, true, false, cond, List}
 use Rattle.std.proofs.Common.{[], ◌∷◌, ◌++◌, Option, Some, None, refl, sym, ap, subst, ◌∙◌, arith, map}
-use Rattle.std.proofs.Common.{◌==◌, bytes_eq, nat_eq}
+use Rattle.std.proofs.Common.{◌==◌}
 use Rattle.std.specs.Prelude.{All}
-use Rattle.std.specs.List.{Contains, IsDistinct}
-use Rattle.std.specs.Option.{option_map, option_or}
+use Rattle.std.specs.List.{Contains}
+use Rattle.std.specs.Option.{option_or}
 use Rattle.std.proofs.lemmas.Bool.{true≢false}
 use Rattle.std.proofs.lemmas.Bool.Decides.{Decides-eqb}
 use Rattle.std.proofs.lemmas.List.{append-nil}
 use Rattle.std.proofs.lemmas.List.Elements.{All-weaker}
-use Rattle.std.proofs.lemmas.Slice.Eq.{bytes_eq-Decides}
-use Rattle.vr_types.specs.Content.{Content, Item, Standing, item_at}
+use Rattle.vr_types.specs.Content.{Content, Item}
 use Rattle.vr_types.specs.Geometry.{IsAllowed}
 use Rattle.vr_types.specs.Locks.{same_unit}
 use Rattle.vr_types.specs.Seen.{Left, Seen}
 use Rattle.vr_types.specs.declared.geometry.Geometry.{Geometry}
 use Rattle.vr_types.specs.declared.unit.PartNo.{PartNo}
 use Rattle.vr_types.specs.declared.unit.Unit.{Unit as UnitOfRecovery}
-use Rattle.vr_space.specs.Part.{DueMore, DueMoreAt, IsDueTo, IsPlaceOf, IsSound, Shape, part_no}
+use Rattle.vr_space.specs.Part.{IsDueTo, IsPlaceOf, IsSound, Shape, part_no}
 use Rattle.vr_space.proofs.CallerLemmas.{firm-due, rest-sound}
 use Rattle.vr_history.specs.State.{BeforeImage, Logged, State, is_kept, is_logged}
 use Rattle.vr_history.proofs.Same.{unit_same}
-use Rattle.vr_history.proofs.CallerLemmas.{unit_self}
 use Rattle.vr_log.specs.LogNow.{IsOf, LogNow}
 use Rattle.vr_undo.specs.Records.{before_of, befores_of, has_at, image_of, images_in, is_logged_in}
 use Rattle.vr_undo.specs.Records.{logged_of}
@@ -37,12 +35,12 @@ use Rattle.vr_event.specs.Changing.{IsMadeOf, IsReadyBy, IsSetIn, IsToSet, has_k
 use Rattle.vr_event.specs.Changing.{need_with}
 use Rattle.vr_event.specs.Parts.{but_split}
 use Rattle.vr_event.specs.Store.{ChangedBy, IsPartSet, IsRestedPart, IsSet, IsStored, PartNow}
-use Rattle.vr_event.specs.Store.{StoreNow, blocks_of, part_among, shape_among}
+use Rattle.vr_event.specs.Store.{StoreNow, blocks_of, part_among}
 use Rattle.vr_event.specs.declared.preparing.Prepared.{Prepared}
 use Rattle.vr_event.proofs.Among.{HasShape, among-all, among-number, among-shape}
 use Rattle.vr_event.proofs.PartsAt.{IsPartAt}
 use Rattle.vr_event.proofs.Placing.{all-with, map-with, shapes-same}
-use Rattle.vr_event.proofs.Readying.{change, firm-to, kept, new-item, numbered, rested, to-set}
+use Rattle.vr_event.proofs.Readying.{change, firm-to, kept, new-item, numbered, to-set}
 use Rattle.vr_event.proofs.Readying.{undo-images}
 use Rattle.vr_event.proofs.Setting.{to-puts}
 use Rattle.vr_event.proofs.Steps.{Found, found-there}

@@ -1,4 +1,4 @@
-use Rattle.std.proofs.Common.{map, subst, sym, List, ℕ}
+use Rattle.std.proofs.Common.{map, subst, List, ℕ}
 use Rattle.vr_space.proofs.CallerLemmas.{rest-sound}
 use Rattle.vr_undo.specs.Records.{images_in}
 use Rattle.vr_volume.specs.Committed.{committed_by}

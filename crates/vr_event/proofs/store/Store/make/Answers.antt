@@ -1,10 +1,10 @@
-use Rattle.std.proofs.Common.{◌≡◌, ◌≢◌, ◌<◌, ℕ, List, [], Option, None, Result, Ok, Err, IfErr, IsTrue}
+use Rattle.std.proofs.Common.{◌≡◌, ◌≢◌, ◌<◌, ℕ, [], Option, None, Result, Ok, Err, IfErr, IsTrue}
 use Rattle.std.proofs.Common.{refl, sym, ap, subst, ◌∙◌, map, set}
 use Rattle.std.specs.Prelude.{All, IfSome}
 use Rattle.std.specs.Result.{IsErrAnd}
 use Rattle.vr_types.specs.Moments.{Guards}
 use Rattle.vr_space.specs.Met.{HasMet}
-use Rattle.vr_space.specs.Part.{CanSet, IsGiven, IsPlaceOf, Shape, given, part_no}
+use Rattle.vr_space.specs.Part.{CanSet, IsGiven, IsPlaceOf, Shape, given}
 use Rattle.vr_space.specs.Split.{SplitNow}
 use Rattle.vr_log.specs.Live.{EndsLive, live_in}
 use Rattle.vr_log.specs.declared.no.LogNo.{LogNo}
@@ -74,15 +74,15 @@ set_at-requires g c =
       rests = λ told. (mine told).rests;
       room = λ told. room-to v.log.geometry (some told).number v.log
           (kept (some told).number v unit c.args.number place prepared (some told).was (some told).state a (some told).ready
-    before found is-set at-place item)
+          before found is-set at-place item)
           (images_in v.undo) (some told).state
           (made-state (some told).number v unit c.args.number place prepared (some told).was (some told).state a (some told).ready
-    before found is-set at-place item)
+          before found is-set at-place item)
           (change (some told).number v unit c.args.number place prepared (some told).was (some told).state a (some told).ready
-    before found is-set at-place item)
+          before found is-set at-place item)
           prepared before.shape before.split before.met place item a
           (to-any (some told).number v unit c.args.number place prepared (some told).was (some told).state a (some told).ready
-    before found is-set at-place item)
+          before found is-set at-place item)
           (g.met.B.Blocks.cur_may c.args.blocks.now told) at-place;
       knows = λ told. (mine told).knows;
       can = λ told. subst (λ (n : ℕ). CanSet before.shape before.split a.cur
