@@ -12,3 +12,7 @@ pub mod Like
 pub mod Entering
 pub mod Listed
 pub mod Ends
+pub mod Noting
+pub mod Steps
+pub mod Readying
+pub mod Storing
