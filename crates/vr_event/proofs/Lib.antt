@@ -10,3 +10,9 @@ pub mod Kept
 pub mod Setting
 pub mod Like
 pub mod Entering
+pub mod Listed
+pub mod Ends
+pub mod Noting
+pub mod Steps
+pub mod Readying
+pub mod Storing

@@ -27,7 +27,7 @@ use Rattle.vr_event.proofs.Keeping.{set-still}
 use Rattle.vr_event.proofs.PartsAt.{IsPartAt}
 use Rattle.vr_event.proofs.Placing.{all-with, map-with, shapes-same}
 
-all-both : {X : Type 0} (P Q : X → Type 0) (xs : List X) → All P xs → All Q xs
+pub all-both : {X : Type 0} (P Q : X → Type 0) (xs : List X) → All P xs → All Q xs
     → All (λ x. P x × Q x) xs
 all-both P Q [] one other = All-nil (λ x. P x × Q x)
 all-both P Q (x ∷ xs) one other = All-cons (λ x. P x × Q x) x xs

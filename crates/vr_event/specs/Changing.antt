@@ -1,7 +1,7 @@
 -- What a change of a place makes of the state of the record file, and what is kept of the place
 -- before it is made. The rules are this project's own.
 use Rattle.std.specs.Prelude.{◌≡◌, ◌+◌, ◌&&◌, ◌∷◌, ◌++◌, ℕ, Bool, true, false, cond, not, List, []}
-use Rattle.std.specs.Prelude.{All, Option, option_map, ◌⊎◌, ◌≢◌}
+use Rattle.std.specs.Prelude.{All, IfSome, Option, option_map, ◌⊎◌, ◌≢◌}
 use Rattle.vr_types.specs.Content.{Item, Standing, item_at}
 use Rattle.std.specs.List.{Contains}
 use Rattle.vr_types.specs.Blocks.{Forced}
@@ -11,7 +11,7 @@ use Rattle.vr_types.specs.declared.geometry.Geometry.{Geometry}
 use Rattle.vr_types.specs.declared.unit.PartNo.{PartNo}
 use Rattle.vr_types.specs.declared.unit.Unit.{Unit as UnitOfRecovery}
 use Rattle.vr_space.specs.Met.{Met}
-use Rattle.vr_space.specs.Part.{DueMore, DueMoreAt, Shape, part_no}
+use Rattle.vr_space.specs.Part.{CanSet, DueMore, DueMoreAt, Shape, part_no}
 use Rattle.vr_space.specs.Split.{SplitNow}
 use Rattle.vr_log.specs.Live.{live_in, need_of}
 use Rattle.vr_log.specs.LogNow.{LogNow, with_record as with_logged}
@@ -19,13 +19,15 @@ use Rattle.vr_log.specs.declared.record.LogRecord.{LogRecord}
 use Rattle.vr_log.specs.declared.record.LogRecord.TheVariants as records
 use Rattle.vr_history.specs.Effects.{image_kept, with_change}
 use Rattle.vr_history.specs.State.{BeforeImage, Logged, State, is_kept, is_logged}
-use Rattle.vr_undo.specs.Records.{befores_of, has_at, images_in, with_record}
+use Rattle.vr_undo.specs.Records.{before_of, befores_of, has_at, images_in, with_record}
 use Rattle.vr_undo.specs.declared.before.Before.{Before}
 use Rattle.vr_undo.specs.declared.record.KeptRecord.{KeptRecord}
+use Rattle.vr_volume.specs.Committed.{IsCurrent}
+use Rattle.vr_volume.specs.PutBack.{lengths_kept}
 use Rattle.vr_volume.specs.Rests.{IsGivenFor, IsPartAtRest, IsVolumeAtRest}
 use Rattle.vr_volume.specs.Steps.{Changing, IsChangeOf, IsFirstChange, IsKeptAgain, IsNextChange}
 use Rattle.vr_volume.specs.Steps.{image_by}
-use Rattle.vr_event.specs.Store.{IsStored, StoreNow}
+use Rattle.vr_event.specs.Store.{IsStored, PartNow, StoreNow, part_among}
 use Rattle.vr_event.specs.declared.preparing.Prepared.{Prepared}
 
 -- The unit makes this the item of a place. It keeps what stood there where it keeps nothing yet,
@@ -47,13 +49,6 @@ pub record IsMadeOf (unit : UnitOfRecovery) (part : PartNo) (place : List ℕ) (
 abbrev pub NoOtherLogged : UnitOfRecovery → PartNo → List ℕ → State → Type 0
 NoOtherLogged unit part place state = All (λ (logged : Logged). logged.part ≡ part.0
     → logged.place ≡ place → logged.unit ≡ unit) state.logged
-
--- a before-image is that of a place
-pub record IsBeforeAt (part : PartNo) (place : List ℕ) (before : Before) (state : State) : Type 0
-  where
-    pub part_is : before.part ≡ part
-    pub place_is : before.place ≡ place
-    pub old : option_map Standing before.old ≡ item_at (state.contents part.0) place
 
 -- ---- what is kept
 
@@ -100,6 +95,33 @@ log_with true log rec = log
 abbrev pub need_with : Bool → LogNow → LogRecord → ℕ
 need_with false log rec = need_of (live_in log.records) rec
 need_with true log rec = 0
+
+-- What has to hold before a change is made, by a state: the record that stands at the place is kept
+-- already and was prepared, no other unit has logged the place, and the unit is its deck's current
+-- one.
+pub record IsReadyBy (number : ℕ) (store : StoreNow) (unit : UnitOfRecovery) (part : PartNo)
+    (place : List ℕ) (prepared : Prepared) (was : Option (List ℕ)) (state : State)
+    (now : Seen) : Type 0 where
+  pub kept : IsKeptFor number store unit (before_of part place was) state now
+  pub prepared_is : IsPrepared prepared unit (before_of part place was) kept.old
+  pub stands : option_map Standing was ≡ item_at (state.contents part.0) place
+  pub alone : NoOtherLogged unit part place state
+  pub current : IsCurrent state.numbers unit
+  pub not_catalog : part.0 ≢ 0
+
+-- it is so by some state
+pub record IsReady (store : StoreNow) (unit : UnitOfRecovery) (part : PartNo) (place : List ℕ)
+    (prepared : Prepared) (now : Seen) : Type 0 where
+  pub number : ℕ
+  pub was : Option (List ℕ)
+  pub state : State
+  pub ready : IsReadyBy number store unit part place prepared was state now
+
+-- the record may be set in the part of this number
+abbrev pub IsSettable : StoreNow → Image → ℕ → List ℕ → Option (List ℕ) → Type 0
+IsSettable store image number place item =
+    IfSome (part_among store.parts number) (λ (part : PartNow). CanSet part.shape part.split image
+    (lengths_kept (images_in store.undo) number) place item)
 
 -- What a call that sets a record has to know: the volume and the part are at rest by the state, and
 -- the change of the state is the one that was prepared, whose before-image is kept.

@@ -1,5 +1,5 @@
 //! The blocks that units of recovery changed and that were not forced since.
-ghost use Rattle.std.specs.Prelude.{◌≡◌, ◌⊎◌, ◌<◌, ℕ, List, All, IsTrue, map, false, true};
+ghost use Rattle.std.specs.Prelude.{◌≡◌, ◌⊎◌, ◌<◌, ℕ, List, [], All, IsTrue, map, false, true};
 ghost use Rattle.std.specs.List.{Contains};
 ghost use Rattle.vr_types.specs.Locks.{same_unit};
 ghost use Rattle.vr_types.specs.declared.unit.Unit.{Unit as UnitOfRecovery};
@@ -13,6 +13,13 @@ use vr_types::{OutOfMemory, Unit};
 pub struct UnitBlocks {
     pub unit: Unit,
     pub blocks: Vec<u32>,
+}
+
+/// Whether two units of recovery are one.
+pub(crate) fn is_unit(unit: Unit, other: Unit) -> bool
+    ensures { result ≡ same_unit unit other }
+{
+    unit.deck == other.deck && unit.number == other.number
 }
 
 /// Makes room.
@@ -57,4 +64,19 @@ pub(crate) fn note(changed: &mut Vec<UnitBlocks>, unit: Unit, put: &[u32]) -> bo
     let _ = unit;
     let _ = put;
     false
+}
+
+/// Forgets the blocks of a unit.
+pub(crate) fn forget(changed: &mut Vec<UnitBlocks>, unit: Unit)
+    ensures none { blocks_of unit (map changed_by changed.new.items) ≡ [] }
+    ensures others { (other : UnitOfRecovery) → same_unit other unit ≡ false
+        → blocks_of other (map changed_by changed.new.items)
+        ≡ blocks_of other (map changed_by changed.old.items) }
+    ensures each { (count : ℕ)
+        → All (λ (by : ChangedBy). All (λ n. n < count) by.blocks)
+        (map changed_by changed.old.items)
+        → All (λ (by : ChangedBy). All (λ n. n < count) by.blocks)
+        (map changed_by changed.new.items) }
+{
+    changed.retain(|by| !is_unit(unit, by.unit));
 }

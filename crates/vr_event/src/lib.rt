@@ -5,6 +5,7 @@
 
 mod changed;
 mod changing;
+mod ending;
 mod no;
 mod parts;
 mod preparing;

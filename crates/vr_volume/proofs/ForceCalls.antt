@@ -26,8 +26,8 @@ use Rattle.vr_volume.proofs.Rested.{part-stays, stands-still}
 
 -- ---- what is due
 
--- what is due to some blocks is due to others by which a crash leaves no more
-due-fewer : (shape : Shape) (listed left place : List ℕ) (a b : Seen) → IsSound shape a
+-- What is due to some blocks is due to others by which a crash leaves no more.
+pub due-fewer : (shape : Shape) (listed left place : List ℕ) (a b : Seen) → IsSound shape a
     → ((n : ℕ) (block : Block) → n < a.count → b.may n block → a.may n block)
     → ((n : ℕ) (block : Block) → n < a.count → MayOnceForced left b n block
     → MayOnceForced listed a n block)

@@ -1,6 +1,7 @@
 //! The blocks that units of recovery changed are forced, a few at a time, before a unit ends.
 ghost use Rattle.std.specs.Prelude.{◌≡◌, ◌<◌, ◌-◌, [], ℕ, List, Option, IsTrue, OnOk, OnErr, All};
 ghost use Rattle.std.specs.Prelude.{IfOk, length, min, take};
+ghost use Rattle.vr_types.specs.Blocks.{Keeps};
 ghost use Rattle.vr_types.specs.Faults.{HasWriteCause};
 ghost use Rattle.vr_types.specs.Moments.{Guards};
 ghost use Rattle.vr_types.specs.declared.geometry.Geometry.{Geometry};
@@ -38,6 +39,8 @@ pub fn force_changed<B: Blocks>(blocks: &mut B, changed: &mut Vec<u32>) -> Resul
         (state : State) (shape : Shape) (split : Option SplitNow) (met : List Met)
         → IsPartAtRest geometry images state shape split met (B.seen blocks.old)
         → IsPartAtRest geometry images state shape split met (B.seen blocks.new) }
+    // Nothing is put, so that what is due to other blocks stays due to them.
+    ensures keeps { Keeps B.tells (B.seen blocks.old) (B.seen blocks.new) }
     ensures taken { OnOk result
         (changed.new.items ≡ take (length changed.old.items - 4) changed.old.items) }
     ensures left { IfOk result (λ left. left ≡ min (length changed.new.items) 4294967295) }

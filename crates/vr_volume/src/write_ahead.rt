@@ -7,7 +7,7 @@ ghost use Rattle.vr_types.specs.Content.{Content};
 ghost use Rattle.vr_types.specs.Moments.{Guards};
 ghost use Rattle.vr_types.specs.Regions.{Touches};
 ghost use Rattle.vr_types.specs.declared.unit.Unit.{Unit as UnitOfRecovery};
-ghost use Rattle.vr_space.specs.Met.{Met};
+ghost use Rattle.vr_space.specs.Met.{HasMet, Met};
 ghost use Rattle.vr_space.specs.Split.{SplitNow};
 ghost use Rattle.vr_space.specs.Part.{
   CanSet,
@@ -30,6 +30,7 @@ ghost use Rattle.vr_log.specs.LogNow.{HasLog, HasLogCause, IsFullNo, IsFullWhere
 ghost use Rattle.vr_log.specs.LogNow.{with_record};
 ghost use Rattle.vr_log.specs.Records.{HasLengths};
 ghost use Rattle.vr_log.specs.Standing.{InLog, LogStands};
+ghost use Rattle.vr_log.specs.declared.no.LogNo.TheVariants.{Read};
 ghost use Rattle.vr_log.specs.declared.record.LogRecord.{LogRecord as Rec};
 ghost use Rattle.vr_log.specs.declared.record.LogRecord.TheVariants.{Before};
 ghost use Rattle.vr_history.specs.State.{BeforeImage, State};
@@ -161,7 +162,9 @@ pub fn change<B: Blocks, P: Part, K: Kept>(
     ensures unchanged { IfErr result (λ no. IsFullNo no
         → (log.new ≡ log.old) × (blocks.new ≡ blocks.old) × (part.new ≡ part.old)) }
     ensures cause { HasChangeCause (B.faults blocks.old) (B.faults blocks.new) result }
-    // And so is each other part.
+    // Where the place is met, no read is made of it.
+    ensures reads { HasMet (P.met part.old) place.now → IfErr result (λ no. no ≢ Read) }
+    // Each other part is at rest, too.
     ensures others { IsTrue B.tells → OnOk result ((number : ℕ) (old new : State)
         (change : Changing) (images after : List BeforeImage) (other : Shape)
         (split : Option SplitNow) (met : List Met)

@@ -1,4 +1,4 @@
-use Rattle.std.proofs.Common.{◌≡◌, ◌∙◌, ⊎_elim, refl, sym}
+use Rattle.std.proofs.Common.{◌∙◌, ⊎_elim, refl, sym}
 use Rattle.vr_space.specs.Part.{given}
 use Rattle.vr_undo.specs.Records.{images_in}
 use Rattle.vr_volume.specs.Committed.{committed_by}
