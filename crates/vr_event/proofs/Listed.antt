@@ -1,6 +1,6 @@
 -- The blocks that a unit changed, among those of all units.
 use Rattle.std.proofs.Common.{◌≡◌, ◌<◌, ◌+◌, ◌≤◌, ◌==◌, ◌&&◌, ℕ, suc, Bool, true, false, cond, not}
-use Rattle.std.proofs.Common.{List, [], ◌∷◌, Option, Some, None, refl, sym, ap, subst, ◌∙◌, arith}
+use Rattle.std.proofs.Common.{List, [], ◌∷◌, ◌++◌, Option, Some, None, refl, sym, ap, subst, ◌∙◌, arith}
 use Rattle.std.proofs.Common.{length, map, set, get_or, filter}
 use Rattle.std.specs.Prelude.{All, find}
 use Rattle.std.specs.List.{position, position_or_len, slice_get}
@@ -9,7 +9,8 @@ use Rattle.std.proofs.lemmas.Bool.{true≢false}
 use Rattle.std.proofs.Math.ListN.{get_or-map}
 use Rattle.std.proofs.Math.Seq.{map-set_same}
 use Rattle.std.proofs.lemmas.List.{length-map, map-set}
-use Rattle.std.proofs.lemmas.List.Elements.{All-filter, All-get_or, All-set}
+use Rattle.std.proofs.lemmas.List.Elements.{All-append, All-cons, All-filter, All-get_or, All-nil}
+use Rattle.std.proofs.lemmas.List.Elements.{All-set}
 use Rattle.std.proofs.lemmas.List.Folds.{find_at, find_past}
 use Rattle.std.proofs.lemmas.List.Sums.{passes_at_first}
 use Rattle.std.proofs.lemmas.Option.{slice_get-get_or}
@@ -259,3 +260,31 @@ module _ (unit : UnitOfRecovery) (items listed : List UnitBlocks) (result : Opti
               → the-by a xs ≡ the-by b ys
           two-parts a b xs ys units blocks =
               ap (λ (u : UnitOfRecovery). the-by u xs) units ∙ ap (the-by b) blocks
+
+-- ---- a unit without blocks, at the end of the list
+
+pub blocks-added : (unit other : UnitOfRecovery) (changed : List ChangedBy)
+    → blocks_of other (changed ++ the-by unit [] ∷ []) ≡ blocks_of other changed
+blocks-added unit other [] = by_test (is_by other (the-by unit []))
+  where
+    by_test : (test : Bool)
+        → listed_of (cond test (Some (the-by unit [])) None) ≡ []
+    by_test true = refl
+    by_test false = refl
+blocks-added unit other (one ∷ changed) =
+    by_test (is_by other one) (blocks-added unit other changed)
+  where
+    by_test : (test : Bool)
+        → blocks_of other (changed ++ the-by unit [] ∷ []) ≡ blocks_of other changed
+        → listed_of (cond test (Some one) (find (is_by other) (changed ++ the-by unit [] ∷ [])))
+        ≡ listed_of (cond test (Some one) (find (is_by other) changed))
+    by_test true further = refl
+    by_test false further = further
+
+pub each-added : (unit : UnitOfRecovery) (count : ℕ) (changed : List ChangedBy)
+    → All (λ (by : ChangedBy). All (λ n. n < count) by.blocks) changed
+    → All (λ (by : ChangedBy). All (λ n. n < count) by.blocks) (changed ++ the-by unit [] ∷ [])
+each-added unit count changed all =
+    All-append (λ (by : ChangedBy). All (λ n. n < count) by.blocks) changed (the-by unit [] ∷ [])
+    all (All-cons (λ (by : ChangedBy). All (λ n. n < count) by.blocks) (the-by unit []) []
+    (All-nil (λ (n : ℕ). n < count)) (All-nil (λ (by : ChangedBy). All (λ n. n < count) by.blocks)))

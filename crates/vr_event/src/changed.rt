@@ -1,6 +1,7 @@
 //! The blocks that units of recovery changed and that were not forced since.
-ghost use Rattle.std.specs.Prelude.{◌≡◌, ◌⊎◌, ◌<◌, ℕ, List, [], All, IsTrue, map, false, true};
-ghost use Rattle.std.specs.List.{Contains};
+ghost use Rattle.std.specs.Prelude.{◌≡◌, ◌<◌, ◌∷◌, ◌++◌, ℕ, [], All, IfOk, IsTrue, OnErr, OnOk};
+ghost use Rattle.std.specs.Prelude.{false, map};
+ghost use Rattle.std.specs.List.{Contains, position};
 ghost use Rattle.vr_types.specs.Locks.{same_unit};
 ghost use Rattle.vr_types.specs.declared.unit.Unit.{Unit as UnitOfRecovery};
 ghost use Rattle.vr_event.specs.Store.{ChangedBy, blocks_of, changed_by};
@@ -22,7 +23,20 @@ pub(crate) fn is_unit(unit: Unit, other: Unit) -> bool
     unit.deck == other.deck && unit.number == other.number
 }
 
-/// Makes room.
+/// The place of a unit's blocks, None exactly where it has none.
+pub(crate) fn place_of(changed: &[UnitBlocks], unit: Unit) -> Option<usize>
+    ensures { result ≡ position (λ by. same_unit unit by.unit) changed.now }
+{
+    for (at, by) in changed.iter().enumerate() {
+        if is_unit(unit, by.unit) {
+            return Some(at);
+        }
+    }
+    None
+}
+
+/// Makes room for that many more blocks of a unit. It fails only if memory runs out. The blocks
+/// stay, whatever the answer.
 pub(crate) fn make_room(
     alloc: Global,
     changed: &mut Vec<UnitBlocks>,
@@ -37,14 +51,47 @@ pub(crate) fn make_room(
         → All (λ (by : ChangedBy). All (λ n. n < count) by.blocks)
         (map changed_by changed.new.items) }
 {
-    let _ = alloc;
-    let _ = changed;
-    let _ = unit;
-    let _ = more;
+    match place_of(changed, unit) {
+        Some(at) => more_room(&mut changed[at].blocks, more),
+        None => add_unit(alloc, changed, unit, more),
+    }
+}
+
+/// Makes room for that many more blocks.
+fn more_room(blocks: &mut Vec<u32>, more: usize) -> Result<(), OutOfMemory>
+    ensures { blocks.new.items ≡ blocks.old.items }
+{
+    blocks.reserve(more)?;
     Ok(())
 }
 
-/// Notes blocks.
+/// A unit without blocks, with room for that many.
+fn new_unit(alloc: Global, unit: Unit, more: usize) -> Result<UnitBlocks, OutOfMemory>
+    ensures { IfOk result (λ by. changed_by by ≡ record { unit = unit; blocks = [] }) }
+{
+    let mut blocks = Vec::new(alloc);
+    more_room(&mut blocks, more)?;
+    Ok(UnitBlocks { unit, blocks })
+}
+
+/// Adds a unit without blocks, with room for that many.
+fn add_unit(
+    alloc: Global,
+    changed: &mut Vec<UnitBlocks>,
+    unit: Unit,
+    more: usize,
+) -> Result<(), OutOfMemory>
+    ensures added { OnOk result (map changed_by changed.new.items
+        ≡ map changed_by changed.old.items ++ record { unit = unit; blocks = [] } ∷ []) }
+    ensures err { OnErr result (changed.new.items ≡ changed.old.items) }
+{
+    let by = new_unit(alloc, unit, more)?;
+    changed.push(by)?;
+    Ok(())
+}
+
+/// Adds blocks to those of a unit, each once, in room that was made. False: there is no room for all
+/// of them. It takes no memory.
 pub(crate) fn note(changed: &mut Vec<UnitBlocks>, unit: Unit, put: &[u32]) -> bool
     ensures had { (n : ℕ) → Contains (blocks_of unit (map changed_by changed.old.items)) n
         → Contains (blocks_of unit (map changed_by changed.new.items)) n }
@@ -58,12 +105,41 @@ pub(crate) fn note(changed: &mut Vec<UnitBlocks>, unit: Unit, put: &[u32]) -> bo
         (map changed_by changed.old.items)
         → All (λ (by : ChangedBy). All (λ n. n < count) by.blocks)
         (map changed_by changed.new.items) }
-    ensures same { result ≡ false → changed.new.items ≡ changed.old.items }
 {
-    let _ = changed;
-    let _ = unit;
-    let _ = put;
-    false
+    match place_of(changed, unit) {
+        Some(at) => add_blocks(&mut changed[at].blocks, put),
+        None => false,
+    }
+}
+
+/// Adds blocks, each once; false where there is no room for all of them.
+fn add_blocks(blocks: &mut Vec<u32>, put: &[u32]) -> bool
+    ensures had { (n : ℕ) → Contains blocks.old.items n → Contains blocks.new.items n }
+    ensures put { IsTrue result → (n : ℕ) → Contains put.now n → Contains blocks.new.items n }
+    ensures each { (count : ℕ) → All (λ n. n < count) put.now
+        → All (λ n. n < count) blocks.old.items → All (λ n. n < count) blocks.new.items }
+{
+    match put {
+        [] => true,
+        [first, rest @ ..] => add_block(blocks, *first) && add_blocks(blocks, rest),
+    }
+}
+
+/// Adds a block, where it isn't one of them; false where there is no room for it.
+fn add_block(blocks: &mut Vec<u32>, n: u32) -> bool
+    ensures had { (m : ℕ) → Contains blocks.old.items m → Contains blocks.new.items m }
+    ensures has { IsTrue result → Contains blocks.new.items n }
+    ensures each { (count : ℕ) → n < count
+        → All (λ n. n < count) blocks.old.items → All (λ n. n < count) blocks.new.items }
+{
+    if blocks.contains(&n) {
+        return true;
+    }
+    if blocks.len() == blocks.capacity() {
+        return false;
+    }
+    blocks.push_reserved(n);
+    true
 }
 
 /// Forgets the blocks of a unit.

@@ -2,7 +2,6 @@
 //! and then its end is logged.
 ghost use Rattle.std.specs.Prelude.{◌≡◌, ◌<◌, ◌-◌, ◌+◌, ◌^◌, ℕ, List, [], IsTrue, OnOk, OnErr};
 ghost use Rattle.std.specs.Prelude.{IfOk, All, false, filter, length, map, min, take};
-ghost use Rattle.std.specs.List.{position};
 ghost use Rattle.vr_types.specs.Blocks.{Keeps};
 ghost use Rattle.vr_types.specs.Faults.{HasWriteCause};
 ghost use Rattle.vr_types.specs.Locks.{same_unit};
@@ -21,7 +20,7 @@ ghost use Rattle.vr_volume.specs.Safe.{IsSafeImage};
 ghost use Rattle.vr_volume.specs.Steps.{IsEndedIn};
 ghost use Rattle.vr_event.specs.Store.{ChangedBy, IsSet, IsStored, Stands, blocks_of, changed_by};
 
-use crate::changed::{UnitBlocks, forget, is_unit};
+use crate::changed::{UnitBlocks, forget, place_of};
 use crate::store::Store;
 use vr_log::EndKind;
 use vr_space::Part;
@@ -108,18 +107,6 @@ impl<P: Part> Store<P> {
         forget(&mut self.changed, unit);
         Ok(())
     }
-}
-
-/// The place of a unit's blocks, None exactly where it has none.
-fn place_of(changed: &[UnitBlocks], unit: Unit) -> Option<usize>
-    ensures { result ≡ position (λ by. same_unit unit by.unit) changed.now }
-{
-    for (at, by) in changed.iter().enumerate() {
-        if is_unit(unit, by.unit) {
-            return Some(at);
-        }
-    }
-    None
 }
 
 /// Forces the last four of a unit's blocks, or all where there are no more, takes them out of its

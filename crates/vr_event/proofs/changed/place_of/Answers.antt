@@ -2,7 +2,7 @@ use Rattle.std.proofs.Common.{arith, sym, ◌∙◌, ap}
 use Rattle.vr_types.specs.Locks.{same_unit}
 use Rattle.vr_event.proofs.Positions.{position-found, position-none}
 use Rattle.vr_event.specs.declared.changed.UnitBlocks.{UnitBlocks}
-use Rattle.vr_event.proofs.ending.place_of.Goals as goal
+use Rattle.vr_event.proofs.changed.place_of.Goals as goal
 
 pub returns-then-is_unit : goal.returns-then-is_unit
 returns-then-is_unit c =

@@ -1,7 +1,7 @@
 use Rattle.std.proofs.Common.{◌≡◌, ℕ, false, ◌<◌, get_or}
 use Rattle.vr_types.specs.Locks.{same_unit}
 use Rattle.vr_event.specs.declared.changed.UnitBlocks.{UnitBlocks}
-use Rattle.vr_event.proofs.ending.place_of.Given as goal
+use Rattle.vr_event.proofs.changed.place_of.Given as goal
 
 abbrev pub invariant-loop-at : goal.invariant-loop-at
 invariant-loop-at l =
