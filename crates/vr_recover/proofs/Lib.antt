@@ -8,3 +8,7 @@ pub mod NewVolume
 pub mod Safe
 pub mod Opened
 pub mod Clearing
+pub mod PuttingBack
+pub mod BackingOut
+pub mod KeptLengths
+pub mod PartsBack

@@ -6,6 +6,7 @@
 //! to that; that nothing else is written; and when each answer comes.
 #![tactic(auto)]
 
+mod backing_out;
 mod clusters;
 mod fillers;
 mod first;
@@ -17,6 +18,8 @@ mod laws;
 mod no;
 mod part;
 mod start;
+mod undone;
+mod undone_parts;
 mod volume;
 
 pub use format::format_volume;
