@@ -10,13 +10,14 @@ use Rattle.std.proofs.lemmas.Bool.Decides.{Decides-eqb}
 use Rattle.std.proofs.lemmas.List.Elements.{All-cons, All-nil, All-weaker}
 use Rattle.vr_types.specs.Content.{place_cmp, record_of}
 use Rattle.vr_types.proofs.CallerLemmas.{same_place}
+use Rattle.vr_space.specs.Part.{Shape, part_no}
 use Rattle.vr_space.specs.Room.{Lengths, length_at, length_by, with_length, with_lengths}
 use Rattle.vr_space.proofs.CallerLemmas.{Rise, Under, rise-with, same_is_equal}
 use Rattle.vr_space.proofs.Fewer.{AllPast}
 use Rattle.vr_history.specs.State.{BeforeImage}
 use Rattle.vr_volume.specs.PutBack.{length_in, length_of, lengths_kept}
 use Rattle.vr_volume.proofs.Endings.{AreSome, kept-under, some-skip}
-use Rattle.vr_recover.specs.Undone.{IsKeptAt}
+use Rattle.vr_recover.specs.Undone.{HasKeptFor, IsKeptAt}
 
 -- a place under others is past what all of them are past
 under-past : (low place : List ℕ) (n : ℕ) (more : Lengths) → AllPast low more
@@ -96,3 +97,13 @@ each-some (first ∷ images) = All-cons (λ (image : BeforeImage). AreSome (imag
     (All-weaker (λ (image : BeforeImage). AreSome (image ∷ []) images)
     (λ (image : BeforeImage). AreSome (image ∷ []) (first ∷ images))
     (λ image some. some-skip (image ∷ []) first images some) images (each-some images))
+
+-- so room is kept for each of the part
+pub all-kept : (shape : Shape) (kept : Lengths) (part : ℕ) (images : List BeforeImage)
+    → (part_no shape).0 ≡ part → kept ≡ lengths_kept images part
+    → All (HasKeptFor shape kept) images
+all-kept shape kept part images same is =
+    All-weaker (λ (image : BeforeImage). AreSome (image ∷ []) images) (HasKeptFor shape kept)
+    (λ image some mine. subst (λ (lengths : Lengths). IsKeptAt lengths image.place
+    (option_and_then record_of image.old)) (sym is)
+    (image-kept part images image some (mine ∙ same))) images (each-some images)

@@ -1,12 +1,14 @@
 -- What putting before-images back into a part leaves.
 use Rattle.std.proofs.Common.{◌≡◌, ◌≢◌, ℕ, Bool, true, false, cond, IsTrue, List, [], ◌∷◌, ◌++◌}
-use Rattle.std.proofs.Common.{Option, Some, None, refl, sym, ap, subst, ◌∙◌}
+use Rattle.std.proofs.Common.{Option, Some, None, refl, sym, ap, subst, ◌∙◌, ◌<◌, ◌+◌, get_or, length}
+use Rattle.std.proofs.Common.{take}
 use Rattle.std.specs.Prelude.{All, IfSome, bytes_eq, find}
 use Rattle.std.specs.List.{cons_option, filter_map}
 use Rattle.std.specs.Option.{option_map}
 use Rattle.std.proofs.lemmas.Bool.{true≢false}
 use Rattle.std.proofs.lemmas.List.Elements.{All-append, All-cons, All-head, All-nil, All-tail}
-use Rattle.std.proofs.lemmas.List.Elements.{All-weaker}
+use Rattle.std.proofs.lemmas.List.{take_more}
+use Rattle.std.proofs.lemmas.List.Elements.{All-weaker, filter_map-append}
 use Rattle.std.proofs.lemmas.Slice.Eq.{bytes_eq-Decides}
 use Rattle.vr_types.specs.Blocks.{Forced, Keeps}
 use Rattle.vr_types.specs.Content.{Content, Standing, item_at}
@@ -17,14 +19,16 @@ use Rattle.vr_space.specs.Part.{DueMore, IsFirm, IsSound, KeyedShape, MayHold, S
 use Rattle.vr_space.specs.Part.{item_of, part_no}
 use Rattle.vr_space.proofs.CallerLemmas.{firm-due, forced-firm}
 use Rattle.vr_history.specs.State.{BeforeImage}
-use Rattle.vr_log.specs.Live.{is_in}
+use Rattle.vr_log.specs.Live.{is_in, live_in}
+use Rattle.vr_log.specs.LogNow.{LogNow}
 use Rattle.vr_log.specs.declared.record.LogRecord.{LogRecord}
 use Rattle.vr_log.specs.declared.record.LogRecord.TheVariants.{Before}
-use Rattle.vr_volume.specs.PutBack.{image_in, is_image_of, oldest}
+use Rattle.vr_volume.specs.Laying.{IsFreeIn}
+use Rattle.vr_volume.specs.PutBack.{image_in, images_of, is_image_of, oldest}
 use Rattle.vr_volume.specs.Safe.{IsPartSafe, item_held}
-use Rattle.vr_volume.proofs.Alone.{is-there}
+use Rattle.vr_volume.proofs.Alone.{is-own, is-there}
 use Rattle.vr_volume.proofs.Images.{image_of}
-use Rattle.vr_recover.specs.Undone.{ArePutBack, IsBackIn, IsItemIn}
+use Rattle.vr_recover.specs.Undone.{ArePutBack, HasAllRecords, IsBackIn, IsItemIn}
 
 -- what was firm is firm once what was put is forced
 pub firm-forced : (shape : Shape) (put : List ℕ) (tells : Bool) (told : IsTrue tells)
@@ -130,6 +134,69 @@ each-image P f (x ∷ xs) all =
     by None these = (tt, these)
     by (Some y) these =
         (All-head P y (filter_map f xs) these, All-tail P y (filter_map f xs) these)
+
+-- so has that of one of them
+pub at-record : (P : BeforeImage → Type 0) (records all : List LogRecord) → records ≡ all
+    → All P (images_of all) → (i : ℕ) → i < length records → (rec : LogRecord)
+    → rec ≡ get_or records i rec → IfSome (image_in (live_in all) rec) P
+at-record P records all same have i below rec is =
+    subst (λ (r : LogRecord). IfSome (image_in (live_in all) r) P) (sym is)
+    (each-image P (image_in (live_in all)) records
+    (subst (λ (rs : List LogRecord). All P (filter_map (image_in (live_in all)) rs)) (sym same) have)
+    i rec below)
+
+-- one record more
+pub back-more : (shape : Shape) (content : Content) (f : LogRecord → Option BeforeImage)
+    (records : List LogRecord) (i : ℕ) (rec : LogRecord) (a b c : Seen) → i < length records
+    → rec ≡ get_or records i rec
+    → ArePutBack shape content (filter_map f (take i records)) a b
+    → ArePutBack shape content (filter_map f (rec ∷ [])) b c
+    → ArePutBack shape content (filter_map f (take (i + 1) records)) a c
+back-more shape content f records i rec a b c below is first second =
+    subst (λ (images : List BeforeImage). ArePutBack shape content images a c)
+    (sym (ap (filter_map f) (take_more records i rec below)
+    ∙ filter_map-append f (take i records) (get_or records i rec ∷ [])
+    ∙ ap (λ (r : LogRecord). filter_map f (take i records) ++ filter_map f (r ∷ [])) (sym is)))
+    (back-then shape content (filter_map f (take i records)) (filter_map f (rec ∷ [])) a b c first
+    second)
+
+-- ---- places of before-images
+
+-- each place has one
+each-found : (images : List BeforeImage)
+    → All (λ (image : BeforeImage). oldest images image.part image.place ≢ None) images
+each-found [] = All-nil (λ (image : BeforeImage). oldest [] image.part image.place ≢ None)
+each-found (first ∷ images) = All-cons
+    (λ (image : BeforeImage). oldest (first ∷ images) image.part image.place ≢ None) first images
+    (own (is_image_of first.part first.place first) (is-own first))
+    (All-weaker (λ (image : BeforeImage). oldest images image.part image.place ≢ None)
+    (λ (image : BeforeImage). oldest (first ∷ images) image.part image.place ≢ None)
+    (λ image some. further image (is_image_of image.part image.place first) some) images
+    (each-found images))
+  where
+    some-none : (image : BeforeImage) → Some image ≡ None → ⊥
+    some-none image same = cc
+
+    own : (b : Bool) → b ≡ true
+        → cond b (Some first) (oldest images first.part first.place) ≢ None
+    own true is none = some-none first none
+    own false is none = true≢false (sym is)
+
+    further : (image : BeforeImage) (b : Bool) → oldest images image.part image.place ≢ None
+        → cond b (Some first) (oldest images image.part image.place) ≢ None
+    further image true some none = some-none first none
+    further image false some none = some none
+
+-- so each is free, where each image has all records
+pub all-free : (log : LogNow) → HasAllRecords log
+    → All (λ (image : BeforeImage). IsFreeIn log image.part image.place) (images_of log.records)
+all-free log has = All-weaker
+    (λ (image : BeforeImage). oldest (images_of log.records) image.part image.place ≢ None)
+    (λ (image : BeforeImage). IsFreeIn log image.part image.place)
+    (λ image some content is none. some
+    (ap (λ (records : List LogRecord). oldest (images_of records) image.part image.place)
+    (sym (has content is)) ∙ none))
+    (images_of log.records) (each-found (images_of log.records))
 
 -- ---- a part whose before-images are all put back
 

@@ -37,13 +37,13 @@ pub(crate) fn put_back_all<B: Blocks, P: Part, K: Kept>(
     records: &[LogRecord],
 ) -> Result<(), DeviceFault>
     requires numbers { map (λ part. part_no (P.shape part)) parts.old ≡ numbers.now }
-    requires on { All (λ part. IsOn (P.shape part) (B.seen blocks.old)) parts.old }
+    requires on { All (λ shape. IsOn shape (B.seen blocks.old)) (map P.shape parts.old) }
     requires apart { AreApart (map P.shape parts.old) }
     requires split { All (λ part. P.split part ≡ None) parts.old }
     requires sound { log.now.broken ≡ false }
     requires records { records.now ≡ log.now.records }
-    requires fits { All (λ part. All (FitsPart (P.shape part)) (images_of log.now.records))
-        parts.old }
+    requires fits { All (λ shape. All (FitsPart shape) (images_of log.now.records))
+        (map P.shape parts.old) }
     requires kept { IsKeptOf (K.kept kept.now) log.now }
     requires ready { IsTrue B.tells → All (λ part. IsReady (P.shape part) (P.met part)
         (K.kept kept.now (part_no (P.shape part))) (B.seen blocks.old)) parts.old }
@@ -57,7 +57,7 @@ pub(crate) fn put_back_all<B: Blocks, P: Part, K: Kept>(
         (contents : ℕ → Content)
         → IsSafe geometry member log.now (alike contents) (B.seen blocks.old)
         → AreOpened geometry log.now contents (map P.shape parts.old)
-        → All (λ part. IsAllFirm (P.shape part) (B.seen blocks.old)) parts.old
+        → All (λ shape. IsAllFirm shape (B.seen blocks.old)) (map P.shape parts.old)
         → All (IsCovered (map P.shape parts.old)) (images_of log.now.records)
         → HasAll geometry contents (B.seen blocks.new)) }
     ensures ready { IsTrue B.tells → OnOk result (All (λ part. IsReady (P.shape part)
