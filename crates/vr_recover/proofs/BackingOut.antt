@@ -46,7 +46,7 @@ safe-recovers geometry number log contents image safe =
     image_recovers geometry number image safe.0 contents safe.2
 
 -- a crash leaves no more of a part, so no more is held
-may-less : (shape : Shape) (a b : Seen) → IsSound shape a
+pub may-less : (shape : Shape) (a b : Seen) → IsSound shape a
     → ((n : ℕ) (block : Block) → n < a.count → InPart shape n → b.may n block → a.may n block)
     → (place : List ℕ) (found : Option (List ℕ)) → MayHold shape b.may place found
     → MayHold shape a.may place found

@@ -204,7 +204,7 @@ none-some : {X : Type 0} {x : X} → None ≡ Some x → ⊥
 none-some same = cc
 
 -- what is found passes, and has what all have
-found-passes : (P : BeforeImage → Type 0) (test : BeforeImage → Bool) (images : List BeforeImage)
+pub found-passes : (P : BeforeImage → Type 0) (test : BeforeImage → Bool) (images : List BeforeImage)
     (image : BeforeImage) → All P images → find test images ≡ Some image
     → (test image ≡ true) × P image
 found-passes P test [] image all is = absurd (none-some is)

@@ -36,7 +36,7 @@ pub(crate) fn put_back_all<B: Blocks, P: Part, K: Kept>(
     log: &UndoLog,
     records: &[LogRecord],
 ) -> Result<(), DeviceFault>
-    requires numbers { map (λ part. part_no (P.shape part)) parts.old ≡ numbers.now }
+    requires numbers { map part_no (map P.shape parts.old) ≡ numbers.now }
     requires on { All (λ shape. IsOn shape (B.seen blocks.old)) (map P.shape parts.old) }
     requires apart { AreApart (map P.shape parts.old) }
     requires split { All (λ part. P.split part ≡ None) parts.old }

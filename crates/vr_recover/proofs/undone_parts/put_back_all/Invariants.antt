@@ -25,16 +25,13 @@ invariant-loop-part g l = record {
       → Guards (g.B.Blocks.seen l.fn.blocks) (g.B.Blocks.seen l.blocks)
       (IsSafeImage geometry member l.log (alike contents))
       × IsSafe geometry member l.log (alike contents) (g.B.Blocks.seen l.blocks);
-  firm : IsTrue g.B.Blocks.tells
-      → All (λ (shape : Shape). IsAllFirm shape (g.B.Blocks.seen l.fn.blocks))
-      (map g.P.Part.shape l.fn.parts)
-      → All (λ (shape : Shape). IsAllFirm shape (g.B.Blocks.seen l.blocks))
-      (map g.P.Part.shape l.fn.parts);
   all : IsTrue g.B.Blocks.tells → (geometry : Geometry) (member : ℕ) (contents : ℕ → Content)
       → IsSafe geometry member l.log (alike contents) (g.B.Blocks.seen l.fn.blocks)
       → AreOpened geometry l.log contents (map g.P.Part.shape l.fn.parts)
       → All (λ (shape : Shape). IsAllFirm shape (g.B.Blocks.seen l.fn.blocks))
       (map g.P.Part.shape l.fn.parts)
-      → All (λ (shape : Shape). HasContent shape (contents (part_no shape).0)
+      → All (λ (shape : Shape). IsAllFirm shape (g.B.Blocks.seen l.blocks))
+      (map g.P.Part.shape l.fn.parts)
+      × All (λ (shape : Shape). HasContent shape (contents (part_no shape).0)
       (g.B.Blocks.seen l.blocks)) (take l.part-index (map g.P.Part.shape l.fn.parts));
 }
