@@ -1,6 +1,6 @@
 -- What is put back into a part as a volume is opened, and what the part reads then. The rules are
 -- this project's own.
-use Rattle.std.specs.Prelude.{◌≡◌, ◌≤◌, ℕ, true, false, List, All, IfSome, Option, Some, None}
+use Rattle.std.specs.Prelude.{◌≡◌, ◌<◌, ◌≤◌, ℕ, true, false, List, All, IfSome, Option, Some, None}
 use Rattle.std.specs.Prelude.{◌≢◌, length, slice_get}
 use Rattle.std.specs.Option.{option_and_then}
 use Rattle.vr_types.specs.Content.{Content, item_at, record_of}
@@ -85,6 +85,10 @@ AreApart shapes = (at other : ℕ) (here there : Shape) → slice_get shapes at 
     → slice_get shapes other ≡ Some there → at ≢ other → (n : ℕ) → InPart here n
     → InPart there n → ⊥
 
+-- the part is past the log
+abbrev pub IsPastLog : Geometry → Shape → Type 0
+IsPastLog geometry shape = (n : ℕ) → InPart shape n → geometry.log < n
+
 -- what is kept is what the log has of live units
 abbrev pub IsKeptOf : (PartNo → Lengths) → LogNow → Type 0
 IsKeptOf kept log = (part : PartNo) → kept part ≡ lengths_kept (images_of log.records) part.0
@@ -122,6 +126,16 @@ pub record IsUndone (number : ℕ) (log : LogNow) (contents : ℕ → Content) (
   where
     pub safe : IsSafe log.geometry number log (alike contents) now
     pub all : HasAll log.geometry contents now
+
+-- What undoing a crash's units of recovery begins with: the volume is safe, with these contents
+-- committed, these parts are laid by them, a crash leaves each of their places alone, and the part
+-- of each before-image is one of them.
+pub record IsSettled (number : ℕ) (log : LogNow) (contents : ℕ → Content) (shapes : List Shape)
+    (now : Seen) : Type 0 where
+  pub safe : IsSafe log.geometry number log (alike contents) now
+  pub opened : AreOpened log.geometry log contents shapes
+  pub firm : All (λ (shape : Shape). IsAllFirm shape now) shapes
+  pub covered : All (IsCovered shapes) (images_of log.records)
 
 -- the record is a before-image of the unit
 abbrev pub IsBeforeOf : UnitOfRecovery → LogRecord → Type 0

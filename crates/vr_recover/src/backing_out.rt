@@ -3,10 +3,12 @@ ghost use Rattle.std.specs.Prelude.{◌≡◌, ◌<◌, ◌+◌, ◌^◌, [], �
 ghost use Rattle.vr_types.specs.Content.{Content};
 ghost use Rattle.vr_types.specs.Faults.{HasWriteCause};
 ghost use Rattle.vr_types.specs.Moments.{Guards};
+ghost use Rattle.vr_types.specs.Regions.{Touches};
 ghost use Rattle.vr_log.specs.Live.{live_in};
 ghost use Rattle.vr_log.specs.LogNow.{IsForced, IsOf, next_generation};
-ghost use Rattle.vr_log.specs.Standing.{LogStands};
+ghost use Rattle.vr_log.specs.Standing.{InLog, LogStands};
 ghost use Rattle.vr_volume.specs.Volume.{Recovers};
+ghost use Rattle.vr_recover.specs.Formatted.{Anything};
 ghost use Rattle.vr_recover.specs.Undone.{IsOut, IsUndone};
 
 use vr_log::{EndKind, LogRecord, UndoLog};
@@ -23,6 +25,8 @@ fn back_out<B: Blocks>(
     requires sound { log.old.broken ≡ false }
     requires shape { IsOf log.old.geometry (B.seen blocks.old) }
     requires stands { IsTrue B.tells → LogStands log.old (B.seen blocks.old) }
+    ensures touches { IsTrue B.tells → Touches (InLog log.old.geometry) Anything
+        (B.seen blocks.old) (B.seen blocks.new) }
     ensures any_moment { IsTrue B.tells → (number : ℕ) (contents : ℕ → Content)
         → IsUndone number log.old contents (B.seen blocks.old)
         → Guards (B.seen blocks.old) (B.seen blocks.new)
@@ -57,6 +61,8 @@ fn back_out_all<B: Blocks>(
     requires shape { IsOf log.old.geometry (B.seen blocks.old) }
     requires records { records.now ≡ log.old.records }
     requires stands { IsTrue B.tells → LogStands log.old (B.seen blocks.old) }
+    ensures touches { IsTrue B.tells → Touches (InLog log.old.geometry) Anything
+        (B.seen blocks.old) (B.seen blocks.new) }
     ensures any_moment { IsTrue B.tells → (number : ℕ) (contents : ℕ → Content)
         → IsUndone number log.old contents (B.seen blocks.old)
         → Guards (B.seen blocks.old) (B.seen blocks.new)
@@ -90,6 +96,8 @@ pub(crate) fn end_all<B: Blocks>(
     requires shape { IsOf log.old.geometry (B.seen blocks.old) }
     requires records { records.now ≡ log.old.records }
     requires stands { IsTrue B.tells → LogStands log.old (B.seen blocks.old) }
+    ensures touches { IsTrue B.tells → Touches (InLog log.old.geometry) Anything
+        (B.seen blocks.old) (B.seen blocks.new) }
     ensures any_moment { IsTrue B.tells → (number : ℕ) (contents : ℕ → Content)
         → IsUndone number log.old contents (B.seen blocks.old)
         → Guards (B.seen blocks.old) (B.seen blocks.new)

@@ -18,6 +18,7 @@ mod laws;
 mod no;
 mod part;
 mod start;
+mod undoing;
 mod undone;
 mod undone_parts;
 mod volume;

@@ -5,6 +5,8 @@ ghost use Rattle.vr_types.specs.Faults.{HasCause};
 ghost use Rattle.vr_types.specs.Moments.{Guards};
 ghost use Rattle.vr_types.specs.declared.geometry.Geometry.{Geometry};
 ghost use Rattle.vr_space.specs.Part.{IsOn, part_no};
+ghost use Rattle.vr_log.specs.LogNow.{IsForced};
+ghost use Rattle.vr_log.specs.Standing.{LogStands};
 ghost use Rattle.vr_volume.specs.PutBack.{images_of};
 ghost use Rattle.vr_volume.specs.Safe.{IsSafe, IsSafeImage};
 ghost use Rattle.vr_recover.specs.Undone.{
@@ -15,6 +17,7 @@ ghost use Rattle.vr_recover.specs.Undone.{
   IsAllFirm,
   IsCovered,
   IsKeptOf,
+  IsPastLog,
   IsReady,
   alike,
 };
@@ -39,6 +42,7 @@ pub(crate) fn put_back_all<B: Blocks, P: Part, K: Kept>(
     requires numbers { map part_no (map P.shape parts.old) ≡ numbers.now }
     requires on { All (λ shape. IsOn shape (B.seen blocks.old)) (map P.shape parts.old) }
     requires apart { AreApart (map P.shape parts.old) }
+    requires past { All (IsPastLog log.now.geometry) (map P.shape parts.old) }
     requires split { All (λ part. P.split part ≡ None) parts.old }
     requires sound { log.now.broken ≡ false }
     requires records { records.now ≡ log.now.records }
@@ -60,6 +64,8 @@ pub(crate) fn put_back_all<B: Blocks, P: Part, K: Kept>(
         → All (λ shape. IsAllFirm shape (B.seen blocks.old)) (map P.shape parts.old)
         → All (IsCovered (map P.shape parts.old)) (images_of log.now.records)
         → HasAll geometry contents (B.seen blocks.new)) }
+    ensures stands { IsTrue B.tells → IsForced log.now → LogStands log.now (B.seen blocks.old)
+        → OnOk result (LogStands log.now (B.seen blocks.new)) }
     ensures ready { IsTrue B.tells → OnOk result (All (λ part. IsReady (P.shape part)
         (P.met part) (K.kept kept.now (part_no (P.shape part))) (B.seen blocks.new)) parts.new) }
     ensures shapes { map P.shape parts.new ≡ map P.shape parts.old }

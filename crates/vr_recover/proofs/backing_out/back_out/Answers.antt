@@ -2,16 +2,18 @@ use Rattle.std.proofs.Common.{◌∙◌, ℕ, List, ap, subst, sym, refl}
 use Rattle.vr_types.specs.Image.{Image}
 use Rattle.vr_types.specs.declared.geometry.Geometry.{Geometry}
 use Rattle.vr_types.specs.Regions.{Outside}
-use Rattle.vr_types.proofs.CallerLemmas.{guards-start, guards-weaken}
+use Rattle.vr_types.proofs.CallerLemmas.{guards-start, guards-weaken, touches-weaken}
 use Rattle.vr_log.specs.LogNow.{HasLog, with_record}
 use Rattle.vr_log.specs.Standing.{InLog}
 use Rattle.vr_log.specs.declared.record.EndKind.TheVariants.{BackedOut}
 use Rattle.vr_log.specs.declared.record.LogRecord.TheVariants.{End}
 use Rattle.vr_volume.specs.Safe.{IsSafe, IsSafeImage}
 use Rattle.vr_volume.specs.Volume.{Recovers}
+use Rattle.vr_recover.specs.Formatted.{Anything}
 use Rattle.vr_recover.specs.Undone.{HasAll, IsBeforeOf, alike}
 use Rattle.vr_recover.proofs.BackingOut.{all-stays, end-undone, left-recovers, out-ended}
 use Rattle.vr_recover.proofs.BackingOut.{safe-recovers}
+use Rattle.vr_recover.proofs.Made.{touches-none}
 use Rattle.vr_recover.proofs.backing_out.back_out.Goals as goal
 
 pub returns-else-is_live-clause-any_moment : goal.returns-else-is_live-clause-any_moment
@@ -82,3 +84,27 @@ returns-in_ok-append_end-clause-out g c =
     c.in_ok-append_end.ensures.log.records
     (subst (IsBeforeOf c.in-Before.unit) (sym c.in-Before.is) refl)
     (λ other of. sym (subst (IsBeforeOf other) c.in-Before.is of))
+
+pub returns-else-is_live-clause-touches : goal.returns-else-is_live-clause-touches
+returns-else-is_live-clause-touches g c told = touches-none (InLog c.args.log.now.geometry)
+    (g.B.Blocks.seen c.args.blocks.now)
+    (λ image there. g.met.B.Blocks.images_may c.args.blocks.now image told there)
+
+pub returns-in_default-clause-touches : goal.returns-in_default-clause-touches
+returns-in_default-clause-touches g c told = touches-none (InLog c.args.log.now.geometry)
+    (g.B.Blocks.seen c.args.blocks.now)
+    (λ image there. g.met.B.Blocks.images_may c.args.blocks.now image told there)
+
+pub returns-in_ok-append_end-clause-touches : goal.returns-in_ok-append_end-clause-touches
+returns-in_ok-append_end-clause-touches g c told =
+    let log = c.args.log.now in
+    touches-weaken (InLog log.geometry) (HasLog (with_record log (End c.in-Before.unit BackedOut)))
+    Anything (g.B.Blocks.seen c.args.blocks.now) (g.B.Blocks.seen c.append_end.new.blocks)
+    (c.append_end.ensures.touches told) (λ image has. tt)
+
+pub returns-in_err-append_end-clause-touches : goal.returns-in_err-append_end-clause-touches
+returns-in_err-append_end-clause-touches g c told =
+    let log = c.args.log.now in
+    touches-weaken (InLog log.geometry) (HasLog (with_record log (End c.in-Before.unit BackedOut)))
+    Anything (g.B.Blocks.seen c.args.blocks.now) (g.B.Blocks.seen c.append_end.new.blocks)
+    (c.append_end.ensures.touches told) (λ image has. tt)

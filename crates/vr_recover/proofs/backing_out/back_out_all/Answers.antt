@@ -3,12 +3,16 @@ use Rattle.std.specs.Prelude.{All}
 use Rattle.std.proofs.lemmas.List.{take_all, take_more}
 use Rattle.std.proofs.lemmas.List.Elements.{All-nil, All-push, All-weaker}
 use Rattle.vr_types.specs.Moments.{Guards}
+use Rattle.vr_types.specs.Regions.{Touches}
 use Rattle.vr_types.specs.declared.geometry.Geometry.{Geometry}
 use Rattle.vr_types.proofs.CallerLemmas.{guards-start, guards-then}
 use Rattle.vr_log.specs.Live.{live_in}
+use Rattle.vr_log.specs.Standing.{InLog}
 use Rattle.vr_log.specs.declared.record.LogRecord.{LogRecord}
 use Rattle.vr_volume.specs.Volume.{Recovers}
 use Rattle.vr_recover.proofs.BackingOut.{AreOut, left-recovers, none-live, stays-out}
+use Rattle.vr_recover.specs.Formatted.{Anything}
+use Rattle.vr_recover.proofs.Made.{touches-both, touches-none}
 use Rattle.vr_recover.proofs.backing_out.back_out_all.Goals as goal
 
 pub loop-rec-init : goal.loop-rec-init
@@ -19,6 +23,9 @@ loop-rec-init g c = record {
   shape = c.requires.shape;
   stands = c.requires.stands;
   faults = refl;
+  touches = λ told. touches-none (InLog c.args.log.now.geometry)
+      (g.B.Blocks.seen c.args.blocks.now)
+      (λ image there. g.met.B.Blocks.images_may c.args.blocks.now image told there);
   any_moment = λ told number contents undone.
       guards-start (g.B.Blocks.seen c.args.blocks.now)
       (λ image. Recovers c.args.log.now.geometry number image contents)
@@ -56,6 +63,10 @@ loop-rec-preserved g c =
       shape = c.in_ok-back_out.ensures.shape;
       stands = c.in_ok-back_out.ensures.stands;
       faults = c.in_ok-back_out.ensures.cause.cause.ok ∙ c.loop-rec.invariant.faults;
+      touches = λ told. touches-both (InLog c.args.log.now.geometry)
+          (g.B.Blocks.seen c.args.blocks.now) b d (c.loop-rec.invariant.touches told)
+          (subst (λ (geometry : Geometry). Touches (InLog geometry) Anything b d)
+          c.loop-rec.invariant.geometry (c.back_out.ensures.touches told));
       any_moment = λ told number contents undone.
           guards-then (g.B.Blocks.seen c.args.blocks.now) b d
           (λ image. Recovers c.args.log.now.geometry number image contents)
@@ -85,3 +96,12 @@ returns-clause-none_live g c =
     (subst (All (AreOut now))
     (take_all c.loop-rec.rec-index c.args.records.now c.loop-rec-test.false ∙ c.requires.records)
     c.loop-rec.invariant.out)
+
+pub returns-in_err-back_out-clause-touches : goal.returns-in_err-back_out-clause-touches
+returns-in_err-back_out-clause-touches g c told =
+    let b = g.B.Blocks.seen c.loop-rec.blocks in
+    let d = g.B.Blocks.seen c.back_out.new.blocks in
+    touches-both (InLog c.args.log.now.geometry)
+    (g.B.Blocks.seen c.args.blocks.now) b d (c.loop-rec.invariant.touches told)
+    (subst (λ (geometry : Geometry). Touches (InLog geometry) Anything b d)
+    c.loop-rec.invariant.geometry (c.back_out.ensures.touches told))

@@ -1,16 +1,18 @@
 use Rattle.std.proofs.Common.{◌≡◌, ◌∙◌, ◌<◌, ◌+◌, ◌^◌, ℕ, ap, length, refl, subst, sym}
 use Rattle.vr_types.specs.declared.geometry.Geometry.{Geometry}
-use Rattle.vr_types.proofs.CallerLemmas.{guards-keeps}
+use Rattle.vr_types.proofs.CallerLemmas.{guards-keeps, keeps-touches}
 use Rattle.vr_log.specs.Live.{live_in}
 use Rattle.vr_log.specs.LogNow.{LogNow}
-use Rattle.vr_log.specs.Standing.{LogStands}
+use Rattle.vr_log.specs.Standing.{InLog, LogStands}
 use Rattle.vr_log.proofs.CallerLemmas.{restarted_stands}
 use Rattle.vr_volume.specs.Safe.{IsSafe}
 use Rattle.vr_volume.specs.Volume.{Recovers}
 use Rattle.vr_volume.proofs.EndCalls.{forced-generation}
 use Rattle.vr_volume.proofs.LogCalls.{forced-geometry, forced-is, forced-records}
+use Rattle.vr_recover.specs.Formatted.{Anything}
 use Rattle.vr_recover.specs.Undone.{HasAll, alike}
 use Rattle.vr_recover.proofs.BackingOut.{all-stays}
+use Rattle.vr_recover.proofs.Made.{touches-both}
 use Rattle.vr_recover.proofs.backing_out.end_all.Goals as goal
 
 pub returns-in_err-force_log-clause-any_moment : goal.returns-in_err-force_log-clause-any_moment
@@ -73,3 +75,23 @@ returns-clause-undone g c told below number contents undone =
           (c.in_ok-back_out_all.ensures.stands told).forced d
           (λ n block below out may. c.force_log.ensures.keeps.adds_none told n block below may));
     }
+
+pub returns-clause-touches : goal.returns-clause-touches
+returns-clause-touches g c told =
+    let log = c.args.log.now in
+    let b = g.B.Blocks.seen c.back_out_all.new.blocks in
+    let d = g.B.Blocks.seen c.force_log.new.blocks in
+    touches-both (InLog log.geometry) (g.B.Blocks.seen c.args.blocks.now) b d
+    (c.back_out_all.ensures.touches told)
+    (keeps-touches g.B.Blocks.tells (InLog log.geometry) Anything b d told c.force_log.ensures.keeps
+    (λ image left. tt))
+
+pub returns-in_err-force_log-clause-touches : goal.returns-in_err-force_log-clause-touches
+returns-in_err-force_log-clause-touches g c told =
+    let log = c.args.log.now in
+    let b = g.B.Blocks.seen c.back_out_all.new.blocks in
+    let d = g.B.Blocks.seen c.force_log.new.blocks in
+    touches-both (InLog log.geometry) (g.B.Blocks.seen c.args.blocks.now) b d
+    (c.back_out_all.ensures.touches told)
+    (keeps-touches g.B.Blocks.tells (InLog log.geometry) Anything b d told c.force_log.ensures.keeps
+    (λ image left. tt))

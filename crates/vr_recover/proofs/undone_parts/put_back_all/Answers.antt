@@ -18,9 +18,10 @@ use Rattle.vr_volume.specs.Laid.{shape_by}
 use Rattle.vr_volume.specs.PutBack.{images_of}
 use Rattle.vr_volume.specs.Safe.{IsSafeImage}
 use Rattle.vr_volume.proofs.Recovering.{each_image_is_safe}
-use Rattle.vr_volume.proofs.Rested.{stays-apart}
+use Rattle.vr_volume.proofs.Rested.{stands-part, stays-apart}
 use Rattle.vr_recover.specs.Formatted.{Anything}
-use Rattle.vr_recover.specs.Undone.{FitsPart, HasContent, IsAllFirm, IsReady, alike}
+use Rattle.vr_recover.specs.Undone.{FitsPart, HasContent, IsAllFirm, IsPastLog, IsReady}
+use Rattle.vr_recover.specs.Undone.{alike}
 use Rattle.vr_recover.proofs.PartsBack.{all-at, all-before, all-others, all-parts, all-safe, all-set}
 use Rattle.vr_recover.proofs.PartsBack.{are-items, content-stays, firm-stays, laid-opened}
 use Rattle.vr_recover.proofs.PartsBack.{read-off, ready-stays}
@@ -44,6 +45,7 @@ loop-part-init g c =
             (each_image_is_safe geometry member c.args.log.now (alike contents) a safe),
         safe,
       );
+      stands = λ told forced stands. stands;
       all = λ told geometry member contents safe opened firm. (
         firm,
         All-nil (λ (shape : Shape). HasContent shape (contents (part_no shape).0) a),
@@ -220,6 +222,10 @@ loop-part-preserved g c =
             guards-then a b d (IsSafeImage geometry member log (alike contents)) before.0 call.0,
             call.1,
           );
+      stands = λ told forced stands. stands-part log shape Anything b d forced
+          (c.loop-part.invariant.stands told forced stands)
+          (all-at (IsPastLog log.geometry) shapes index shape is c.requires.past)
+          (c.put_back.ensures.touches told);
       all = λ told geometry member contents safe opened firm.
           let before = c.loop-part.invariant.all told geometry member contents safe opened firm in
           let was = c.loop-part.invariant.safe told geometry member contents safe opened in

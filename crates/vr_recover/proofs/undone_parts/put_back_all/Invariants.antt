@@ -4,6 +4,8 @@ use Rattle.vr_types.specs.Content.{Content}
 use Rattle.vr_types.specs.Moments.{Guards}
 use Rattle.vr_types.specs.declared.geometry.Geometry.{Geometry}
 use Rattle.vr_space.specs.Part.{Shape, part_no}
+use Rattle.vr_log.specs.LogNow.{IsForced}
+use Rattle.vr_log.specs.Standing.{LogStands}
 use Rattle.vr_volume.specs.Safe.{IsSafe, IsSafeImage}
 use Rattle.vr_recover.specs.Undone.{AreOpened, HasContent, IsAllFirm, IsReady, alike}
 use Rattle.vr_recover.proofs.undone_parts.put_back_all.Given as goal
@@ -25,6 +27,9 @@ invariant-loop-part g l = record {
       → Guards (g.B.Blocks.seen l.fn.blocks) (g.B.Blocks.seen l.blocks)
       (IsSafeImage geometry member l.log (alike contents))
       × IsSafe geometry member l.log (alike contents) (g.B.Blocks.seen l.blocks);
+  stands : IsTrue g.B.Blocks.tells → IsForced l.log
+      → LogStands l.log (g.B.Blocks.seen l.fn.blocks)
+      → LogStands l.log (g.B.Blocks.seen l.blocks);
   all : IsTrue g.B.Blocks.tells → (geometry : Geometry) (member : ℕ) (contents : ℕ → Content)
       → IsSafe geometry member l.log (alike contents) (g.B.Blocks.seen l.fn.blocks)
       → AreOpened geometry l.log contents (map g.P.Part.shape l.fn.parts)
