@@ -1,6 +1,6 @@
 -- What is put back into a part as a volume is opened, and what the part reads then. The rules are
 -- this project's own.
-use Rattle.std.specs.Prelude.{◌≡◌, ◌<◌, ◌≤◌, ℕ, true, false, List, All, IfSome, Option, Some, None}
+use Rattle.std.specs.Prelude.{◌≡◌, ◌<◌, ◌≤◌, ℕ, true, false, List, [], All, IfSome, Option, Some, None}
 use Rattle.std.specs.Prelude.{◌≢◌, length, slice_get}
 use Rattle.std.specs.Option.{option_and_then}
 use Rattle.vr_types.specs.Content.{Content, item_at, record_of}
@@ -10,8 +10,8 @@ use Rattle.vr_types.specs.declared.geometry.Geometry.{Geometry}
 use Rattle.vr_types.specs.declared.unit.PartNo.{PartNo}
 use Rattle.vr_types.specs.declared.unit.Unit.{Unit as UnitOfRecovery}
 use Rattle.vr_space.specs.Met.{Met}
-use Rattle.vr_space.specs.Part.{HasKeptRoom, InPart, IsAtRest, IsFirm, IsPlaceOf, IsRecordOf, Knows}
-use Rattle.vr_space.specs.Part.{MayHold, Shape, item_of, part_no}
+use Rattle.vr_space.specs.Part.{HasKeptRoom, InPart, IsAtRest, IsFirm, IsOn, IsPlaceOf, IsRecordOf}
+use Rattle.vr_space.specs.Part.{Knows, MayHold, Shape, item_of, part_no}
 use Rattle.vr_space.specs.Room.{Lengths, length_at}
 use Rattle.vr_history.specs.State.{BeforeImage}
 use Rattle.vr_log.specs.Content.{Content as LogContent}
@@ -136,6 +136,17 @@ pub record IsSettled (number : ℕ) (log : LogNow) (contents : ℕ → Content) 
   pub opened : AreOpened log.geometry log contents shapes
   pub firm : All (λ (shape : Shape). IsAllFirm shape now) shapes
   pub covered : All (IsCovered shapes) (images_of log.records)
+
+-- A part as it is opened: its blocks are there, past the log; it is at rest, with no split under way
+-- and nothing met yet, and has room for what is kept; a crash leaves each of its places alone; and
+-- each before-image of it may be put back.
+pub record IsOpenedPart (geometry : Geometry) (images : List BeforeImage) (shape : Shape)
+    (now : Seen) : Type 0 where
+  pub on : IsOn shape now
+  pub past : IsPastLog geometry shape
+  pub ready : IsReady shape [] (lengths_kept images (part_no shape).0) now
+  pub firm : IsAllFirm shape now
+  pub fits : All (FitsPart shape) images
 
 -- the record is a before-image of the unit
 abbrev pub IsBeforeOf : UnitOfRecovery → LogRecord → Type 0

@@ -24,5 +24,8 @@ mod undone_parts;
 mod volume;
 
 pub use format::format_volume;
-pub use laws::{cleared_log_stays, formatted_is_safe, formatted_recovers, settled_is_safe};
+pub use laws::{
+    cleared_log_stays, formatted_is_safe, formatted_recovers, settled_is_safe,
+    settled_may_be_undone, settled_part_is_opened,
+};
 pub use no::FormatNo;
