@@ -1,7 +1,7 @@
 -- What the end of a unit leaves of a volume whose before-images are all put back.
 use Rattle.std.proofs.Common.{◌≡◌, ◌⊎◌, ⊎_elim, ◌≤◌, ◌<◌, inl, inr, cond, ℕ, Bool, true, false, List, [], ◌∷◌, ◌++◌, Option}
-use Rattle.std.proofs.Common.{Some, None, refl, sym, ap, subst, ◌∙◌, arith, length, ◌&&◌, ◌||◌, not}
-use Rattle.std.specs.Prelude.{All, filter, slice_get}
+use Rattle.std.proofs.Common.{refl, sym, ap, subst, ◌∙◌, arith, length, ◌&&◌, ◌||◌, not}
+use Rattle.std.specs.Prelude.{All, filter}
 use Rattle.std.proofs.lemmas.Bool.{true≢false}
 use Rattle.std.proofs.lemmas.List.{take_all}
 use Rattle.std.proofs.lemmas.List.Elements.{All-filter, All-head, All-tail}
@@ -28,7 +28,7 @@ use Rattle.vr_log.specs.declared.record.LogRecord.TheVariants.{Before, End}
 use Rattle.vr_volume.specs.Ended.{IsEndOf, ended}
 use Rattle.vr_volume.specs.Laid.{shape_by}
 use Rattle.vr_volume.specs.PutBack.{AreAlone, images_of, oldest}
-use Rattle.vr_volume.specs.Safe.{AreCommitted, IsSafe, IsSafeBy, IsSafeImage}
+use Rattle.vr_volume.specs.Safe.{AreCommitted, IsSafeBy, IsSafeImage}
 use Rattle.vr_volume.specs.Volume.{CanPutBack, Recovers}
 use Rattle.vr_volume.proofs.Apart.{part-past}
 use Rattle.vr_volume.proofs.Endings.{in-without as in-fewer}

@@ -1,7 +1,5 @@
-use Rattle.std.proofs.Common.{◌∙◌, ℕ, List, ap, subst, sym, refl}
-use Rattle.vr_types.specs.Image.{Image}
+use Rattle.std.proofs.Common.{subst, sym, refl}
 use Rattle.vr_types.specs.declared.geometry.Geometry.{Geometry}
-use Rattle.vr_types.specs.Regions.{Outside}
 use Rattle.vr_types.proofs.CallerLemmas.{guards-start, guards-weaken, touches-weaken}
 use Rattle.vr_log.specs.LogNow.{HasLog, with_record}
 use Rattle.vr_log.specs.Standing.{InLog}

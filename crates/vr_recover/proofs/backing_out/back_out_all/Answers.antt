@@ -1,4 +1,4 @@
-use Rattle.std.proofs.Common.{◌≡◌, ◌∙◌, ℕ, List, [], ◌∷◌, refl, subst, sym, take}
+use Rattle.std.proofs.Common.{◌∙◌, refl, subst, sym, take}
 use Rattle.std.specs.Prelude.{All}
 use Rattle.std.proofs.lemmas.List.{take_all, take_more}
 use Rattle.std.proofs.lemmas.List.Elements.{All-nil, All-push, All-weaker}
@@ -8,7 +8,6 @@ use Rattle.vr_types.specs.declared.geometry.Geometry.{Geometry}
 use Rattle.vr_types.proofs.CallerLemmas.{guards-start, guards-then}
 use Rattle.vr_log.specs.Live.{live_in}
 use Rattle.vr_log.specs.Standing.{InLog}
-use Rattle.vr_log.specs.declared.record.LogRecord.{LogRecord}
 use Rattle.vr_volume.specs.Volume.{Recovers}
 use Rattle.vr_recover.proofs.BackingOut.{AreOut, left-recovers, none-live, stays-out}
 use Rattle.vr_recover.specs.Formatted.{Anything}

@@ -1,4 +1,4 @@
-use Rattle.std.proofs.Common.{◌≡◌, get_or, map, refl}
+use Rattle.std.proofs.Common.{get_or, map, refl}
 use Rattle.vr_types.proofs.CallerLemmas.{guards-then, guards-weaken}
 use Rattle.vr_space.specs.Part.{part_no}
 use Rattle.vr_volume.specs.Safe.{IsSafeImage}

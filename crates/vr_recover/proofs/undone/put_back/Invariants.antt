@@ -1,4 +1,4 @@
-use Rattle.std.proofs.Common.{◌≡◌, ℕ, List, None, IsTrue, take}
+use Rattle.std.proofs.Common.{◌≡◌, ℕ, List, IsTrue, take}
 use Rattle.std.specs.Prelude.{All}
 use Rattle.std.specs.List.{filter_map}
 use Rattle.vr_types.specs.Content.{Content}

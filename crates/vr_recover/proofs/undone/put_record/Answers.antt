@@ -1,4 +1,4 @@
-use Rattle.std.proofs.Common.{◌≡◌, ◌∷◌, ◌∙◌, [], ℕ, List, Option, ap, refl, subst, sym}
+use Rattle.std.proofs.Common.{◌≡◌, ◌∙◌, ℕ, List, Option, ap, refl, subst, sym}
 use Rattle.std.proofs.lemmas.Bool.Decides.{Decides-eqb}
 use Rattle.vr_types.specs.declared.unit.PartNo.{PartNo}
 use Rattle.vr_types.proofs.CallerLemmas.{guards-start}
@@ -24,9 +24,10 @@ returns-in_ok-set_forced-clause-safe g c told geometry member committed safe lai
     (λ (image : BeforeImage). IsFreeIn log image.part image.place) free in
     let mine : c.in-Before.owner.0 ≡ c.args.number.0 =
     (Decides-eqb c.in-Before.owner.0 c.args.number.0).0 (sym c.if-eq.ensures) in
+    let number : c.args.number ≡ part_no shape = sym c.requires.number in
     c.set_forced.ensures.safe told geometry member log committed safe
     (subst (λ (no : PartNo). IsLaidSo geometry log committed no.0 shape
-    (g.K.Kept.kept c.args.kept.now no)) (sym c.requires.number) laid)
+    (g.K.Kept.kept c.args.kept.now no)) number laid)
     (subst (λ (no : ℕ). IsFreeIn log no c.in-Before.place)
     (mine ∙ sym (ap (λ (no : PartNo). no.0) c.requires.number)) here)
 
@@ -40,9 +41,10 @@ returns-in_err-set_forced-clause-safe g c told geometry member committed safe la
     (λ (image : BeforeImage). IsFreeIn log image.part image.place) free in
     let mine : c.in-Before.owner.0 ≡ c.args.number.0 =
     (Decides-eqb c.in-Before.owner.0 c.args.number.0).0 (sym c.if-eq.ensures) in
+    let number : c.args.number ≡ part_no shape = sym c.requires.number in
     c.set_forced.ensures.safe told geometry member log committed safe
     (subst (λ (no : PartNo). IsLaidSo geometry log committed no.0 shape
-    (g.K.Kept.kept c.args.kept.now no)) (sym c.requires.number) laid)
+    (g.K.Kept.kept c.args.kept.now no)) number laid)
     (subst (λ (no : ℕ). IsFreeIn log no c.in-Before.place)
     (mine ∙ sym (ap (λ (no : PartNo). no.0) c.requires.number)) here)
 

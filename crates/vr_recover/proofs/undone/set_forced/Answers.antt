@@ -1,7 +1,6 @@
-use Rattle.std.proofs.Common.{IsTrue, List, Option, subst, sym}
+use Rattle.std.proofs.Common.{List, subst}
 use Rattle.vr_types.proofs.CallerLemmas.{guards-then, keeps-touches, touches-then, touches-weaken}
-use Rattle.vr_space.specs.Part.{HasRoom, InPart, Knows, part_no}
-use Rattle.vr_space.specs.Split.{SplitNow}
+use Rattle.vr_space.specs.Part.{HasRoom, InPart, part_no}
 use Rattle.vr_space.proofs.CallerLemmas.{knows-keeps, rest-keeps, rest-sound, room-keeps}
 use Rattle.vr_volume.specs.Safe.{IsSafeImage}
 use Rattle.vr_recover.specs.Formatted.{Anything}

@@ -1,4 +1,4 @@
-use Rattle.std.proofs.Common.{◌≡◌, ℕ, List, None, IsTrue, map, take}
+use Rattle.std.proofs.Common.{◌≡◌, ℕ, None, IsTrue, map, take}
 use Rattle.std.specs.Prelude.{All}
 use Rattle.vr_types.specs.Content.{Content}
 use Rattle.vr_types.specs.Moments.{Guards}
