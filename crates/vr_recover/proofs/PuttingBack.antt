@@ -135,6 +135,18 @@ each-image P f (x ∷ xs) all =
     by (Some y) these =
         (All-head P y (filter_map f xs) these, All-tail P y (filter_map f xs) these)
 
+-- and the other way round
+pub from-each : {X Y : Type 0} (P : Y → Type 0) (f : X → Option Y) (xs : List X)
+    → All (λ (x : X). IfSome (f x) P) xs → All P (filter_map f xs)
+from-each P f [] all = All-nil P
+from-each P f (x ∷ xs) all = by (f x) (All-head (λ y. IfSome (f y) P) x xs all)
+    (from-each P f xs (All-tail (λ y. IfSome (f y) P) x xs all))
+  where
+    by : (found : Option _) → IfSome found P → All P (filter_map f xs)
+        → All P (cons_option found (filter_map f xs))
+    by None has rest = rest
+    by (Some y) has rest = All-cons P y (filter_map f xs) has rest
+
 -- so has that of one of them
 pub at-record : (P : BeforeImage → Type 0) (records all : List LogRecord) → records ≡ all
     → All P (images_of all) → (i : ℕ) → i < length records → (rec : LogRecord)

@@ -13,6 +13,7 @@ mod backing_out;
 mod clusters;
 mod fillers;
 mod first;
+mod fitting;
 mod format;
 mod head;
 mod header;
