@@ -187,7 +187,7 @@ laid-opened geometry log contents kept shapes at shape number opened is kept-is 
 none-some : {X : Type 0} {x : X} → None ≡ Some x → ⊥
 none-some same = cc
 
-shape-is : (one other : Shape) → Some one ≡ Some other → one ≡ other
+pub shape-is : (one other : Shape) → Some one ≡ Some other → one ≡ other
 shape-is one other same = cc
 
 -- Once each of these parts has its content, so has each part that is laid: one that isn't among them

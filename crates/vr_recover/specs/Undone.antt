@@ -100,10 +100,14 @@ pub record AreOpened (geometry : Geometry) (log : LogNow) (contents : ℕ → Co
       shapes
   pub records : HasAllRecords log
 
+-- one of these parts has this number
+abbrev pub HasPart : List Shape → ℕ → Type 0
+HasPart shapes part = (at : ℕ) × (shape : Shape) × (slice_get shapes at ≡ Some shape)
+    × (part ≡ (part_no shape).0)
+
 -- the part of a before-image is one of these
 abbrev pub IsCovered : List Shape → BeforeImage → Type 0
-IsCovered shapes image = (at : ℕ) × (shape : Shape) × (slice_get shapes at ≡ Some shape)
-    × (image.part ≡ (part_no shape).0)
+IsCovered shapes image = HasPart shapes image.part
 
 -- a crash leaves each place of a part alone
 abbrev pub IsAllFirm : Shape → Seen → Type 0

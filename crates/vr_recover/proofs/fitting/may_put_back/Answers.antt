@@ -1,4 +1,4 @@
-use Rattle.std.proofs.Common.{◌∙◌, List, get_or, refl, subst, sym, take}
+use Rattle.std.proofs.Common.{List, get_or, refl, subst, sym, take}
 use Rattle.std.specs.Prelude.{All, IfSome}
 use Rattle.std.proofs.lemmas.Bool.{true≢false}
 use Rattle.std.proofs.lemmas.List.{take_all, take_more}
