@@ -18,9 +18,11 @@ use Rattle.vr_ci.specs.Interval.{Interval, IsInterval}
 use Rattle.vr_ci_match.specs.Laid.{control_at}
 use Rattle.vr_ci_match.specs.Fault.{cidf_at, free_end, HasZeroCidf, IsCidfSound, IsUnit, IsBroken}
 use Rattle.vr_ci_match.specs.Fault.{IsWhole, described, rdfs_room, IsRoomPassed, HasWrongLengths}
-use Rattle.vr_ci_match.specs.Fault.{IsFirstFault}
+use Rattle.vr_ci_match.specs.Fault.{IsFirstMismatch}
+use Rattle.vr_ci.specs.FirstFault.{IsFirstFault}
 use Rattle.vr_ci_match.proofs.CallerLemmas.{control_prefix, control_thirds, control_same}
-use Rattle.vr_ci_match.proofs.CallerLemmas.{size_bounds, chain-front, rdfs_room-append}
+use Rattle.vr_ci_match.proofs.CallerLemmas.{chain-front, rdfs_room-append}
+use Rattle.vr_ci.proofs.SizeLemmas.{size_bounds}
 use Rattle.vr_ci.proofs.IntervalLemmas.{Laid, laid_says, free_end_is, not_zero, zero_block}
 use Rattle.vr_ci.proofs.DescribedLemmas.{described_is, room_in}
 
@@ -272,15 +274,23 @@ sound form block value interval =
           }
     ]
 
+mismatch_excludes : (form : Form) (block : List ℕ) (fault : CiFault) (value : Interval)
+    → IsFirstMismatch form block fault → IsInterval form block value → ⊥
+mismatch_excludes form block (faults.Size at) value mismatch interval = mismatch
+mismatch_excludes form block (faults.Cidf at) value mismatch interval =
+    mismatch.0 (sound form block value interval)
+mismatch_excludes form block (faults.Chain at) value mismatch interval =
+    not_broken form block value (laid_of form block value mismatch.0.some interval)
+    ((size_bounds (length block) interval.size).0) at mismatch.1
+mismatch_excludes form block (faults.Lengths at) value mismatch interval =
+    not_wrong form block value interval (laid_of form block value mismatch.0.some interval)
+    mismatch.1.0 mismatch.1.1 at mismatch.1.2
+
 -- No fault is one of a control interval.
 pub fault_excludes : (form : Form) (block : List ℕ) (fault : CiFault) (value : Interval)
     → IsFirstFault form block fault → IsInterval form block value → ⊥
-fault_excludes form block (faults.Size at) value first_fault interval = first_fault.0 interval.size
-fault_excludes form block (faults.Cidf at) value first_fault interval =
-    first_fault.1 (sound form block value interval)
-fault_excludes form block (faults.Chain at) value first_fault interval =
-    not_broken form block value (laid_of form block value first_fault.0.some interval)
-    ((size_bounds (length block) interval.size).0) at first_fault.1
-fault_excludes form block (faults.Lengths at) value first_fault interval =
-    not_wrong form block value interval (laid_of form block value first_fault.0.some interval)
-    first_fault.1.0 first_fault.1.1 at first_fault.1.2
+fault_excludes form block fault value first_fault interval =
+    elim first_fault [
+      | inl size ↦ size.0 interval.size
+      | inr rest ↦ mismatch_excludes form block fault value rest.1 interval
+    ]

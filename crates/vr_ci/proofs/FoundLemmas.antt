@@ -18,10 +18,11 @@ use Rattle.vr_ci_match.specs.Fault.{cidf_at, displacement, free_length, free_end
 use Rattle.vr_ci_match.specs.Fault.{masked, slotted, slots_of, meant, HasRightLengths}
 use Rattle.vr_ci_match.proofs.CallerLemmas.{control_thirds, control_same, total-all, zeros}
 use Rattle.vr_ci_match.proofs.CallerLemmas.{length-padded, padded_fits, Parts, before_cidf}
-use Rattle.vr_ci_match.proofs.CallerLemmas.{cidf_says, field_busy, size_bounds, alone, all_records}
+use Rattle.vr_ci_match.proofs.CallerLemmas.{cidf_says, field_busy, alone, all_records}
 use Rattle.vr_ci_match.proofs.CallerLemmas.{AreSingles, singles, masked_is, length-masked_marks}
 use Rattle.vr_ci_match.proofs.CallerLemmas.{whole_end}
 use Rattle.vr_ci.proofs.FaultLemmas.{cut}
+use Rattle.vr_ci.proofs.SizeLemmas.{size_bounds}
 use Rattle.std.proofs.Math.Nat.{mul-le-mul_right}
 
 abbrev pub AreSlots : ℕ → List Rdf → Type 0

@@ -20,7 +20,8 @@ use Rattle.vr_ci_match.specs.Fault.{displacement, free_field, free_length, free_
 use Rattle.vr_ci_match.specs.Fault.{HasZeroCidf}
 use Rattle.vr_ci_match.proofs.CallerLemmas.{control_same, total, total-all, zeros, length-padded}
 use Rattle.vr_ci_match.proofs.CallerLemmas.{padded_fits, Parts, before_cidf, cidf_says, field_busy}
-use Rattle.vr_ci_match.proofs.CallerLemmas.{size_bounds, chain_rdfs}
+use Rattle.vr_ci_match.proofs.CallerLemmas.{chain_rdfs}
+use Rattle.vr_ci.proofs.SizeLemmas.{size_bounds}
 use Rattle.vr_ci.proofs.ItemLemmas.{length-bytes, items_at-bytes, room_kept}
 
 -- what the bytes of a block that is laid out say

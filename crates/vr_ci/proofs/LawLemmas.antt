@@ -21,7 +21,8 @@ use Rattle.vr_ci.specs.Interval.{Item, Interval, IsItem, mark_of, bytes_of, room
 use Rattle.vr_ci.specs.Interval.{IsInterval}
 use Rattle.vr_ci_match.specs.Laid.{padded, cidf, control_at, laid}
 use Rattle.vr_ci.proofs.ItemLemmas.{room_is, room_kept, records_room}
-use Rattle.vr_ci_match.proofs.CallerLemmas.{zeros, length-zeros, length-padded, size_bounds}
+use Rattle.vr_ci_match.proofs.CallerLemmas.{zeros, length-zeros, length-padded}
+use Rattle.vr_ci.proofs.SizeLemmas.{size_bounds}
 use Rattle.vr_ci.proofs.SpellingLemmas.{one_spelling, mark, single, join, spelled, Apart}
 use Rattle.vr_ci.proofs.SpellingLemmas.{join-apart, join-same, join-more}
 

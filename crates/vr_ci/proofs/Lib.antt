@@ -12,5 +12,6 @@ pub mod ShownLemmas
 pub mod SpellingLemmas
 pub mod RunLemmas
 pub mod SegmentLemmas
+pub mod SizeLemmas
 pub mod WriterLemmas
 pub mod RecordsLemmas

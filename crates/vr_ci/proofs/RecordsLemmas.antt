@@ -23,10 +23,11 @@ use Rattle.vr_ci_match.specs.Fault.{IsRoomKept, HasRightLengths}
 use Rattle.vr_ci.specs.Found.{IsFound}
 use Rattle.vr_ci.specs.Walk.{MayStand, live_length, IsOfSlots, HasRoom, IsWalked}
 use Rattle.vr_ci_match.proofs.CallerLemmas.{some_bytes, control-push, take-add, zeros, byte}
-use Rattle.vr_ci_match.proofs.CallerLemmas.{length-padded, padded_fits, size_bounds, chain-push}
+use Rattle.vr_ci_match.proofs.CallerLemmas.{length-padded, padded_fits, chain-push}
 use Rattle.vr_ci_match.proofs.CallerLemmas.{last_from-push, room_of_rdfs, half_at, part_is, in_cidf}
 use Rattle.vr_ci_match.proofs.CallerLemmas.{cidf_is, mask, masked-push, spans-push, place_is}
 use Rattle.vr_ci.proofs.ShownLemmas.{found_is}
+use Rattle.vr_ci.proofs.SizeLemmas.{size_bounds}
 
 -- ---- what may stand to the left
 

@@ -19,7 +19,7 @@ use Rattle.vr_ci_match.specs.Laid.{cidf, control_at}
 use Rattle.vr_ci.specs.Writer.{written}
 use Rattle.vr_types.specs.Fields.{with_bytes}
 use Rattle.vr_ci_match.proofs.CallerLemmas.{zeros, length-zeros}
-use Rattle.vr_ci_match.proofs.CallerLemmas.{size_bounds}
+use Rattle.vr_ci.proofs.SizeLemmas.{size_bounds}
 use Rattle.vr_ci.proofs.PlaceLemmas.{placed-next}
 use Rattle.vr_ci.proofs.RunLemmas.{length-written, written_ok}
 use Rattle.vr_ci.proofs.WriterLemmas.{interval_of}

@@ -24,12 +24,13 @@ use Rattle.vr_ci.specs.Reading.{items_at, rdfs_in, value_in, rdfs_between, Count
 use Rattle.vr_ci.specs.Found.{IsFound}
 use Rattle.vr_ci_match.specs.Matched.{IsDescribed, IsZeros, IsMatched}
 use Rattle.vr_ci_match.proofs.CallerLemmas.{same_ends, total, total-all, take-add, zeros}
-use Rattle.vr_ci_match.proofs.CallerLemmas.{size_bounds, chain_rdfs, alone, all_records}
+use Rattle.vr_ci_match.proofs.CallerLemmas.{chain_rdfs, alone, all_records}
 use Rattle.vr_ci_match.proofs.CallerLemmas.{masked_marks, masked_is, length-masked_marks}
 use Rattle.vr_ci_match.proofs.CallerLemmas.{room_of_rdfs, singles}
 use Rattle.vr_ci.proofs.ItemLemmas.{room_is, length-items_at, marks-items_at, bytes-items_at}
 use Rattle.vr_ci.proofs.LawLemmas.{no_end}
 use Rattle.vr_ci.proofs.ReadLemmas.{rdfs_between-is}
+use Rattle.vr_ci.proofs.SizeLemmas.{size_bounds}
 use Rattle.vr_ci.proofs.FoundLemmas.{Right, right_is, AreSlots, slots_are}
 use Rattle.std.proofs.lemmas.List.{drop_all}
 
@@ -293,15 +294,15 @@ end_found form block size equal =
     fits (Slots len) = refl
 
 -- What a block without a fault was found to hold is its value.
-pub matched_found : (form : Form) (block : List ℕ) (found : Found) → IsMatched form block found
-    → IsFound form block found
-matched_found form block found matched = by_content matched.content
+pub matched_found : (form : Form) (block : List ℕ) (found : Found) → IsBlockSize (length block)
+    → IsMatched form block found → IsFound form block found
+matched_found form block found size matched = by_content matched
   where
     by_content : (IsDescribed form block found ⊎ IsZeros block found) → IsFound form block found
     by_content (inl described) =
-        found_is form block described.rdfs found matched.size described.whole described.right
+        found_is form block described.rdfs found size described.whole described.right
         described.low described.shape
         described.busy described.count
     by_content (inr empty) =
         subst (λ (end : Found). IsFound form block end) (sym empty.is)
-        (end_found form block matched.size empty.zeros)
+        (end_found form block size empty.zeros)

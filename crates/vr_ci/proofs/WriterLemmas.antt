@@ -25,11 +25,12 @@ use Rattle.vr_ci.specs.Writer.{Holds, IsItemLength, IsLastRun, SlotsAdded, writt
 use Rattle.vr_ci.specs.Writer.{run_started}
 use Rattle.vr_types.specs.Fields.{with_bytes}
 use Rattle.vr_ci_match.proofs.CallerLemmas.{control-push, total, total-all, zeros, length-zeros}
-use Rattle.vr_ci_match.proofs.CallerLemmas.{padded_fits, size_bounds, chain-push, chain-last}
+use Rattle.vr_ci_match.proofs.CallerLemmas.{padded_fits, chain-push, chain-last}
 use Rattle.vr_ci_match.proofs.CallerLemmas.{chain-front, last_from-push, all_records}
 use Rattle.vr_ci.proofs.ItemLemmas.{room_is, length-bytes}
 use Rattle.vr_ci.proofs.PlaceLemmas.{take-placed, take-placed_all, drop-placed, run_is}
 use Rattle.vr_types.proofs.CallerLemmas.{length-with_bytes}
+use Rattle.vr_ci.proofs.SizeLemmas.{size_bounds}
 use Rattle.vr_ci.proofs.RunLemmas.{bytes-push, all-push, length-written, written_ok, last_record, split_of, may_follow, started, runs, run_marks, run_length_is, run_count, longer_follows}
 
 -- ---- the block

@@ -8,6 +8,7 @@ pub use Rattle.vr_ci_match.specs.Laid
 pub use Rattle.vr_ci_match.specs.Fault
 pub mod Interval
 pub mod Reading
+pub mod FirstFault
 pub mod Found
 pub mod Walk
 pub mod Writer

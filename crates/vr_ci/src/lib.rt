@@ -1,8 +1,9 @@
 //! Control intervals of VSAM as blocks of bytes: a reader whose records are borrowed from a block,
-//! and a writer that puts them there. It stands on `vr_ci_match`, which finds a block's first
-//! fault, and on `vr_types`. It promises that each value has one block of each size that holds it,
-//! that `CiView::read` answers Ok exactly for those blocks, with their value, and otherwise with
-//! the first fault, and that what `CiWriter` and `write_segment` leave is that one block.
+//! and a writer that puts them there. It stands on `vr_ci_match`, which finds the first fault of a
+//! block of an allowed size, and on `vr_types`. It promises that each value has one block of each
+//! size that holds it, that `CiView::read` answers Ok exactly for those blocks, with their value,
+//! and otherwise with the first fault, and that what `CiWriter` and `write_segment` leave is that
+//! one block.
 #![tactic(auto)]
 
 mod laws;

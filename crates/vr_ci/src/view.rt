@@ -33,7 +33,7 @@ impl<'a> Model for CiView<'a> {
 
 impl<'a> CiView<'a> {
     ghost use Rattle.vr_ci.specs.Interval.{Interval, IsInterval, bytes_of, live_of};
-    ghost use Rattle.vr_ci_match.specs.Fault.{IsFirstFault};
+    ghost use Rattle.vr_ci.specs.FirstFault.{IsFirstFault};
     ghost use Rattle.vr_ci.specs.Reading.{CountFits, IsView, value_in};
 
     /// Reads a block in one pass. It answers Ok exactly for the control intervals of the form, and
@@ -48,9 +48,10 @@ impl<'a> CiView<'a> {
         // Which fault it is, and where.
         ensures fault { IfErr result (IsFirstFault form bytes.now) }
     {
-        if is_block_size(bytes.len())
-            && let Some(found) = records_found(form, bytes)
-        {
+        if !is_block_size(bytes.len()) {
+            return Err(CiFault::Size { at: 0 });
+        }
+        if let Some(found) = records_found(form, bytes) {
             return Ok(CiView::of(bytes, found));
         }
         let found = match_block(form, bytes)?;

@@ -1,6 +1,6 @@
 -- Lemmas for crates that read and write control intervals, each with its comment where it is
 -- proved.
-pub use Rattle.vr_ci_match.proofs.ChainLemmas.{size_bounds, chain_rdfs, chain-push, chain-last}
+pub use Rattle.vr_ci_match.proofs.ChainLemmas.{chain_rdfs, chain-push, chain-last}
 pub use Rattle.vr_ci_match.proofs.ChainLemmas.{chain-front, last_from-push, alone, all_records}
 pub use Rattle.vr_ci_match.proofs.CompareLemmas.{take-past, part_is, in_cidf, half_at, cidf_is}
 pub use Rattle.vr_ci_match.proofs.ComparedLemmas.{spans-push, mask, masked-push}

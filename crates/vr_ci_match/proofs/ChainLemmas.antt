@@ -1,19 +1,14 @@
 -- Chains of RDFs, and what the last RDF says of the whole chain.
 use Rattle.vr_ci_match.specs.declared.form.Shape.TheVariants as shapes
-use Rattle.std.proofs.Common.{◌≡◌, ℕ, ◌≤◌, Bool, List, [], ◌∷◌, ◌++◌, Option}
-use Rattle.std.proofs.Common.{Some, None, refl, ap, ◌∙◌, arith, sym, subst}
+use Rattle.std.proofs.Common.{◌≡◌, ℕ, Bool, List, [], ◌∷◌, ◌++◌, Option}
+use Rattle.std.proofs.Common.{Some, None, refl, ap, ◌∙◌, sym, subst}
 use Rattle.std.specs.List.{AllByRecursion}
 use Rattle.vr_ci_match.specs.declared.form.Form.{Form}
 use Rattle.vr_ci_match.specs.declared.form.Piece.{Piece}
 use Rattle.vr_ci_match.specs.declared.rdf.Rdf.{Rdf}
 use Rattle.vr_ci_match.specs.declared.rdf.Rdf.TheVariants.{Single, Run, Segment}
-use Rattle.vr_types.specs.BlockSize.{IsBlockSize}
 use Rattle.vr_ci_match.specs.Rdf.{IsRdf, IsOfRecords, MayFollow, IsChainFrom, IsChain, last_from}
 use Rattle.vr_ci_match.specs.Rdf.{shape_of, shape_by}
-
--- a block that is allowed has 512 to 32,768 bytes
-pub size_bounds : (n : ℕ) → IsBlockSize n → (512 ≤ n) × (n ≤ 32768)
-size_bounds n size = (omega (arith, size.some, size.small), size.most)
 
 -- each RDF of a chain is one
 pub chain_rdfs : (form : Form) (before : Option Rdf) (rs : List Rdf) → IsChainFrom form before rs

@@ -10,7 +10,6 @@ use Rattle.std.proofs.lemmas.List.{take-replicate, replicate-append-replicate, t
 use Rattle.vr_ci_match.specs.declared.form.Form.{Form}
 use Rattle.vr_ci_match.specs.declared.rdf.Rdf.{Rdf}
 use Rattle.vr_ci_match.specs.declared.tally.Tally.{Tally}
-use Rattle.vr_types.specs.BlockSize.{IsBlockSize}
 use Rattle.vr_ci_match.specs.Rdf.{spans, control, shape_of, shape_by}
 use Rattle.vr_ci_match.specs.Laid.{padded, cidf, control_at, laid}
 use Rattle.vr_ci_match.specs.Compare.{DifferFirst, Compares}
@@ -21,7 +20,7 @@ use Rattle.vr_ci_match.specs.Layout.{slot_length, data_end}
 use Rattle.vr_ci_match.specs.Tally.{judged, IsCompared, IsTally}
 use Rattle.vr_ci_match.proofs.RdfLemmas.{control-append, control_thirds}
 use Rattle.vr_ci_match.proofs.LayoutLemmas.{zeros, length-padded, byte, at_drop}
-use Rattle.vr_ci_match.proofs.ChainLemmas.{size_bounds, shape_by_last}
+use Rattle.vr_ci_match.proofs.ChainLemmas.{shape_by_last}
 use Rattle.vr_ci_match.proofs.CompareLemmas.{in_data, in_control, in_cidf, cidf_is}
 use Rattle.vr_ci_match.proofs.ComparedLemmas.{spans-append, empties, control-empties, spans-empties}
 use Rattle.vr_ci_match.proofs.ComparedLemmas.{masked-empties, masked-append}
@@ -43,14 +42,14 @@ whole_end form block rs least whole =
 
 -- where the RDFs begin that the CIDF leaves place for
 pub start_is : (form : Form) (block : List ℕ) (rs : List Rdf) (limit : ℕ)
-    → IsBlockSize (length block) → IsWhole form block rs
+    → 512 ≤ length block → IsWhole form block rs
     → limit ≡ length block - 4 - (length block - 4 - free_end block) / 3 * 3
     → limit ≡ control_at (length block) rs
-start_is form block rs limit size is_whole limit_is =
+start_is form block rs limit least is_whole limit_is =
     let thirds = control_thirds rs in
     omega (
       arith,
-      whole_end form block rs (size_bounds (length block) size).0 is_whole,
+      whole_end form block rs least is_whole,
       thirds.1,
       is_whole.right.low,
       is_whole.whole,
@@ -271,15 +270,14 @@ limit_is form block rs tally limit whole tallied same =
     (shape_by_last form rs whole.right.chain tally.last tallied.last))
 
 pub ends_are : (form : Form) (block : List ℕ) (rs : List Rdf) (tally : Tally) (limit empty : ℕ)
-    → IsBlockSize (length block) → IsWhole form block rs → IsTally form block rs tally
+    → 512 ≤ length block → IsWhole form block rs → IsTally form block rs tally
     → limit ≡ data_end form (length block) (free_end block) (shape_by tally.last)
     → empty ≡ (tally.compared.from - limit) / 3 → Ends form block rs limit empty
-ends_are form block rs tally limit empty size whole tallied same empty_is =
-    let least = (size_bounds (length block) size).0 in
+ends_are form block rs tally limit empty least whole tallied same empty_is =
     ends form block rs tally.compared.from limit empty least whole.right.chain
     (whole_end form block rs least whole) tallied.compared.from
     (sym (limit_is form block rs tally limit whole tallied same))
-    (λ p. start_is form block rs (data_end form (length block) (free_end block) shapes.Records) size
+    (λ p. start_is form block rs (data_end form (length block) (free_end block) shapes.Records) least
     whole (ap (λ (g : Form). data_end g (length block) (free_end block) shapes.Records) p)) empty_is
 
 pub compared_is : (form : Form) (block : List ℕ) (rs : List Rdf) (tally : Tally) (limit : ℕ)

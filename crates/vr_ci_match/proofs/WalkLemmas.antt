@@ -7,12 +7,11 @@ use Rattle.std.proofs.lemmas.List.{drop-take, drop_all}
 use Rattle.vr_ci_match.specs.declared.form.Form.{Form}
 use Rattle.vr_ci_match.specs.declared.rdf.Rdf.{Rdf}
 use Rattle.vr_ci_match.specs.declared.tally.Tally.{Tally}
-use Rattle.vr_types.specs.BlockSize.{IsBlockSize}
 use Rattle.vr_ci_match.specs.Rdf.{rdf_bytes, control, IsRdf, MayFollow}
 use Rattle.vr_ci_match.specs.Fault.{cidf_at, free_end, StandFrom, IsUnit, IsBroken, IsWhole}
 use Rattle.vr_ci_match.specs.Tally.{IsTally}
 use Rattle.vr_ci_match.proofs.RdfLemmas.{control-push, rdf_bytes-inj}
-use Rattle.vr_ci_match.proofs.ChainLemmas.{size_bounds, chain-push, chain-last}
+use Rattle.vr_ci_match.proofs.ChainLemmas.{chain-push, chain-last}
 use Rattle.vr_ci_match.proofs.CompareLemmas.{part_is}
 use Rattle.vr_ci_match.proofs.TallyLemmas.{place_is}
 
@@ -24,12 +23,11 @@ pub record Walked (form : Form) (block : List ℕ) (end : ℕ) (tally : Tally) :
   pub span : tally.compared.span + 4294967296 * end ≤ 140737488355328
   pub room : tally.room + 8589934592 * end ≤ 281474976710656
 
-pub walk_begins : (form : Form) (block : List ℕ) (tally : Tally) → IsBlockSize (length block)
+pub walk_begins : (form : Form) (block : List ℕ) (tally : Tally) → length block ≤ 32768
     → free_end block ≤ cidf_at block → IsTally form block [] tally
     → tally.count ≡ 0 → tally.compared.span ≡ 0 → tally.room ≡ 0
     → Walked form block (length block - 4) tally
-walk_begins form block tally size within t count_is span_is room_is =
-    let most = (size_bounds (length block) size).1 in
+walk_begins form block tally most within t count_is span_is room_is =
     record {
       rdfs = [];
       right = record {
@@ -110,10 +108,9 @@ walk_breaks form block end at tally w is_unit none =
     }
 
 pub walk_ends : (form : Form) (block : List ℕ) (end : ℕ) (tally : Tally)
-    → IsBlockSize (length block) → (w : Walked form block end tally) → end < free_end block + 3
+    → 512 ≤ length block → (w : Walked form block end tally) → end < free_end block + 3
     → (rdfs : List Rdf) × IsWhole form block rdfs × IsTally form block rdfs tally
-walk_ends form block end tally size w less =
-    let least = (size_bounds (length block) size).0 in
+walk_ends form block end tally least w less =
     let place = place_is form block w.rdfs end (omega (arith, least)) w.right in (
       w.rdfs,
       record {

@@ -10,7 +10,6 @@ use Rattle.vr_ci_match.specs.declared.rdf.Rdf.{Rdf}
 use Rattle.vr_ci_match.specs.declared.rdf.Rdf.TheVariants.{Single, Run, Segment}
 use Rattle.vr_ci_match.specs.declared.fault.CiFault.{CiFault}
 use Rattle.vr_ci_match.specs.declared.fault.CiFault.TheVariants.{Size, Cidf, Chain, Lengths}
-use Rattle.vr_types.specs.BlockSize.{IsBlockSize}
 use Rattle.vr_ci_match.specs.Rdf.{span, rdf_bytes, control, IsChain}
 use Rattle.vr_ci_match.specs.Laid.{slots_in, control_at, laid}
 use Rattle.vr_ci_match.specs.Compare.{DifferFirst}
@@ -158,18 +157,16 @@ HasWrongLengths form block rdfs at =
     DifferFirst block (described form block rdfs) at
     ⊎ ((block ≡ described form block rdfs) × IsRoomPassed form (length block) rdfs at)
 
--- the size and the CIDF are right, and the block is not an end of file
+-- the CIDF is right, and the block is not an end of file
 pub record HasControl (block : List ℕ) : Type 0 where
-  pub size : IsBlockSize (length block)
   pub sound : IsCidfSound block
   pub some : HasZeroCidf block → ⊥
 
--- the first fault of a block, with its place
-abbrev pub IsFirstFault : Form → List ℕ → CiFault → Type 0
-IsFirstFault form block (Size at) = (IsBlockSize (length block) → ⊥) × (at ≡ 0)
-IsFirstFault form block (Cidf at) =
-    IsBlockSize (length block) × (IsCidfSound block → ⊥) × (at ≡ cidf_at block)
-IsFirstFault form block (Chain at) = HasControl block × IsBroken form block at
-IsFirstFault form block (Lengths at) =
+-- The first fault of a block, with its place. Whether blocks may have its size is not asked here.
+abbrev pub IsFirstMismatch : Form → List ℕ → CiFault → Type 0
+IsFirstMismatch form block (Size at) = ⊥
+IsFirstMismatch form block (Cidf at) = (IsCidfSound block → ⊥) × (at ≡ cidf_at block)
+IsFirstMismatch form block (Chain at) = HasControl block × IsBroken form block at
+IsFirstMismatch form block (Lengths at) =
     HasControl block × ((rdfs : List Rdf) × IsWhole form block rdfs
     × HasWrongLengths form block rdfs at)

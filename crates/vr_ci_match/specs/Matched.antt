@@ -1,7 +1,6 @@
 -- What a block without a fault was found to hold.
 use Rattle.std.specs.Prelude.{◌≡◌, ℕ, ◌-◌, ◌⊎◌, false, List, length, replicate}
 use Rattle.std.specs.List.{flat_map}
-use Rattle.vr_types.specs.BlockSize.{IsBlockSize}
 use Rattle.vr_ci_match.specs.declared.form.Form.{Form}
 use Rattle.vr_ci_match.specs.declared.form.Shape.TheVariants.{EndOfFile}
 use Rattle.vr_ci_match.specs.declared.rdf.Rdf.{Rdf}
@@ -24,7 +23,6 @@ pub record IsZeros (block : List ℕ) (found : Found) : Type 0 where
   pub zeros : block ≡ replicate (length block) 0
   pub is : found ≡ record { shape = EndOfFile; count = 0; low = length block - 4; busy = false }
 
--- The block has a size that blocks may have, and nothing in it disagrees with its RDFs.
-pub record IsMatched (form : Form) (block : List ℕ) (found : Found) : Type 0 where
-  pub size : IsBlockSize (length block)
-  pub content : IsDescribed form block found ⊎ IsZeros block found
+-- Nothing in the block disagrees with its RDFs.
+abbrev pub IsMatched : Form → List ℕ → Found → Type 0
+IsMatched form block found = IsDescribed form block found ⊎ IsZeros block found

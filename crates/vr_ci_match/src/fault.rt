@@ -3,7 +3,8 @@
 /// What is wrong with a block, and at which byte of it. The causes are tried in this order.
 #[derive(Clone, Copy, Debug, PartialEq, Eq)]
 pub enum CiFault {
-    /// The length is not an allowed block size; `at` is 0.
+    /// The length is not an allowed block size; `at` is 0. `vr_ci` tests it: `match_block` never
+    /// answers it.
     Size { at: usize },
     /// The CIDF's displacement and length of the free space pass its own place, or the CIDF is four
     /// zero bytes and another byte of the block is not zero; `at` is the CIDF's place.

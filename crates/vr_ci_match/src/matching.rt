@@ -2,10 +2,9 @@
 
 ghost use Rattle.std.specs.Prelude.{◌≡◌, ◌≢◌, ◌+◌, ◌-◌, ◌*◌, ◌/◌, ◌^◌, ◌<◌, ◌≤◌, ℕ, List, length};
 ghost use Rattle.std.specs.Prelude.{Some, IfOk, IfErr, IfSome, IfNone, MatchOption};
-ghost use Rattle.vr_types.specs.BlockSize.{IsBlockSize};
 ghost use Rattle.vr_ci_match.specs.Rdf.{MayFollow, shape_by};
 ghost use Rattle.vr_ci_match.specs.Fault.{displacement, free_length, free_end, cidf_at, is_busy};
-ghost use Rattle.vr_ci_match.specs.Fault.{HasZeroCidf, IsBroken, IsWhole, IsFirstFault};
+ghost use Rattle.vr_ci_match.specs.Fault.{HasZeroCidf, IsBroken, IsWhole, IsFirstMismatch};
 ghost use Rattle.vr_ci_match.specs.Fault.{HasRightLengths, HasWrongLengths};
 ghost use Rattle.vr_ci_match.specs.Layout.{IsLayout};
 ghost use Rattle.vr_ci_match.specs.Tally.{IsTally};
@@ -18,7 +17,6 @@ use crate::form::{Form, Shape};
 use crate::layout::Layout;
 use crate::rdf::{Rdf, unit_before};
 use crate::tally::Tally;
-use vr_types::is_block_size;
 
 /// What a block was found to hold, and where its RDFs begin.
 #[derive(Clone, Copy, Debug)]
@@ -31,14 +29,14 @@ pub struct Found {
 
 /// What the block holds, or its first fault. It answers Ok exactly for the blocks that their RDFs,
 /// their records' bytes and their busy flag describe, with their records in the block's room, and
-/// for those that are all zeros.
+/// for those that are all zeros. Whether blocks may have this size is for the caller to test: here
+/// any of 512 to 32,768 bytes will do.
 pub fn match_block(form: Form, bytes: &[u8]) -> Result<Found, CiFault>
+    requires least { 512 ≤ length bytes.now }
+    requires most { length bytes.now ≤ 32768 }
     ensures found { IfOk result (IsMatched form bytes.now) }
-    ensures fault { IfErr result (IsFirstFault form bytes.now) }
+    ensures fault { IfErr result (IsFirstMismatch form bytes.now) }
 {
-    if !is_block_size(bytes.len()) {
-        return Err(CiFault::Size { at: 0 });
-    }
     let top = bytes.len() - 4;
     let cidf = Cidf::of(bytes);
     if cidf.is_zero() {
@@ -73,10 +71,10 @@ fn shape_of(last: Option<Rdf>) -> Shape
 
 /// An end of file, where the CIDF is zero.
 fn end_of_file(form: Form, bytes: &[u8]) -> Result<Found, CiFault>
-    requires size { IsBlockSize (length bytes.now) }
+    requires least { 512 ≤ length bytes.now }
     requires zero { HasZeroCidf bytes.now }
     ensures found { IfOk result (IsMatched form bytes.now) }
-    ensures fault { IfErr result (IsFirstFault form bytes.now) }
+    ensures fault { IfErr result (IsFirstMismatch form bytes.now) }
 {
     let top = bytes.len() - 4;
     match first_nonzero(bytes, 0, top) {
@@ -93,7 +91,8 @@ fn end_of_file(form: Form, bytes: &[u8]) -> Result<Found, CiFault>
 /// All RDFs from where the CIDF says that they begin, or the first that no block of the form has
 /// there.
 fn chain_of(form: Form, layout: Layout, bytes: &[u8]) -> Result<Tally, CiFault>
-    requires size { IsBlockSize (length bytes.now) }
+    requires least { 512 ≤ length bytes.now }
+    requires most { length bytes.now ≤ 32768 }
     requires layout { IsLayout form (length bytes.now) (free_end bytes.now) layout }
     requires fits { free_end bytes.now ≤ cidf_at bytes.now }
     ensures tally { IfOk result
@@ -140,7 +139,8 @@ fn lengths_fault(
     tally: Tally,
     field: Cidf,
 ) -> Option<usize>
-    requires size { IsBlockSize (length bytes.now) }
+    requires least { 512 ≤ length bytes.now }
+    requires most { length bytes.now ≤ 32768 }
     requires layout { IsLayout form (length bytes.now) (free_end bytes.now) layout }
     requires span { tally.compared.span ≤ 2 ^ 47 }
     requires from { tally.compared.from ≤ cidf_at bytes.now }

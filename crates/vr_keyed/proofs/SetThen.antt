@@ -12,7 +12,7 @@ use Rattle.vr_space.specs.Split.{SplitNow}
 use Rattle.vr_space.specs.Met.{Met, HasMet, places_met}
 use Rattle.vr_space.specs.Part.{KeyedShape, InPart, HasRoom, CanSet, SetsOne, Just}
 use Rattle.vr_space.proofs.CallerLemmas.{rest-keeps, room-keeps, way-keeps, keeps-adds, keeps-rooms}
-use Rattle.vr_space.proofs.CallerLemmas.{nothing-then, due-keeps, due-then}
+use Rattle.vr_space.proofs.CallerLemmas.{nothing-then, due-keeps, due-at-then}
 use Rattle.vr_keyed.specs.Ready.{IsReady, MaySet, IsSetNow}
 
 module _ (part : Keyed) (kept : Lengths) (split : Option SplitNow) (place : List ℕ)
@@ -57,7 +57,7 @@ module _ (part : Keyed) (kept : Lengths) (split : Option SplitNow) (place : List
     done-then b put done = record {
       set = subst (λ (image : Image). SetsOne (KeyedShape part) place item image b.cur)
           (call.content told) done.set;
-      due = due-then (KeyedShape part) put a m b
+      due = due-at-then (KeyedShape part) place put a m b
           (due-keeps tells told (KeyedShape part) a m call ready.rests.sound) done.due;
       rests = done.rests;
       way = done.way;

@@ -3,6 +3,9 @@ use Rattle.std.proofs.Common.{◌≡◌, ◌≢◌, ◌⊎◌, inl, inr, ⊎_eli
 use Rattle.std.proofs.Common.{true, false, List, [], ◌∷◌, Option, Some, None, All, refl, sym, ap}
 use Rattle.std.proofs.Common.{subst, ◌∙◌, arith, true≢false, length, map, ◌||◌, eq-eqb}
 use Rattle.std.proofs.lemmas.List.Elements.{Contains-push}
+use Rattle.std.proofs.lemmas.Map.Views.{Contains-from_any, list_any-from_Contains}
+use Rattle.std.proofs.lemmas.Cmp.{nat_eq_equiv}
+use Rattle.std.specs.List.{list_any}
 use Rattle.std.specs.Prelude.{cond, IfSome, slice_index, nat_eq, nat_le, is_some, Contains}
 use Rattle.std.specs.List.Sorted.{IsStrictlySortedBy}
 use Rattle.std.specs.Ordering.{is_le, is_eq}
@@ -20,7 +23,7 @@ use Rattle.vr_ci_match.specs.Fault.{is_busy}
 use Rattle.vr_ci.specs.Interval as ci
 use Rattle.vr_ci.proofs.CallerLemmas.{interval_says}
 use Rattle.vr_seqset.specs.Entry.{Entry}
-use Rattle.vr_space.specs.Way.{found_on}
+use Rattle.vr_space.specs.Way.{found_on, MayFind, MayOnceForced}
 use Rattle.vr_space.specs.Room.{Lengths, Range, HaveRoom, is_in, weight, with_length}
 use Rattle.vr_space.specs.Keyed.{Keyed, IsHead, IsKept, HoldsRange, EachMayLeave, items_of, key_of}
 use Rattle.vr_space.specs.Keyed.{records_of, lengths_of, entries_of, entry_block, entry_for}
@@ -28,7 +31,7 @@ use Rattle.vr_space.specs.Keyed.{range_of}
 use Rattle.vr_space.specs.Keyed.{way_in}
 use Rattle.vr_space.specs.Split.{SplitNow, stage_at, stage_in}
 use Rattle.vr_space.specs.Met.{Met, IsMet}
-use Rattle.vr_space.specs.Part.{KeyedShape, InPart, IsRecordOf, HasRoomFor, item_of}
+use Rattle.vr_space.specs.Part.{KeyedShape, InPart, IsRecordOf, HasRoomFor, IsDueTo, SetsOne, item_of}
 use Rattle.vr_space.proofs.CallerLemmas.{found-in, IsSplitBlock, way-puts, same_is_equal}
 use Rattle.vr_split.specs.Switching.{OfBlock}
 use Rattle.vr_split.proofs.CallerLemmas.{now-entries, KeepsOthers, of-found, set-adds, head-still}
@@ -118,6 +121,15 @@ module _ (part : Keyed) (range : Range) (place : List ℕ) (item : Option (List 
         ∙ records-set part range place item (items_of old) valid
 
 -- ---- the put
+
+-- a block is listed, or it isn't
+listed-or : (listed : List ℕ) (n : ℕ) → Contains listed n ⊎ (Contains listed n → ⊥)
+listed-or listed n = by (list_any (nat_eq n) listed) refl
+  where
+    by : (b : Bool) → list_any (nat_eq n) listed ≡ b
+        → Contains listed n ⊎ (Contains listed n → ⊥)
+    by true it = inl (Contains-from_any Rattle.std.proofs.Common.eqb-true n listed it)
+    by false it = inr (λ there. true≢false (sym (list_any-from_Contains nat_eq_equiv n listed there) ∙ it))
 
 none_some : (o : Option StageKind) (stage : StageKind) → o ≡ None → o ≡ Some stage → ⊥
 none_some o stage none some = true≢false (ap is_some (sym some ∙ none))
@@ -318,17 +330,50 @@ module _ (part : Keyed) (kept : Lengths) (split : Option SplitNow) (place : List
           (head-still part tells told a b met.number bytes call other) ∙ leads_q)
           ∙ ap (λ (n : ℕ). record_at (records_of part (block_at b.cur n)) q) there
 
+      set-now : block_at b.cur met.number ≡ bytes
+          → SetsOne (KeyedShape part) place item a.cur b.cur
+      set-now now = sets-one part tells told a b met.number bytes place item at call other now leads
+          is.number has keeps
+
+      -- what is left of the block has the record of each other place
+      left-other : block_at b.cur met.number ≡ bytes → (listed q : List ℕ) (found : Range × Entry)
+          → q ≢ place → IsDueTo (KeyedShape part) listed a q
+          → entry_for None (entries_of top) q ≡ Some found
+          → entry_block part found.1 ≡ met.number → (block : Block)
+          → MayOnceForced listed b met.number block
+          → record_at (records_of part block) q ≡ item_of (KeyedShape part) b.cur q
+      left-other now listed q found apart due leads_q there block once = ⊎_elim
+          (λ old. ⊎_elim
+          (λ forced. ap (λ (x : Block). record_at (records_of part x) q) (once.1 forced)
+          ∙ sym (read-now q found leads_q there))
+          (λ unforced. due (record_at (records_of part block) q) (
+            top,
+            (may-top, λ here. refl),
+            subst (λ (o : Option (Range × Entry)). MayFind (MayOnceForced listed a)
+                (record_at (records_of part block) q) (way_in part q o)) (sym leads_q) (
+                  block,
+                  subst (λ (n : ℕ). MayOnceForced listed a n block) (sym there)
+                      (old, λ here. absurd (unforced here)),
+                  refl,
+                ),
+          )
+          ∙ sym ((set-now now).others q apart))
+          (listed-or listed met.number))
+          (λ new. ap (λ (x : Block). record_at (records_of part x) q) (new.1 ∙ sym now)
+          ∙ sym (read-now q found leads_q there))
+          (call.adds told met.number block within once.0)
+
       pub done-set : block_at b.cur met.number ≡ bytes
           → IsSetNow part split (met.number ∷ []) place item a b
       done-set now = record {
-        set = sets-one part tells told a b met.number bytes place item at call other now leads
-            is.number has keeps;
-        due = λ listed q due within_list. due-put part tells told a b met.number bytes listed q
+        set = set-now now;
+        due = λ listed q due either. due-put part tells told a b met.number bytes listed q
             ready.rests left call other
-            (λ found leads_q there block once.
-            ap (λ (x : Block). record_at (records_of part x) q)
+            (λ found leads_q there block once. ⊎_elim
+            (λ apart. left-other now listed q found apart due leads_q there block once)
+            (λ within_list. ap (λ (x : Block). record_at (records_of part x) q)
             (once.1 (within_list met.number (Contains-push [] met.number)))
-            ∙ sym (read-now q found leads_q there)) due;
+            ∙ sym (read-now q found leads_q there)) either) due;
         rests = rest-after part tells told a b met.number bytes ready.rests call other
             may-set.adds.sound;
         way = way-puts tells told part split met.number bytes a b call ready.rests.sound left

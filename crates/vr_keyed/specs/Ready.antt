@@ -9,7 +9,7 @@ use Rattle.vr_space.specs.Split.{SplitNow}
 use Rattle.vr_space.specs.UnderWay.{KeyedUnderWay}
 use Rattle.vr_space.specs.Met.{Met}
 use Rattle.vr_space.specs.Part.{KeyedShape, InPart, IsRecordOf, CanSet, AddsTo, Just, SetsOne}
-use Rattle.vr_space.specs.Part.{DueMore}
+use Rattle.vr_space.specs.Part.{DueMoreAt}
 use Rattle.vr_space.specs.Part.{HasRoom}
 
 -- At rest, with room for what is kept, and this may be set at the place.
@@ -34,7 +34,7 @@ pub record MaySet (part : Keyed) (kept : Lengths) (place : List ℕ) (item : Opt
 pub record IsSetNow (part : Keyed) (split : Option SplitNow) (put place : List ℕ)
     (item : Option (List ℕ)) (old new : Seen) : Type 0 where
   pub set : SetsOne (KeyedShape part) place item old.cur new.cur
-  pub due : DueMore (KeyedShape part) put old new
+  pub due : DueMoreAt (KeyedShape part) place put old new
   pub rests : IsKeyedAtRest part new
   pub way : KeyedUnderWay part split new
 

@@ -15,3 +15,5 @@ pub use Rattle.vr_log.proofs.Ahead.{has_record}
 pub use Rattle.vr_log.proofs.Settled.{made_stands, fresh_stands}
 -- a log stands after a restart, and while a block outside it is put
 pub use Rattle.vr_log.proofs.Restarting.{restarted_stands, stands_elsewhere}
+-- a block past the last one may become zeros, and one that has a later generation
+pub use Rattle.vr_log.proofs.Zeroing.{cleared, stale_cleared}

@@ -23,3 +23,5 @@ pub mod BackRead
 pub mod Damages
 pub mod Settled
 pub mod Total
+pub mod Zeroing
+pub mod Clears

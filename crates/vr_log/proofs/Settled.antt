@@ -125,7 +125,7 @@ join-full true true false used room payload rest some roomy part short long =
     absurd (part refl (omega (arith, roomy refl, short, long, length-append payload [])))
 
 -- The block of each place that the bytes fill is full, and has them.
-deep : (room generation : ℕ) (image : Image) (index from left : ℕ) → 0 < room
+pub deep : (room generation : ℕ) (image : Image) (index from left : ℕ) → 0 < room
     → ((i : ℕ) → from ≤ i → i < from + left → 16 + room ≤ length (block_at image (1 + i)))
     → from ≤ index → index < from + left
     → (index + 1) * room ≤ from * room + length (bytes_from room generation from left image)
@@ -182,7 +182,7 @@ deep room generation image index from (suc left) some sizes low high long =
 
 -- ---- the block to which the next bytes go
 
-last-low : (n room most : ℕ) → 0 < room → min (n / room) most * room ≤ n
+pub last-low : (n room most : ℕ) → 0 < room → min (n / room) most * room ≤ n
 last-low n room most some =
     let less : min (n / room) most * room ≤ (n / room) * room =
     mul-le-mul_right {m = min (n / room) most} {n = n / room} room (omega arith) in

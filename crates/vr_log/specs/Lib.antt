@@ -12,4 +12,5 @@ pub mod Writing
 pub mod Damage
 pub mod Decoding
 pub mod Reading
+pub mod Clearing
 pub mod LogNo

@@ -109,7 +109,7 @@ fn take_block<B: Blocks>(
 
 /// Whether a block goes on with a generation at an index.
 #[tactic(auto, unfolding(crate::specs::LogBlock::is_next))]
-fn goes_on(block: &[u8], generation: u64, index: u32) -> bool
+pub(crate) fn goes_on(block: &[u8], generation: u64, index: u32) -> bool
     requires { 16 ≤ length block.now }
     ensures { result ≡ is_next generation index block.now }
 {

@@ -78,7 +78,7 @@ pub fn restarted_log_stands<B: Blocks>(log: &UndoLog, blocks: &B)
 
 /// A log that is made of what its blocks spell, as `read_back` gives it, stands on them, where a
 /// crash leaves them as they are read, no block after the last one goes on with the log, and none
-/// has a later generation.
+/// has a later generation: `clear_past` makes it so.
 pub fn made_log_stands<B: Blocks>(geometry: &Geometry, content: &LogContent, blocks: &B)
     ensures { IsTrue B.tells → IsAllowed geometry.now → IsOf geometry.now (B.seen blocks.now)
         → IsSettled geometry.now (B.seen blocks.now)

@@ -5,9 +5,11 @@
 //! or not, the log's blocks spell at least the records that were forced and a prefix of all records
 //! of the generation, or the log before while no block of this one was forced, whose units have all
 //! ended. No other block is touched. Blocks are read back as the log that they spell, and where
-//! they spell none as damaged, with the first block that is misspelled.
+//! they spell none as damaged, with the first block that is misspelled. What an earlier log left
+//! past the end is cleared, so that the log that was read back stands.
 #![tactic(auto)]
 
+mod clearing;
 mod content;
 mod decoding;
 mod gathering;
@@ -25,6 +27,7 @@ mod room;
 mod tail;
 mod writing;
 
+pub use clearing::clear_past;
 pub use content::LogContent;
 pub use laws::{
     blocks_spell_a_log_or_are_damaged, damaged_blocks_spell_no_log, each_image_has_the_log,

@@ -1,17 +1,17 @@
-//! Why a log could not be read back.
+//! Why a log could not be read back, or cleared.
 ghost use Rattle.std.specs.Prelude.{◌≡◌};
 ghost use Rattle.vr_log.specs.declared.read_no.LogReadNo.TheVariants.{Fault, Memory};
 
 use vr_types::{DeviceFault, OutOfMemory};
 
-/// Why a log could not be read back.
+/// Why a log could not be read back, or blocks past its end not be cleared.
 #[derive(Clone, Copy, Debug, PartialEq, Eq)]
 pub enum LogReadNo {
     /// The blocks spell no log: the first of them that is misspelled.
     Damaged { block: u32 },
     /// A fault of the device.
     Fault(DeviceFault),
-    /// Out of memory for the records.
+    /// Out of memory for the records, or for the zeros of a block.
     Memory,
 }
 

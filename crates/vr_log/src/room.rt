@@ -28,25 +28,33 @@ pub fn has_room(
         ↔ (used_by content.now.records ≤ log_size geometry.now)) }
 {
     let mut live = new_live(alloc, *geometry)?;
-    let bytes = count_bytes(&mut live, content.records());
+    note_units(&mut live, content.records());
+    let bytes = bytes_in(content.records());
     let size = geometry.log as u64 * (geometry.size as u64 - 16);
     Ok(bytes + 9 * live.len() as u64 <= size)
 }
 
-/// The bytes of records, whose live units it notes.
-fn count_bytes(live: &mut Live, records: &[LogRecord]) -> u64
-    requires units { live.old.units ≡ [] }
-    requires room { length (bytes_of records.now) < 20 * live.old.room }
+/// The bytes of records.
+pub(crate) fn bytes_in(records: &[LogRecord]) -> u64
     requires small { length (bytes_of records.now) < 4294967296 }
     requires fields { All HasFields records.now }
-    ensures bytes { result ≡ length (bytes_of records.now) }
-    ensures units { live.new.units ≡ live_in records.now }
-    ensures few { 20 * length live.new.units ≤ length (bytes_of records.now) }
+    ensures { result ≡ length (bytes_of records.now) }
 {
     let mut bytes = 0;
     for rec in records {
         bytes += record_length(rec);
-        note_unit(live, rec);
     }
     bytes
+}
+
+/// Notes the live units of records.
+fn note_units(live: &mut Live, records: &[LogRecord])
+    requires units { live.old.units ≡ [] }
+    requires room { length (bytes_of records.now) < 20 * live.old.room }
+    ensures units { live.new.units ≡ live_in records.now }
+    ensures few { 20 * length live.new.units ≤ length (bytes_of records.now) }
+{
+    for rec in records {
+        note_unit(live, rec);
+    }
 }

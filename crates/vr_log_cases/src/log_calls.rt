@@ -13,11 +13,12 @@ use crate::untold::Untold;
 use std::alloc::Global;
 use vr_device::{BlockDevice, direct};
 use vr_log::{
-    LogContent, LogNo, LogPlace, LogReadNo, LogRecord, UndoLog, has_room, read_back, undo_log,
+    LogContent, LogNo, LogPlace, LogReadNo, LogRecord, UndoLog, clear_past, has_room, read_back,
+    undo_log,
 };
 use vr_types::{Blocks, DeviceFault, Geometry};
 
-/// A call of the log: `read`, `open`, `append RECORD`, `end DECK NUMBER KIND`, `force`, `restart`.
+/// A call of the log: `read`, `clear`, `open`, `append RECORD`, `end DECK NUMBER KIND`, `force`, `restart`.
 pub fn call(alloc: Global, desk: &mut Desk, verb: &str, rest: &str, out: &mut String) -> Answer {
     let geometry = desk.geometry()?;
     let device = desk.take()?;
@@ -49,6 +50,7 @@ fn ask<B: Blocks>(
 {
     match verb {
         "read" => read(alloc, blocks, geometry, out),
+        "clear" => clear(alloc, blocks, geometry, out),
         "open" => open(alloc, blocks, geometry, log, out),
         "append" => append(alloc, blocks, geometry, log, rest, out),
         "end" => end(blocks, geometry, log, rest, out),
@@ -77,6 +79,37 @@ fn say_no(out: &mut String, no: LogReadNo) -> Answer {
         }
         LogReadNo::Fault(fault) => say_fault(out, fault),
         LogReadNo::Memory => Err(Stop::Memory),
+    }
+}
+
+/// Clears what an earlier log left past the end of the one that the blocks spell.
+fn clear<B: Blocks>(alloc: Global, blocks: &mut B, geometry: Geometry, out: &mut String) -> Answer
+    requires untold { B.tells ≡ false }
+    requires allowed { IsAllowed geometry }
+    requires shape { IsOf geometry (B.seen blocks.old) }
+{
+    match read_back(alloc, blocks, &geometry) {
+        Ok(content) => clear_with(alloc, blocks, geometry, &content, out),
+        Err(no) => say_no(out, no),
+    }
+}
+
+fn clear_with<B: Blocks>(
+    alloc: Global,
+    blocks: &mut B,
+    geometry: Geometry,
+    content: &LogContent,
+    out: &mut String,
+) -> Answer
+    requires untold { B.tells ≡ false }
+    requires allowed { IsAllowed geometry }
+    requires shape { IsOf geometry (B.seen blocks.old) }
+    requires fields { All HasFields content.now.records }
+    requires size { length (bytes_of content.now.records) ≤ log_size geometry }
+{
+    match clear_past(alloc, blocks, &geometry, content) {
+        Ok(()) => say(out, "ok"),
+        Err(no) => say_no(out, no),
     }
 }
 

@@ -7,7 +7,6 @@ pub mod Made
 pub mod NewVolume
 pub mod Safe
 pub mod Opened
-pub mod Clearing
 pub mod PuttingBack
 pub mod BackingOut
 pub mod KeptLengths

@@ -1,6 +1,7 @@
 -- What calls of a part add to what its places may hold, one after another, and what a force leaves.
 use Rattle.std.proofs.Common.{◌≡◌, ◌⊎◌, inl, inr, ⊎_elim, ◌<◌, ℕ, Bool, IsTrue, true, false, List}
-use Rattle.std.proofs.Common.{[], Option, Some, None, refl, sym, ap, ◌∙◌, arith}
+use Rattle.std.proofs.Common.{[], Option, Some, None, refl, sym, ap, ◌∙◌, arith, length}
+use Rattle.std.proofs.Common.{◌≤◌}
 use Rattle.std.specs.Prelude.{IfSome}
 use Rattle.vr_types.specs.Content.{Content, record_at}
 use Rattle.vr_types.specs.Image.{Block, Image, block_at}
@@ -10,15 +11,16 @@ use Rattle.vr_types.specs.Regions.{IsImageOn}
 use Rattle.vr_types.proofs.CallerLemmas.{touches-then, touches-weaken, keeps-touches}
 use Rattle.vr_types.specs.declared.unit.StageKind.{StageKind}
 use Rattle.vr_space.specs.declared.room.Room.{Room}
-use Rattle.vr_space.specs.declared.room.Room.TheVariants.{Ready}
+use Rattle.vr_space.specs.declared.room.Room.TheVariants.{Ready, NoSpace}
 use Rattle.vr_space.specs.Way.{MayOnceForced}
-use Rattle.vr_space.specs.Room.{Lengths}
+use Rattle.vr_space.specs.Room.{Lengths, length_at}
 use Rattle.vr_space.specs.Split.{SplitNow, keyed_stage, keyed_fits, room_after, room_by}
 use Rattle.vr_space.specs.Split.{room_by_split, free_interval}
 use Rattle.vr_space.specs.Keyed.{entries_of, keyed_way}
 use Rattle.vr_space.specs.Part.{Shape, KeyedShape, InPart, StandsFor, Stands, HasOnly, MayHold}
 use Rattle.vr_space.specs.Part.{MayAlsoHold, Nothing, AddsTo, IsSound, IsAtRest, HasKeptRoom}
 use Rattle.vr_space.specs.Part.{way_to, item_of, SameRecords, SetsOne, IsDueTo, DueMore, IsFirm}
+use Rattle.vr_space.specs.Part.{CanSet, DueMoreAt}
 use Rattle.vr_space.specs.Part.{room_of, stage_of, fits_at}
 use Rattle.vr_space.proofs.Ways.{find-more, within-less}
 use Rattle.vr_space.proofs.KeyedContent.{way-content}
@@ -218,6 +220,17 @@ pub due-then : (shape : Shape) (put : List ℕ) (a b c : Seen) → DueMore shape
 due-then shape put a b c first second listed place due within =
     second listed place (first listed place due (λ n there. absurd (omega (arith, there.1)))) within
 
+-- a record set after calls that need no more
+pub due-at-then : (shape : Shape) (at put : List ℕ) (a b c : Seen) → DueMore shape [] a b
+    → DueMoreAt shape at put b c → DueMoreAt shape at put a c
+due-at-then shape at put a b c first second listed place due either =
+    second listed place (first listed place due (λ n there. absurd (omega (arith, there.1)))) either
+
+-- a record set needs no more than the blocks that were put
+pub due-at-more : (shape : Shape) (at put : List ℕ) (a b : Seen) → DueMoreAt shape at put a b
+    → DueMore shape put a b
+due-at-more shape at put a b call listed place due within = call listed place due (inr within)
+
 -- ---- what room says
 
 ready-after : (stage : Option StageKind) (other : Room) → room_after stage other ≡ Ready
@@ -245,6 +258,47 @@ ready-can (KeyedShape part) split image free kept place n is =
       ready-by (keyed_fits part image kept place n) _
           (never-ready split (free_interval part (block_at image part.head))) both.1,
     )
+
+-- and is set
+pub can-set : (shape : Shape) (split : Option SplitNow) (image : Image) (free : ℕ) (kept : Lengths)
+    (place bytes : List ℕ) → room_of shape split image free kept place (length bytes) ≡ Ready
+    → CanSet shape split image kept place (Some bytes)
+can-set shape split image free kept place bytes is =
+    let both = ready-can shape split image free kept place (length bytes) is in
+    record { no_stage = both.0; room = inl both.1 }
+
+no-stage-after : (stage : Option StageKind) (other : Room) (need left : ℕ)
+    → room_after stage other ≡ NoSpace need left → stage ≡ None
+no-stage-after None other need left is = refl
+no-stage-after (Some stage) other need left is = absurd cc
+
+-- Where room is ready, or there is no space, no stage comes before the place.
+pub room-no-stage : (shape : Shape) (split : Option SplitNow) (image : Image) (free : ℕ)
+    (kept : Lengths) (place : List ℕ) (n need left : ℕ)
+    → (room_of shape split image free kept place n ≡ Ready)
+    ⊎ (room_of shape split image free kept place n ≡ NoSpace need left)
+    → stage_of shape split image place ≡ None
+room-no-stage (KeyedShape part) split image free kept place n need left = ⊎_elim
+    (λ ready. (ready-can (KeyedShape part) split image free kept place n ready).0)
+    (λ full. no-stage-after (keyed_stage part split image place) _ need left full)
+
+-- a record may be taken away there
+pub can-erase : (shape : Shape) (split : Option SplitNow) (image : Image) (free : ℕ)
+    (kept : Lengths) (place : List ℕ) (n need left : ℕ)
+    → (room_of shape split image free kept place n ≡ Ready)
+    ⊎ (room_of shape split image free kept place n ≡ NoSpace need left)
+    → CanSet shape split image kept place None
+can-erase shape split image free kept place n need left is = record {
+  no_stage = room-no-stage shape split image free kept place n need left is;
+  room = tt;
+}
+
+-- and one set for which the place is kept
+pub can-set-kept : (shape : Shape) (split : Option SplitNow) (image : Image) (kept : Lengths)
+    (place bytes : List ℕ) (n : ℕ) → length_at kept place ≡ Some n → length bytes ≤ n
+    → stage_of shape split image place ≡ None → CanSet shape split image kept place (Some bytes)
+can-set-kept shape split image kept place bytes n at most no_stage =
+    record { no_stage = no_stage; room = inr (n, at, most) }
 
 -- ---- calls in a row
 

@@ -22,9 +22,12 @@ pub use Rattle.vr_space.proofs.Adding.{then-nothing, rest-sound, sound-image, re
 pub use Rattle.vr_space.proofs.Adding.{content_item, sound-keeps, rest-keeps, room-keeps}
 pub use Rattle.vr_space.proofs.Adding.{keeps-adds}
 pub use Rattle.vr_space.proofs.Adding.{same-keeps, due-keeps, forced-firm, firm-due, due-then}
+pub use Rattle.vr_space.proofs.Adding.{due-at-then, due-at-more, can-set, can-erase, can-set-kept}
+pub use Rattle.vr_space.proofs.Adding.{room-no-stage}
 pub use Rattle.vr_space.proofs.Adding.{ready-can, records-then, sets-after, on-still, record-length}
 pub use Rattle.vr_space.proofs.Rooms.{room-image, keeps-rooms}
 pub use Rattle.vr_space.proofs.Keeping.{keep-room}
+pub use Rattle.vr_space.proofs.Counting.{kept_fits, kept_room}
 pub use Rattle.vr_space.proofs.Framing.{StaysPart, rest-stays, room-stays, knows-stays, can-stays}
 pub use Rattle.vr_space.proofs.Framing.{same-stays}
 pub use Rattle.vr_space.proofs.Fewer.{Rise, Under, fewer-room, rise-with, under-both, under-more}

@@ -1,17 +1,15 @@
 -- What a part keeps while others put: what rests on its own blocks alone.
-use Rattle.std.proofs.Common.{◌≡◌, ◌≢◌, ⊎_elim, inl, inr, ◌<◌, ◌+◌, ℕ, Bool, IsTrue, List, Option}
+use Rattle.std.proofs.Common.{◌≡◌, ⊎_elim, inl, inr, ◌<◌, ℕ, IsTrue, List, Option}
 use Rattle.std.proofs.Common.{Some}
 use Rattle.std.proofs.Common.{None, refl, sym, ap, subst, ◌∙◌, arith, length}
-use Rattle.std.specs.Prelude.{All}
 use Rattle.std.proofs.lemmas.List.Elements.{All-weaker}
-use Rattle.vr_types.specs.Image.{Block, Image, block_at}
+use Rattle.vr_types.specs.Image.{Block, block_at}
 use Rattle.vr_types.specs.Seen.{Left, Seen}
-use Rattle.vr_types.specs.declared.unit.StageKind.{StageKind}
 use Rattle.vr_seqset.specs.Entry.{Entry}
 use Rattle.vr_space.specs.Keyed.{IsHead, Keyed, entries_of, entry_block, entry_for}
 use Rattle.vr_space.specs.Met.{IsMet, Met}
-use Rattle.vr_space.specs.Part.{CanSet, HasKeptRoom, HasRoomFor, InPart, IsAtRest, IsOn, IsSound}
-use Rattle.vr_space.specs.Part.{KeyedShape, Knows, Shape, fits_at, stage_of}
+use Rattle.vr_space.specs.Part.{CanSet, HasKeptRoom, HasRoomFor, InPart, IsAtRest, IsSound}
+use Rattle.vr_space.specs.Part.{KeyedShape, Knows, Shape}
 use Rattle.vr_types.specs.Content.{record_at}
 use Rattle.vr_space.specs.Keyed.{records_of, way_in, way_under}
 use Rattle.vr_space.specs.Part.{SameRecords}

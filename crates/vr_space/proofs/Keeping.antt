@@ -1,10 +1,10 @@
 -- Room once a record is kept that stands: it takes no more.
-use Rattle.std.proofs.Common.{◌≡◌, ◌≢◌, ◌≤◌, ◌+◌, ◌-◌, ◌<◌, ℕ, Bool, true, false, cond, List, []}
+use Rattle.std.proofs.Common.{◌≡◌, ◌≤◌, ℕ, Bool, true, false, cond, List, []}
 use Rattle.std.proofs.Common.{◌∷◌, map}
 use Rattle.std.proofs.Common.{Option, Some, None, refl, sym, ap, subst, ◌∙◌, arith, length}
 use Rattle.std.specs.Prelude.{max}
 use Rattle.std.proofs.lemmas.Bool.{true≢false}
-use Rattle.std.specs.Prelude.{All, filter, IfSome}
+use Rattle.std.specs.Prelude.{filter}
 use Rattle.std.specs.List.{AllByRecursion}
 use Rattle.std.specs.List.Sorted.{IsStrictlySortedBy}
 use Rattle.std.specs.Ordering.{is_le, ordering_reverse}
@@ -13,18 +13,18 @@ use Rattle.std.specs.declared.cmp.Ordering.TheVariants.{Less, Equal, Greater}
 use Rattle.std.proofs.lemmas.Cmp.{nat_list_cmp_total}
 use Rattle.std.proofs.lemmas.Map.Keys.{sorted_head, sorted_tail}
 use Rattle.std.specs.Cmp.{tied_itself}
-use Rattle.vr_types.specs.Content.{Content, Placed, Standing, found_by, place_cmp, record_at}
-use Rattle.vr_types.specs.Image.{Block, block_at}
+use Rattle.vr_types.specs.Content.{Placed, found_by, place_cmp, record_at}
+use Rattle.vr_types.specs.Image.{Block}
 use Rattle.vr_types.specs.Seen.{Seen}
 use Rattle.vr_types.proofs.CallerLemmas.{same_place}
 use Rattle.vr_ci.specs.Interval as ci
 use Rattle.vr_seqset.specs.Entry.{Entry}
-use Rattle.vr_space.specs.Keyed.{EachMayLeave, HoldsRange, IsKeyedSound, Keyed, KeepsRoom}
+use Rattle.vr_space.specs.Keyed.{EachMayLeave, HoldsRange, Keyed}
 use Rattle.vr_space.specs.Keyed.{entries_of}
 use Rattle.vr_space.specs.Keyed.{entry_block, entry_for, items_of, key_of, length_of, lengths_of}
 use Rattle.vr_space.specs.Keyed.{placed, range_of, records_in, records_of}
 use Rattle.vr_space.specs.Part.{HasKeptRoom, IsPlaceOf, IsSound, KeyedShape, MayHold, Shape}
-use Rattle.vr_space.specs.Room.{HaveRoom, Lengths, Range, is_in, lengthen_by, lengths_in, weight}
+use Rattle.vr_space.specs.Room.{HaveRoom, Lengths, Range, is_in, lengthen_by, lengths_in}
 use Rattle.vr_space.specs.Room.{with_length, with_lengths}
 use Rattle.vr_space.specs.Way.{MayFind}
 use Rattle.vr_space.specs.Keyed.{way_in}
@@ -215,7 +215,7 @@ all-more low place (key ∷ keys) less all = (
 )
 
 -- a record that is read in a range has its length there
-holds-read : (part : Keyed) (range : Range) (items : List ci.Item) (place bytes : List ℕ) (n : ℕ)
+pub holds-read : (part : Keyed) (range : Range) (items : List ci.Item) (place bytes : List ℕ) (n : ℕ)
     → IsStrictlySortedBy place_cmp (map (λ (item : ci.Item). key_of part item.bytes) items)
     → is_in range place ≡ true → record_at (map (placed part) items) place ≡ Some bytes
     → n ≤ length bytes
@@ -282,7 +282,7 @@ holds-read part range (item ∷ items) place bytes n sorted inside reads most =
 -- ---- the intervals
 
 -- beyond a range nothing more is kept
-kept-out : (range : Range) (kept : Lengths) (place : List ℕ) (n : ℕ) → is_in range place ≡ false
+pub kept-out : (range : Range) (kept : Lengths) (place : List ℕ) (n : ℕ) → is_in range place ≡ false
     → lengths_in range (with_length kept place n) ≡ lengths_in range kept
 kept-out range [] place n out =
     ap (λ (inside : Bool). cond inside (let one : List ℕ × ℕ = (place, n) in one ∷ []) []) out

@@ -9,6 +9,7 @@ pub mod Composing
 pub mod Rising
 pub mod Rooms
 pub mod Keeping
+pub mod Counting
 pub mod Framing
 pub mod Fewer
 pub mod CallerLemmas

@@ -147,6 +147,15 @@ abbrev pub DueMore : Shape → List ℕ → Seen → Seen → Type 0
 DueMore shape put old new = (listed : List ℕ) (place : List ℕ) → IsDueTo shape listed old place
     → ((n : ℕ) → Contains put n → Contains listed n) → IsDueTo shape listed new place
 
+-- The same of a record set at one place. What has to be forced for that place is what had to be,
+-- and these blocks; for each other place only what had to be: each content that a crash may leave
+-- of a block was allowed before, or is the new one, which has the current record there too.
+abbrev pub DueMoreAt : Shape → List ℕ → List ℕ → Seen → Seen → Type 0
+DueMoreAt shape at put old new = (listed : List ℕ) (place : List ℕ)
+    → IsDueTo shape listed old place
+    → ((place ≢ at) ⊎ ((n : ℕ) → Contains put n → Contains listed n))
+    → IsDueTo shape listed new place
+
 -- A crash leaves the current record alone at the place.
 abbrev pub IsFirm : Shape → Seen → List ℕ → Type 0
 IsFirm shape now place = (item : Option (List ℕ)) → MayHold shape now.may place item

@@ -3,7 +3,8 @@ ghost use Rattle.std.specs.Prelude.{◌≡◌, ◌≤◌, ℕ, List, Option, Som
 ghost use Rattle.vr_types.specs.Content.{Content, IsContent, record_at};
 ghost use Rattle.vr_types.specs.Image.{Image};
 ghost use Rattle.vr_space.specs.Part.{Shape, StandsFor, HasKeptRoom, IsPlaceOf, IsSound, MayHold};
-ghost use Rattle.vr_space.specs.Part.{item_of};
+ghost use Rattle.vr_space.specs.Part.{Stands, fits_at, item_of, room_of};
+ghost use Rattle.vr_space.specs.Split.{SplitNow};
 ghost use Rattle.vr_space.specs.Room.{Lengths, with_length};
 
 use vr_types::Blocks;
@@ -34,4 +35,21 @@ pub fn kept_takes_no_room<B: Blocks>(blocks: &B)
         → ((item : Option (List ℕ)) → MayHold shape (B.seen blocks.now).may place item
         → (bytes : List ℕ) × (item ≡ Some bytes) × (n ≤ length bytes))
         → HasKeptRoom shape (with_length kept place n) (B.seen blocks.now) }
+{}
+
+/// A record that is kept at its place while it stands there, or one that is no longer, is counted
+/// once: no record has less room for it. So a before-image may be kept before its place is set, and
+/// what was answered of room stays.
+#[tactic(auto, using(crate::proofs::Counting::kept_fits, crate::proofs::Counting::kept_room))]
+pub fn kept_counts_once()
+    ensures room { (shape : Shape) (image : Image) (kept : Lengths) (place bytes : List ℕ) (n : ℕ)
+        → Stands shape image → item_of shape image place ≡ Some bytes → n ≤ length bytes
+        → (split : Option SplitNow) (free : ℕ) (other : List ℕ) (m : ℕ)
+        → room_of shape split image free (with_length kept place n) other m
+        ≡ room_of shape split image free kept other m }
+    ensures fits { (shape : Shape) (image : Image) (kept : Lengths) (place bytes : List ℕ) (n : ℕ)
+        → Stands shape image → item_of shape image place ≡ Some bytes → n ≤ length bytes
+        → (other : List ℕ) (m : ℕ)
+        → fits_at shape image (with_length kept place n) other m
+        ≡ fits_at shape image kept other m }
 {}

@@ -38,6 +38,7 @@ ghost use Rattle.vr_space.specs.Part.{
   SameRecords,
   SetsOne,
   DueMore,
+  DueMoreAt,
   NextIs,
 };
 
@@ -211,7 +212,8 @@ pub trait Part {
         ensures set { IsTrue B.tells → OnOk result (SetsOne (shape self.old) place.now
             (given bytes.entry) (B.seen blocks.old).cur (B.seen blocks.new).cur) }
         ensures due { IsTrue B.tells → OnOk result
-            (DueMore (shape self.old) (put self.new) (B.seen blocks.old) (B.seen blocks.new)) }
+            (DueMoreAt (shape self.old) place.now (put self.new)
+            (B.seen blocks.old) (B.seen blocks.new)) }
         ensures put { OnOk result (All (InPart (shape self.old)) (put self.new)) }
         ensures rests { IsTrue B.tells → OnOk result
             (IsAtRest (shape self.old) (B.seen blocks.new)) }

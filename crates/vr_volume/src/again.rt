@@ -7,7 +7,7 @@ ghost use Rattle.vr_types.specs.Blocks.{Keeps};
 ghost use Rattle.vr_space.specs.Met.{HasMet, Met};
 ghost use Rattle.vr_space.specs.Part.{
   CanSet,
-  DueMore,
+  DueMoreAt,
   HasKeptRoom,
   InPart,
   IsAtRest,
@@ -107,7 +107,8 @@ pub fn set_again<B: Blocks, P: Part, K: Kept>(
     ensures set { IsTrue B.tells → OnOk result (SetsOne (P.shape part.old) place.now
         (given bytes.entry) (B.seen blocks.old).cur (B.seen blocks.new).cur) }
     ensures due { IsTrue B.tells → OnOk result
-        (DueMore (P.shape part.old) (P.put part.new) (B.seen blocks.old) (B.seen blocks.new)) }
+        (DueMoreAt (P.shape part.old) place.now (P.put part.new)
+        (B.seen blocks.old) (B.seen blocks.new)) }
     ensures put { OnOk result (All (InPart (P.shape part.old)) (P.put part.new)) }
     ensures unread { IfErr result (λ fault. fault ≡ Read
         → Keeps B.tells (B.seen blocks.old) (B.seen blocks.new)

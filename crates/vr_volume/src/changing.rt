@@ -15,6 +15,7 @@ ghost use Rattle.vr_space.specs.Split.{SplitNow};
 ghost use Rattle.vr_space.specs.Part.{
   CanSet,
   DueMore,
+  DueMoreAt,
   HasKeptRoom,
   HasRoom,
   InPart,
@@ -77,7 +78,8 @@ pub fn set_free<B: Blocks, P: Part, K: Kept>(
     ensures set { IsTrue B.tells → OnOk result (SetsOne (P.shape part.old) place.now
         (given bytes.entry) (B.seen blocks.old).cur (B.seen blocks.new).cur) }
     ensures due { IsTrue B.tells → OnOk result
-        (DueMore (P.shape part.old) (P.put part.new) (B.seen blocks.old) (B.seen blocks.new)) }
+        (DueMoreAt (P.shape part.old) place.now (P.put part.new)
+        (B.seen blocks.old) (B.seen blocks.new)) }
     ensures put { OnOk result (All (InPart (P.shape part.old)) (P.put part.new)) }
     ensures rests { IsTrue B.tells → OnOk result
         (IsAtRest (P.shape part.old) (B.seen blocks.new)) }
@@ -153,6 +155,8 @@ pub fn do_stage<B: Blocks, P: Part, K: Kept>(
         → Keeps B.tells (B.seen blocks.old) (B.seen blocks.new)
         × (IsTrue B.tells → Knows (P.shape part.old) (P.split part.old) (P.met part.new)
         (B.seen blocks.new))) }
+    ensures count { (B.seen blocks.new).count ≡ (B.seen blocks.old).count }
+    ensures size { (B.seen blocks.new).size ≡ (B.seen blocks.old).size }
     ensures cause { HasCause (B.faults blocks.old) (B.faults blocks.new) result }
     ensures shape { P.shape part.new ≡ P.shape part.old }
     // A volume that was at rest is so by the same state, and so is each of its parts.
@@ -174,6 +178,15 @@ pub fn do_stage<B: Blocks, P: Part, K: Kept>(
         → (part_no other).0 ≢ (part_no (P.shape part.old)).0
         → IsPartAtRest log.geometry images state other split met (B.seen blocks.old)
         → IsPartAtRest log.geometry images state other split met (B.seen blocks.new)) }
+    // What has to be forced for the places of another part stays.
+    ensures others_due { IsTrue B.tells → OnOk result ((number : ℕ) (log : LogNow)
+        (images : List BeforeImage) (state : State) (other : Shape) (split : Option SplitNow)
+        (met : List Met) → IsVolumeAtRest log.geometry number log images state (B.seen blocks.old)
+        → IsPartAtRest log.geometry images state (P.shape part.old) (P.split part.old)
+        (P.met part.old) (B.seen blocks.old)
+        → (part_no other).0 ≢ (part_no (P.shape part.old)).0
+        → IsPartAtRest log.geometry images state other split met (B.seen blocks.old)
+        → DueMore other [] (B.seen blocks.old) (B.seen blocks.new)) }
 {
     let kind = part.advance(blocks, space, kept, place, length)?;
     Ok(kind)

@@ -11,7 +11,7 @@ ghost use Rattle.vr_space.specs.Met.{Met};
 ghost use Rattle.vr_space.specs.Split.{SplitNow};
 ghost use Rattle.vr_space.specs.Part.{
   CanSet,
-  DueMore,
+  DueMoreAt,
   HasKeptRoom,
   InPart,
   IsAtRest,
@@ -128,7 +128,8 @@ pub fn change<B: Blocks, P: Part, K: Kept>(
         (P.met part.new) (B.seen blocks.new)) }
     ensures put { OnOk result (All (InPart (P.shape part.old)) (P.put part.new)) }
     ensures due { IsTrue B.tells → OnOk result
-        (DueMore (P.shape part.old) (P.put part.new) (B.seen blocks.old) (B.seen blocks.new)) }
+        (DueMoreAt (P.shape part.old) place.now (P.put part.new)
+        (B.seen blocks.old) (B.seen blocks.new)) }
     ensures part { OnOk result (P.shape part.new ≡ P.shape part.old) }
     ensures split { OnOk result (P.split part.new ≡ P.split part.old) }
     ensures stands { IsTrue B.tells → OnOk result (LogStands log.new (B.seen blocks.new)) }

@@ -5,7 +5,7 @@ use Rattle.vr_ci_match.specs.Laid.{cidf}
 use Rattle.vr_ci.specs.Writer.{written}
 use Rattle.vr_types.specs.Fields.{with_bytes}
 use Rattle.vr_ci_match.proofs.CallerLemmas.{zeros, length-zeros}
-use Rattle.vr_ci_match.proofs.CallerLemmas.{size_bounds}
+use Rattle.vr_ci.proofs.SizeLemmas.{size_bounds}
 use Rattle.vr_types.proofs.CallerLemmas.{length-with_bytes}
 use Rattle.vr_ci.proofs.RunLemmas.{length-written}
 use Rattle.vr_ci.proofs.SegmentLemmas.{four_placed, segment_block}

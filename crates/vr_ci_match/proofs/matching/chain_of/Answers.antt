@@ -8,7 +8,7 @@ pub rdfs-init : goal.rdfs-init
 rdfs-init c =
     let block = c.args.bytes.now in
     let zero = c.new-tally.ensures.zero in
-    walk_begins c.args.form block c.new-tally.result c.requires.size c.requires.fits
+    walk_begins c.args.form block c.new-tally.result c.requires.most c.requires.fits
     (c.new-tally.ensures.tally c.args.form block refl) zero.0 zero.1 zero.2
 
 pub returns-in_default-clause-fault : goal.returns-in_default-clause-fault
@@ -41,7 +41,7 @@ rdfs-preserved c =
 
 pub returns-clause-tally : goal.returns-clause-tally
 returns-clause-tally c =
-    walk_ends c.args.form c.args.bytes.now c.rdfs.end c.rdfs.tally c.requires.size c.rdfs.invariant
+    walk_ends c.args.form c.args.bytes.now c.rdfs.end c.rdfs.tally c.requires.least c.rdfs.invariant
     (omega (arith, c.rdfs-test.false, c.requires.layout.low))
 
 pub returns-clause-bounds : goal.returns-clause-bounds

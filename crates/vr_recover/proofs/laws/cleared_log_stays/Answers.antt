@@ -1,4 +1,4 @@
-use Rattle.vr_recover.proofs.Clearing.{cleared}
+use Rattle.vr_log.proofs.CallerLemmas.{cleared}
 use Rattle.vr_recover.proofs.laws.cleared_log_stays.Goals as goal
 
 pub returns : goal.returns

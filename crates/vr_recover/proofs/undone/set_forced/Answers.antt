@@ -1,7 +1,7 @@
 use Rattle.std.proofs.Common.{List, subst}
 use Rattle.vr_types.proofs.CallerLemmas.{guards-then, keeps-touches, touches-then, touches-weaken}
 use Rattle.vr_space.specs.Part.{HasRoom, InPart, part_no}
-use Rattle.vr_space.proofs.CallerLemmas.{knows-keeps, rest-keeps, rest-sound, room-keeps}
+use Rattle.vr_space.proofs.CallerLemmas.{due-at-more, knows-keeps, rest-keeps, rest-sound, room-keeps}
 use Rattle.vr_volume.specs.Safe.{IsSafeImage}
 use Rattle.vr_recover.specs.Formatted.{Anything}
 use Rattle.vr_recover.proofs.PuttingBack.{firm-forced}
@@ -36,7 +36,9 @@ returns-clause-firm g c told =
     let b = B.seen c.set_free.new.blocks in
     firm-forced shape (g.P.Part.put c.set_free.new.part) B.tells told
     (B.seen c.args.blocks.now) b (B.seen c.force_blocks.new.blocks)
-    (c.in_ok-set_free.ensures.due told) c.force_blocks.ensures.after
+    (due-at-more shape c.args.place.now (g.P.Part.put c.set_free.new.part)
+    (B.seen c.args.blocks.now) b (c.in_ok-set_free.ensures.due told))
+    c.force_blocks.ensures.after
     (subst (λ (list : List _). Rattle.vr_types.specs.Blocks.Forced list b.cur
     (B.seen c.force_blocks.new.blocks).may) c.put_blocks.ensures
     (c.in_ok-force_blocks.ensures.forced told))

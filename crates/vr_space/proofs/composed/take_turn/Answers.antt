@@ -1,6 +1,6 @@
 use Rattle.std.proofs.Common.{subst, Some, []}
-use Rattle.vr_space.specs.Part.{Shape, AddsTo, Just, Nothing, SetsOne, SameRecords, DueMore}
-use Rattle.vr_space.proofs.Adding.{nothing-then, adds-weaken, sets-after, records-then, due-then}
+use Rattle.vr_space.specs.Part.{Shape, AddsTo, Just, Nothing, SetsOne, SameRecords, DueMore, DueMoreAt}
+use Rattle.vr_space.proofs.Adding.{nothing-then, adds-weaken, sets-after, records-then, due-then, due-at-more}
 use Rattle.vr_space.proofs.composed.take_turn.Goals as goal
 
 pub returns-in_err-ask-clause-adds : goal.returns-in_err-ask-clause-adds
@@ -66,9 +66,11 @@ returns-in_ok-set-in-Ready-clause-turn g c told =
           (c.in_ok-set-in-Ready.ensures.set told)),
       due-then shape (g.P.Part.put c.set.new.self) (seen c.args.blocks.now) (seen c.ask.new.blocks)
           (seen c.set.new.blocks) (c.ask.ensures.due told)
-          (subst (λ (shape : Shape). DueMore shape (g.P.Part.put c.set.new.self)
-          (seen c.ask.new.blocks) (seen c.set.new.blocks)) c.ask.ensures.shape
-          (c.in_ok-set-in-Ready.ensures.due told)),
+          (due-at-more shape c.args.place.now (g.P.Part.put c.set.new.self) (seen c.ask.new.blocks)
+          (seen c.set.new.blocks)
+          (subst (λ (shape : Shape). DueMoreAt shape c.args.place.now
+          (g.P.Part.put c.set.new.self) (seen c.ask.new.blocks) (seen c.set.new.blocks))
+          c.ask.ensures.shape (c.in_ok-set-in-Ready.ensures.due told))),
     )
 
 pub returns-in_ok-advance-in-Stage-clause-turn : goal.returns-in_ok-advance-in-Stage-clause-turn

@@ -1,10 +1,12 @@
 use Rattle.std.proofs.Common.{arith, refl, subst}
 use Rattle.vr_space.specs.Part.{HasKeptRoom, HasRoom, Nothing, part_no}
 use Rattle.vr_space.specs.Room.{Lengths}
+use Rattle.vr_space.proofs.CallerLemmas.{rest-sound}
 use Rattle.vr_volume.specs.Committed.{committed_by}
 use Rattle.vr_volume.proofs.Apart.{part-past}
 use Rattle.vr_volume.proofs.Calls.{nothing-safe, part-after, part-guards}
-use Rattle.vr_volume.proofs.Rested.{laid-rest, part-same-records, part-stays, stands-part}
+use Rattle.vr_volume.proofs.Rested.{due-stays, laid-rest, part-same-records, part-stays}
+use Rattle.vr_volume.proofs.Rested.{stands-part}
 use Rattle.vr_volume.proofs.Rested.{stays-apart, volume-same}
 use Rattle.vr_volume.proofs.changing.do_stage.Goals as goal
 
@@ -84,3 +86,15 @@ returns-clause-others g c told number log images state other split met rest part
     (rest.laid.apart (part_no other).0 (part_no shape).0 other shape others.laid part.laid apart)
     (c.advance.ensures.rooms told))
     (g.met.B.Blocks.cur_may c.args.blocks.now told) others refl refl refl
+
+pub returns-clause-others_due : goal.returns-clause-others_due
+returns-clause-others_due g c told number log images state other split met rest part apart others =
+    let B = g.B.Blocks in
+    let shape = g.P.Part.shape c.args.part.now in
+    let kept = g.K.Kept.kept c.args.kept.now (part_no shape) in
+    let a = B.seen c.args.blocks.now in
+    due-stays other a (B.seen c.advance.new.blocks)
+    (stays-apart shape other (HasRoom shape kept) a (B.seen c.advance.new.blocks)
+    (rest.laid.apart (part_no other).0 (part_no shape).0 other shape others.laid part.laid apart)
+    (c.advance.ensures.rooms told))
+    (rest-sound other a others.rests) (g.met.B.Blocks.cur_may c.args.blocks.now told)

@@ -19,7 +19,7 @@ use Rattle.vr_space.specs.Split.{SplitNow}
 use Rattle.vr_volume.specs.Committed.{committed_by}
 use Rattle.vr_volume.specs.Laying.{IsLaidBy, IsLogged}
 use Rattle.vr_volume.proofs.Rested.{first-of, laid-by-more, part-first-change, rec-is, stands-part}
-use Rattle.vr_space.proofs.CallerLemmas.{due-then}
+use Rattle.vr_space.proofs.CallerLemmas.{due-at-then}
 use Rattle.std.proofs.Common.{◌≡◌, ap, arith}
 use Rattle.vr_types.specs.declared.unit.PartNo.{PartNo}
 use Rattle.vr_volume.proofs.Apart.{part-past}
@@ -258,7 +258,8 @@ returns-clause-due g c told =
     let shape = g.P.Part.shape c.args.part.now in
     let a = B.seen c.args.blocks.now in
     let b = B.seen c.log_forced.new.blocks in
-    due-then shape (g.P.Part.put c.set_free.new.part) a b (B.seen c.set_free.new.blocks)
+    due-at-then shape c.args.place.now (g.P.Part.put c.set_free.new.part) a b
+    (B.seen c.set_free.new.blocks)
     (due-stays shape a b
     (stays-part log.geometry shape (HasLog (with_record log c.args.rec.now)) a b c.requires.apart
     (c.log_forced.ensures.touches told))

@@ -8,7 +8,7 @@ use Rattle.vr_space.specs.Room.{Lengths}
 use Rattle.vr_space.specs.Keyed.{Keyed as Layouts, KeepsRoom, IsKeyedAtRest}
 use Rattle.vr_space.specs.UnderWay.{KeyedUnderWay}
 use Rattle.vr_space.specs.Met.{Met, IsMet, HasMet}
-use Rattle.vr_space.specs.Part.{KeyedShape, AddsTo, Just, SetsOne, DueMore, HasRoom, InPart, Knows}
+use Rattle.vr_space.specs.Part.{KeyedShape, AddsTo, Just, SetsOne, DueMoreAt, HasRoom, InPart, Knows}
 use Rattle.vr_space.specs.Part.{given, part_no}
 use Rattle.vr_space.proofs.CallerLemmas.{way-keeps}
 use Rattle.vr_keyed.specs.Owned.{Owned}
@@ -214,8 +214,11 @@ returns-clause-due g c told =
     subst (λ (p : Layouts). IsReady p kept now.split c.as_slice.result.now item a) (sym same)
     (subst (λ (q : List ℕ). IsReady now.part kept now.split q item a) (sym spot) here) in
     let done = c.in_ok-put.ensures.done told kept now.split ready in
-    subst (λ (put : List ℕ). DueMore (KeyedShape now.part) put a b) (sym c.note_put.ensures.put)
-    (subst (λ (p : Layouts). DueMore (KeyedShape p) (put_of c.in_ok-put.put) a b) same done.due)
+    subst (λ (put : List ℕ). DueMoreAt (KeyedShape now.part) place put a b)
+    (sym c.note_put.ensures.put)
+    (subst (λ (p : Layouts). DueMoreAt (KeyedShape p) place (put_of c.in_ok-put.put) a b) same
+    (subst (λ (q : List ℕ). DueMoreAt (KeyedShape c.self.inside.layout) q
+    (put_of c.in_ok-put.put) a b) spot done.due))
 
 pub returns-clause-rests : goal.returns-clause-rests
 returns-clause-rests g c told =

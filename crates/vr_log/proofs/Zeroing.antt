@@ -1,10 +1,11 @@
--- A block past the last of a log's may become zeros: the blocks spell the same log.
+-- A block past the last of a log's may become zeros, and one that has a later generation: the blocks
+-- spell the same log.
 use Rattle.std.proofs.Common.{◌≡◌, ◌≢◌, ◌<◌, ◌≤◌, ◌+◌, ◌-◌, ◌*◌, ◌/◌, ℕ, zero, suc, Bool, true}
 use Rattle.std.proofs.Common.{false, List, [], ◌++◌, length, take, drop, refl, sym, ap, subst}
 use Rattle.std.proofs.Common.{◌∙◌, arith, inl, inr, get_or-set_other, get_or-set_same}
 use Rattle.std.proofs.Common.{append_assoc}
 use Rattle.std.proofs.Common.{true≢false}
-use Rattle.std.specs.Prelude.{min, nat_eq, nat_le, slice_set}
+use Rattle.std.specs.Prelude.{min, max, nat_eq, nat_le, slice_set}
 use Rattle.std.proofs.Math.Nat.{mul-le-mul_right}
 use Rattle.std.proofs.Math.Seq.{take-append-add, take-nil}
 use Rattle.std.proofs.lemmas.Bool.{cases_lt, eqb-true, leb-true}
@@ -16,6 +17,7 @@ use Rattle.vr_types.specs.Geometry.{IsAllowed}
 use Rattle.vr_types.specs.Image.{Block, Image, block_at}
 use Rattle.vr_types.specs.declared.geometry.Geometry.{Geometry}
 use Rattle.vr_types.proofs.CallerLemmas.{block_size_least}
+use Rattle.vr_log.specs.Clearing.{IsStale}
 use Rattle.vr_log.specs.Content.{Content}
 use Rattle.vr_log.specs.LogBlock.{generation_in, index_in, is_next, payload_in, room_of, used_in}
 use Rattle.vr_log.specs.LogNow.{last_index}
@@ -24,6 +26,7 @@ use Rattle.vr_log.specs.Spells.{Fits, Spells, bytes_from, joined, log_bytes}
 use Rattle.vr_log.specs.Standing.{InLog}
 use Rattle.vr_log.specs.declared.record.LogRecord.{LogRecord}
 use Rattle.vr_log.proofs.Leaving.{next-has}
+use Rattle.vr_log.proofs.Settled.{deep, last-low}
 use Rattle.vr_log.proofs.Unique.{zeros-generation}
 
 length-payload : (block : Block) → length (payload_in block)
@@ -151,10 +154,26 @@ past-last length room log index some past below =
     mul-le-mul_right room (omega (arith, past, below)) in
     omega (arith, more, div-add-mod' length room, some)
 
+size-room : (geometry : Geometry) → IsAllowed geometry → 0 < room_of geometry
+size-room geometry allowed = omega (arith, block_size_least geometry.size allowed.size)
+
+-- a full block has the bytes that it has room for
+whole-payload : (geometry : Geometry) (image : Image) → IsAllowed geometry
+    → ((n : ℕ) → InLog geometry n → length (block_at image n) ≡ geometry.size)
+    → (i : ℕ) → i < geometry.log → used_in (block_at image (1 + i)) ≡ room_of geometry
+    → length (payload_in (block_at image (1 + i))) ≡ room_of geometry
+whole-payload geometry image allowed sized i inside full =
+    omega (
+      arith,
+      length-payload (block_at image (1 + i)),
+      full,
+      sized (1 + i) (omega arith, omega (arith, inside)),
+    )
+
 module _ (geometry : Geometry) (image : Image) (content : Content) (index : ℕ) (zeros : Block)
     (allowed : IsAllowed geometry)
     (sized : (n : ℕ) → InLog geometry n → length (block_at image n) ≡ geometry.size)
-    (past : last_index geometry (bytes_of content.records) < index) (below : index < geometry.log)
+    (later : 0 < index) (below : index < geometry.log)
     (are : AreZeros zeros) (long : 8 ≤ length zeros) (there : 1 + index < length image) where
   abbrev new : Image
   new = slice_set image (1 + index) zeros
@@ -177,26 +196,15 @@ module _ (geometry : Geometry) (image : Image) (content : Content) (index : ℕ)
       let both : generation ≡ 0 = sym is ∙ ap generation_in here ∙ none in
       absurd (omega (arith, both, some))
 
-  size-room : 0 < room_of geometry
-  size-room = omega (arith, block_size_least geometry.size allowed.size)
-
-  whole : (i : ℕ) → i < geometry.log → used_in (block_at image (1 + i)) ≡ room_of geometry
-      → length (payload_in (block_at image (1 + i))) ≡ room_of geometry
-  whole i inside full =
-      omega (
-        arith,
-        length-payload (block_at image (1 + i)),
-        full,
-        sized (1 + i) (omega arith, omega (arith, inside)),
-      )
-
-  pub cleared : Spells geometry image content → Spells geometry new content
-  cleared (inl none) = inl (record {
-    zeros = subst AreZeros (sym (other 1 (λ is. omega (arith, is, past)))) none.zeros;
+  -- where the records end before it
+  cleared-at : length (bytes_of content.records) ≤ index * room_of geometry
+      → Spells geometry image content → Spells geometry new content
+  cleared-at short (inl none) = inl (record {
+    zeros = subst AreZeros (sym (other 1 (λ is. omega (arith, is, later)))) none.zeros;
     none = none.none;
   })
-  cleared (inr spells) =
-      let first : block_at new 1 ≡ block_at image 1 = other 1 (λ is. omega (arith, is, past)) in
+  cleared-at short (inr spells) =
+      let first : block_at new 1 ≡ block_at image 1 = other 1 (λ is. omega (arith, is, later)) in
       inr (record {
         generation = ap generation_in first ∙ spells.generation;
         some = spells.some;
@@ -205,10 +213,130 @@ module _ (geometry : Geometry) (image : Image) (content : Content) (index : ℕ)
             (gone content.generation spells.some) geometry.log 0 spells.fits;
         records = subst (λ (bytes : List ℕ). SpellsRecords bytes content.records)
             (sym (bytes-cut (room_of geometry) content.generation index image new other-index
-            (gone content.generation spells.some) geometry.log whole geometry.log 0 index
+            (gone content.generation spells.some) geometry.log
+            (whole-payload geometry image allowed sized) geometry.log 0 index
             (omega arith) (let at : index ≡ 0 + index = omega arith in at)))
             (records-cut (index * room_of geometry)
-            (log_bytes geometry content.generation image) content.records
-            (past-last (length (bytes_of content.records)) (room_of geometry) geometry.log index
-            size-room past below) spells.records);
+            (log_bytes geometry content.generation image) content.records short spells.records);
       })
+
+-- a block past the last one
+pub cleared : (geometry : Geometry) (image : Image) (content : Content) (index : ℕ) (zeros : Block)
+    → IsAllowed geometry
+    → ((n : ℕ) → InLog geometry n → length (block_at image n) ≡ geometry.size)
+    → last_index geometry (bytes_of content.records) < index → index < geometry.log
+    → AreZeros zeros → 8 ≤ length zeros → 1 + index < length image → Spells geometry image content
+    → Spells geometry (slice_set image (1 + index) zeros) content
+cleared geometry image content index zeros allowed sized past below are long there spells =
+    cleared-at geometry image content index zeros allowed sized (omega (arith, past)) below are long
+    there
+    (past-last (length (bytes_of content.records)) (room_of geometry) geometry.log index
+    (size-room geometry allowed) past below) spells
+
+-- the bytes end before a block that doesn't go on with them
+bytes-before : (geometry : Geometry) (image : Image) (generation index : ℕ) → IsAllowed geometry
+    → ((n : ℕ) → InLog geometry n → length (block_at image n) ≡ geometry.size)
+    → index < geometry.log
+    → (is_next generation index (block_at image (1 + index)) ≡ true → ⊥)
+    → length (log_bytes geometry generation image) ≤ index * room_of geometry
+bytes-before geometry image generation index allowed sized below none =
+    let cut : log_bytes geometry generation image
+    ≡ take (index * room_of geometry) (log_bytes geometry generation image) =
+    bytes-cut (room_of geometry) generation index image image (λ i differ. refl) none geometry.log
+    (whole-payload geometry image allowed sized) geometry.log 0 index (omega arith)
+    (let at : index ≡ 0 + index = omega arith in at) in
+    omega (
+      arith,
+      ap length cut,
+      length-take (index * room_of geometry) (log_bytes geometry generation image),
+    )
+
+-- block 1 has no later generation
+not-first : (image : Image) (generation index : ℕ)
+    → generation < generation_in (block_at image (1 + index))
+    → generation_in (block_at image 1) ≤ generation → 0 < index
+not-first image generation zero later young = absurd (omega (arith, later, young))
+not-first image generation (suc index) later young = omega arith
+
+-- a block past the last one that goes on, and one that has a later generation
+pub stale_cleared : (geometry : Geometry) (image : Image) (content : Content) (index : ℕ)
+    (zeros : Block) → IsAllowed geometry
+    → ((n : ℕ) → InLog geometry n → length (block_at image n) ≡ geometry.size)
+    → IsStale (max 1 content.generation) (last_index geometry (bytes_of content.records)) index
+    (block_at image (1 + index)) → index < geometry.log
+    → AreZeros zeros → 8 ≤ length zeros → 1 + index < length image → Spells geometry image content
+    → Spells geometry (slice_set image (1 + index) zeros) content
+stale_cleared geometry image content index zeros allowed sized (inl past) below are long there
+    spells =
+    cleared geometry image content index zeros allowed sized past.0 below are long there spells
+stale_cleared geometry image content index zeros allowed sized (inr later) below are long there
+    (inl none) =
+    let old : generation_in (block_at image 1) ≡ 0 =
+    zeros-generation (block_at image 1)
+    (omega (
+      arith,
+      sized 1 (omega arith, allowed.some_log),
+      block_size_least geometry.size allowed.size,
+    )) none.zeros in
+    let empty : length (bytes_of content.records) ≡ 0 =
+    ap (λ (c : Content). length (bytes_of c.records)) none.none in
+    cleared-at geometry image content index zeros allowed sized
+    (not-first image (max 1 content.generation) index later (omega (arith, old))) below are long
+    there (omega (arith, empty)) (inl none)
+stale_cleared geometry image content index zeros allowed sized (inr later) below are long there
+    (inr log) =
+    let ended = bytes-before geometry image content.generation index allowed sized below
+    (λ next. omega
+    (arith, (next-has content.generation index (block_at image (1 + index)) next).0, later)) in
+    cleared-at geometry image content index zeros allowed sized
+    (not-first image (max 1 content.generation) index later (omega (arith, log.generation))) below
+    are long there
+    (omega (
+      arith,
+      ended,
+      ap length log.records.spelled,
+      length-append (bytes_of content.records) log.records.cut,
+    )) (inr log)
+
+-- no block before the last one has a later generation
+pub before_last : (geometry : Geometry) (image : Image) (content : Content) (index : ℕ)
+    → IsAllowed geometry
+    → ((n : ℕ) → InLog geometry n → length (block_at image n) ≡ geometry.size)
+    → index < last_index geometry (bytes_of content.records) → Spells geometry image content
+    → generation_in (block_at image (1 + index)) ≤ max 1 content.generation
+before_last geometry image content index allowed sized before spells =
+    let bytes = bytes_of content.records in
+    let room = room_of geometry in
+    let some = size-room geometry allowed in
+    let low : last_index geometry bytes * room ≤ length bytes =
+    last-low (length bytes) room (geometry.log - 1) some in
+    let more : (index + 1) * room ≤ last_index geometry bytes * room =
+    mul-le-mul_right room (omega (arith, before)) in
+    young spells (omega (arith, more, low))
+  where
+    young : Spells geometry image content
+        → (index + 1) * room_of geometry ≤ length (bytes_of content.records)
+        → generation_in (block_at image (1 + index)) ≤ max 1 content.generation
+    young (inl none) full =
+        absurd (omega (
+          arith,
+          full,
+          ap (λ (c : Content). length (bytes_of c.records)) none.none,
+          size-room geometry allowed,
+        ))
+    young (inr log) full =
+        let found = deep (room_of geometry) content.generation image index 0 geometry.log
+        (size-room geometry allowed)
+        (λ i from to. omega (
+          arith,
+          sized (1 + i) (omega arith, omega (arith, to)),
+          block_size_least geometry.size allowed.size,
+        )) (omega arith) (omega (arith, before))
+        (omega (
+          arith,
+          full,
+          ap length log.records.spelled,
+          length-append (bytes_of content.records) log.records.cut,
+        )) in
+        omega
+        (arith, (next-has content.generation index (block_at image (1 + index)) found.0.next).0)

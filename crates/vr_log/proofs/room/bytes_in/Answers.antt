@@ -1,13 +1,10 @@
 use Rattle.std.proofs.Common.{◌≡◌, ℕ, ◌+◌, List, [], ◌∷◌, ◌++◌, length, take, sym, ap}
 use Rattle.std.proofs.Common.{◌∙◌, arith}
 use Rattle.std.proofs.lemmas.List.{take_more, length-append}
-use Rattle.vr_types.specs.declared.unit.Unit.{Unit as UnitOfRecovery}
 use Rattle.vr_log.specs.declared.record.LogRecord.{LogRecord}
-use Rattle.vr_log.specs.Live.{live_in, live_after}
 use Rattle.vr_log.specs.Records.{record_bytes, bytes_of}
 use Rattle.vr_log.proofs.Entering.{bytes-push, bytes-take}
-use Rattle.vr_log.proofs.Growing.{live-bytes, live_grown}
-use Rattle.vr_log.proofs.room.count_bytes.Goals as goal
+use Rattle.vr_log.proofs.room.bytes_in.Goals as goal
 
 -- the bytes of one record more
 one-more : (records : List LogRecord) (i : ℕ) (rec : LogRecord)
@@ -32,23 +29,11 @@ overflow_add-bytes c =
     ∙ ap (λ (r : LogRecord). take i records ++ r ∷ []) (sym c.rec-item.is) in
     omega (
       arith,
-      c.loop-rec.invariant.bytes,
+      c.loop-rec.invariant,
       c.record_length-bytes.ensures.value,
       one-more records i rec more,
       bytes-take (i + 1) records,
       c.requires.small,
-    )
-
-pub note_unit-requires : goal.note_unit-requires
-note_unit-requires c =
-    let before = take c.loop-rec.rec-index c.args.records.now in
-    omega (
-      arith,
-      ap length c.loop-rec.invariant.units,
-      live-bytes [] before,
-      bytes-take c.loop-rec.rec-index c.args.records.now,
-      c.requires.room,
-      c.loop-rec.invariant.room,
     )
 
 pub loop-rec-preserved : goal.loop-rec-preserved
@@ -56,30 +41,12 @@ loop-rec-preserved c =
     let records = c.args.records.now in
     let i = c.loop-rec.rec-index in
     let rec = c.rec-item.result in
-    let old = c.loop-rec.invariant in
     let more : take (i + 1) records ≡ take i records ++ rec ∷ [] =
     take_more records i rec c.loop-rec-test.true
     ∙ ap (λ (r : LogRecord). take i records ++ r ∷ []) (sym c.rec-item.is) in
-    record {
-      bytes = omega (
-        arith,
-        old.bytes,
-        c.record_length-bytes.ensures.value,
-        one-more records i rec more,
-      );
-      units = c.note_unit.ensures.units
-          ∙ ap (λ (us : List UnitOfRecovery). live_after us rec) old.units
-          ∙ live_grown (take i records) rec ∙ ap live_in (sym more);
-      room = c.note_unit.ensures.room ∙ old.room;
-    }
-
-pub returns-clause-few : goal.returns-clause-few
-returns-clause-few c =
-    let records = c.args.records.now in
-    let i = c.loop-rec.rec-index in
     omega (
       arith,
-      ap length c.loop-rec.invariant.units,
-      live-bytes [] (take i records),
-      bytes-take i records,
+      c.loop-rec.invariant,
+      c.record_length-bytes.ensures.value,
+      one-more records i rec more,
     )

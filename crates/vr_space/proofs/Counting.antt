@@ -1,0 +1,153 @@
+-- A record that stands where it is kept is counted once.
+use Rattle.std.proofs.Common.{◌≡◌, ◌≤◌, ℕ, Bool, true, false, List, [], ◌∷◌, Option, Some, None}
+use Rattle.std.proofs.Common.{refl, sym, ap, ◌∙◌, length, map, true≢false}
+use Rattle.std.specs.Prelude.{IfSome, cond}
+use Rattle.std.specs.Ordering.{is_le}
+use Rattle.vr_types.specs.Content.{place_cmp}
+use Rattle.vr_types.specs.Image.{Block, Image, block_at}
+use Rattle.vr_seqset.specs.Entry.{Entry}
+use Rattle.vr_space.specs.Way.{found_on}
+use Rattle.vr_space.specs.Keyed.{HoldRanges, HoldsRange, Keyed, entries_of, entry_block, entry_for}
+use Rattle.vr_space.specs.Keyed.{items_of, length_of, lengths_of, range_of, records_in, way_in}
+use Rattle.vr_space.specs.Part.{KeyedShape, Shape, Stands, fits_at, item_of, room_of}
+use Rattle.vr_space.specs.Room.{Lengths, Range, have_room, is_above, is_in, with_length}
+use Rattle.vr_space.specs.Room.{with_lengths}
+use Rattle.vr_space.specs.Split.{SplitNow, fits_in, free_interval, keyed_stage, room_after, room_by}
+use Rattle.vr_space.specs.Split.{room_by_split}
+use Rattle.vr_space.proofs.Keeping.{HasLonger, holds-read, kept-out, kept-stands}
+use Rattle.vr_space.proofs.KeyedContent.{AscendFrom}
+use Rattle.vr_space.proofs.KeyedSound.{head-ascends}
+use Rattle.vr_space.proofs.Places.{above-more, in-most, lt_from_test, not_past}
+
+module _ (part : Keyed) (kept : Lengths) (place : List ℕ) (n : ℕ) (image : Image) (other : List ℕ)
+  where
+    -- what is kept besides takes no room in the interval of an entry
+    abbrev pub Counts : Range × Entry → Type 0
+    Counts found =
+        lengths_of part (with_length kept place n) found.0 (block_at image (entry_block part found.1))
+        ≡ lengths_of part kept found.0 (block_at image (entry_block part found.1))
+
+    counts-out : (range : Range) (block : Block) → is_in range place ≡ false
+        → lengths_of part (with_length kept place n) range block ≡ lengths_of part kept range block
+    counts-out range block out =
+        ap (with_lengths (map length_of (records_in part range block)))
+        (kept-out range kept place n out)
+
+    counts-in : (range : Range) (block : Block) → is_in range place ≡ true
+        → HoldsRange part range block → HasLonger part place n block
+        → lengths_of part (with_length kept place n) range block ≡ lengths_of part kept range block
+    counts-in range block inside holds has =
+        kept-stands range (map length_of (records_in part range block)) kept place n
+        (holds-read part range (items_of block) place has.0 n holds.ascends inside has.1 has.2)
+
+    counts-by : (range : Range) (block : Block) (inside : Bool) → is_in range place ≡ inside
+        → HoldsRange part range block
+        → (is_in range place ≡ true → HasLonger part place n block)
+        → lengths_of part (with_length kept place n) range block ≡ lengths_of part kept range block
+    counts-by range block true is holds has = counts-in range block is holds (has is)
+    counts-by range block false is holds has = counts-out range block is
+
+    -- where the place isn't above the low bound, it is in none of the ranges
+    once-out : (low : List ℕ) (entries : List Entry) → AscendFrom (Some low) entries
+        → is_above (Some low) place ≡ false → IfSome (entry_for (Some low) entries other) Counts
+    once-out low [] ascend out = tt
+    once-out low (entry ∷ entries) ascend out =
+        by_test (is_le (place_cmp other entry.high))
+        (once-out entry.high entries ascend.1 (not-above (is_above (Some entry.high) place) refl))
+      where
+        not-above : (above : Bool) → is_above (Some entry.high) place ≡ above
+            → is_above (Some entry.high) place ≡ false
+        not-above true is =
+            absurd (true≢false (sym (above-more (Some low) entry.high place ascend.0 is) ∙ out))
+        not-above false is = is
+
+        not-in : (inside : Bool) → is_in (range_of (Some low) entry) place ≡ inside
+            → is_in (range_of (Some low) entry) place ≡ false
+        not-in true is = absurd (true≢false (sym
+            (Rattle.vr_space.proofs.Places.in-above (range_of (Some low) entry) place is) ∙ out))
+        not-in false is = is
+
+        by_test : (reaches : Bool) → IfSome (entry_for (Some entry.high) entries other) Counts
+            → IfSome (cond reaches (Some (range_of (Some low) entry, entry))
+            (entry_for (Some entry.high) entries other)) Counts
+        by_test true further = counts-out (range_of (Some low) entry)
+            (block_at image (entry_block part entry))
+            (not-in (is_in (range_of (Some low) entry) place) refl)
+        by_test false further = further
+
+    once : (low : Option (List ℕ)) (entries : List Entry) → AscendFrom low entries
+        → HoldRanges part image low entries
+        → ((at : Range × Entry) → entry_for low entries place ≡ Some at
+        → HasLonger part place n (block_at image (entry_block part at.1)))
+        → IfSome (entry_for low entries other) Counts
+    once low [] ascend holds found = tt
+    once low (entry ∷ entries) ascend holds found =
+        by_test (is_le (place_cmp other entry.high))
+        (by_place (is_le (place_cmp place entry.high)) refl found
+        (λ below. once (Some entry.high) entries ascend.1 holds.1 below))
+      where
+        not-lt : is_le (place_cmp place entry.high) ≡ true → (above : Bool)
+            → is_above (Some entry.high) place ≡ above → is_above (Some entry.high) place ≡ false
+        not-lt most true is =
+            absurd (not_past place entry.high most (lt_from_test (place_cmp entry.high place) is))
+        not-lt most false is = is
+
+        by_place : (reaches : Bool) → is_le (place_cmp place entry.high) ≡ reaches
+            → ((at : Range × Entry)
+            → cond reaches (Some (range_of low entry, entry))
+            (entry_for (Some entry.high) entries place) ≡ Some at
+            → HasLonger part place n (block_at image (entry_block part at.1)))
+            → (((at : Range × Entry) → entry_for (Some entry.high) entries place ≡ Some at
+            → HasLonger part place n (block_at image (entry_block part at.1)))
+            → IfSome (entry_for (Some entry.high) entries other) Counts)
+            → IfSome (entry_for (Some entry.high) entries other) Counts
+        by_place true is here further = once-out entry.high entries ascend.1
+            (not-lt is (is_above (Some entry.high) place) refl)
+        by_place false is here further = further here
+
+        by_test : (reaches : Bool) → IfSome (entry_for (Some entry.high) entries other) Counts
+            → IfSome (cond reaches (Some (range_of low entry, entry))
+            (entry_for (Some entry.high) entries other)) Counts
+        by_test true further = counts-by (range_of low entry)
+            (block_at image (entry_block part entry)) (is_in (range_of low entry) place) refl holds.0
+            (λ inside. found (range_of low entry, entry)
+            (ap (λ (reaches : Bool). cond reaches (Some (range_of low entry, entry))
+            (entry_for (Some entry.high) entries place))
+            (in-most (range_of low entry) place inside)))
+        by_test false further = further
+
+    fits-once : (m : ℕ) (found : Option (Range × Entry)) → IfSome found Counts
+        → fits_in part image (with_length kept place n) other m found
+        ≡ fits_in part image kept other m found
+    fits-once m None counts = refl
+    fits-once m (Some found) counts =
+        ap (λ (lengths : Lengths). have_room part.size (with_length lengths other m)) counts
+
+-- ---- the law
+
+-- A record that is kept and stands takes no room beside what stands.
+pub kept_fits : (shape : Shape) (image : Image) (kept : Lengths) (place bytes : List ℕ) (n : ℕ)
+    → Stands shape image → item_of shape image place ≡ Some bytes → n ≤ length bytes
+    → (other : List ℕ) (m : ℕ)
+    → fits_at shape image (with_length kept place n) other m ≡ fits_at shape image kept other m
+kept_fits (KeyedShape part) image kept place bytes n stands is most other m =
+    let top : Block = block_at image part.head in
+    fits-once part kept place n image other m (entry_for None (entries_of top) other)
+    (once part kept place n image other None (entries_of top)
+    (head-ascends part top stands.1.head) stands.1.intervals
+    (λ at leads. (
+      bytes,
+      sym (ap (λ (o : Option (Range × Entry)). found_on image (way_in part place o)) leads) ∙ is,
+      most,
+    )))
+
+-- It stands in the way of no other record.
+pub kept_room : (shape : Shape) (image : Image) (kept : Lengths) (place bytes : List ℕ) (n : ℕ)
+    → Stands shape image → item_of shape image place ≡ Some bytes → n ≤ length bytes
+    → (split : Option SplitNow) (free : ℕ) (other : List ℕ) (m : ℕ)
+    → room_of shape split image free (with_length kept place n) other m
+    ≡ room_of shape split image free kept other m
+kept_room (KeyedShape part) image kept place bytes n stands is most split free other m =
+    ap (λ (fits : Bool). room_after (keyed_stage part split image other) (room_by fits
+    (room_by_split split (free_interval part (block_at image part.head)))))
+    (kept_fits (KeyedShape part) image kept place bytes n stands is most other m)
