@@ -1,4 +1,4 @@
-use Rattle.std.proofs.Common.{◌≡◌, ◌∙◌, ℕ, List, Option, ap, refl, subst, sym}
+use Rattle.std.proofs.Common.{true, ◌==◌, ◌≡◌, ◌∙◌, ℕ, List, Option, ap, refl, subst, sym}
 use Rattle.std.proofs.lemmas.Bool.Decides.{Decides-eqb}
 use Rattle.vr_types.specs.declared.unit.PartNo.{PartNo}
 use Rattle.vr_types.proofs.CallerLemmas.{guards-start}
@@ -14,6 +14,9 @@ use Rattle.vr_recover.proofs.Made.{touches-none}
 use Rattle.vr_recover.proofs.PuttingBack.{live-has, live-list, one-back}
 use Rattle.vr_recover.proofs.undone.put_record.Goals as goal
 
+same-number : (one other : ℕ) → true ≡ (one == other) → one ≡ other
+same-number one other is = (Decides-eqb one other).0 (sym is)
+
 pub returns-in_ok-set_forced-clause-safe : goal.returns-in_ok-set_forced-clause-safe
 returns-in_ok-set_forced-clause-safe g c told geometry member committed safe laid free =
     let log = c.args.log.now in
@@ -23,7 +26,7 @@ returns-in_ok-set_forced-clause-safe g c told geometry member committed safe lai
     c.in-Before.old (sym c.if-is_live.ensures) c.args.rec.now c.in-Before.is
     (λ (image : BeforeImage). IsFreeIn log image.part image.place) free in
     let mine : c.in-Before.owner.0 ≡ c.args.number.0 =
-    (Decides-eqb c.in-Before.owner.0 c.args.number.0).0 (sym c.if-eq.ensures) in
+    same-number c.in-Before.owner.0 c.args.number.0 c.if-eq.ensures in
     let number : c.args.number ≡ part_no shape = sym c.requires.number in
     c.set_forced.ensures.safe told geometry member log committed safe
     (subst (λ (no : PartNo). IsLaidSo geometry log committed no.0 shape
@@ -40,7 +43,7 @@ returns-in_err-set_forced-clause-safe g c told geometry member committed safe la
     c.in-Before.old (sym c.if-is_live.ensures) c.args.rec.now c.in-Before.is
     (λ (image : BeforeImage). IsFreeIn log image.part image.place) free in
     let mine : c.in-Before.owner.0 ≡ c.args.number.0 =
-    (Decides-eqb c.in-Before.owner.0 c.args.number.0).0 (sym c.if-eq.ensures) in
+    same-number c.in-Before.owner.0 c.args.number.0 c.if-eq.ensures in
     let number : c.args.number ≡ part_no shape = sym c.requires.number in
     c.set_forced.ensures.safe told geometry member log committed safe
     (subst (λ (no : PartNo). IsLaidSo geometry log committed no.0 shape
@@ -57,7 +60,7 @@ returns-in_ok-set_forced-clause-back g c told content item =
     let image : BeforeImage =
     image_of c.in-Before.unit c.in-Before.owner c.in-Before.place c.in-Before.old in
     let mine : c.in-Before.owner.0 ≡ (part_no shape).0 =
-    (Decides-eqb c.in-Before.owner.0 c.args.number.0).0 (sym c.if-eq.ensures)
+    same-number c.in-Before.owner.0 c.args.number.0 c.if-eq.ensures
     ∙ sym (ap (λ (no : PartNo). no.0) c.requires.number) in
     subst (λ (images : List BeforeImage). ArePutBack shape content images a b)
     (sym (live-list live c.in-Before.unit c.in-Before.owner c.in-Before.place c.in-Before.old
