@@ -1,0 +1,5 @@
+pub mod Faults
+pub mod Header
+pub mod Numbers
+pub mod Records
+pub mod Areas

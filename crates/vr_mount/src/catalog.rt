@@ -1,0 +1,36 @@
+//! The catalog that records are.
+ghost use Rattle.std.specs.Prelude.{◌≡◌, IfOk, IfSome, None};
+ghost use Rattle.vr_types.specs.Content.{Content};
+ghost use Rattle.vr_catalog.specs.Catalog.{entries_in};
+ghost use Rattle.vr_volume.specs.CatalogRules.{IsCatalog};
+ghost use Rattle.vr_mount.specs.Records.{bytes_of};
+
+use crate::records::read_each;
+use crate::rules::are_rules;
+use std::alloc::Global;
+use vr_catalog::Catalog;
+use vr_types::{Bytes, Geometry, OutOfMemory};
+
+/// The catalog whose records these are, in the order of their places: its entries. None exactly
+/// where they are those of no catalog: one is misspelled, a part number comes twice or is 0, an
+/// entry stands over what it may not, or has sizes that it may not have. `OutOfMemory`: there is no
+/// memory for the entries.
+pub fn catalog_of_records(
+    alloc: Global,
+    geometry: &Geometry,
+    records: &[Bytes],
+) -> Result<Option<Catalog>, OutOfMemory>
+    ensures entries { IfOk result (λ found. IfSome found (λ catalog. (content : Content)
+        → bytes_of content ≡ records.now → catalog ≡ entries_in content)) }
+    ensures catalog { IfOk result (λ found. IfSome found (λ catalog. (content : Content)
+        → bytes_of content ≡ records.now → IsCatalog geometry.now content)) }
+    ensures damaged { IfOk result (λ found. found ≡ None → (content : Content)
+        → bytes_of content ≡ records.now → IsCatalog geometry.now content → ⊥) }
+{
+    let mut catalog = Catalog::new(alloc);
+    if read_each(alloc, records, &mut catalog)? && are_rules(geometry, &catalog) {
+        Ok(Some(catalog))
+    } else {
+        Ok(None)
+    }
+}
