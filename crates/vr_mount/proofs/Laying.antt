@@ -1,8 +1,7 @@
 -- On which areas the parts of a catalog are laid.
-use Rattle.std.proofs.Common.{◌≡◌, ◌≢◌, ◌⊎◌, ℕ, ◌+◌, ◌*◌, ◌<◌, ◌≤◌, Bool, true, false, List, ◌∷◌, refl, sym, ap}
+use Rattle.std.proofs.Common.{◌≡◌, ◌⊎◌, ℕ, ◌+◌, ◌<◌, Bool, true, false, List, refl, sym, ap}
 use Rattle.std.proofs.Common.{◌∙◌, subst, arith, inl, inr, Option, Some, None, get_or, length}
-use Rattle.std.specs.Prelude.{nat_eq, if◌then◌else◌, ◌==◌, All, IfSome}
-use Rattle.std.specs.List.{IsDistinct, filter_map, find}
+use Rattle.std.specs.Prelude.{if◌then◌else◌, ◌==◌, All, IfSome}
 use Rattle.std.specs.Option.{option_and_then}
 use Rattle.std.proofs.lemmas.Bool.{ne_eqb}
 use Rattle.std.proofs.lemmas.Bool.Decides.{Decides-eqb, eqb_tells}
@@ -20,7 +19,6 @@ use Rattle.vr_volume.specs.Laid.{shape_in}
 use Rattle.vr_volume.specs.Volume.{AreApart}
 use Rattle.vr_mount.specs.Areas.{area_in, AreOn, EndsBefore, IsBelow}
 use Rattle.vr_mount.specs.Numbers.{area_by_kind, laid_area, number_by, numbers_by, AreToldApart}
-use Rattle.vr_mount.specs.Numbers.{IsNew}
 use Rattle.vr_mount.specs.declared.distinct.Which.TheVariants.{Part, Area}
 use Rattle.vr_mount.proofs.Blocks.{one_area, area_ends, area_there}
 use Rattle.vr_mount.proofs.Telling.{distinct_from_zero, zero_is_new, others_distinct, found_not_new}
@@ -104,9 +102,11 @@ area_by_test : (geometry : Geometry) (b : Bool) (o : Option CatEntry) (a : ℕ)
     → (if b then Some 0 else option_and_then laid_area o) ≡ Some a
     → (shape : Shape) × ((if b then Some (catalog_shape geometry) else option_and_then
     (shape_of geometry) o) ≡ Some shape) × IsAt geometry a shape
-area_by_test geometry true o a is =
-    (catalog_shape geometry, refl,
-    subst (λ (n : ℕ). IsAt geometry n (catalog_shape geometry)) (some_is 0 a is) (refl, refl))
+area_by_test geometry true o a is = (
+  catalog_shape geometry,
+  refl,
+  subst (λ (n : ℕ). IsAt geometry n (catalog_shape geometry)) (some_is 0 a is) (refl, refl),
+)
 area_by_test geometry false None a is = absurd cc
 area_by_test geometry false (Some entry) a is =
     definition_lays geometry entry.part.0 a entry.first_area
@@ -207,7 +207,7 @@ area_of_entry entries i d a parts within laid =
     entry_by_test (entry.part.0 == 0) (entry_with_part entries entry.part.0) entry a
     (ne_eqb entry.part.0 0 not_zero) found laid
 
-part_is : (entries : List CatEntry) (part : ℕ) (entry : CatEntry)
+pub part_is : (entries : List CatEntry) (part : ℕ) (entry : CatEntry)
     → entry_with_part entries part ≡ Some entry → entry.part.0 ≡ part
 part_is entries part entry found =
     (Decides-eqb entry.part.0 part).0
@@ -223,6 +223,7 @@ areas_by_distinct entries areas one other a first second =
     is_zero entry part found laid zero =
         found_not_new laid_area (λ (one : CatEntry). one.part.0 == part) entries entry 0 found
         (laid ∙ ap Some zero) (zero_is_new (numbers_by Area entries) areas)
+
     by_cases : ((one ≡ 0) × (a ≡ 0)) ⊎ ((entry : CatEntry)
         × (entry_with_part entries one ≡ Some entry) × (laid_area entry ≡ Some a))
         → ((other ≡ 0) × (a ≡ 0)) ⊎ ((entry : CatEntry)

@@ -40,16 +40,16 @@ mark_whose None owner owners area who is = inl is
 mark_whose (Some a) owner owners area who is =
     elim (eqb_tells a area) [
       | inl same ↦ elim (cases_lt area (length owners)) [
-          | inl within ↦
-              let put : get_or (set owners a (Some owner)) area None ≡ Some owner =
-              mark_here (Some a) owner owners area (ap Some same.1) within in
-              inr (ap Some same.1, cc)
-          | inr past ↦
-              let none : get_or (set owners a (Some owner)) area None ≡ None =
-              get_or_past (set owners a (Some owner)) area None
-              (omega (arith, length-set owners a (Some owner))) in
-              absurd cc
-        ]
+        | inl within ↦
+            let put : get_or (set owners a (Some owner)) area None ≡ Some owner =
+            mark_here (Some a) owner owners area (ap Some same.1) within in
+            inr (ap Some same.1, cc)
+        | inr past ↦
+            let none : get_or (set owners a (Some owner)) area None ≡ None =
+            get_or_past (set owners a (Some owner)) area None
+            (omega (arith, length-set owners a (Some owner))) in
+            absurd cc
+      ]
       | inr differ ↦ inl
           (sym (get_or-set_other owners a area (Some owner) None (λ same. differ.1 (sym same))) ∙ is)
     ]
@@ -101,9 +101,9 @@ marks_whose h g owners [] area who is = inl is
 marks_whose h g owners (x ∷ xs) area who is =
     elim (marks_whose h g (marked h g owners x) xs area who is) [
       | inl before ↦ elim (mark_whose (h x) (g x) owners area who before) [
-          | inl old ↦ inl old
-          | inr here ↦ inr (0, omega arith, λ d. here)
-        ]
+        | inl old ↦ inl old
+        | inr here ↦ inr (0, omega arith, λ d. here)
+      ]
       | inr later ↦ inr (suc later.0, omega (arith, later.1), later.2)
     ]
 

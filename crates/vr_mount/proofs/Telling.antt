@@ -1,12 +1,12 @@
 -- Numbers of some elements of a list that are told apart.
-use Rattle.std.proofs.Common.{◌≡◌, ◌≢◌, ℕ, zero, suc, ◌+◌, ◌<◌, ◌≤◌, Bool, true, false, cond, List, [], ◌∷◌}
+use Rattle.std.proofs.Common.{◌≡◌, ℕ, zero, suc, ◌+◌, ◌-◌, ◌<◌, ◌≤◌, Bool, true, false, cond, List, [], ◌∷◌}
 use Rattle.std.proofs.Common.{length, get_or, drop, take, refl, sym, ap, ◌∙◌, subst, arith, map, ◌++◌}
 use Rattle.std.proofs.Common.{Option, Some, None}
-use Rattle.std.specs.Prelude.{nat_eq, IsTrue, ◌==◌}
-use Rattle.std.specs.List.{AllByRecursion, IsDistinct, filter_map, cons_option, find}
+use Rattle.std.specs.Prelude.{nat_eq, ◌==◌, All}
+use Rattle.std.specs.List.{IsDistinct, filter_map, cons_option, find}
 use Rattle.std.proofs.lemmas.Bool.{ne_eqb, eqb-false}
 use Rattle.std.proofs.lemmas.Bool.Decides.{Decides-eqb}
-use Rattle.std.proofs.lemmas.List.{drop_more}
+use Rattle.std.proofs.lemmas.List.{drop_more, length-drop, take_all}
 use Rattle.std.proofs.lemmas.List.Elements.{filter_map-append}
 use Rattle.std.proofs.lemmas.Grind.{take_at_read}
 use Rattle.vr_mount.specs.Numbers.{IsLone, IsNew}
@@ -148,6 +148,7 @@ one_found {X} h p q (z ∷ zs) x y a distinct one other has holds =
     lone : (w : X) → z ≡ w → h w ≡ Some a → IsNew a (filter_map h zs)
     lone w same is = subst (IsLone (filter_map h zs)) (ap h same ∙ is)
         (distinct_head (h z) (filter_map h zs) distinct)
+
     by_tests : (b : Bool) → p z ≡ b → (c : Bool) → q z ≡ c
         → (find p zs ≡ Some x → find q zs ≡ Some y → h x ≡ Some a → h y ≡ Some a → x ≡ y) → x ≡ y
     by_tests true b-is true c-is further =
@@ -273,3 +274,41 @@ filter_map_more h xs i d y within is =
     ap (λ ys. filter_map h ys) (take_at_read xs i d within).1
     ∙ filter_map-append h (take i xs) (get_or xs i d ∷ [])
     ∙ rw is refl
+
+-- ---- the end of a walk, and tests
+
+pub distinct_end : {X : Type 0} (h : X → Option ℕ) (xs : List X) (i : ℕ) → length xs ≤ i
+    → IsDistinct nat_eq (filter_map h (drop i xs))
+unfolding IsDistinct
+distinct_end h [] zero past = tt
+distinct_end h [] (suc i) past = tt
+distinct_end h (x ∷ xs) zero past = absurd (omega arith)
+distinct_end h (x ∷ xs) (suc i) past = distinct_end h xs i (omega arith)
+
+-- all that is after a place, as a range
+pub rest_is : {X : Type 0} (xs : List X) (n : ℕ)
+    → take (length xs - n) (drop n xs) ≡ drop n xs
+rest_is xs n = take_all (length xs - n) (drop n xs) (omega (arith, length-drop n xs))
+
+-- what is tested doesn't hold where the test is false
+pub untrue : {P : Type 0} (r : Bool) → ((r ≡ true → P) × (P → r ≡ true)) → r ≡ false → P → ⊥
+untrue true tested is holds = absurd cc
+untrue false tested is holds = absurd (cc (tested.1 holds))
+
+pub all_mapped : {X Y : Type 0} (f : X → Y) (P : Y → Type 0) (xs : List X)
+    → All (λ (x : X). P (f x)) xs → All P (map f xs)
+all_mapped f P [] each k d below = absurd (omega arith)
+all_mapped f P (x ∷ xs) each zero d below = each 0 x (omega arith)
+all_mapped f P (x ∷ xs) each (suc k) d below =
+    all_mapped f P xs (λ i e within. each (suc i) e (omega arith)) k d (omega arith)
+
+pub mapped_all : {X Y : Type 0} (f : X → Y) (P : Y → Type 0) (xs : List X)
+    → All P (map f xs) → All (λ (x : X). P (f x)) xs
+mapped_all f P [] each k d below = absurd (omega arith)
+mapped_all f P (x ∷ xs) each zero d below = each 0 (f x) (omega arith)
+mapped_all f P (x ∷ xs) each (suc k) d below =
+    mapped_all f P xs (λ i e within. each (suc i) e (omega arith)) k d (omega arith)
+
+pub element : {X : Type 0} (xs : List X) (i : ℕ) → i < length xs → X
+element [] i within = absurd (omega arith)
+element (x ∷ xs) i within = x

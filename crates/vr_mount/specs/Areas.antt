@@ -30,6 +30,13 @@ AreOn geometry entries = (part : ℕ) (shape : Shape) → shape_in geometry entr
 abbrev pub IsBelow : ℕ → CatEntry → Type 0
 IsBelow areas entry = IfSome (laid_area entry) (λ area. area < areas)
 
+abbrev pub part_of : CatEntry → PartNo
+part_of entry = entry.part
+
+-- the catalog's own part
+abbrev pub catalog_part : PartNo
+catalog_part = record { 0 = 0 }
+
 -- a part begins with this block
 abbrev pub BeginsWith : ℕ → Shape → Type 0
 BeginsWith block (KeyedShape part) = part.head ≡ block

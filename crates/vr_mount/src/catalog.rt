@@ -1,9 +1,9 @@
 //! The catalog that records are.
-ghost use Rattle.std.specs.Prelude.{◌≡◌, IfOk, IfSome, None};
+ghost use Rattle.std.specs.Prelude.{◌≡◌, [], IfOk, IfSome, None};
 ghost use Rattle.vr_types.specs.Content.{Content};
 ghost use Rattle.vr_catalog.specs.Catalog.{entries_in};
 ghost use Rattle.vr_volume.specs.CatalogRules.{IsCatalog};
-ghost use Rattle.vr_mount.specs.Records.{bytes_of};
+ghost use Rattle.vr_mount.specs.Records.{IsDecided, bytes_of};
 
 use crate::records::read_each;
 use crate::rules::are_rules;
@@ -11,10 +11,28 @@ use std::alloc::Global;
 use vr_catalog::Catalog;
 use vr_types::{Bytes, Geometry, OutOfMemory};
 
+/// Adds the entries of the records to a catalog of none, and answers whether they are a catalog's.
+fn is_catalog(
+    alloc: Global,
+    geometry: &Geometry,
+    records: &[Bytes],
+    catalog: &mut Catalog,
+) -> Result<bool, OutOfMemory>
+    requires { catalog.old ≡ [] }
+    ensures { IfOk result (IsDecided geometry.now records.now catalog.new) }
+{
+    let each = read_each(alloc, records, catalog)?;
+    if !each {
+        return Ok(false);
+    }
+    Ok(are_rules(geometry, catalog))
+}
+
 /// The catalog whose records these are, in the order of their places: its entries. None exactly
 /// where they are those of no catalog: one is misspelled, a part number comes twice or is 0, an
 /// entry stands over what it may not, or has sizes that it may not have. `OutOfMemory`: there is no
 /// memory for the entries.
+#[tactic(auto, using(crate::proofs::Spelling::decided_entries, crate::proofs::Spelling::decided_catalog, crate::proofs::Spelling::decided_damaged))]
 pub fn catalog_of_records(
     alloc: Global,
     geometry: &Geometry,
@@ -28,9 +46,6 @@ pub fn catalog_of_records(
         → bytes_of content ≡ records.now → IsCatalog geometry.now content → ⊥) }
 {
     let mut catalog = Catalog::new(alloc);
-    if read_each(alloc, records, &mut catalog)? && are_rules(geometry, &catalog) {
-        Ok(Some(catalog))
-    } else {
-        Ok(None)
-    }
+    let is = is_catalog(alloc, geometry, records, &mut catalog)?;
+    if is { Ok(Some(catalog)) } else { Ok(None) }
 }

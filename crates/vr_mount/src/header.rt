@@ -121,11 +121,7 @@ fn header_of(count: u32, number: u32, block: &[u8]) -> Result<Geometry, HeaderNo
 /// `Version`: block 0 begins with `VRMV`, and its version isn't 1. `Damaged`: it isn't the header
 /// of any shape that the blocks may have. Both come exactly then, unless the device fails: `Read`
 /// where it failed to read, `Write` where another block had to be written out.
-pub fn read_header<B: Blocks>(
-    blocks: &mut B,
-    count: u32,
-    number: u32,
-) -> Result<Geometry, HeaderNo>
+pub fn read_header<B: Blocks>(blocks: &mut B, count: u32, number: u32) -> Result<Geometry, HeaderNo>
     requires { (B.seen blocks.old).count ≡ count }
     ensures header { IsTrue B.tells → IfOk result (λ geometry.
         block_at (B.seen blocks.old).cur 0 ≡ header_block geometry number) }

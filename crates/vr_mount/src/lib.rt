@@ -5,6 +5,7 @@
 //! shape that the device has, and when each answer comes.
 #![tactic(auto)]
 
+mod areas;
 mod catalog;
 mod distinct;
 mod header;
@@ -13,6 +14,7 @@ mod no;
 mod records;
 mod rules;
 
+pub use areas::{are_apart, are_on, owners_of};
 pub use catalog::catalog_of_records;
 pub use header::read_header;
 pub use laws::one_header;
