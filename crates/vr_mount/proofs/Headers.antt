@@ -1,15 +1,19 @@
 -- The bytes of a header, as they are put and as they are read.
 use Rattle.std.proofs.Common.{◌≡◌, ℕ, ◌+◌, ◌-◌, ◌*◌, ◌/◌, ◌%◌, ◌^◌, ◌<◌, ◌≤◌, List, [], ◌∷◌, ◌++◌}
 use Rattle.std.proofs.Common.{get_or, length, take, drop, refl, sym, ap, subst, ◌∙◌, arith, replicate}
+use Rattle.std.proofs.Common.{true, Some, lit<}
 use Rattle.std.specs.Int.{w32, to_be_bytes}
-use Rattle.std.proofs.lemmas.List.{take-append-drop, take_at, length-drop}
+use Rattle.std.proofs.lemmas.List.{take-append-drop, take_at, length-append, length-drop}
+use Rattle.std.specs.Prelude.{nat_le, bytes_eq}
+use Rattle.std.proofs.lemmas.Bool.{le-leb}
+use Rattle.std.proofs.lemmas.Slice.Eq.{bytes_eq-Decides}
 use Rattle.std.proofs.lemmas.Nat.{from_be_bytes-to_be_bytes_4}
 use Rattle.vr_types.specs.Fields.{four, four_at, AreZeros, padded}
 use Rattle.vr_types.specs.Geometry.{IsAllowed}
 use Rattle.vr_types.specs.declared.geometry.Geometry.{Geometry}
 use Rattle.vr_types.proofs.CallerLemmas.{block_size_least, zeros_are, zeros_after}
-use Rattle.vr_volume.specs.Header.{header_block, header_bytes}
-use Rattle.vr_mount.specs.Header.{IsHeaderOf, stated}
+use Rattle.vr_volume.specs.Header.{header_block, header_bytes, mark}
+use Rattle.vr_mount.specs.Header.{IsHeaderOf, stated, version_in}
 
 pub header_cells : (g : Geometry) (number tens ones : ℕ) (s b l a : List ℕ)
     → s ≡ to_be_bytes w32 g.size → b ≡ to_be_bytes w32 g.blocks → l ≡ to_be_bytes w32 g.log
@@ -143,3 +147,25 @@ one_number one other number to least most same =
     let ones : 48 + number % 10 ≡ 48 + to % 10 =
     sym (ones_read one number) ∙ ap (λ (x : List ℕ). get_or x 28 0) same ∙ ones_read other to in
     omega arith
+
+version_by : (block : List ℕ) → nat_le 8 (length block) ≡ true → bytes_eq (take 4 block) mark ≡ true
+    → four_at 4 block ≡ 1 → version_in block ≡ Some 1
+version_by block long marked version = rw (long, marked, version) refl
+
+long_header : (g : Geometry) (number : ℕ) → 8 ≤ length (header_block g number)
+unfolding header_block
+long_header g number =
+    omega (
+      arith,
+      header_length g number,
+      length-append (header_bytes g number)
+          (replicate (g.size - length (header_bytes g number)) 0),
+    )
+
+-- a header states version 1
+pub version_stated : (g : Geometry) (number : ℕ) → version_in (header_block g number) ≡ Some 1
+unfolding header_block four four_at
+version_stated g number =
+    version_by (header_block g number) (le-leb 8 (length (header_block g number)) (long_header g number))
+    ((bytes_eq-Decides (take 4 (header_block g number)) mark).1 refl)
+    (from_be_bytes-to_be_bytes_4 1 (lit< tt))

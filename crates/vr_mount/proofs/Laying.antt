@@ -34,6 +34,7 @@ some_is x y same = cc
 abbrev pub IsAt : Geometry → ℕ → Shape → Type 0
 IsAt geometry area (KeyedShape part) =
     (part.head ≡ head_block geometry area) × (part.area ≡ geometry.area)
+    × (part.size ≡ geometry.size)
 
 by_kind : (geometry : Geometry) (part a : ℕ) (area : AreaNo) (d : Definition) (kind : Kind)
     (shape : Shape) → area.0 ≡ a → shape_by_kind geometry part a d kind ≡ Some shape
@@ -58,7 +59,7 @@ by_definition : (geometry : Geometry) (part : ℕ) (area : Option AreaNo) (o : O
 by_definition geometry part area None shape laid = absurd cc
 by_definition geometry part area (Some d) shape laid =
     let found = by_area geometry part area d shape laid in
-    (found.0, found.1, subst (IsAt geometry found.0) found.2 (refl, refl))
+    (found.0, found.1, subst (IsAt geometry found.0) found.2 (refl, refl, refl))
 
 kind_lays : (geometry : Geometry) (part a : ℕ) (area : Option AreaNo) (d : Definition)
     (kind : Kind) → area_by_kind area kind ≡ Some a
@@ -84,7 +85,7 @@ definition_lays : (geometry : Geometry) (part a : ℕ) (area : Option AreaNo) (o
     × IsAt geometry a shape
 definition_lays geometry part a area None is = absurd cc
 definition_lays geometry part a area (Some d) is =
-    (keyed_shape geometry part a d, area_lays geometry part a area d is, (refl, refl))
+    (keyed_shape geometry part a d, area_lays geometry part a area d is, (refl, refl, refl))
 
 shape_by_test : (geometry : Geometry) (b : Bool) (o : Option CatEntry) (shape : Shape)
     → (if b then Some (catalog_shape geometry) else option_and_then (shape_of geometry) o)
@@ -92,7 +93,7 @@ shape_by_test : (geometry : Geometry) (b : Bool) (o : Option CatEntry) (shape : 
     → (a : ℕ) × ((if b then Some 0 else option_and_then laid_area o) ≡ Some a)
     × IsAt geometry a shape
 shape_by_test geometry true o shape laid =
-    (0, refl, subst (IsAt geometry 0) (some_is (catalog_shape geometry) shape laid) (refl, refl))
+    (0, refl, subst (IsAt geometry 0) (some_is (catalog_shape geometry) shape laid) (refl, refl, refl))
 shape_by_test geometry false None shape laid = absurd cc
 shape_by_test geometry false (Some entry) shape laid =
     by_definition geometry entry.part.0 entry.first_area
@@ -105,7 +106,7 @@ area_by_test : (geometry : Geometry) (b : Bool) (o : Option CatEntry) (a : ℕ)
 area_by_test geometry true o a is = (
   catalog_shape geometry,
   refl,
-  subst (λ (n : ℕ). IsAt geometry n (catalog_shape geometry)) (some_is 0 a is) (refl, refl),
+  subst (λ (n : ℕ). IsAt geometry n (catalog_shape geometry)) (some_is 0 a is) (refl, refl, refl),
 )
 area_by_test geometry false None a is = absurd cc
 area_by_test geometry false (Some entry) a is =
@@ -317,7 +318,7 @@ on_by_areas geometry entries some below part shape laid =
 pub some_area : (geometry : Geometry) (entries : List CatEntry) → AreOn geometry entries
     → 0 < area_count geometry
 some_area geometry entries on =
-    at_ends geometry 0 (catalog_shape geometry) (refl, refl) (on 0 (catalog_shape geometry) refl)
+    at_ends geometry 0 (catalog_shape geometry) (refl, refl, refl) (on 0 (catalog_shape geometry) refl)
 
 pub areas_by_on : (geometry : Geometry) (entries : List CatEntry) → AreToldApart Part entries
     → AreOn geometry entries → All (IsBelow (area_count geometry)) entries

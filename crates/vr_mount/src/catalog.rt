@@ -1,7 +1,8 @@
 //! The catalog that records are.
-ghost use Rattle.std.specs.Prelude.{◌≡◌, [], IfOk, IfSome, None};
+ghost use Rattle.std.specs.Prelude.{◌≡◌, ◌∷◌, [], IfOk, IfSome, IsTrue, None, nat_eq};
+ghost use Rattle.std.specs.List.{IsDistinct};
 ghost use Rattle.vr_types.specs.Content.{Content};
-ghost use Rattle.vr_catalog.specs.Catalog.{entries_in};
+ghost use Rattle.vr_catalog.specs.Catalog.{entries_in, parts_in};
 ghost use Rattle.vr_volume.specs.CatalogRules.{IsCatalog};
 ghost use Rattle.vr_mount.specs.Records.{IsDecided, bytes_of};
 
@@ -19,7 +20,9 @@ fn is_catalog(
     catalog: &mut Catalog,
 ) -> Result<bool, OutOfMemory>
     requires { catalog.old ≡ [] }
-    ensures { IfOk result (IsDecided geometry.now records.now catalog.new) }
+    ensures decided { IfOk result (IsDecided geometry.now records.now catalog.new) }
+    ensures parts { IfOk result (λ is. IsTrue is
+        → IsDistinct nat_eq (0 ∷ parts_in catalog.new)) }
 {
     let each = read_each(alloc, records, catalog)?;
     if !each {
@@ -42,6 +45,8 @@ pub fn catalog_of_records(
         → bytes_of content ≡ records.now → catalog ≡ entries_in content)) }
     ensures catalog { IfOk result (λ found. IfSome found (λ catalog. (content : Content)
         → bytes_of content ≡ records.now → IsCatalog geometry.now content)) }
+    ensures parts { IfOk result (λ found. IfSome found (λ catalog.
+        IsDistinct nat_eq (0 ∷ parts_in catalog))) }
     ensures damaged { IfOk result (λ found. found ≡ None → (content : Content)
         → bytes_of content ≡ records.now → IsCatalog geometry.now content → ⊥) }
 {
