@@ -1,6 +1,7 @@
 -- Elements that mark a list at their numbers, one after the other.
 use Rattle.std.proofs.Common.{◌≡◌, ◌⊎◌, ℕ, zero, suc, ◌+◌, ◌<◌, List, [], ◌∷◌, length}
-use Rattle.std.proofs.Common.{get_or, refl, sym, ap, ◌∙◌, subst, arith, inl, inr, Option, Some, None, take}
+use Rattle.std.proofs.Common.{get_or, refl, sym, ap, ◌∙◌, subst, arith, inl, inr, Option, Some}
+use Rattle.std.proofs.Common.{None, take}
 use Rattle.std.specs.Prelude.{nat_eq, set}
 use Rattle.vr_mount.specs.Marks.{mark_by, marked}
 use Rattle.std.specs.List.{IsDistinct, filter_map, fold}
@@ -88,7 +89,8 @@ marks_here h g owners (x ∷ xs) (suc i) d area distinct below is within =
     marks_here h g (marked h g owners x) xs i d area
     (tail (h x) distinct) (omega arith) is (omega (arith, mark_length (h x) (g x) owners))
   where
-    tail : (o : Option ℕ) → IsDistinct nat_eq (filter_map h (x ∷ xs)) → IsDistinct nat_eq (filter_map h xs)
+    tail : (o : Option ℕ) → IsDistinct nat_eq (filter_map h (x ∷ xs))
+        → IsDistinct nat_eq (filter_map h xs)
     tail o all = distinct_after h (x ∷ xs) 0 x (omega arith) all
 
 -- and each mark is one of theirs, or was there

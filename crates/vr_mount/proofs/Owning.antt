@@ -25,7 +25,8 @@ use Rattle.vr_mount.proofs.Blocks.{one_area}
 use Rattle.vr_mount.proofs.Laying.{IsAt, apart_told, area_cases, area_of_entry, areas_below}
 use Rattle.vr_mount.proofs.Laying.{areas_by_on, at_shape, part_is, shape_at, some_area}
 use Rattle.vr_mount.proofs.Marking.{marks_elsewhere, marks_here, marks_length, marks_whose}
-use Rattle.vr_mount.proofs.Telling.{element, found_place, none_has_new, others_distinct, zero_is_new}
+use Rattle.vr_mount.proofs.Telling.{element, found_place, none_has_new, others_distinct}
+use Rattle.vr_mount.proofs.Telling.{zero_is_new}
 
 same_part : (one other : PartNo) → one.0 ≡ other.0 → one ≡ other
 same_part one other equal = ap (λ (n : ℕ). let part : PartNo = record { 0 = n } in part) equal

@@ -110,4 +110,7 @@ pub decided_damaged : (geometry : Geometry) (records : List (List ℕ)) (entries
     (b : Bool) (content : Content) → IsDecided geometry records entries b → b ≡ false
     → bytes_of content ≡ records → IsCatalog geometry content → ⊥
 decided_damaged geometry records entries true content is told same catalog = absurd cc
-decided_damaged geometry records entries false content is told same catalog = is content same catalog
+decided_damaged geometry records entries false content is told same catalog =
+    is content same catalog
+
+pub ruleset decisions = (decided_entries, decided_catalog, decided_damaged)

@@ -35,7 +35,7 @@ fn is_catalog(
 /// where they are those of no catalog: one is misspelled, a part number comes twice or is 0, an
 /// entry stands over what it may not, or has sizes that it may not have. `OutOfMemory`: there is no
 /// memory for the entries.
-#[tactic(auto, using(crate::proofs::Spelling::decided_entries, crate::proofs::Spelling::decided_catalog, crate::proofs::Spelling::decided_damaged))]
+#[tactic(auto, using(crate::proofs::Spelling::decisions))]
 pub fn catalog_of_records(
     alloc: Global,
     geometry: &Geometry,

@@ -1,5 +1,6 @@
 //! The header of a volume, read from block 0.
-ghost use Rattle.std.specs.Prelude.{◌≡◌, ◌↔◌, ◌+◌, ◌%◌, ◌/◌, ◌≤◌, ℕ, IsTrue, IfOk, IfErr, IfSome, None};
+ghost use Rattle.std.specs.Prelude.{◌≡◌, ◌↔◌, ◌+◌, ◌%◌, ◌/◌, ◌≤◌, ℕ, IsTrue, IfOk, IfErr, IfSome};
+ghost use Rattle.std.specs.Prelude.{None};
 ghost use Rattle.std.specs.Prelude.{length};
 ghost use Rattle.vr_types.specs.Blocks.{Keeps};
 ghost use Rattle.vr_types.specs.Geometry.{IsAllowed};
