@@ -7,3 +7,7 @@ pub mod Made
 pub mod NewVolume
 pub mod Safe
 pub mod Opened
+pub mod PuttingBack
+pub mod BackingOut
+pub mod KeptLengths
+pub mod PartsBack

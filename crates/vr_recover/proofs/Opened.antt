@@ -2,14 +2,14 @@
 use Rattle.std.proofs.Common.{◌≡◌, ◌<◌, ℕ, Bool, true, false, List, [], ◌∷◌}
 use Rattle.std.proofs.Common.{length, refl, sym, ap, subst, ◌∙◌, arith, Option, Some, None, All}
 use Rattle.std.proofs.Common.{⊎_elim}
-use Rattle.std.specs.Prelude.{cond, nat_eq, max}
+use Rattle.std.specs.Prelude.{IfSome, cond, nat_eq, max}
 use Rattle.std.specs.List.{cons_option, filter_map}
 use Rattle.std.specs.Option.{option_and_then}
 use Rattle.std.specs.declared.cmp.Ordering.{Ordering}
 use Rattle.std.specs.declared.cmp.Ordering.TheVariants.{Less, Equal, Greater}
 use Rattle.std.proofs.lemmas.Bool.{eqb-true}
 use Rattle.std.proofs.lemmas.List.{take_all}
-use Rattle.std.proofs.lemmas.List.Elements.{All-cons, All-head, All-nil, All-tail}
+use Rattle.std.proofs.lemmas.List.Elements.{All-cons, All-head, All-nil, All-tail, All-weaker}
 use Rattle.vr_types.specs.Blocks.{AllForced}
 use Rattle.vr_types.specs.Content.{Content, item_at, place_cmp, record_at, record_of}
 use Rattle.vr_types.specs.Geometry.{IsAllowed}
@@ -23,7 +23,8 @@ use Rattle.vr_space.specs.Keyed.{EachMayLeave, HaveRooms, HoldRanges, HoldsRange
 use Rattle.vr_space.specs.Keyed.{IsKeyedSound, entries_of, entry_block, keyed_way, lengths_of}
 use Rattle.vr_space.specs.Keyed.{range_of}
 use Rattle.vr_space.specs.Part.{HasKeptRoom, HasRoom, IsOn, IsPlaceOf, IsSound, KeyedShape, MayHold}
-use Rattle.vr_space.specs.Part.{Shape, StandsFor}
+use Rattle.vr_space.specs.Met.{IsMet}
+use Rattle.vr_space.specs.Part.{IsRecordOf, Shape, StandsFor, part_no}
 use Rattle.vr_space.proofs.CallerLemmas.{AreIn, content_item, head-in, keyed-within}
 use Rattle.vr_space.proofs.CallerLemmas.{stands_content}
 use Rattle.vr_history.specs.Committed.{kept_or}
@@ -37,9 +38,12 @@ use Rattle.vr_volume.specs.CatalogRules.{IsCatalog}
 use Rattle.vr_volume.specs.Laid.{shape_by}
 use Rattle.vr_volume.specs.PutBack.{images_of, length_in, length_of, lengths_kept, oldest, put_back}
 use Rattle.vr_volume.specs.Safe.{AreCommitted, IsItemOf, IsPartSafe, IsSafe, IsSafeBy, item_held}
-use Rattle.vr_volume.specs.Volume.{AreApart, CanPutBack, IsInside, Recovers, shapes_by}
+use Rattle.vr_volume.specs.Volume.{AreApart, CanPutBack, IsInside, Recovers, catalog_back}
+use Rattle.vr_volume.specs.Volume.{shapes_by}
+use Rattle.vr_volume.proofs.Apart.{part-past}
 use Rattle.vr_volume.proofs.PuttingBack.{back-ascends, back-item}
 use Rattle.vr_volume.proofs.Standings.{item-read}
+use Rattle.vr_recover.specs.Undone.{FitsPart, IsAllFirm, IsCovered, IsOpenedPart, IsSettled}
 use Rattle.vr_recover.proofs.Safe.{none-ascend}
 
 -- ---- a part
@@ -200,9 +204,8 @@ on-by geometry now of (KeyedShape part) inside =
     (omega (arith, inside.0, of.count), of.size ∙ sym inside.1)
 
 module _ (geometry : Geometry) (number : ℕ) (now : Seen) (recovered : ℕ → Content)
-    (is : Recovers geometry number now.cur recovered) (allowed : IsAllowed geometry)
-    (of : IsOf geometry now) (forced : AllForced now.count now.cur now.may)
-    (stands : LogStands (made geometry is.log) now) where
+    (is : Recovers geometry number now.cur recovered) (of : IsOf geometry now)
+    (forced : AllForced now.count now.cur now.may) where
   abbrev images : List BeforeImage
   images = images_of is.log.records
 
@@ -295,15 +298,87 @@ module _ (geometry : Geometry) (number : ℕ) (now : Seen) (recovered : ℕ → 
       log-is : (x y : LogContent) → Some x ≡ Some y → x ≡ y
       log-is x y same = cc
 
-  pub settled-safe : IsSafe geometry number (made geometry is.log) (λ records. recovered) now
-  settled-safe = record {
-    allowed = allowed;
-    blocks = of;
-    shape = refl;
-    header = λ block may. forced 0 block (omega (arith, of.count, allowed.two_areas)) may
-        ∙ is.stands.header;
-    logs = λ image left. stands_has (made geometry is.log) now image allowed stands.fits stands
-        left;
-    by_log = λ content log. subst (λ (rs : List LogRecord). IsSafeBy geometry rs recovered now)
-        (sym (same-records content log)) safe-by;
+  -- ---- its parts
+
+  -- a part as it is opened
+  opened-by : (shape : Shape) → IsOn shape now
+      → shapes_by geometry is.log is.contents (part_no shape).0 ≡ Some shape
+      → IsPartSafe shape (part_no shape).0 images (recovered (part_no shape).0) now
+      → IsOpenedPart geometry images shape now
+  opened-by (KeyedShape part) on laid safe = record {
+    on = on;
+    past = λ n inside. omega (
+      arith,
+      part-past geometry (catalog_back is.log is.contents) part.part (KeyedShape part) laid n
+          inside,
+    );
+    ready = record {
+      rests = record {
+        sound = safe.sound;
+        one_head = λ top may. forced part.head top (omega (arith, on.0)) may;
+      };
+      room = safe.room;
+      knows = record { way = tt; blocks = All-nil (IsMet part now.cur) };
+    };
+    firm = λ place found held. found-here now (λ n. (n < now.count)
+        × Rattle.vr_space.specs.Part.InPart (KeyedShape part) n)
+        (λ n inside. inside.0) forced found (keyed_way part place)
+        (keyed-within part now safe.sound place) held;
+    fits = All-weaker (CanPutBack (shapes_by geometry is.log is.contents))
+        (FitsPart (KeyedShape part))
+        (λ image can mine.
+        let same : can.shape ≡ KeyedShape part = shape-is can.shape (KeyedShape part)
+        (sym can.laid ∙ ap (shapes_by geometry is.log is.contents) mine ∙ laid) in
+        record {
+          place = subst (λ (s : Shape). IsPlaceOf s image.place) same can.place;
+          old = subst (λ (s : Shape). IfSome (option_and_then record_of image.old)
+              (IsRecordOf s image.place)) same can.old;
+        })
+        images is.images;
   }
+
+  pub part-opened : (shape : Shape)
+      → shapes_by geometry is.log is.contents (part_no shape).0 ≡ Some shape
+      → IsOpenedPart geometry images shape now
+  part-opened shape laid =
+      let on : IsOn shape now =
+      on-by geometry now of shape (is.inside (part_no shape).0 shape laid) in
+      opened-by shape on laid (part-by (part_no shape).0 shape on laid)
+
+  -- ---- its log
+
+  module _ (allowed : IsAllowed geometry) (stands : LogStands (made geometry is.log) now) where
+    pub settled-safe : IsSafe geometry number (made geometry is.log) (λ records. recovered) now
+    settled-safe = record {
+      allowed = allowed;
+      blocks = of;
+      shape = refl;
+      header = λ block may. forced 0 block (omega (arith, of.count, allowed.two_areas)) may
+          ∙ is.stands.header;
+      logs = λ image left. stands_has (made geometry is.log) now image allowed stands.fits stands
+          left;
+      by_log = λ content log. subst (λ (rs : List LogRecord). IsSafeBy geometry rs recovered now)
+          (sym (same-records content log)) safe-by;
+    }
+
+    -- Its units of recovery may be undone, by these parts.
+    pub settled-undone : (shapes : List Shape)
+        → All (λ (shape : Shape). shapes_by geometry is.log is.contents (part_no shape).0
+        ≡ Some shape) shapes → All (IsCovered shapes) images
+        → IsSettled number (made geometry is.log) recovered shapes now
+    settled-undone shapes laid covered = record {
+      safe = settled-safe;
+      opened = record {
+        laid = All-weaker
+            (λ (shape : Shape). shapes_by geometry is.log is.contents (part_no shape).0
+            ≡ Some shape)
+            (λ (shape : Shape). shape_by geometry (recovered 0) (part_no shape).0 ≡ Some shape)
+            (λ shape there. laid-same (part_no shape).0 ∙ there) shapes laid;
+        records = same-records;
+      };
+      firm = All-weaker
+          (λ (shape : Shape). shapes_by geometry is.log is.contents (part_no shape).0 ≡ Some shape)
+          (λ (shape : Shape). IsAllFirm shape now)
+          (λ shape there. (part-opened shape there).firm) shapes laid;
+      covered = covered;
+    }

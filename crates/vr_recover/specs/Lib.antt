@@ -1,3 +1,4 @@
 pub mod Formatted
 pub mod Planned
 pub mod FormatCause
+pub mod Undone

@@ -1,21 +1,24 @@
 //! Laws of what formatting leaves, and of what opening begins with: each is the contract of a
 //! function that does nothing.
-ghost use Rattle.std.specs.Prelude.{◌≡◌, ◌+◌, ◌<◌, ◌≤◌, ℕ, List, [], length, slice_set};
+ghost use Rattle.std.specs.Prelude.{◌≡◌, ◌+◌, ◌<◌, ◌≤◌, ℕ, List, [], All, Some, length, slice_set};
 ghost use Rattle.vr_types.specs.Blocks.{AllForced};
 ghost use Rattle.vr_types.specs.Content.{Content};
 ghost use Rattle.vr_types.specs.Geometry.{IsAllowed};
 ghost use Rattle.vr_types.specs.Fields.{AreZeros};
 ghost use Rattle.vr_types.specs.Image.{Block, Image, block_at};
 ghost use Rattle.vr_types.specs.declared.geometry.Geometry.{Geometry};
+ghost use Rattle.vr_space.specs.Part.{Shape, part_no};
 ghost use Rattle.vr_catalog.specs.declared.entry.CatEntry.{CatEntry};
 ghost use Rattle.vr_log.specs.Content.{Content as LogContent};
 ghost use Rattle.vr_log.specs.LogNow.{IsOf, last_index, made};
 ghost use Rattle.vr_log.specs.Records.{bytes_of};
 ghost use Rattle.vr_log.specs.Spells.{Spells};
 ghost use Rattle.vr_log.specs.Standing.{InLog, LogStands};
+ghost use Rattle.vr_volume.specs.PutBack.{images_of};
 ghost use Rattle.vr_volume.specs.Safe.{IsImageSafe, IsSafe};
-ghost use Rattle.vr_volume.specs.Volume.{Recovers};
+ghost use Rattle.vr_volume.specs.Volume.{Recovers, shapes_by};
 ghost use Rattle.vr_recover.specs.Formatted.{IsFormatted, contents_of};
+ghost use Rattle.vr_recover.specs.Undone.{IsCovered, IsOpenedPart, IsSettled};
 
 use vr_types::Blocks;
 
@@ -46,6 +49,30 @@ pub fn settled_is_safe<B: Blocks>(blocks: &B)
         → LogStands (made geometry is.log) (B.seen blocks.now)
         → IsSafe geometry number (made geometry is.log) (λ records. recovered)
         (B.seen blocks.now) }
+{}
+
+/// Each part that it lays may then be opened: its blocks are there, it is at rest, and has room for its
+/// before-images, each of which may be put back.
+pub fn settled_part_is_opened<B: Blocks>(blocks: &B)
+    ensures { (geometry : Geometry) (number : ℕ) (recovered : ℕ → Content)
+        (is : Recovers geometry number (B.seen blocks.now).cur recovered)
+        → IsOf geometry (B.seen blocks.now)
+        → AllForced (B.seen blocks.now).count (B.seen blocks.now).cur (B.seen blocks.now).may
+        → (shape : Shape)
+        → shapes_by geometry is.log is.contents (part_no shape).0 ≡ Some shape
+        → IsOpenedPart geometry (images_of is.log.records) shape (B.seen blocks.now) }
+{}
+
+/// And its units of recovery may be undone, by parts of which each before-image has one.
+pub fn settled_may_be_undone<B: Blocks>(blocks: &B)
+    ensures { (geometry : Geometry) (number : ℕ) (recovered : ℕ → Content)
+        (is : Recovers geometry number (B.seen blocks.now).cur recovered)
+        → IsAllowed geometry → IsOf geometry (B.seen blocks.now)
+        → AllForced (B.seen blocks.now).count (B.seen blocks.now).cur (B.seen blocks.now).may
+        → LogStands (made geometry is.log) (B.seen blocks.now) → (shapes : List Shape)
+        → All (λ shape. shapes_by geometry is.log is.contents (part_no shape).0 ≡ Some shape) shapes
+        → All (IsCovered shapes) (images_of is.log.records)
+        → IsSettled number (made geometry is.log) recovered shapes (B.seen blocks.now) }
 {}
 
 /// A block past the last one of a log may become zeros, as opening makes those that an earlier log

@@ -49,7 +49,7 @@ use Rattle.vr_volume.proofs.Resting.{safe-same}
 -- ---- the log
 
 -- forcing leaves the generation
-forced-generation : (log : LogNow) → (forced_now log).generation ≡ log.generation
+pub forced-generation : (log : LogNow) → (forced_now log).generation ≡ log.generation
 forced-generation log = by_test (nat_eq log.forced (length log.records))
   where
     by_test : (same : Bool)

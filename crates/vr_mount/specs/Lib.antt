@@ -1,0 +1,6 @@
+pub mod Faults
+pub mod Header
+pub mod Numbers
+pub mod Records
+pub mod Marks
+pub mod Areas

@@ -1,0 +1,99 @@
+//! The areas in which the parts of a catalog are.
+ghost use Rattle.std.specs.Prelude.{◌≡◌, ◌↔◌, ◌<◌, ◌∷◌, IsTrue, IfOk, All, Some, length, nat_eq};
+ghost use Rattle.std.specs.Prelude.{set};
+ghost use Rattle.std.specs.List.{IsDistinct, fold};
+ghost use Rattle.vr_types.specs.declared.geometry.Geometry.{Geometry as VolumeShape};
+ghost use Rattle.vr_catalog.specs.Catalog.{parts_in};
+ghost use Rattle.vr_volume.specs.Laid.{shape_in};
+ghost use Rattle.vr_volume.specs.Volume.{AreApart};
+ghost use Rattle.vr_mount.specs.Areas.{AreOn, AreOwners, IsBelow, catalog_part, part_of};
+ghost use Rattle.vr_mount.specs.Marks.{marked};
+ghost use Rattle.vr_mount.specs.Numbers.{laid_area as area_of};
+
+use crate::distinct::{Which, are_told_apart, laid_area};
+use std::alloc::Global;
+use vr_catalog::{CatEntry, Catalog};
+use vr_types::{AreaNo, Geometry, OutOfMemory, PartNo, Space, space};
+
+/// Whether no block is in two of the parts that a catalog lays: no two of its clusters have the
+/// same first area, and none has area 0, which is the catalog's own.
+pub fn are_apart(catalog: &Catalog) -> bool
+    requires { IsDistinct nat_eq (0 ∷ parts_in catalog.now) }
+    ensures { (geometry : VolumeShape)
+        → (IsTrue result ↔ AreApart (shape_in geometry catalog.now)) }
+{
+    are_told_apart(catalog.as_slice(), Which::Area)
+}
+
+/// Whether the area that an entry lays, if it lays one, is one of so many.
+fn is_below(entry: &CatEntry, areas: u32) -> bool
+    ensures { IsTrue result ↔ IsBelow areas entry.now }
+{
+    match laid_area(entry) {
+        None => true,
+        Some(area) => area < areas,
+    }
+}
+
+fn are_below(entries: &[CatEntry], areas: u32) -> bool
+    ensures { IsTrue result ↔ All (IsBelow areas) entries.now }
+{
+    entries.iter().all(|entry| is_below(entry, areas))
+}
+
+/// Whether each part that a catalog lays is in an area of the volume, and so on blocks of it.
+pub fn are_on(geometry: &Geometry, catalog: &Catalog) -> bool
+    requires { IsDistinct nat_eq (0 ∷ parts_in catalog.now) }
+    ensures { IsTrue result ↔ AreOn geometry.now catalog.now }
+{
+    let areas = geometry.areas();
+    0 < areas && are_below(catalog.as_slice(), areas)
+}
+
+/// Marks the area that an entry lays as its part's.
+fn mark_one(owners: &mut Space, entry: &CatEntry)
+    requires { IsBelow (length owners.old) entry.now }
+    ensures { owners.new ≡ marked area_of part_of owners.old entry.now }
+{
+    if let Some(area) = laid_area(entry) {
+        owners.mark(AreaNo(area), entry.part);
+    }
+}
+
+/// Marks the area that each entry lays as its part's.
+fn mark_each(owners: &mut Space, entries: &[CatEntry])
+    requires { All (IsBelow (length owners.old)) entries.now }
+    ensures { owners.new ≡ fold (marked area_of part_of) owners.old entries.now }
+{
+    for entry in entries {
+        mark_one(owners, entry);
+    }
+}
+
+/// Marks area 0 as the catalog's own, and then those of the entries.
+fn mark_parts(owners: &mut Space, entries: &[CatEntry])
+    requires some { 0 < length owners.old }
+    requires below { All (IsBelow (length owners.old)) entries.now }
+    ensures { owners.new
+        ≡ fold (marked area_of part_of) (set owners.old 0 (Some catalog_part)) entries.now }
+{
+    owners.mark(AreaNo(0), PartNo(0));
+    mark_each(owners, entries);
+}
+
+/// Who owns each area of a volume: the part that the catalog lays there, or none. It fails only if
+/// memory runs out.
+pub fn owners_of(
+    alloc: Global,
+    geometry: &Geometry,
+    catalog: &Catalog,
+) -> Result<Space, OutOfMemory>
+    requires parts { IsDistinct nat_eq (0 ∷ parts_in catalog.now) }
+    requires apart { AreApart (shape_in geometry.now catalog.now) }
+    requires on { AreOn geometry.now catalog.now }
+    ensures { IfOk result (AreOwners geometry.now catalog.now) }
+{
+    let mut owners = space(alloc, geometry.areas())?;
+    mark_parts(&mut owners, catalog.as_slice());
+    Ok(owners)
+}

@@ -1,0 +1,22 @@
+//! Opening a volume, what is decided of its header and of its catalog. It stands on the blocks
+//! (vr_types), the catalog (vr_catalog) and what the blocks of a volume stand for (vr_volume).
+//!
+//! It promises that a header is taken exactly where block 0 is one of the volume's number and of a
+//! shape that the device has, and when each answer comes; that records are taken as a catalog
+//! exactly where they keep its rules; and in which areas its parts are.
+#![tactic(auto)]
+
+mod areas;
+mod catalog;
+mod distinct;
+mod header;
+mod laws;
+mod no;
+mod records;
+mod rules;
+
+pub use areas::{are_apart, are_on, owners_of};
+pub use catalog::catalog_of_records;
+pub use header::read_header;
+pub use laws::{header_version, one_header};
+pub use no::HeaderNo;

@@ -1,0 +1,36 @@
+use Rattle.std.proofs.Common.{◌≡◌, ℕ, true, false, IsTrue, take}
+use Rattle.std.specs.Prelude.{All}
+use Rattle.vr_types.specs.Content.{Content}
+use Rattle.vr_types.specs.Moments.{Guards}
+use Rattle.vr_types.specs.Regions.{Touches}
+use Rattle.vr_types.specs.declared.unit.Unit.{Unit as UnitOfRecovery}
+use Rattle.vr_log.specs.Live.{is_in, live_in}
+use Rattle.vr_log.specs.LogNow.{IsOf}
+use Rattle.vr_log.specs.Standing.{InLog, LogStands}
+use Rattle.vr_volume.specs.Volume.{Recovers}
+use Rattle.vr_recover.specs.Formatted.{Anything}
+use Rattle.vr_recover.specs.Undone.{IsUndone}
+use Rattle.vr_recover.proofs.BackingOut.{AreOut}
+use Rattle.vr_recover.proofs.backing_out.back_out_all.Given as goal
+
+abbrev pub invariant-loop-rec : goal.invariant-loop-rec
+invariant-loop-rec g l = record {
+  geometry : l.log.geometry ≡ l.fn.log.geometry;
+  generation : l.log.generation ≡ l.fn.log.generation;
+  sound : l.log.broken ≡ false;
+  shape : IsOf l.log.geometry (g.B.Blocks.seen l.blocks);
+  stands : IsTrue g.B.Blocks.tells → LogStands l.log (g.B.Blocks.seen l.blocks);
+  faults : g.B.Blocks.faults l.blocks ≡ g.B.Blocks.faults l.fn.blocks;
+  touches : IsTrue g.B.Blocks.tells → Touches (InLog l.fn.log.geometry) Anything
+      (g.B.Blocks.seen l.fn.blocks) (g.B.Blocks.seen l.blocks);
+  any_moment : IsTrue g.B.Blocks.tells → (number : ℕ) (contents : ℕ → Content)
+      → IsUndone number l.fn.log contents (g.B.Blocks.seen l.fn.blocks)
+      → Guards (g.B.Blocks.seen l.fn.blocks) (g.B.Blocks.seen l.blocks)
+      (λ image. Recovers l.fn.log.geometry number image contents);
+  undone : IsTrue g.B.Blocks.tells → (number : ℕ) (contents : ℕ → Content)
+      → IsUndone number l.fn.log contents (g.B.Blocks.seen l.fn.blocks)
+      → IsUndone number l.log contents (g.B.Blocks.seen l.blocks);
+  fewer : (unit : UnitOfRecovery) → is_in unit (live_in l.log.records) ≡ true
+      → is_in unit (live_in l.fn.log.records) ≡ true;
+  out : All (AreOut (live_in l.log.records)) (take l.rec-index l.records);
+}

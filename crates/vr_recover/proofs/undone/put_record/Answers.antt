@@ -1,0 +1,104 @@
+use Rattle.std.proofs.Common.{true, ◌==◌, ◌≡◌, ◌∙◌, ℕ, List, Option, ap, refl, subst, sym}
+use Rattle.std.proofs.lemmas.Bool.Decides.{Decides-eqb}
+use Rattle.vr_types.specs.declared.unit.PartNo.{PartNo}
+use Rattle.vr_types.proofs.CallerLemmas.{guards-start}
+use Rattle.vr_space.specs.Part.{InPart, SetsOne, part_no}
+use Rattle.vr_history.specs.State.{BeforeImage}
+use Rattle.vr_log.specs.Live.{live_in}
+use Rattle.vr_volume.specs.Laying.{IsFreeIn, IsLaidSo}
+use Rattle.vr_volume.specs.Safe.{IsSafeImage}
+use Rattle.vr_volume.proofs.Images.{image_of}
+use Rattle.vr_volume.proofs.Recovering.{each_image_is_safe}
+use Rattle.vr_recover.specs.Undone.{ArePutBack, IsItemIn}
+use Rattle.vr_recover.proofs.Made.{touches-none}
+use Rattle.vr_recover.proofs.PuttingBack.{live-has, live-list, one-back}
+use Rattle.vr_recover.proofs.undone.put_record.Goals as goal
+
+same-number : (one other : ℕ) → true ≡ (one == other) → one ≡ other
+same-number one other is = (Decides-eqb one other).0 (sym is)
+
+pub returns-in_ok-set_forced-clause-safe : goal.returns-in_ok-set_forced-clause-safe
+returns-in_ok-set_forced-clause-safe g c told geometry member committed safe laid free =
+    let log = c.args.log.now in
+    let shape = g.P.Part.shape c.args.part.now in
+    let here : IsFreeIn log c.in-Before.owner.0 c.in-Before.place =
+    live-has (live_in log.records) c.in-Before.unit c.in-Before.owner c.in-Before.place
+    c.in-Before.old (sym c.if-is_live.ensures) c.args.rec.now c.in-Before.is
+    (λ (image : BeforeImage). IsFreeIn log image.part image.place) free in
+    let mine : c.in-Before.owner.0 ≡ c.args.number.0 =
+    same-number c.in-Before.owner.0 c.args.number.0 c.if-eq.ensures in
+    let number : c.args.number ≡ part_no shape = sym c.requires.number in
+    c.set_forced.ensures.safe told geometry member log committed safe
+    (subst (λ (no : PartNo). IsLaidSo geometry log committed no.0 shape
+    (g.K.Kept.kept c.args.kept.now no)) number laid)
+    (subst (λ (no : ℕ). IsFreeIn log no c.in-Before.place)
+    (mine ∙ sym (ap (λ (no : PartNo). no.0) c.requires.number)) here)
+
+pub returns-in_err-set_forced-clause-safe : goal.returns-in_err-set_forced-clause-safe
+returns-in_err-set_forced-clause-safe g c told geometry member committed safe laid free =
+    let log = c.args.log.now in
+    let shape = g.P.Part.shape c.args.part.now in
+    let here : IsFreeIn log c.in-Before.owner.0 c.in-Before.place =
+    live-has (live_in log.records) c.in-Before.unit c.in-Before.owner c.in-Before.place
+    c.in-Before.old (sym c.if-is_live.ensures) c.args.rec.now c.in-Before.is
+    (λ (image : BeforeImage). IsFreeIn log image.part image.place) free in
+    let mine : c.in-Before.owner.0 ≡ c.args.number.0 =
+    same-number c.in-Before.owner.0 c.args.number.0 c.if-eq.ensures in
+    let number : c.args.number ≡ part_no shape = sym c.requires.number in
+    c.set_forced.ensures.safe told geometry member log committed safe
+    (subst (λ (no : PartNo). IsLaidSo geometry log committed no.0 shape
+    (g.K.Kept.kept c.args.kept.now no)) number laid)
+    (subst (λ (no : ℕ). IsFreeIn log no c.in-Before.place)
+    (mine ∙ sym (ap (λ (no : PartNo). no.0) c.requires.number)) here)
+
+pub returns-in_ok-set_forced-clause-back : goal.returns-in_ok-set_forced-clause-back
+returns-in_ok-set_forced-clause-back g c told content item =
+    let live = live_in c.args.log.now.records in
+    let shape = g.P.Part.shape c.args.part.now in
+    let a = g.B.Blocks.seen c.args.blocks.now in
+    let b = g.B.Blocks.seen c.set_forced.new.blocks in
+    let image : BeforeImage =
+    image_of c.in-Before.unit c.in-Before.owner c.in-Before.place c.in-Before.old in
+    let mine : c.in-Before.owner.0 ≡ (part_no shape).0 =
+    same-number c.in-Before.owner.0 c.args.number.0 c.if-eq.ensures
+    ∙ sym (ap (λ (no : PartNo). no.0) c.requires.number) in
+    subst (λ (images : List BeforeImage). ArePutBack shape content images a b)
+    (sym (live-list live c.in-Before.unit c.in-Before.owner c.in-Before.place c.in-Before.old
+    (sym c.if-is_live.ensures) c.args.rec.now c.in-Before.is))
+    (one-back shape content image c.in-Before.old a b
+    (subst (λ (found : Option (List ℕ)). SetsOne shape c.in-Before.place found a.cur b.cur)
+    c.bytes_of.ensures (c.in_ok-set_forced.ensures.set told))
+    refl mine
+    (live-has live c.in-Before.unit c.in-Before.owner c.in-Before.place c.in-Before.old
+    (sym c.if-is_live.ensures) c.args.rec.now c.in-Before.is (IsItemIn shape content) item)
+    (c.in_ok-set_forced.ensures.firm told))
+
+pub returns-else-eq-clause-safe : goal.returns-else-eq-clause-safe
+returns-else-eq-clause-safe g c told geometry member committed safe laid free = (
+  guards-start (g.B.Blocks.seen c.args.blocks.now)
+      (IsSafeImage geometry member c.args.log.now committed)
+      (λ image there. g.met.B.Blocks.images_may c.args.blocks.now image told there)
+      (each_image_is_safe geometry member c.args.log.now committed
+      (g.B.Blocks.seen c.args.blocks.now) safe),
+  safe,
+)
+
+pub returns-else-eq-clause-touches : goal.returns-else-eq-clause-touches
+returns-else-eq-clause-touches g c told = touches-none (InPart (g.P.Part.shape c.args.part.now))
+    (g.B.Blocks.seen c.args.blocks.now)
+    (λ image there. g.met.B.Blocks.images_may c.args.blocks.now image told there)
+
+pub returns-in_default-clause-safe : goal.returns-in_default-clause-safe
+returns-in_default-clause-safe g c told geometry member committed safe laid free = (
+  guards-start (g.B.Blocks.seen c.args.blocks.now)
+      (IsSafeImage geometry member c.args.log.now committed)
+      (λ image there. g.met.B.Blocks.images_may c.args.blocks.now image told there)
+      (each_image_is_safe geometry member c.args.log.now committed
+      (g.B.Blocks.seen c.args.blocks.now) safe),
+  safe,
+)
+
+pub returns-in_default-clause-touches : goal.returns-in_default-clause-touches
+returns-in_default-clause-touches g c told = touches-none (InPart (g.P.Part.shape c.args.part.now))
+    (g.B.Blocks.seen c.args.blocks.now)
+    (λ image there. g.met.B.Blocks.images_may c.args.blocks.now image told there)

@@ -1,0 +1,280 @@
+use Rattle.std.proofs.Common.{◌≡◌, ◌≢◌, ◌∙◌, ◌<◌, ◌+◌, ℕ, List, Some, None, ap, arith}
+use Rattle.std.proofs.Common.{IsTrue, get_or, length, map, refl, subst, sym, take}
+use Rattle.std.specs.Prelude.{All, slice_get}
+use Rattle.std.specs.Option.{option_map}
+use Rattle.std.proofs.lemmas.List.{length-map, take_all, take_more}
+use Rattle.std.proofs.lemmas.List.Elements.{All-map, All-nil, All-push, All-weaker}
+use Rattle.std.proofs.lemmas.Option.{get_or_from_slice_get, slice_get-map, slice_get_within}
+use Rattle.std.proofs.Math.Seq.{map-set_same}
+use Rattle.vr_types.specs.declared.unit.PartNo.{PartNo}
+use Rattle.vr_types.proofs.CallerLemmas.{guards-start, guards-then}
+use Rattle.vr_space.specs.Part.{IsOn, IsSound, Shape, part_no}
+use Rattle.vr_space.proofs.CallerLemmas.{StaysPart, on-still, rest-sound}
+use Rattle.vr_volume.specs.Laid.{shape_by}
+use Rattle.vr_volume.specs.PutBack.{images_of}
+use Rattle.vr_volume.specs.Safe.{IsSafeImage}
+use Rattle.vr_volume.proofs.Recovering.{each_image_is_safe}
+use Rattle.vr_volume.proofs.Rested.{stands-part, stays-apart}
+use Rattle.vr_recover.specs.Formatted.{Anything}
+use Rattle.vr_recover.specs.Undone.{FitsPart, HasContent, IsAllFirm, IsPastLog, IsReady}
+use Rattle.vr_recover.specs.Undone.{alike}
+use Rattle.vr_recover.proofs.PartsBack.{all-at, all-before, all-others, all-parts, all-safe, all-set}
+use Rattle.vr_recover.proofs.PartsBack.{are-items, content-stays, firm-stays, laid-opened}
+use Rattle.vr_recover.proofs.PartsBack.{read-off, ready-stays}
+use Rattle.vr_recover.proofs.PuttingBack.{part-back}
+use Rattle.vr_recover.proofs.undone_parts.put_back_all.Goals as goal
+
+pub loop-part-init : goal.loop-part-init
+loop-part-init g c =
+    let a = g.B.Blocks.seen c.args.blocks.now in
+    record {
+      at = refl;
+      shapes = refl;
+      split = c.requires.split;
+      count = refl;
+      size = refl;
+      faults = refl;
+      ready = c.requires.ready;
+      safe = λ told geometry member contents safe opened. (
+        guards-start a (IsSafeImage geometry member c.args.log.now (alike contents))
+            (λ image there. g.met.B.Blocks.images_may c.args.blocks.now image told there)
+            (each_image_is_safe geometry member c.args.log.now (alike contents) a safe),
+        safe,
+      );
+      stands = λ told forced stands. stands;
+      all = λ told geometry member contents safe opened firm. (
+        firm,
+        All-nil (λ (shape : Shape). HasContent shape (contents (part_no shape).0) a),
+      );
+    }
+
+-- the shape of the part whose turn it is, among those of all
+shape-here : {X : Type 0} (f : X → Shape) (parts : List X) (shapes : List Shape) (at : ℕ) (d : X)
+    → map f parts ≡ shapes → at < length parts → slice_get shapes at ≡ Some (f (get_or parts at d))
+shape-here f parts shapes at d same below =
+    read-off f parts shapes at (get_or parts at d) d same below refl
+
+-- and its number
+number-here : (shapes : List Shape) (numbers : List PartNo) (at index : ℕ) (shape : Shape)
+    (d : PartNo) → map part_no shapes ≡ numbers → index ≡ at → slice_get shapes at ≡ Some shape
+    → part_no shape ≡ get_or numbers index d
+number-here shapes numbers at index shape d same equal is =
+    sym (get_or_from_slice_get numbers index (part_no shape) d
+    (ap (slice_get numbers) equal ∙ ap (λ (l : List PartNo). slice_get l at) (sym same)
+    ∙ slice_get-map part_no shapes at ∙ ap (option_map part_no) is))
+
+pub put_back-requires-clause-on : goal.put_back-requires-clause-on
+put_back-requires-clause-on g c =
+    let a = g.B.Blocks.seen c.args.blocks.now in
+    let b = g.B.Blocks.seen c.loop-part.blocks in
+    let shapes = map g.P.Part.shape c.args.parts.now in
+    let shape = g.P.Part.shape (get_or c.loop-part.parts c.loop-part.part-index c.part-item.result)
+    in
+    on-still shape a b
+    (all-at (λ (s : Shape). IsOn s a) shapes c.loop-part.part-index shape
+    (shape-here g.P.Part.shape c.loop-part.parts shapes c.loop-part.part-index c.part-item.result
+    c.loop-part.invariant.shapes
+    (omega (arith, c.loop-part-test.true, c.loop-part.auto.parts))) c.requires.on)
+    c.loop-part.invariant.count c.loop-part.invariant.size
+
+pub put_back-requires-clause-number : goal.put_back-requires-clause-number
+put_back-requires-clause-number g c =
+    let shapes = map g.P.Part.shape c.args.parts.now in
+    number-here shapes c.args.numbers.now c.loop-part.part-index c.loop-part.at
+    (g.P.Part.shape (get_or c.loop-part.parts c.loop-part.part-index c.part-item.result)) _
+    c.requires.numbers c.loop-part.invariant.at
+    (shape-here g.P.Part.shape c.loop-part.parts shapes c.loop-part.part-index c.part-item.result
+    c.loop-part.invariant.shapes
+    (omega (arith, c.loop-part-test.true, c.loop-part.auto.parts)))
+
+pub put_back-requires-clause-fits : goal.put_back-requires-clause-fits
+put_back-requires-clause-fits g c =
+    let shapes = map g.P.Part.shape c.args.parts.now in
+    all-at (λ (s : Shape). All (FitsPart s) (images_of c.args.log.now.records)) shapes
+    c.loop-part.part-index
+    (g.P.Part.shape (get_or c.loop-part.parts c.loop-part.part-index c.part-item.result))
+    (shape-here g.P.Part.shape c.loop-part.parts shapes c.loop-part.part-index c.part-item.result
+    c.loop-part.invariant.shapes
+    (omega (arith, c.loop-part-test.true, c.loop-part.auto.parts))) c.requires.fits
+
+pub put_back-requires-clause-ready : goal.put_back-requires-clause-ready
+put_back-requires-clause-ready g c told =
+    let part = get_or c.loop-part.parts c.loop-part.part-index c.part-item.result in
+    subst (λ (no : PartNo). IsReady (g.P.Part.shape part) (g.P.Part.met part)
+    (g.K.Kept.kept c.args.kept.now no) (g.B.Blocks.seen c.loop-part.blocks))
+    (put_back-requires-clause-number g c)
+    (c.loop-part.invariant.ready told c.loop-part.part-index c.part-item.result
+    (omega (arith, c.loop-part-test.true, c.loop-part.auto.parts)))
+
+pub returns-in_err-put_back-clause-shapes : goal.returns-in_err-put_back-clause-shapes
+returns-in_err-put_back-clause-shapes g c =
+    map-set_same g.P.Part.shape c.loop-part.parts c.loop-part.part-index c.put_back.new.part
+    c.part-item.result c.put_back.ensures.shape
+    ∙ c.loop-part.invariant.shapes
+
+pub returns-in_err-put_back-clause-safe : goal.returns-in_err-put_back-clause-safe
+returns-in_err-put_back-clause-safe g c told geometry member contents safe opened =
+    let B = g.B.Blocks in
+    let log = c.args.log.now in
+    let kept = g.K.Kept.kept c.args.kept.now in
+    let shapes = map g.P.Part.shape c.args.parts.now in
+    let parts = c.loop-part.parts in
+    let index = c.loop-part.part-index in
+    let shape = g.P.Part.shape (get_or parts index c.part-item.result) in
+    let zero : PartNo = record { 0 = 0 } in
+    let number : PartNo = get_or c.args.numbers.now c.loop-part.at zero in
+    let a = B.seen c.args.blocks.now in
+    let b = B.seen c.loop-part.blocks in
+    let d = B.seen c.put_back.new.blocks in
+    let within : index < length parts =
+    omega (arith, c.loop-part-test.true, c.loop-part.auto.parts) in
+    let is : slice_get shapes index ≡ Some shape =
+    shape-here g.P.Part.shape parts shapes index c.part-item.result c.loop-part.invariant.shapes
+    within in
+    let numbered : number ≡ part_no shape =
+    sym (number-here shapes c.args.numbers.now index c.loop-part.at shape zero c.requires.numbers
+    c.loop-part.invariant.at is) in
+    let before = c.loop-part.invariant.safe told geometry member contents safe opened in
+    let call = c.put_back.ensures.safe told geometry member (alike contents) before.1
+    (laid-opened geometry log contents kept shapes index shape number opened is c.requires.kept
+    numbered) opened.records in
+    (guards-then a b d (IsSafeImage geometry member log (alike contents)) before.0 call.0, call.1)
+
+-- the shape of a part, among those of all
+shape-at : {X : Type 0} (f : X → Shape) (parts : List X) (shapes : List Shape) (at : ℕ) (x : X)
+    → map f parts ≡ shapes → slice_get parts at ≡ Some x → slice_get shapes at ≡ Some (f x)
+shape-at f parts shapes at x same is = ap (λ (l : List Shape). slice_get l at) (sym same)
+    ∙ slice_get-map f parts at ∙ ap (option_map f) is
+
+pub loop-part-preserved : goal.loop-part-preserved
+loop-part-preserved g c =
+    let B = g.B.Blocks in
+    let log = c.args.log.now in
+    let kept = g.K.Kept.kept c.args.kept.now in
+    let shapes = map g.P.Part.shape c.args.parts.now in
+    let parts = c.loop-part.parts in
+    let index = c.loop-part.part-index in
+    let shape = g.P.Part.shape (get_or parts index c.part-item.result) in
+    let zero : PartNo = record { 0 = 0 } in
+    let number : PartNo = get_or c.args.numbers.now c.loop-part.at zero in
+    let a = B.seen c.args.blocks.now in
+    let b = B.seen c.loop-part.blocks in
+    let d = B.seen c.put_back.new.blocks in
+    let within : index < length parts =
+    omega (arith, c.loop-part-test.true, c.loop-part.auto.parts) in
+    let is : slice_get shapes index ≡ Some shape =
+    shape-here g.P.Part.shape parts shapes index c.part-item.result c.loop-part.invariant.shapes
+    within in
+    let numbered : number ≡ part_no shape =
+    sym (number-here shapes c.args.numbers.now index c.loop-part.at shape zero c.requires.numbers
+    c.loop-part.invariant.at is) in
+    let new = c.put_back.new.part in
+    let sounds : IsTrue B.tells → All (λ (s : Shape). IsSound s b) shapes =
+    λ told. subst (All (λ (s : Shape). IsSound s b)) c.loop-part.invariant.shapes
+    (All-map (λ (s : Shape). IsSound s b) g.P.Part.shape parts
+    (All-weaker (λ part. IsReady (g.P.Part.shape part) (g.P.Part.met part)
+    (kept (part_no (g.P.Part.shape part))) b)
+    (λ part. IsSound (g.P.Part.shape part) b)
+    (λ part ready. rest-sound (g.P.Part.shape part) b ready.rests) parts
+    (c.loop-part.invariant.ready told))) in
+    let stays : IsTrue B.tells → (other : ℕ) (there : Shape) → slice_get shapes other ≡ Some there
+    → other ≢ index → StaysPart there b d =
+    λ told other there at off. stays-apart shape there Anything b d
+    (λ n inside mine. c.requires.apart other index there shape at is off n inside mine)
+    (c.put_back.ensures.touches told) in
+    record {
+      at = ap (λ (n : ℕ). n + 1) c.loop-part.invariant.at;
+      shapes = map-set_same g.P.Part.shape parts index new c.part-item.result
+          c.put_back.ensures.shape ∙ c.loop-part.invariant.shapes;
+      split = all-set (λ part. g.P.Part.split part ≡ None) (λ part. g.P.Part.split part ≡ None)
+          parts index new
+          (c.put_back.ensures.split
+          ∙ c.loop-part.invariant.split index c.part-item.result within)
+          (λ other part at off same. same) c.loop-part.invariant.split;
+      count = c.put_back.ensures.count ∙ c.loop-part.invariant.count;
+      size = c.put_back.ensures.size ∙ c.loop-part.invariant.size;
+      faults = c.in_ok-put_back.ensures.cause.ok ∙ c.loop-part.invariant.faults;
+      ready = λ told. all-set
+          (λ part. IsReady (g.P.Part.shape part) (g.P.Part.met part)
+          (kept (part_no (g.P.Part.shape part))) b)
+          (λ part. IsReady (g.P.Part.shape part) (g.P.Part.met part)
+          (kept (part_no (g.P.Part.shape part))) d)
+          parts index new
+          (subst (λ (s : Shape). IsReady s (g.P.Part.met new) (kept (part_no s)) d)
+          (sym c.put_back.ensures.shape)
+          (subst (λ (no : PartNo). IsReady shape (g.P.Part.met new) (kept no) d) numbered
+          (c.in_ok-put_back.ensures.ready told)))
+          (λ other part at off ready. ready-stays (g.P.Part.shape part) b d
+          (stays told other (g.P.Part.shape part)
+          (shape-at g.P.Part.shape parts shapes other part c.loop-part.invariant.shapes at) off)
+          (g.P.Part.met part) (kept (part_no (g.P.Part.shape part)))
+          (g.met.B.Blocks.cur_may c.loop-part.blocks told) ready)
+          (c.loop-part.invariant.ready told);
+      safe = λ told geometry member contents safe opened.
+          let before = c.loop-part.invariant.safe told geometry member contents safe opened in
+          let call = c.put_back.ensures.safe told geometry member (alike contents) before.1
+          (laid-opened geometry log contents kept shapes index shape number opened is
+          c.requires.kept numbered) opened.records in (
+            guards-then a b d (IsSafeImage geometry member log (alike contents)) before.0 call.0,
+            call.1,
+          );
+      stands = λ told forced stands. stands-part log shape Anything b d forced
+          (c.loop-part.invariant.stands told forced stands)
+          (all-at (IsPastLog log.geometry) shapes index shape is c.requires.past)
+          (c.put_back.ensures.touches told);
+      all = λ told geometry member contents safe opened firm.
+          let before = c.loop-part.invariant.all told geometry member contents safe opened firm in
+          let was = c.loop-part.invariant.safe told geometry member contents safe opened in
+          let call = c.put_back.ensures.safe told geometry member (alike contents) was.1
+          (laid-opened geometry log contents kept shapes index shape number opened is
+          c.requires.kept numbered) opened.records in
+          let content = contents (part_no shape).0 in
+          let images = images_of log.records in
+          let left = g.met.B.Blocks.cur_may c.loop-part.blocks told in
+          let put = c.in_ok-put_back.ensures.back told content
+          (are-items geometry log.records contents shape
+          (all-safe geometry member log contents a safe
+          (g.met.B.Blocks.cur_may c.args.blocks.now told) opened.records).committed) in
+          let mine : IsAllFirm shape b =
+          all-at (λ (s : Shape). IsAllFirm s b) shapes index shape is before.0 in
+          let has : HasContent shape content d = part-back shape content images b d put mine
+          ((all-safe geometry member log contents d call.1
+          (g.met.B.Blocks.cur_may c.put_back.new.blocks told) opened.records).parts
+          (part_no shape).0 shape
+          (all-at (λ (s : Shape). shape_by geometry (contents 0) (part_no s).0 ≡ Some s) shapes
+          index shape is opened.laid)) in (
+            all-others (λ (s : Shape). IsAllFirm s b) (λ (s : Shape). IsAllFirm s d) shapes index
+                shape is (λ place. put.firm place (mine place))
+                (λ other there at off was-firm. firm-stays there b d (stays told other there at off)
+                (all-at (λ (s : Shape). IsSound s b) shapes other there at (sounds told)) left
+                was-firm)
+                before.0,
+            subst (All (λ (s : Shape). HasContent s (contents (part_no s).0) d))
+                (sym (take_more shapes index shape (slice_get_within shapes index shape is)))
+                (All-push (λ (s : Shape). HasContent s (contents (part_no s).0) d)
+                (take index shapes) (get_or shapes index shape)
+                (all-before (λ (s : Shape). HasContent s (contents (part_no s).0) b)
+                (λ (s : Shape). HasContent s (contents (part_no s).0) d) shapes index
+                (λ other there at off had. content-stays there b d (stays told other there at off)
+                (all-at (λ (s : Shape). IsSound s b) shapes other there at (sounds told))
+                (contents (part_no there).0) had)
+                before.1)
+                (subst (λ (s : Shape). HasContent s (contents (part_no s).0) d)
+                (sym (get_or_from_slice_get shapes index shape shape is)) has)),
+          );
+    }
+
+pub returns-clause-all : goal.returns-clause-all
+returns-clause-all g c told geometry member contents safe opened firm covered =
+    let log = c.args.log.now in
+    let shapes = map g.P.Part.shape c.args.parts.now in
+    let b = g.B.Blocks.seen c.loop-part.blocks in
+    let done = c.loop-part.invariant.all told geometry member contents safe opened firm in
+    let is-safe = c.loop-part.invariant.safe told geometry member contents safe opened in
+    all-parts geometry log contents shapes b
+    (all-safe geometry member log contents b is-safe.1
+    (g.met.B.Blocks.cur_may c.loop-part.blocks told) opened.records)
+    opened covered
+    (subst (All (λ (s : Shape). HasContent s (contents (part_no s).0) b))
+    (take_all c.loop-part.part-index shapes
+    (omega (arith, c.loop-part-test.false, length-map c.args.parts.now g.P.Part.shape))) done.1)

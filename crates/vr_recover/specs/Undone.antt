@@ -1,0 +1,164 @@
+-- What is put back into a part as a volume is opened, and what the part reads then. The rules are
+-- this project's own.
+use Rattle.std.specs.Prelude.{◌≡◌, ◌<◌, ◌≤◌, ℕ, true, false, List, [], All, IfSome, Option, Some, None}
+use Rattle.std.specs.Prelude.{◌≢◌, length, slice_get}
+use Rattle.std.specs.Option.{option_and_then}
+use Rattle.vr_types.specs.Content.{Content, item_at, record_of}
+use Rattle.vr_types.specs.Image.{Image}
+use Rattle.vr_types.specs.Seen.{Seen}
+use Rattle.vr_types.specs.declared.geometry.Geometry.{Geometry}
+use Rattle.vr_types.specs.declared.unit.PartNo.{PartNo}
+use Rattle.vr_types.specs.declared.unit.Unit.{Unit as UnitOfRecovery}
+use Rattle.vr_space.specs.Met.{Met}
+use Rattle.vr_space.specs.Part.{HasKeptRoom, InPart, IsAtRest, IsFirm, IsOn, IsPlaceOf, IsRecordOf}
+use Rattle.vr_space.specs.Part.{Knows, MayHold, Shape, item_of, part_no}
+use Rattle.vr_space.specs.Room.{Lengths, length_at}
+use Rattle.vr_history.specs.State.{BeforeImage}
+use Rattle.vr_log.specs.Content.{Content as LogContent}
+use Rattle.vr_log.specs.Live.{is_in, live_in}
+use Rattle.vr_log.specs.LogNow.{IsLogOf, LogNow}
+use Rattle.vr_log.specs.declared.record.LogRecord.{LogRecord}
+use Rattle.vr_log.specs.declared.record.LogRecord.TheVariants.{Before, End}
+use Rattle.vr_volume.specs.Laid.{shape_by}
+use Rattle.vr_volume.specs.PutBack.{images_of, lengths_kept}
+use Rattle.vr_volume.specs.Safe.{IsSafe, item_held}
+
+-- Between two calls that put before-images back into it: the part is at rest, with no split under
+-- way, and has room for what is kept.
+pub record IsReady (shape : Shape) (met : List Met) (kept : Lengths) (now : Seen) : Type 0 where
+  pub rests : IsAtRest shape now
+  pub room : HasKeptRoom shape kept now
+  pub knows : Knows shape None met now
+
+-- room is kept for the record at the place, or there is none
+abbrev pub IsKeptAt : Lengths → List ℕ → Option (List ℕ) → Type 0
+IsKeptAt kept place old = IfSome old (λ (bytes : List ℕ). (n : ℕ)
+    × (length_at kept place ≡ Some n) × (length bytes ≤ n))
+
+-- A before-image of a part is of a place of it, and a record that may stand there, or none.
+pub record IsFit (shape : Shape) (image : BeforeImage) : Type 0 where
+  pub place : IsPlaceOf shape image.place
+  pub old : IfSome (option_and_then record_of image.old) (IsRecordOf shape image.place)
+
+-- it is so of the before-images of this part
+abbrev pub FitsPart : Shape → BeforeImage → Type 0
+FitsPart shape image = image.part ≡ (part_no shape).0 → IsFit shape image
+
+-- and room is kept for them
+abbrev pub HasKeptFor : Shape → Lengths → BeforeImage → Type 0
+HasKeptFor shape kept image = image.part ≡ (part_no shape).0
+    → IsKeptAt kept image.place (option_and_then record_of image.old)
+
+-- before-images of the part are items of the content
+abbrev pub IsItemIn : Shape → Content → BeforeImage → Type 0
+IsItemIn shape content image =
+    image.part ≡ (part_no shape).0 → image.old ≡ item_at content image.place
+
+-- the place of a before-image of the part reads its item in the content
+abbrev pub IsBackIn : Shape → Content → Image → BeforeImage → Type 0
+IsBackIn shape content now image = image.part ≡ (part_no shape).0
+    → item_held shape (item_of shape now image.place) ≡ item_at content image.place
+
+-- Calls put these before-images back into the part, and force them: what a crash left alone at a
+-- place it leaves alone, and no place that had its item lost it.
+pub record ArePutBack (shape : Shape) (content : Content) (images : List BeforeImage)
+    (old new : Seen) : Type 0 where
+  pub back : All (IsBackIn shape content new.cur) images
+  pub stays : (image : BeforeImage) → IsBackIn shape content old.cur image
+      → IsBackIn shape content new.cur image
+  pub firm : (place : List ℕ) → IsFirm shape old place → IsFirm shape new place
+
+-- each image has all records of the log
+abbrev pub HasAllRecords : LogNow → Type 0
+HasAllRecords log = (content : LogContent) → IsLogOf log content → content.records ≡ log.records
+
+-- Whatever a crash leaves of a part, each place has the item of the content.
+abbrev pub HasContent : Shape → Content → Seen → Type 0
+HasContent shape content now = (place : List ℕ) (found : Option (List ℕ))
+    → MayHold shape now.may place found → item_held shape found ≡ item_at content place
+
+-- ---- several parts
+
+-- no block is in two of the parts
+abbrev pub AreApart : List Shape → Type 0
+AreApart shapes = (at other : ℕ) (here there : Shape) → slice_get shapes at ≡ Some here
+    → slice_get shapes other ≡ Some there → at ≢ other → (n : ℕ) → InPart here n
+    → InPart there n → ⊥
+
+-- the part is past the log
+abbrev pub IsPastLog : Geometry → Shape → Type 0
+IsPastLog geometry shape = (n : ℕ) → InPart shape n → geometry.log < n
+
+-- what is kept is what the log has of live units
+abbrev pub IsKeptOf : (PartNo → Lengths) → LogNow → Type 0
+IsKeptOf kept log = (part : PartNo) → kept part ≡ lengths_kept (images_of log.records) part.0
+
+-- These parts are laid by the contents, and each image has all records of the log.
+pub record AreOpened (geometry : Geometry) (log : LogNow) (contents : ℕ → Content)
+    (shapes : List Shape) : Type 0 where
+  pub laid : All (λ (shape : Shape). shape_by geometry (contents 0) (part_no shape).0 ≡ Some shape)
+      shapes
+  pub records : HasAllRecords log
+
+-- one of these parts has this number
+abbrev pub HasPart : List Shape → ℕ → Type 0
+HasPart shapes part = (at : ℕ) × (shape : Shape) × (slice_get shapes at ≡ Some shape)
+    × (part ≡ (part_no shape).0)
+
+-- the part of a before-image is one of these
+abbrev pub IsCovered : List Shape → BeforeImage → Type 0
+IsCovered shapes image = HasPart shapes image.part
+
+-- a crash leaves each place of a part alone
+abbrev pub IsAllFirm : Shape → Seen → Type 0
+IsAllFirm shape now = (place : List ℕ) → IsFirm shape now place
+
+-- ---- the volume
+
+-- Whatever a crash leaves of the parts, each place has the item of these contents.
+abbrev pub HasAll : Geometry → (ℕ → Content) → Seen → Type 0
+HasAll geometry contents now = (part : ℕ) (shape : Shape)
+    → shape_by geometry (contents 0) part ≡ Some shape → HasContent shape (contents part) now
+
+-- the same contents are committed whatever the log has
+abbrev pub alike : (ℕ → Content) → List LogRecord → ℕ → Content
+alike contents records = contents
+
+-- The volume is safe, with these contents committed, and whatever a crash leaves of its parts has
+-- their items: no before-image has to be put back any more.
+pub record IsUndone (number : ℕ) (log : LogNow) (contents : ℕ → Content) (now : Seen) : Type 0
+  where
+    pub safe : IsSafe log.geometry number log (alike contents) now
+    pub all : HasAll log.geometry contents now
+
+-- What undoing a crash's units of recovery begins with: the volume is safe, with these contents
+-- committed, these parts are laid by them, a crash leaves each of their places alone, and the part
+-- of each before-image is one of them.
+pub record IsSettled (number : ℕ) (log : LogNow) (contents : ℕ → Content) (shapes : List Shape)
+    (now : Seen) : Type 0 where
+  pub safe : IsSafe log.geometry number log (alike contents) now
+  pub opened : AreOpened log.geometry log contents shapes
+  pub firm : All (λ (shape : Shape). IsAllFirm shape now) shapes
+  pub covered : All (IsCovered shapes) (images_of log.records)
+
+-- A part as it is opened: its blocks are there, past the log; it is at rest, with no split under way
+-- and nothing met yet, and has room for what is kept; a crash leaves each of its places alone; and
+-- each before-image of it may be put back.
+pub record IsOpenedPart (geometry : Geometry) (images : List BeforeImage) (shape : Shape)
+    (now : Seen) : Type 0 where
+  pub on : IsOn shape now
+  pub past : IsPastLog geometry shape
+  pub ready : IsReady shape [] (lengths_kept images (part_no shape).0) now
+  pub firm : IsAllFirm shape now
+  pub fits : All (FitsPart shape) images
+
+-- the record is a before-image of the unit
+abbrev pub IsBeforeOf : UnitOfRecovery → LogRecord → Type 0
+IsBeforeOf unit (Before other part place old) = other ≡ unit
+IsBeforeOf unit (End other kind) = ⊥
+
+-- Each unit that is live now was so, and that of this record isn't.
+pub record IsOut (rec : LogRecord) (old new : List LogRecord) : Type 0 where
+  pub fewer : (unit : UnitOfRecovery) → is_in unit (live_in new) ≡ true
+      → is_in unit (live_in old) ≡ true
+  pub out : (unit : UnitOfRecovery) → IsBeforeOf unit rec → is_in unit (live_in new) ≡ false

@@ -1,0 +1,123 @@
+//! Ending the units of recovery that a crash left, once their before-images are put back.
+ghost use Rattle.std.specs.Prelude.{◌≡◌, ◌<◌, ◌+◌, ◌^◌, [], ℕ, IsTrue, OnOk, false};
+ghost use Rattle.vr_types.specs.Content.{Content};
+ghost use Rattle.vr_types.specs.Faults.{HasWriteCause};
+ghost use Rattle.vr_types.specs.Moments.{Guards};
+ghost use Rattle.vr_types.specs.Regions.{Touches};
+ghost use Rattle.vr_log.specs.Live.{live_in};
+ghost use Rattle.vr_log.specs.LogNow.{IsForced, IsOf, next_generation};
+ghost use Rattle.vr_log.specs.Standing.{InLog, LogStands};
+ghost use Rattle.vr_volume.specs.Volume.{Recovers};
+ghost use Rattle.vr_recover.specs.Formatted.{Anything};
+ghost use Rattle.vr_recover.specs.Undone.{IsOut, IsUndone};
+
+use vr_log::{EndKind, LogRecord, UndoLog};
+use vr_types::{Blocks, DeviceFault};
+use vr_volume::{append_end, force_log, restart_log};
+
+/// Ends the unit of a before-image as backed out, where it is live. In every image of every moment,
+/// whether it fails or not, the blocks recover to what was committed.
+fn back_out<B: Blocks>(
+    blocks: &mut B,
+    log: &mut UndoLog,
+    rec: &LogRecord,
+) -> Result<(), DeviceFault>
+    requires sound { log.old.broken ≡ false }
+    requires shape { IsOf log.old.geometry (B.seen blocks.old) }
+    requires stands { IsTrue B.tells → LogStands log.old (B.seen blocks.old) }
+    ensures touches { IsTrue B.tells → Touches (InLog log.old.geometry) Anything
+        (B.seen blocks.old) (B.seen blocks.new) }
+    ensures any_moment { IsTrue B.tells → (number : ℕ) (contents : ℕ → Content)
+        → IsUndone number log.old contents (B.seen blocks.old)
+        → Guards (B.seen blocks.old) (B.seen blocks.new)
+        (λ image. Recovers log.old.geometry number image contents) }
+    ensures undone { IsTrue B.tells → OnOk result ((number : ℕ) (contents : ℕ → Content)
+        → IsUndone number log.old contents (B.seen blocks.old)
+        → IsUndone number log.new contents (B.seen blocks.new)) }
+    ensures out { OnOk result (IsOut rec.now log.old.records log.new.records) }
+    ensures geometry { OnOk result (log.new.geometry ≡ log.old.geometry) }
+    ensures generation { OnOk result (log.new.generation ≡ log.old.generation) }
+    ensures sound { OnOk result (log.new.broken ≡ false) }
+    ensures shape { OnOk result (IsOf log.new.geometry (B.seen blocks.new)) }
+    ensures stands { IsTrue B.tells → OnOk result (LogStands log.new (B.seen blocks.new)) }
+    ensures cause { HasWriteCause (B.faults blocks.old) (B.faults blocks.new) result }
+{
+    if let LogRecord::Before { unit, .. } = rec {
+        if log.is_live(*unit) {
+            append_end(blocks, log, *unit, EndKind::BackedOut)?;
+        }
+    }
+    Ok(())
+}
+
+/// Ends each unit that is live as backed out. `records` are those of the log. In every image of
+/// every moment, whether it fails or not, the blocks recover to what was committed.
+fn back_out_all<B: Blocks>(
+    blocks: &mut B,
+    log: &mut UndoLog,
+    records: &[LogRecord],
+) -> Result<(), DeviceFault>
+    requires sound { log.old.broken ≡ false }
+    requires shape { IsOf log.old.geometry (B.seen blocks.old) }
+    requires records { records.now ≡ log.old.records }
+    requires stands { IsTrue B.tells → LogStands log.old (B.seen blocks.old) }
+    ensures touches { IsTrue B.tells → Touches (InLog log.old.geometry) Anything
+        (B.seen blocks.old) (B.seen blocks.new) }
+    ensures any_moment { IsTrue B.tells → (number : ℕ) (contents : ℕ → Content)
+        → IsUndone number log.old contents (B.seen blocks.old)
+        → Guards (B.seen blocks.old) (B.seen blocks.new)
+        (λ image. Recovers log.old.geometry number image contents) }
+    ensures undone { IsTrue B.tells → OnOk result ((number : ℕ) (contents : ℕ → Content)
+        → IsUndone number log.old contents (B.seen blocks.old)
+        → IsUndone number log.new contents (B.seen blocks.new)) }
+    ensures none_live { OnOk result (live_in log.new.records ≡ []) }
+    ensures geometry { OnOk result (log.new.geometry ≡ log.old.geometry) }
+    ensures generation { OnOk result (log.new.generation ≡ log.old.generation) }
+    ensures sound { OnOk result (log.new.broken ≡ false) }
+    ensures shape { OnOk result (IsOf log.new.geometry (B.seen blocks.new)) }
+    ensures stands { IsTrue B.tells → OnOk result (LogStands log.new (B.seen blocks.new)) }
+    ensures cause { HasWriteCause (B.faults blocks.old) (B.faults blocks.new) result }
+{
+    for rec in records {
+        back_out(blocks, log, rec)?;
+    }
+    Ok(())
+}
+
+/// Ends each unit that is live as backed out, forces that, and begins the next generation of the
+/// log. In every image of every moment, whether it fails or not, the blocks recover to what was
+/// committed; once it is done the volume is safe, with a log of no records.
+pub(crate) fn end_all<B: Blocks>(
+    blocks: &mut B,
+    log: &mut UndoLog,
+    records: &[LogRecord],
+) -> Result<(), DeviceFault>
+    requires sound { log.old.broken ≡ false }
+    requires shape { IsOf log.old.geometry (B.seen blocks.old) }
+    requires records { records.now ≡ log.old.records }
+    requires stands { IsTrue B.tells → LogStands log.old (B.seen blocks.old) }
+    ensures touches { IsTrue B.tells → Touches (InLog log.old.geometry) Anything
+        (B.seen blocks.old) (B.seen blocks.new) }
+    ensures any_moment { IsTrue B.tells → (number : ℕ) (contents : ℕ → Content)
+        → IsUndone number log.old contents (B.seen blocks.old)
+        → Guards (B.seen blocks.old) (B.seen blocks.new)
+        (λ image. Recovers log.old.geometry number image contents) }
+    ensures undone { IsTrue B.tells → log.old.generation + 1 < 2 ^ 64
+        → OnOk result ((number : ℕ) (contents : ℕ → Content)
+        → IsUndone number log.old contents (B.seen blocks.old)
+        → IsUndone number log.new contents (B.seen blocks.new)) }
+    ensures records { OnOk result (log.new.records ≡ []) }
+    ensures generation { OnOk result (log.new.generation ≡ next_generation log.old.generation) }
+    ensures geometry { OnOk result (log.new.geometry ≡ log.old.geometry) }
+    ensures sound { OnOk result (log.new.broken ≡ false) }
+    ensures forced { OnOk result (IsForced log.new) }
+    ensures shape { OnOk result (IsOf log.new.geometry (B.seen blocks.new)) }
+    ensures stands { IsTrue B.tells → log.old.generation + 1 < 2 ^ 64
+        → OnOk result (LogStands log.new (B.seen blocks.new)) }
+    ensures cause { HasWriteCause (B.faults blocks.old) (B.faults blocks.new) result }
+{
+    back_out_all(blocks, log, records)?;
+    force_log(blocks, log)?;
+    restart_log(blocks, log);
+    Ok(())
+}

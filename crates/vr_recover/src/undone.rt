@@ -1,0 +1,215 @@
+//! Putting before-images back into a part, as a volume that a crash left is opened.
+ghost use Rattle.std.specs.Prelude.{◌≡◌, ◌∷◌, [], ℕ, List, IsTrue, OnOk, IfSome, All, None, false};
+ghost use Rattle.std.specs.List.{filter_map};
+ghost use Rattle.vr_types.specs.Content.{Content};
+ghost use Rattle.vr_types.specs.Faults.{HasCause};
+ghost use Rattle.vr_types.specs.Moments.{Guards};
+ghost use Rattle.vr_types.specs.Regions.{Touches};
+ghost use Rattle.vr_types.specs.declared.geometry.Geometry.{Geometry};
+ghost use Rattle.vr_space.specs.Part.{
+  CanSet,
+  InPart,
+  IsAtRest,
+  IsFirm,
+  IsGiven,
+  IsOn,
+  IsPlaceOf,
+  HasKeptRoom,
+  Knows,
+  SetsOne,
+  given,
+  part_no,
+};
+ghost use Rattle.vr_log.specs.Live.{live_in};
+ghost use Rattle.vr_log.specs.LogNow.{LogNow};
+ghost use Rattle.vr_log.specs.declared.record.LogRecord.{LogRecord as Rec};
+ghost use Rattle.vr_volume.specs.Laying.{IsFreeIn, IsLaidSo};
+ghost use Rattle.vr_volume.specs.PutBack.{image_in, images_of, lengths_kept};
+ghost use Rattle.vr_volume.specs.Safe.{IsSafe, IsSafeImage};
+ghost use Rattle.vr_recover.specs.Formatted.{Anything};
+ghost use Rattle.vr_recover.specs.Undone.{
+  ArePutBack,
+  FitsPart,
+  HasAllRecords,
+  HasKeptFor,
+  IsItemIn,
+  IsKeptOf,
+  IsReady,
+};
+
+use vr_log::{LogRecord, UndoLog};
+use vr_space::{Kept, Part};
+use vr_types::{Blocks, Bytes, DeviceFault, PartNo, Place};
+use vr_volume::{force_blocks, set_free};
+
+/// Makes these bytes the record at a place, or takes the record there away, and forces the blocks
+/// that were put. At each moment of it, whether it fails or not, each image is a safe one.
+fn set_forced<B: Blocks, P: Part, K: Kept>(
+    blocks: &mut B,
+    part: &mut P,
+    kept: &K,
+    place: &Place,
+    bytes: Option<&[u8]>,
+) -> Result<(), DeviceFault>
+    requires on { IsOn (P.shape part.old) (B.seen blocks.old) }
+    requires place { IsPlaceOf (P.shape part.old) place.now }
+    requires record { IsGiven (P.shape part.old) place.now bytes }
+    requires rests { IsTrue B.tells → IsAtRest (P.shape part.old) (B.seen blocks.old) }
+    requires room { IsTrue B.tells → HasKeptRoom (P.shape part.old)
+        (K.kept kept.now (part_no (P.shape part.old))) (B.seen blocks.old) }
+    requires knows { IsTrue B.tells → Knows (P.shape part.old) (P.split part.old)
+        (P.met part.old) (B.seen blocks.old) }
+    requires can { IsTrue B.tells → CanSet (P.shape part.old) (P.split part.old)
+        (B.seen blocks.old).cur (K.kept kept.now (part_no (P.shape part.old))) place.now
+        (given bytes) }
+    ensures safe { IsTrue B.tells → (geometry : Geometry) (number : ℕ) (log : LogNow)
+        (committed : List Rec → ℕ → Content)
+        → IsSafe geometry number log committed (B.seen blocks.old)
+        → IsLaidSo geometry log committed (part_no (P.shape part.old)).0 (P.shape part.old)
+        (K.kept kept.now (part_no (P.shape part.old)))
+        → IsFreeIn log (part_no (P.shape part.old)).0 place.now
+        → Guards (B.seen blocks.old) (B.seen blocks.new)
+        (IsSafeImage geometry number log committed)
+        × IsSafe geometry number log committed (B.seen blocks.new) }
+    ensures set { IsTrue B.tells → OnOk result (SetsOne (P.shape part.old) place.now
+        (given bytes.entry) (B.seen blocks.old).cur (B.seen blocks.new).cur) }
+    ensures firm { IsTrue B.tells → OnOk result ((at : List ℕ)
+        → IsFirm (P.shape part.old) (B.seen blocks.old) at
+        → IsFirm (P.shape part.old) (B.seen blocks.new) at) }
+    ensures rests { IsTrue B.tells → OnOk result
+        (IsAtRest (P.shape part.old) (B.seen blocks.new)) }
+    ensures room { IsTrue B.tells → HasKeptRoom (P.shape part.old)
+        (K.kept kept.now (part_no (P.shape part.old))) (B.seen blocks.new) }
+    ensures knows { IsTrue B.tells → OnOk result (Knows (P.shape part.old) (P.split part.old)
+        (P.met part.new) (B.seen blocks.new)) }
+    ensures touches { IsTrue B.tells → Touches (InPart (P.shape part.old)) Anything
+        (B.seen blocks.old) (B.seen blocks.new) }
+    ensures count { (B.seen blocks.new).count ≡ (B.seen blocks.old).count }
+    ensures size { (B.seen blocks.new).size ≡ (B.seen blocks.old).size }
+    ensures cause { HasCause (B.faults blocks.old) (B.faults blocks.new) result }
+    ensures shape { P.shape part.new ≡ P.shape part.old }
+    ensures split { P.split part.new ≡ P.split part.old }
+{
+    set_free(blocks, part, kept, place, bytes)?;
+    force_blocks(blocks, part.put_blocks())?;
+    Ok(())
+}
+
+/// What a before-image puts back.
+fn bytes_of(old: &Option<Bytes>) -> Option<&[u8]>
+    ensures { given result ≡ old.now }
+{
+    match old {
+        Some(bytes) => Some(bytes.as_slice()),
+        None => None,
+    }
+}
+
+/// Puts a record of the log back, where it is a before-image of this part, of a unit that is live,
+/// and forces it. At each moment of it, whether it fails or not, each image is a safe one.
+fn put_record<B: Blocks, P: Part, K: Kept>(
+    blocks: &mut B,
+    part: &mut P,
+    number: PartNo,
+    kept: &K,
+    log: &UndoLog,
+    rec: &LogRecord,
+) -> Result<(), DeviceFault>
+    requires on { IsOn (P.shape part.old) (B.seen blocks.old) }
+    requires number { part_no (P.shape part.old) ≡ number }
+    requires split { P.split part.old ≡ None }
+    requires sound { log.now.broken ≡ false }
+    requires fits { IfSome (image_in (live_in log.now.records) rec.now)
+        (FitsPart (P.shape part.old)) }
+    requires kept { IfSome (image_in (live_in log.now.records) rec.now)
+        (HasKeptFor (P.shape part.old) (K.kept kept.now number)) }
+    requires ready { IsTrue B.tells → IsReady (P.shape part.old) (P.met part.old)
+        (K.kept kept.now number) (B.seen blocks.old) }
+    ensures safe { IsTrue B.tells → (geometry : Geometry) (member : ℕ)
+        (committed : List Rec → ℕ → Content)
+        → IsSafe geometry member log.now committed (B.seen blocks.old)
+        → IsLaidSo geometry log.now committed number.0 (P.shape part.old)
+        (K.kept kept.now number)
+        → IfSome (image_in (live_in log.now.records) rec.now)
+        (λ image. IsFreeIn log.now image.part image.place)
+        → Guards (B.seen blocks.old) (B.seen blocks.new)
+        (IsSafeImage geometry member log.now committed)
+        × IsSafe geometry member log.now committed (B.seen blocks.new) }
+    ensures back { IsTrue B.tells → OnOk result ((content : Content)
+        → IfSome (image_in (live_in log.now.records) rec.now)
+        (IsItemIn (P.shape part.old) content)
+        → ArePutBack (P.shape part.old) content
+        (filter_map (image_in (live_in log.now.records)) (rec.now ∷ []))
+        (B.seen blocks.old) (B.seen blocks.new)) }
+    ensures ready { IsTrue B.tells → OnOk result (IsReady (P.shape part.old) (P.met part.new)
+        (K.kept kept.now number) (B.seen blocks.new)) }
+    ensures touches { IsTrue B.tells → Touches (InPart (P.shape part.old)) Anything
+        (B.seen blocks.old) (B.seen blocks.new) }
+    ensures count { (B.seen blocks.new).count ≡ (B.seen blocks.old).count }
+    ensures size { (B.seen blocks.new).size ≡ (B.seen blocks.old).size }
+    ensures cause { HasCause (B.faults blocks.old) (B.faults blocks.new) result }
+    ensures shape { P.shape part.new ≡ P.shape part.old }
+    ensures split { P.split part.new ≡ P.split part.old }
+{
+    if let LogRecord::Before {
+        unit,
+        part: owner,
+        place,
+        old,
+    } = rec
+    {
+        if *owner == number && log.is_live(*unit) {
+            set_forced(blocks, part, kept, place, bytes_of(old))?;
+        }
+    }
+    Ok(())
+}
+
+/// Puts the before-images of a part that the log has of live units back, one after another, and
+/// forces each. `records` are those of the log. At each moment of it, whether it fails or not, each
+/// image is a safe one; once it is done each of these places reads its item in the content of which
+/// they are items.
+pub(crate) fn put_back<B: Blocks, P: Part, K: Kept>(
+    blocks: &mut B,
+    part: &mut P,
+    number: PartNo,
+    kept: &K,
+    log: &UndoLog,
+    records: &[LogRecord],
+) -> Result<(), DeviceFault>
+    requires on { IsOn (P.shape part.old) (B.seen blocks.old) }
+    requires number { part_no (P.shape part.old) ≡ number }
+    requires split { P.split part.old ≡ None }
+    requires sound { log.now.broken ≡ false }
+    requires records { records.now ≡ log.now.records }
+    requires fits { All (FitsPart (P.shape part.old)) (images_of log.now.records) }
+    requires kept { IsKeptOf (K.kept kept.now) log.now }
+    requires ready { IsTrue B.tells → IsReady (P.shape part.old) (P.met part.old)
+        (K.kept kept.now number) (B.seen blocks.old) }
+    ensures safe { IsTrue B.tells → (geometry : Geometry) (member : ℕ)
+        (committed : List Rec → ℕ → Content)
+        → IsSafe geometry member log.now committed (B.seen blocks.old)
+        → IsLaidSo geometry log.now committed number.0 (P.shape part.old)
+        (K.kept kept.now number) → HasAllRecords log.now
+        → Guards (B.seen blocks.old) (B.seen blocks.new)
+        (IsSafeImage geometry member log.now committed)
+        × IsSafe geometry member log.now committed (B.seen blocks.new) }
+    ensures back { IsTrue B.tells → OnOk result ((content : Content)
+        → All (IsItemIn (P.shape part.old) content) (images_of log.now.records)
+        → ArePutBack (P.shape part.old) content (images_of log.now.records)
+        (B.seen blocks.old) (B.seen blocks.new)) }
+    ensures ready { IsTrue B.tells → OnOk result (IsReady (P.shape part.old) (P.met part.new)
+        (K.kept kept.now number) (B.seen blocks.new)) }
+    ensures touches { IsTrue B.tells → Touches (InPart (P.shape part.old)) Anything
+        (B.seen blocks.old) (B.seen blocks.new) }
+    ensures count { (B.seen blocks.new).count ≡ (B.seen blocks.old).count }
+    ensures size { (B.seen blocks.new).size ≡ (B.seen blocks.old).size }
+    ensures cause { HasCause (B.faults blocks.old) (B.faults blocks.new) result }
+    ensures shape { P.shape part.new ≡ P.shape part.old }
+    ensures split { P.split part.new ≡ P.split part.old }
+{
+    for rec in records {
+        put_record(blocks, part, number, kept, log, rec)?;
+    }
+    Ok(())
+}
