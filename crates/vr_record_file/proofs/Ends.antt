@@ -22,7 +22,8 @@ use Rattle.vr_history.specs.State.{Logged, Owned, State}
 use Rattle.vr_history.specs.Step.{after_asked, case_of}
 use Rattle.vr_answer.specs.Kept.{is_under}
 use Rattle.vr_answer.proofs.CallerLemmas.{any_left, other_held}
-use Rattle.vr_record_file.specs.Now.{EndsUnit, FileNow, IsLockedIn, IsOf, IsOfDeck, IsStateOf}
+use Rattle.vr_record_file.specs.Now.{EndsUnit, FileNow, IsLockedIn, IsOf, IsOfCluster, IsOfDeck}
+use Rattle.vr_record_file.specs.Now.{IsStateOf}
 use Rattle.vr_record_file.specs.Now.{MayBeAsked, ended, has_deck, is_of_deck, lets_go, number_of}
 use Rattle.vr_record_file.specs.Now.{raised_for, state_now, with_event}
 use Rattle.vr_record_file.specs.declared.numbers.DeckNumber.{DeckNumber}
@@ -133,6 +134,8 @@ module _ (file : FileNow) (state : State) (unit : UnitOfRecovery) (is : IsOf fil
         (λ owned. has_part (parts_laid (catalog_of alone_state)) owned.part) state.owned is.owned;
     locked = locked_left unit state.locks state.logged is.locked;
     of_decks = all_left IsOfDeck (λ log. is_other unit log.unit) state.logged is.of_decks;
+    of_clusters = all_left IsOfCluster (λ kept. is_other unit kept.unit) state.befores
+        is.of_clusters;
   }
 
   pub ended_is : IsOf (ended unit file) (ends_unit unit state)

@@ -86,6 +86,7 @@ module _ (file : FileNow) (state : State) (deck slot : ℕ) (to : Position) (new
     owned = is.owned;
     locked = is.locked;
     of_decks = is.of_decks;
+    of_clusters = is.of_clusters;
   }
 
 -- locks are taken
@@ -103,6 +104,7 @@ locks_is file state unit mode names is = record {
   owned = is.owned;
   locked = locked_with unit mode names state.locks state.logged is.locked;
   of_decks = is.of_decks;
+  of_clusters = is.of_clusters;
 }
 
 roomy_is : (file : FileNow) (state : State) (room : ℕ) → IsOf file state
@@ -117,6 +119,7 @@ roomy_is file state room is = record {
   owned = is.owned;
   locked = is.locked;
   of_decks = is.of_decks;
+  of_clusters = is.of_clusters;
 }
 
 -- a read

@@ -47,6 +47,7 @@ new_state file locks files numbers stopped entries contents owned catalog alone 
       owned = laid;
       locked = tt;
       of_decks = tt;
+      of_clusters = tt;
     } in
     record {
       legal = subst (λ (l : List Entry). IsLegal file.geometry opening l) (sym entries) none;
@@ -70,6 +71,7 @@ roomy_state opening file room files_room is = let now = is.now in record {
     owned = now.owned;
     locked = now.locked;
     of_decks = now.of_decks;
+    of_clusters = now.of_clusters;
   };
 }
 
@@ -89,6 +91,7 @@ numbered_state opening file numbers same is = let now = is.now in record {
     owned = now.owned;
     locked = now.locked;
     of_decks = now.of_decks;
+    of_clusters = now.of_clusters;
   };
 }
 

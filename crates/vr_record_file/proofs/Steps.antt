@@ -61,6 +61,7 @@ let_go_is file state deck (Some on) is = record {
   owned = is.owned;
   locked = is.locked;
   of_decks = is.of_decks;
+  of_clusters = is.of_clusters;
 }
 
 -- An event is entered: what is in memory is then what the state after it has.
@@ -84,6 +85,7 @@ entered opening file to after line unit what is enters may none now =
       owned = now.owned;
       locked = now.locked;
       of_decks = now.of_decks;
+      of_clusters = now.of_clusters;
     } in
     record {
       legal = legal-append file.geometry opening file.entries entry is.legal enters may none;
@@ -191,6 +193,7 @@ module _ (opening : State) (file : FileNow) (after line : ℕ) (unit : UnitOfRec
         owned = now.owned;
         locked = now.locked;
         of_decks = now.of_decks;
+        of_clusters = now.of_clusters;
       } in
       record {
         legal = faulted_legal;

@@ -37,7 +37,7 @@ use Rattle.vr_history.specs.Merged.{last_stamp}
 use Rattle.vr_history.specs.Names.{with_locks}
 use Rattle.vr_history.specs.Opened.{catalog_of}
 use Rattle.vr_history.specs.Replies.{MayReply}
-use Rattle.vr_history.specs.State.{Logged, State}
+use Rattle.vr_history.specs.State.{BeforeImage, Logged, State}
 use Rattle.vr_history.specs.Step.{IsOfUnit, case_of}
 use Rattle.vr_answer.specs.Kept.{is_under}
 use Rattle.vr_answer.specs.Scope.{HasClustersAlone}
@@ -96,6 +96,10 @@ IsLockedIn locks logged =
 abbrev pub IsOfDeck : Logged → Type 0
 IsOfDeck logged = ((logged.unit.deck == 0) ≡ false) × ((logged.part == 0) ≡ false)
 
+-- nor is a before-image
+abbrev pub IsOfCluster : BeforeImage → Type 0
+IsOfCluster kept = (kept.part == 0) ≡ false
+
 -- A unit that has put a before-image back asks for BACKOUT next: it has begun to undo until its
 -- next request.
 abbrev pub undoing_after : UnitOfRecovery → Bool → Entry → What → Bool
@@ -130,6 +134,7 @@ pub record IsOf (file : FileNow) (state : State) : Type 0 where
       state.owned
   pub locked : AllByRecursion (IsLockedIn state.locks) state.logged
   pub of_decks : AllByRecursion IsOfDeck state.logged
+  pub of_clusters : AllByRecursion IsOfCluster state.befores
 
 -- Its history is legal from this opening, and what is in memory is what it gives.
 pub record IsStateOf (opening : State) (file : FileNow) : Type 0 where

@@ -83,15 +83,14 @@ impl RecordFile {
         self.enter_asked(unit, line, request, reply, after);
     }
 
-    /// Enters that the last before-image that a unit keeps, of a cluster, was put back. It takes no
-    /// memory.
+    /// Enters that the last before-image that a unit keeps was put back. It takes no memory.
     pub fn undone(&mut self, unit: Unit, part: PartNo, place: Place, after: u64)
         requires room { 0 < self.old.room }
         requires last { last_stamp 0 self.old.entries < 2 ^ 64 - 2 }
         requires after { after < 2 ^ 64 - 2 }
         ensures leaves { self.new ≡ with_event after unit 0 (whats.Undone part place) self.old }
         ensures state { (opening : State) → IsStateOf opening self.old
-            → IsLastKept (state_now opening self.old) unit part.0 place → (part.0 == 0) ≡ false
+            → IsLastKept (state_now opening self.old) unit part.0 place
             → IsStateOf opening self.new }
     {
         self.enter(unit, 0, What::Undone { part, place }, after);
