@@ -1,6 +1,6 @@
 -- What changes of records leave of what is in memory.
 use Rattle.std.proofs.Common.{◌≡◌, ℕ, ◌==◌, Bool, true, false, cond, if◌then◌else◌, List, [], ◌∷◌, ◌++◌}
-use Rattle.std.proofs.Common.{◌&&◌, not, filter, Option, Some, None, refl, sym, ap, ◌∙◌, subst, arith}
+use Rattle.std.proofs.Common.{◌&&◌, not, filter, Option, Some, refl, sym, ap, ◌∙◌, subst, arith}
 use Rattle.std.proofs.lemmas.Bool.Decides.{nat_tests}
 use Rattle.std.proofs.lemmas.Option.{none-some, same_Some}
 use Rattle.std.specs.List.{AllByRecursion}
@@ -19,7 +19,6 @@ use Rattle.vr_types.specs.declared.unit.Mode.{Mode}
 use Rattle.vr_types.specs.declared.unit.Mode.TheVariants.{Exclusive}
 use Rattle.vr_types.specs.declared.unit.PartNo.{PartNo}
 use Rattle.vr_types.specs.declared.unit.Unit.{Unit as UnitOfRecovery}
-use Rattle.vr_history.specs.declared.entry.What.{What}
 use Rattle.vr_history.specs.declared.entry.What.TheVariants.{Asked, Undone, Split}
 use Rattle.vr_history.specs.Case.{Case, file_of}
 use Rattle.vr_history.specs.Change.{Change, place_changed}

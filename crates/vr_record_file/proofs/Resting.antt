@@ -6,7 +6,6 @@ use Rattle.std.specs.Option.{is_none, option_and_then, option_copied, option_map
 use Rattle.vr_browse.specs.Positions.{position_of}
 use Rattle.vr_browse.specs.declared.positions.FilePosition.{FilePosition}
 use Rattle.vr_catalog.specs.Catalog.{entries_in}
-use Rattle.vr_catalog.specs.declared.entry.CatEntry.{CatEntry}
 use Rattle.vr_types.specs.Content.{Content}
 use Rattle.vr_types.specs.Locks.{Lock}
 use Rattle.vr_types.specs.declared.position.Position.{Position}
@@ -15,13 +14,12 @@ use Rattle.vr_history.specs.declared.entry.Entry.{Entry}
 use Rattle.vr_history.specs.Case.{file_of}
 use Rattle.vr_history.specs.Effects.{has_part, parts_laid}
 use Rattle.vr_history.specs.Legal.{IsLegal, state_of}
-use Rattle.vr_history.specs.Opened.{catalog_of}
-use Rattle.vr_history.specs.RefusedFile.{changed_catalog, is_catalog_changing}
+use Rattle.vr_history.specs.RefusedFile.{changed_catalog}
 use Rattle.vr_history.specs.RefusedRoom.{free_areas}
 use Rattle.vr_history.specs.State.{Logged, Owned, State, opening_state}
 use Rattle.vr_history.specs.Step.{case_of}
-use Rattle.vr_answer.specs.InHand.{IsCaseOf, whole}
-use Rattle.vr_answer.specs.Scope.{AreKeyedClusters, HasClustersAlone, IsDirect}
+use Rattle.vr_answer.specs.InHand.{IsCaseOf}
+use Rattle.vr_answer.specs.Scope.{AreKeyedClusters, IsDirect}
 use Rattle.vr_answer.specs.declared.case.Case.{Case as CaseInHand}
 use Rattle.vr_record_file.specs.Now.{FileNow, IsOf, IsOfDeck, IsStateOf, has_deck, held_in}
 use Rattle.vr_record_file.specs.Now.{is_of_deck, number_of, state_now}

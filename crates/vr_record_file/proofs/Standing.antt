@@ -1,7 +1,7 @@
 -- What locks are looked at for.
-use Rattle.std.proofs.Common.{◌≡◌, ℕ, Bool, false, List, [], ◌∷◌, ◌++◌, Option, Some, None, refl}
+use Rattle.std.proofs.Common.{◌≡◌, ℕ, false, List, [], ◌∷◌, Option, Some, None, refl}
 use Rattle.std.proofs.Common.{sym, ap, ◌∙◌}
-use Rattle.std.specs.Option.{option_map, option_or}
+use Rattle.std.specs.Option.{option_map}
 use Rattle.std.proofs.lemmas.Option.{none-some}
 use Rattle.vr_types.specs.Locks.{Lock, first_conflict, same_unit}
 use Rattle.vr_types.specs.declared.geometry.Geometry.{Geometry}
@@ -15,7 +15,7 @@ use Rattle.vr_types.specs.declared.unit.Unit.{Unit as UnitOfRecovery}
 use Rattle.vr_history.specs.Case.{Case}
 use Rattle.vr_history.specs.RefusedFile.{no_file}
 use Rattle.vr_history.specs.Replies.{IsAnswered, all_refusals, done_by, first_of, refused_or}
-use Rattle.vr_history.specs.State.{BeforeImage, Logged, State, opening_state}
+use Rattle.vr_history.specs.State.{Logged, State, opening_state}
 use Rattle.vr_history.specs.Step.{case_of}
 use Rattle.vr_answer.proofs.CallerLemmas.{kept_in_the_way}
 use Rattle.vr_record_file.specs.Now.{IsLockedIn}
@@ -56,8 +56,7 @@ stopped_alike geometry state unit request locks stamp refusal stopped answered =
     let first : first_of (all_refusals case) ≡ Some (first_or (no_file case) stamp) =
     first_stopped (no_file case) state.stopped stamp _ stopped in
     let first_other : first_of (all_refusals other) ≡ Some (first_or (no_file case) stamp) =
-    first_stopped (no_file case) state.stopped stamp _ stopped in
-    (
+    first_stopped (no_file case) state.stopped stamp _ stopped in (
       answered.0 ∙ ap (λ (o : Option Refusal). refused_or o (done_by other request)) first_other
           ∙ sym (ap (λ (o : Option Refusal). refused_or o (done_by case request)) first),
       λ none. absurd (none-some (first_or (no_file case) stamp) (sym none ∙ first)),

@@ -1,5 +1,5 @@
 -- What an event leaves of what is in memory.
-use Rattle.std.proofs.Common.{◌≡◌, ℕ, ◌==◌, ◌&&◌, if◌then◌else◌, Bool, true, false, not, List, [], ◌∷◌}
+use Rattle.std.proofs.Common.{◌≡◌, ℕ, ◌==◌, ◌&&◌, if◌then◌else◌, true, false, not, List, [], ◌∷◌}
 use Rattle.std.proofs.Common.{◌+◌, max, append_assoc, ◌++◌, Option, Some, None, refl, sym, ap, ◌∙◌, subst, arith}
 use Rattle.std.proofs.lemmas.Bool.Decides.{nat_tests}
 use Rattle.vr_browse.specs.Positions.{position_of, without_deck, without_held}

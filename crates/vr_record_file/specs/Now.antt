@@ -73,7 +73,7 @@ has_deck deck numbers = list_any (is_of_deck deck) numbers
 abbrev pub raised_for : ℕ → DeckNumber → DeckNumber
 raised_for deck number =
     if number.deck == deck
-      && nat_lt number.number (2 ^ 32 - 1) then record number { number = number.number + 1 } else
+    && nat_lt number.number (2 ^ 32 - 1) then record number { number = number.number + 1 } else
     number
 
 -- the place that the file of a request holds for update

@@ -22,17 +22,12 @@ use vr_types::{LockNames, Mode, PartNo, Place, Reply, SharedRequest, Unit};
 impl RecordFile {
     /// A unit takes locks, all or none.
     #[tactic(auto, using(vr_answer::proofs::CallerLemmas::taken_alike))]
-    pub(crate) fn lock(
-        &mut self,
-        unit: Unit,
-        names: &LockNames,
-        mode: Mode,
-    ) -> Result<(), LockNo>
+    pub(crate) fn lock(&mut self, unit: Unit, names: &LockNames, mode: Mode) -> Result<(), LockNo>
         ensures granted { OnOk result (conflict_on self.old.locks unit mode names.now ≡ None) }
         ensures refused { IfErr result
             (CauseOf (conflict_on self.old.locks unit mode names.now)) }
         ensures taken { OnOk result (self.new ≡ record self.old {
-            locks = with_locks unit mode names.now self.old.locks;
+          locks = with_locks unit mode names.now self.old.locks;
         }) }
         ensures unchanged { OnErr result (self.new ≡ self.old) }
     {
@@ -48,7 +43,7 @@ impl RecordFile {
         ensures refused { IfErr result
             (CauseOf (conflict_on self.old.locks unit Exclusive names.now)) }
         ensures taken { OnOk result (self.new ≡ record self.old {
-            locks = with_locks unit Exclusive names.now self.old.locks;
+          locks = with_locks unit Exclusive names.now self.old.locks;
         }) }
         ensures unchanged { OnErr result (self.new ≡ self.old) }
     {
