@@ -1,5 +1,6 @@
 -- What changes of records leave of what is in memory.
-use Rattle.std.proofs.Common.{◌≡◌, ℕ, ◌==◌, Bool, true, false, cond, if◌then◌else◌, List, [], ◌∷◌, ◌++◌}
+use Rattle.std.proofs.Common.{◌≡◌, ℕ, ◌==◌, Bool, true, false, cond, if◌then◌else◌, List, []}
+use Rattle.std.proofs.Common.{◌∷◌, ◌++◌}
 use Rattle.std.proofs.Common.{◌&&◌, not, filter, Option, Some, refl, sym, ap, ◌∙◌, subst, arith}
 use Rattle.std.proofs.lemmas.Bool.Decides.{nat_tests}
 use Rattle.std.proofs.lemmas.Option.{none-some, same_Some}
@@ -22,7 +23,8 @@ use Rattle.vr_types.specs.declared.unit.Unit.{Unit as UnitOfRecovery}
 use Rattle.vr_history.specs.declared.entry.What.TheVariants.{Asked, Undone, Split}
 use Rattle.vr_history.specs.Case.{Case, file_of}
 use Rattle.vr_history.specs.Change.{Change, place_changed}
-use Rattle.vr_history.specs.Effects.{changes, has_part, image_kept, keeps_other, last_of, parts_laid}
+use Rattle.vr_history.specs.Effects.{changes, has_part, image_kept, keeps_other, last_of}
+use Rattle.vr_history.specs.Effects.{parts_laid}
 use Rattle.vr_history.specs.Effects.{placed_in, without_last, takes_out, with_change}
 use Rattle.vr_history.specs.Names.{change_names, lock_names, record_name, with_lock, with_locks}
 use Rattle.vr_history.specs.Opened.{base_of, catalog_of}

@@ -1,4 +1,4 @@
--- What is in memory where no event was entered: at the opening, with more room, and with a deck more.
+-- What is in memory where no event was entered: at the opening, with more room, with a deck more.
 use Rattle.std.proofs.Common.{◌≡◌, ℕ, ◌==◌, ◌&&◌, ◌||◌, Bool, true, false, not, List, [], ◌∷◌, ◌++◌}
 use Rattle.std.proofs.Common.{Option, Some, None, refl, sym, ap, ◌∙◌, subst, find, cond}
 use Rattle.std.specs.List.{AllByRecursion, list_any}

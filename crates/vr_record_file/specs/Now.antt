@@ -1,7 +1,8 @@
 -- What a volume has in memory of its record file, beside the records: catalog, locks, positions,
 -- unit numbers, the fault that stopped it and its history; and when that is what its history gives.
 -- The rules are those of the record file; how it is kept is this project's own.
-use Rattle.std.specs.Prelude.{◌≡◌, ◌⊎◌, ◌+◌, ◌-◌, ◌^◌, ◌<◌, IsSome, nat_lt, ℕ, max, Bool, true, false, not, ◌==◌, ◌&&◌, ◌||◌, List, []}
+use Rattle.std.specs.Prelude.{◌≡◌, ◌⊎◌, ◌+◌, ◌-◌, ◌^◌, ◌<◌, IsSome, nat_lt, ℕ, max, Bool, true}
+use Rattle.std.specs.Prelude.{false, not, ◌==◌, ◌&&◌, ◌||◌, List, []}
 use Rattle.std.specs.Prelude.{◌∷◌, ◌++◌, Option, Some, None, filter, find, map, if◌then◌else◌}
 use Rattle.std.specs.List.{AllByRecursion, list_any}
 use Rattle.std.specs.Option.{option_and_then, option_map_or}
@@ -141,8 +142,8 @@ pub record IsStateOf (opening : State) (file : FileNow) : Type 0 where
   pub legal : IsLegal file.geometry opening file.entries
   pub now : IsOf file (state_now opening file)
 
--- A request may be entered with this reply: it is of its deck's current unit, which asks for BACKOUT
--- where it has begun to undo.
+-- A request may be entered with this reply: it is of its deck's current unit, which asks for
+-- BACKOUT where it has begun to undo.
 pub record MayBeAsked (opening : State) (file : FileNow) (unit : UnitOfRecovery) (request : Request)
     (reply : Reply) : Type 0 where
   pub current : IsOfUnit (state_now opening file) unit
