@@ -1,13 +1,14 @@
 -- What changes of records leave of what is in memory.
-use Rattle.std.proofs.Common.{◌≡◌, ℕ, ◌==◌, Bool, true, false, cond, if◌then◌else◌, List, [], ◌∷◌, ◌++◌}
-use Rattle.std.proofs.Common.{Option, Some, None, refl, sym, ap, ◌∙◌, subst, arith}
+use Rattle.std.proofs.Common.{◌≡◌, ℕ, ◌==◌, Bool, true, false, cond, if◌then◌else◌, List, []}
+use Rattle.std.proofs.Common.{◌∷◌, ◌++◌}
+use Rattle.std.proofs.Common.{◌&&◌, not, filter, Option, Some, refl, sym, ap, ◌∙◌, subst, arith}
 use Rattle.std.proofs.lemmas.Bool.Decides.{nat_tests}
-use Rattle.std.proofs.lemmas.Option.{none-some}
+use Rattle.std.proofs.lemmas.Option.{none-some, same_Some}
 use Rattle.std.specs.List.{AllByRecursion}
 use Rattle.std.specs.Option.{option_map_or}
 use Rattle.vr_catalog.specs.Catalog.{entries_in}
 use Rattle.vr_types.specs.Content.{Content}
-use Rattle.vr_types.specs.Locks.{Lock}
+use Rattle.vr_types.specs.Locks.{Lock, same_unit}
 use Rattle.vr_types.specs.declared.lock_name.LockName.{LockName}
 use Rattle.vr_types.specs.declared.lock_name.LockName.TheVariants.{Record}
 use Rattle.vr_types.specs.declared.reply.Reply.{Reply}
@@ -19,11 +20,12 @@ use Rattle.vr_types.specs.declared.unit.Mode.{Mode}
 use Rattle.vr_types.specs.declared.unit.Mode.TheVariants.{Exclusive}
 use Rattle.vr_types.specs.declared.unit.PartNo.{PartNo}
 use Rattle.vr_types.specs.declared.unit.Unit.{Unit as UnitOfRecovery}
-use Rattle.vr_history.specs.declared.entry.What.{What}
 use Rattle.vr_history.specs.declared.entry.What.TheVariants.{Asked, Undone, Split}
 use Rattle.vr_history.specs.Case.{Case, file_of}
 use Rattle.vr_history.specs.Change.{Change, place_changed}
-use Rattle.vr_history.specs.Effects.{changes, has_part, parts_laid, placed_in, takes_out, with_change}
+use Rattle.vr_history.specs.Effects.{changes, has_part, image_kept, keeps_other, last_of}
+use Rattle.vr_history.specs.Effects.{parts_laid}
+use Rattle.vr_history.specs.Effects.{placed_in, without_last, takes_out, with_change}
 use Rattle.vr_history.specs.Names.{change_names, lock_names, record_name, with_lock, with_locks}
 use Rattle.vr_history.specs.Opened.{base_of, catalog_of}
 use Rattle.vr_history.specs.State.{BeforeImage, Logged, Owned, State}
@@ -31,7 +33,8 @@ use Rattle.vr_history.specs.Step.{IsLastKept, after_asked, case_of, change_back}
 use Rattle.vr_answer.specs.After.{IsChanged, change_at}
 use Rattle.vr_answer.specs.Scope.{AreKeyedClusters}
 use Rattle.vr_answer.proofs.CallerLemmas.{after_change, kept_with, names_at, taken}
-use Rattle.vr_record_file.specs.Now.{FileNow, IsLockedIn, IsOf, IsOfDeck, IsStateOf, MayBeAsked}
+use Rattle.vr_record_file.specs.Now.{FileNow, IsLockedIn, IsOf, IsOfCluster, IsOfDeck, IsStateOf}
+use Rattle.vr_record_file.specs.Now.{MayBeAsked}
 use Rattle.vr_record_file.specs.Now.{lets_go, state_now, with_event}
 use Rattle.vr_record_file.proofs.Legal.{is_no_fault}
 use Rattle.vr_record_file.proofs.Steps.{entered, let_go_is}
@@ -70,6 +73,11 @@ all_unless : {X : Type 0} (P : X → Type 0) (xs : List X) (x : X) (b : Bool)
     → AllByRecursion P xs → P x → AllByRecursion P (xs ++ cond b [] (x ∷ []))
 all_unless P xs x true are is = append_nil P xs are
 all_unless P xs x false are is = all_append P xs x are is
+
+all_kept : {X : Type 0} (P : X → Type 0) (xs : List X) (x : X) (b : Bool)
+    → AllByRecursion P xs → P x → AllByRecursion P (cond b xs (xs ++ x ∷ []))
+all_kept P xs x true are is = are
+all_kept P xs x false are is = all_append P xs x are is
 
 -- a change is made
 module _ (file : FileNow) (before : List Lock) (state : State) (unit : UnitOfRecovery)
@@ -112,6 +120,9 @@ module _ (file : FileNow) (before : List Lock) (state : State) (unit : UnitOfRec
             (taken unit name state.locks)));
         of_decks = subst (λ (l : List Logged). AllByRecursion IsOfDeck l) (sym made.logged)
             (all_unless IsOfDeck state.logged one _ is.of_decks (of_deck, other));
+        of_clusters = subst (λ (l : List BeforeImage). AllByRecursion IsOfCluster l)
+            (sym made.befores) (all_kept IsOfCluster state.befores
+            (image_kept state unit (change_at case place)) _ is.of_clusters other);
       }
 
 -- the names of a change
@@ -161,6 +172,40 @@ changed_state opening file after line unit request reply before place feedback s
     no_refusal reply done = ap (λ (r : Reply). is_no_fault (Asked request r)) done
 
 -- a before-image is put back
+less_if : (b : Bool) (kept : BeforeImage) (rest less : List BeforeImage) → IsOfCluster kept
+    → AllByRecursion IsOfCluster rest → AllByRecursion IsOfCluster less
+    → AllByRecursion IsOfCluster (cond b rest (kept ∷ less))
+less_if true kept rest less is are are_less = are
+less_if false kept rest less is are are_less = (is, are_less)
+
+all_less : (unit : UnitOfRecovery) (befores : List BeforeImage)
+    → AllByRecursion IsOfCluster befores
+    → AllByRecursion IsOfCluster (without_last unit befores)
+all_less unit [] are = tt
+all_less unit (kept ∷ befores) are =
+    less_if (same_unit unit kept.unit && not (keeps_other unit befores)) kept befores
+    (without_last unit befores) are.0 are.1 (all_less unit befores are.1)
+
+-- the last kept before-image of a unit is one of those that are kept
+last_one : (befores : List BeforeImage) → AllByRecursion IsOfCluster befores
+    → (kept : BeforeImage) → last_of befores ≡ Some kept → IsOfCluster kept
+last_one [] are kept last = absurd (none-some kept last)
+last_one (one ∷ []) are kept last = subst IsOfCluster (same_Some one kept last) are.0
+last_one (one ∷ next ∷ rest) are kept last = last_one (next ∷ rest) are.1 kept last
+
+one_if : (b : Bool) (one : BeforeImage) (rest : List BeforeImage) → IsOfCluster one
+    → AllByRecursion IsOfCluster rest → AllByRecursion IsOfCluster (cond b (one ∷ rest) rest)
+one_if true one rest is are = (is, are)
+one_if false one rest is are = are
+
+all_own : (unit : UnitOfRecovery) (befores : List BeforeImage)
+    → AllByRecursion IsOfCluster befores
+    → AllByRecursion IsOfCluster (filter (λ kept. same_unit unit kept.unit) befores)
+all_own unit [] are = tt
+all_own unit (one ∷ befores) are =
+    one_if (same_unit unit one.unit) one (filter (λ kept. same_unit unit kept.unit) befores) are.0
+    (all_own unit befores are.1)
+
 module _ (file : FileNow) (state : State) (unit : UnitOfRecovery) (kept : BeforeImage)
     (is : IsOf file state) (other : (kept.part == 0) ≡ false) where
   abbrev put : State
@@ -180,19 +225,21 @@ module _ (file : FileNow) (state : State) (unit : UnitOfRecovery) (kept : Before
         owned = is.owned;
         locked = is.locked;
         of_decks = is.of_decks;
+        of_clusters = all_less unit state.befores is.of_clusters;
       }
 
 pub undone_state : (opening : State) (file : FileNow) (after : ℕ) (unit : UnitOfRecovery)
     (part : PartNo) (place : List ℕ) → IsStateOf opening file
-    → IsLastKept (state_now opening file) unit part.0 place → (part.0 == 0) ≡ false
+    → IsLastKept (state_now opening file) unit part.0 place
     → IsStateOf opening (with_event after unit 0 (Undone part place) file)
-undone_state opening file after unit part place is last other =
+undone_state opening file after unit part place is last =
     let state : State = state_now opening file in
     entered opening file file after 0 unit (Undone part place) is last tt refl
     (subst (λ (o : Option BeforeImage). IsOf file (option_map_or
     (λ this. takes_out unit (changes (change_back state this) state)) o state)) (sym last.1)
     (put_is file state unit last.0 is.now
-    (ap (λ (n : ℕ). n == 0) last.2 ∙ other)))
+    (last_one (filter (λ kept. same_unit unit kept.unit) state.befores)
+    (all_own unit state.befores is.now.of_clusters) last.0 last.1)))
 
 -- a split moves nothing
 pub split_state : (opening : State) (file : FileNow) (after : ℕ) (unit : UnitOfRecovery)

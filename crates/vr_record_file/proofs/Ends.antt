@@ -1,29 +1,27 @@
 -- What the end of a unit leaves of what is in memory.
-use Rattle.std.proofs.Common.{◌≡◌, ◌⊎◌, inl, inr, ℕ, ◌+◌, ◌-◌, ◌<◌, ◌^◌, ◌==◌, ◌&&◌, ◌||◌, Bool, true}
-use Rattle.std.proofs.Common.{false, not, cond, if◌then◌else◌, nat_eq, nat_lt, List, [], ◌∷◌, ◌++◌}
-use Rattle.std.proofs.Common.{Option, Some, None, refl, sym, ap, ◌∙◌, subst, arith, filter, find, map}
+use Rattle.std.proofs.Common.{◌≡◌, inl, inr, ℕ, ◌+◌, ◌-◌, ◌<◌, ◌^◌, ◌==◌, ◌||◌, Bool, true}
+use Rattle.std.proofs.Common.{false, cond, if◌then◌else◌, List, [], ◌∷◌}
+use Rattle.std.proofs.Common.{None, refl, sym, ap, ◌∙◌, subst, arith, filter, map}
 use Rattle.std.proofs.lemmas.Bool.Decides.{nat_tests}
 use Rattle.std.specs.List.{AllByRecursion, list_any}
-use Rattle.std.specs.Option.{option_map_or}
-use Rattle.vr_catalog.specs.Catalog.{parts_in}
 use Rattle.vr_types.specs.Locks.{Lock}
 use Rattle.vr_types.specs.Position.{unheld}
 use Rattle.vr_types.specs.declared.lock_name.LockName.TheVariants.{Record}
 use Rattle.vr_types.specs.declared.position.Position.{Position}
 use Rattle.vr_types.specs.declared.reply.Reply.TheVariants.{Done}
 use Rattle.vr_types.specs.declared.request.Request.{Request}
-use Rattle.vr_types.specs.declared.request.Request.TheVariants.{Commit, Backout}
 use Rattle.vr_types.specs.declared.unit.Unit.{Unit as UnitOfRecovery}
 use Rattle.vr_history.specs.declared.entry.What.TheVariants.{Asked}
-use Rattle.vr_history.specs.Effects.{contents_left, ends_unit, gives_back, has_part, is_other}
-use Rattle.vr_history.specs.Effects.{is_utility_live, parts_laid, without_unit}
+use Rattle.vr_history.specs.Effects.{contents_left, ends_unit, has_part, is_other}
+use Rattle.vr_history.specs.Effects.{parts_laid, without_unit}
 use Rattle.vr_history.specs.Opened.{catalog_of}
-use Rattle.vr_history.specs.State.{Logged, Owned, State}
+use Rattle.vr_history.specs.State.{Logged, State}
 use Rattle.vr_history.specs.Step.{after_asked, case_of}
 use Rattle.vr_answer.specs.Kept.{is_under}
 use Rattle.vr_answer.proofs.CallerLemmas.{any_left, other_held}
-use Rattle.vr_record_file.specs.Now.{EndsUnit, FileNow, IsLockedIn, IsOf, IsOfDeck, IsStateOf}
-use Rattle.vr_record_file.specs.Now.{MayBeAsked, ended, has_deck, is_of_deck, lets_go, number_of}
+use Rattle.vr_record_file.specs.Now.{EndsUnit, FileNow, IsLockedIn, IsOf, IsOfCluster, IsOfDeck}
+use Rattle.vr_record_file.specs.Now.{IsStateOf}
+use Rattle.vr_record_file.specs.Now.{MayBeAsked, ended, has_deck, number_of}
 use Rattle.vr_record_file.specs.Now.{raised_for, state_now, with_event}
 use Rattle.vr_record_file.specs.declared.numbers.DeckNumber.{DeckNumber}
 use Rattle.vr_record_file.proofs.Steps.{entered, without_deck-of}
@@ -133,6 +131,8 @@ module _ (file : FileNow) (state : State) (unit : UnitOfRecovery) (is : IsOf fil
         (λ owned. has_part (parts_laid (catalog_of alone_state)) owned.part) state.owned is.owned;
     locked = locked_left unit state.locks state.logged is.locked;
     of_decks = all_left IsOfDeck (λ log. is_other unit log.unit) state.logged is.of_decks;
+    of_clusters = all_left IsOfCluster (λ kept. is_other unit kept.unit) state.befores
+        is.of_clusters;
   }
 
   pub ended_is : IsOf (ended unit file) (ends_unit unit state)

@@ -1,17 +1,16 @@
 -- Legal histories that grow at their end.
-use Rattle.std.proofs.Common.{◌≡◌, ℕ, ◌+◌, Bool, true, false, cond, not, ◌&&◌, ◌||◌, List, [], ◌∷◌, ◌++◌}
+use Rattle.std.proofs.Common.{◌≡◌, ℕ, ◌+◌, Bool, true, false, cond, not, ◌||◌, List, [], ◌∷◌, ◌++◌}
 use Rattle.std.proofs.Common.{refl, sym, ap, ◌∙◌, ◌⊎◌, inl, inr}
 use Rattle.std.proofs.lemmas.Bool.{true≢false}
 use Rattle.vr_types.specs.Locks.{same_unit}
 use Rattle.vr_types.specs.declared.fault.DeviceFault.TheVariants.{Write}
 use Rattle.vr_types.specs.declared.geometry.Geometry.{Geometry}
-use Rattle.vr_types.specs.declared.reply.Reply.{Reply}
 use Rattle.vr_types.specs.declared.request.Request.{Request}
 use Rattle.vr_types.specs.declared.unit.Unit.{Unit as UnitOfRecovery}
 use Rattle.vr_history.specs.declared.entry.Entry.{Entry}
 use Rattle.vr_history.specs.declared.entry.What.{What}
 use Rattle.vr_history.specs.declared.entry.What.TheVariants.{Asked, Undone, Claimed, Split, Faulted}
-use Rattle.vr_history.specs.Legal.{AreSteps, BackOutOnceBegun, BacksOutAfter, IsLegal}
+use Rattle.vr_history.specs.Legal.{BackOutOnceBegun, BacksOutAfter, IsLegal}
 use Rattle.vr_history.specs.Legal.{StopAtWriteFaults, StopsAfter, asks_backout, backs_out}
 use Rattle.vr_history.specs.Legal.{is_backout, is_fault_at, is_write_fault, state_of}
 use Rattle.vr_history.specs.State.{State}

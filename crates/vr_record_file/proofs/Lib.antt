@@ -3,4 +3,5 @@ pub mod Ends
 pub mod Legal
 pub mod Placed
 pub mod Resting
+pub mod Standing
 pub mod Steps

@@ -1,10 +1,10 @@
 -- What reads and ENDREQ leave of what is in memory.
 use Rattle.std.proofs.Common.{◌≡◌, ℕ, ◌==◌, ◌&&◌, Bool, true, false, cond, if◌then◌else◌, List, []}
-use Rattle.std.proofs.Common.{◌∷◌, ◌++◌, Option, Some, None, refl, sym, ap, ◌∙◌, subst, arith, map}
-use Rattle.std.specs.Option.{option_map_or, option_to_list, unwrap_or}
+use Rattle.std.proofs.Common.{◌∷◌, Option, Some, None, refl, sym, ap, ◌∙◌, subst, arith, map}
+use Rattle.std.specs.Option.{option_to_list, unwrap_or}
 use Rattle.std.proofs.lemmas.Bool.{true≢false}
 use Rattle.std.proofs.lemmas.Bool.Decides.{nat_tests}
-use Rattle.vr_browse.specs.Positions.{SetsOnly, position_at, position_of, without_held}
+use Rattle.vr_browse.specs.Positions.{SetsOnly, position_of, without_held}
 use Rattle.vr_browse.specs.declared.positions.FilePosition.{FilePosition}
 use Rattle.vr_types.specs.Locks.{Lock}
 use Rattle.vr_types.specs.Position.{first_position, unheld}
@@ -31,7 +31,7 @@ use Rattle.vr_history.specs.Names.{lock_names, record_name, with_locks}
 use Rattle.vr_history.specs.State.{State}
 use Rattle.vr_history.specs.Step.{after_asked, case_of}
 use Rattle.vr_history.proofs.Same.{first_holds, nat_same, second_holds}
-use Rattle.vr_answer.proofs.CallerLemmas.{after_endreq, after_read}
+use Rattle.vr_answer.proofs.CallerLemmas.{after_read}
 use Rattle.vr_record_file.specs.Now.{FileNow, IsOf, IsStateOf, MayBeAsked, files_let_go, holds_at}
 use Rattle.vr_record_file.specs.Now.{locks_kept, mode_kept, state_now, with_event}
 use Rattle.vr_record_file.proofs.Changes.{locked_with}
@@ -86,6 +86,7 @@ module _ (file : FileNow) (state : State) (deck slot : ℕ) (to : Position) (new
     owned = is.owned;
     locked = is.locked;
     of_decks = is.of_decks;
+    of_clusters = is.of_clusters;
   }
 
 -- locks are taken
@@ -103,6 +104,7 @@ locks_is file state unit mode names is = record {
   owned = is.owned;
   locked = locked_with unit mode names state.locks state.logged is.locked;
   of_decks = is.of_decks;
+  of_clusters = is.of_clusters;
 }
 
 roomy_is : (file : FileNow) (state : State) (room : ℕ) → IsOf file state
@@ -117,6 +119,7 @@ roomy_is file state room is = record {
   owned = is.owned;
   locked = is.locked;
   of_decks = is.of_decks;
+  of_clusters = is.of_clusters;
 }
 
 -- a read

@@ -1,4 +1,4 @@
--- What is in memory where no event was entered: at the opening, with more room, and with a deck more.
+-- What is in memory where no event was entered: at the opening, with more room, with a deck more.
 use Rattle.std.proofs.Common.{◌≡◌, ℕ, ◌==◌, ◌&&◌, ◌||◌, Bool, true, false, not, List, [], ◌∷◌, ◌++◌}
 use Rattle.std.proofs.Common.{Option, Some, None, refl, sym, ap, ◌∙◌, subst, find, cond}
 use Rattle.std.specs.List.{AllByRecursion, list_any}
@@ -6,7 +6,6 @@ use Rattle.std.specs.Option.{is_none, option_and_then, option_copied, option_map
 use Rattle.vr_browse.specs.Positions.{position_of}
 use Rattle.vr_browse.specs.declared.positions.FilePosition.{FilePosition}
 use Rattle.vr_catalog.specs.Catalog.{entries_in}
-use Rattle.vr_catalog.specs.declared.entry.CatEntry.{CatEntry}
 use Rattle.vr_types.specs.Content.{Content}
 use Rattle.vr_types.specs.Locks.{Lock}
 use Rattle.vr_types.specs.declared.position.Position.{Position}
@@ -15,13 +14,12 @@ use Rattle.vr_history.specs.declared.entry.Entry.{Entry}
 use Rattle.vr_history.specs.Case.{file_of}
 use Rattle.vr_history.specs.Effects.{has_part, parts_laid}
 use Rattle.vr_history.specs.Legal.{IsLegal, state_of}
-use Rattle.vr_history.specs.Opened.{catalog_of}
-use Rattle.vr_history.specs.RefusedFile.{changed_catalog, is_catalog_changing}
+use Rattle.vr_history.specs.RefusedFile.{changed_catalog}
 use Rattle.vr_history.specs.RefusedRoom.{free_areas}
 use Rattle.vr_history.specs.State.{Logged, Owned, State, opening_state}
 use Rattle.vr_history.specs.Step.{case_of}
-use Rattle.vr_answer.specs.InHand.{IsCaseOf, whole}
-use Rattle.vr_answer.specs.Scope.{AreKeyedClusters, HasClustersAlone, IsDirect}
+use Rattle.vr_answer.specs.InHand.{IsCaseOf}
+use Rattle.vr_answer.specs.Scope.{AreKeyedClusters, IsDirect}
 use Rattle.vr_answer.specs.declared.case.Case.{Case as CaseInHand}
 use Rattle.vr_record_file.specs.Now.{FileNow, IsOf, IsOfDeck, IsStateOf, has_deck, held_in}
 use Rattle.vr_record_file.specs.Now.{is_of_deck, number_of, state_now}
@@ -47,6 +45,7 @@ new_state file locks files numbers stopped entries contents owned catalog alone 
       owned = laid;
       locked = tt;
       of_decks = tt;
+      of_clusters = tt;
     } in
     record {
       legal = subst (λ (l : List Entry). IsLegal file.geometry opening l) (sym entries) none;
@@ -70,6 +69,7 @@ roomy_state opening file room files_room is = let now = is.now in record {
     owned = now.owned;
     locked = now.locked;
     of_decks = now.of_decks;
+    of_clusters = now.of_clusters;
   };
 }
 
@@ -89,6 +89,7 @@ numbered_state opening file numbers same is = let now = is.now in record {
     owned = now.owned;
     locked = now.locked;
     of_decks = now.of_decks;
+    of_clusters = now.of_clusters;
   };
 }
 

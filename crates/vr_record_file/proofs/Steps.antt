@@ -1,6 +1,7 @@
 -- What an event leaves of what is in memory.
-use Rattle.std.proofs.Common.{◌≡◌, ℕ, ◌==◌, ◌&&◌, if◌then◌else◌, Bool, true, false, not, List, [], ◌∷◌}
-use Rattle.std.proofs.Common.{◌+◌, max, append_assoc, ◌++◌, Option, Some, None, refl, sym, ap, ◌∙◌, subst, arith}
+use Rattle.std.proofs.Common.{◌≡◌, ℕ, ◌==◌, ◌&&◌, if◌then◌else◌, true, false, not, List, [], ◌∷◌}
+use Rattle.std.proofs.Common.{◌+◌, max, append_assoc, ◌++◌, Option, Some, None, refl, sym, ap}
+use Rattle.std.proofs.Common.{◌∙◌, subst, arith}
 use Rattle.std.proofs.lemmas.Bool.Decides.{nat_tests}
 use Rattle.vr_browse.specs.Positions.{position_of, without_deck, without_held}
 use Rattle.vr_browse.specs.declared.positions.FilePosition.{FilePosition}
@@ -28,7 +29,8 @@ use Rattle.vr_history.specs.Step.{MayEnter, Step, after_what, case_of, stand_ref
 use Rattle.vr_history.proofs.CallerLemmas.{last_stamp-append, state_of-append, steps-append}
 use Rattle.vr_answer.proofs.CallerLemmas.{after_refused}
 use Rattle.vr_record_file.specs.Now.{FileNow, IsOf, IsStateOf, MayBeAsked, entry_next, files_let_go}
-use Rattle.vr_record_file.specs.Now.{failed, lets_go, next_stamp, state_now, with_event, with_memory}
+use Rattle.vr_record_file.specs.Now.{failed, lets_go, next_stamp, state_now, with_event}
+use Rattle.vr_record_file.specs.Now.{with_memory}
 use Rattle.vr_record_file.proofs.Legal.{MayCome, begun_more, if_true, is_no_fault, legal-append}
 use Rattle.vr_record_file.proofs.Legal.{stops-append}
 
@@ -61,6 +63,7 @@ let_go_is file state deck (Some on) is = record {
   owned = is.owned;
   locked = is.locked;
   of_decks = is.of_decks;
+  of_clusters = is.of_clusters;
 }
 
 -- An event is entered: what is in memory is then what the state after it has.
@@ -84,6 +87,7 @@ entered opening file to after line unit what is enters may none now =
       owned = now.owned;
       locked = now.locked;
       of_decks = now.of_decks;
+      of_clusters = now.of_clusters;
     } in
     record {
       legal = legal-append file.geometry opening file.entries entry is.legal enters may none;
@@ -191,6 +195,7 @@ module _ (opening : State) (file : FileNow) (after line : ℕ) (unit : UnitOfRec
         owned = now.owned;
         locked = now.locked;
         of_decks = now.of_decks;
+        of_clusters = now.of_clusters;
       } in
       record {
         legal = faulted_legal;

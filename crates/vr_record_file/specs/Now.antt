@@ -1,7 +1,8 @@
 -- What a volume has in memory of its record file, beside the records: catalog, locks, positions,
 -- unit numbers, the fault that stopped it and its history; and when that is what its history gives.
 -- The rules are those of the record file; how it is kept is this project's own.
-use Rattle.std.specs.Prelude.{◌≡◌, ◌⊎◌, ◌+◌, ◌-◌, ◌^◌, ◌<◌, IsSome, nat_lt, ℕ, max, Bool, true, false, not, ◌==◌, ◌&&◌, ◌||◌, List, []}
+use Rattle.std.specs.Prelude.{◌≡◌, ◌⊎◌, ◌+◌, ◌-◌, ◌^◌, ◌<◌, IsSome, nat_lt, ℕ, max, Bool, true}
+use Rattle.std.specs.Prelude.{false, not, ◌==◌, ◌&&◌, ◌||◌, List, []}
 use Rattle.std.specs.Prelude.{◌∷◌, ◌++◌, Option, Some, None, filter, find, map, if◌then◌else◌}
 use Rattle.std.specs.List.{AllByRecursion, list_any}
 use Rattle.std.specs.Option.{option_and_then, option_map_or}
@@ -37,7 +38,7 @@ use Rattle.vr_history.specs.Merged.{last_stamp}
 use Rattle.vr_history.specs.Names.{with_locks}
 use Rattle.vr_history.specs.Opened.{catalog_of}
 use Rattle.vr_history.specs.Replies.{MayReply}
-use Rattle.vr_history.specs.State.{Logged, State}
+use Rattle.vr_history.specs.State.{BeforeImage, Logged, State}
 use Rattle.vr_history.specs.Step.{IsOfUnit, case_of}
 use Rattle.vr_answer.specs.Kept.{is_under}
 use Rattle.vr_answer.specs.Scope.{HasClustersAlone}
@@ -73,7 +74,7 @@ has_deck deck numbers = list_any (is_of_deck deck) numbers
 abbrev pub raised_for : ℕ → DeckNumber → DeckNumber
 raised_for deck number =
     if number.deck == deck
-      && nat_lt number.number (2 ^ 32 - 1) then record number { number = number.number + 1 } else
+    && nat_lt number.number (2 ^ 32 - 1) then record number { number = number.number + 1 } else
     number
 
 -- the place that the file of a request holds for update
@@ -95,6 +96,10 @@ IsLockedIn locks logged =
 -- it is of a deck, and not of the utilities; nor is it in the catalog
 abbrev pub IsOfDeck : Logged → Type 0
 IsOfDeck logged = ((logged.unit.deck == 0) ≡ false) × ((logged.part == 0) ≡ false)
+
+-- nor is a before-image
+abbrev pub IsOfCluster : BeforeImage → Type 0
+IsOfCluster kept = (kept.part == 0) ≡ false
 
 -- A unit that has put a before-image back asks for BACKOUT next: it has begun to undo until its
 -- next request.
@@ -130,14 +135,15 @@ pub record IsOf (file : FileNow) (state : State) : Type 0 where
       state.owned
   pub locked : AllByRecursion (IsLockedIn state.locks) state.logged
   pub of_decks : AllByRecursion IsOfDeck state.logged
+  pub of_clusters : AllByRecursion IsOfCluster state.befores
 
 -- Its history is legal from this opening, and what is in memory is what it gives.
 pub record IsStateOf (opening : State) (file : FileNow) : Type 0 where
   pub legal : IsLegal file.geometry opening file.entries
   pub now : IsOf file (state_now opening file)
 
--- A request may be entered with this reply: it is of its deck's current unit, which asks for BACKOUT
--- where it has begun to undo.
+-- A request may be entered with this reply: it is of its deck's current unit, which asks for
+-- BACKOUT where it has begun to undo.
 pub record MayBeAsked (opening : State) (file : FileNow) (unit : UnitOfRecovery) (request : Request)
     (reply : Reply) : Type 0 where
   pub current : IsOfUnit (state_now opening file) unit

@@ -39,13 +39,7 @@ impl RecordFile {
     /// of the log in use. It agrees with the state that the history gives (`going`); once the
     /// volume has stopped, with the state that has the locks that are in memory (`always`), which
     /// no answer looks at then.
-    pub fn case<'a>(
-        &'a self,
-        unit: Unit,
-        request: &'a Request,
-        free: u32,
-        used: u64,
-    ) -> Case<'a>
+    pub fn case<'a>(&'a self, unit: Unit, request: &'a Request, free: u32, used: u64) -> Case<'a>
         ensures going { (opening : State) → IsStateOf opening self.now → self.now.stopped ≡ None
             → (unit.deck == 0) ≡ false → IsDirect request.now
             → used ≡ (state_now opening self.now).used

@@ -22,17 +22,12 @@ use vr_types::{LockNames, Mode, PartNo, Place, Reply, SharedRequest, Unit};
 impl RecordFile {
     /// A unit takes locks, all or none.
     #[tactic(auto, using(vr_answer::proofs::CallerLemmas::taken_alike))]
-    pub(crate) fn lock(
-        &mut self,
-        unit: Unit,
-        names: &LockNames,
-        mode: Mode,
-    ) -> Result<(), LockNo>
+    pub(crate) fn lock(&mut self, unit: Unit, names: &LockNames, mode: Mode) -> Result<(), LockNo>
         ensures granted { OnOk result (conflict_on self.old.locks unit mode names.now ≡ None) }
         ensures refused { IfErr result
             (CauseOf (conflict_on self.old.locks unit mode names.now)) }
         ensures taken { OnOk result (self.new ≡ record self.old {
-            locks = with_locks unit mode names.now self.old.locks;
+          locks = with_locks unit mode names.now self.old.locks;
         }) }
         ensures unchanged { OnErr result (self.new ≡ self.old) }
     {
@@ -48,7 +43,7 @@ impl RecordFile {
         ensures refused { IfErr result
             (CauseOf (conflict_on self.old.locks unit Exclusive names.now)) }
         ensures taken { OnOk result (self.new ≡ record self.old {
-            locks = with_locks unit Exclusive names.now self.old.locks;
+          locks = with_locks unit Exclusive names.now self.old.locks;
         }) }
         ensures unchanged { OnErr result (self.new ≡ self.old) }
     {
@@ -83,15 +78,14 @@ impl RecordFile {
         self.enter_asked(unit, line, request, reply, after);
     }
 
-    /// Enters that the last before-image that a unit keeps, of a cluster, was put back. It takes no
-    /// memory.
+    /// Enters that the last before-image that a unit keeps was put back. It takes no memory.
     pub fn undone(&mut self, unit: Unit, part: PartNo, place: Place, after: u64)
         requires room { 0 < self.old.room }
         requires last { last_stamp 0 self.old.entries < 2 ^ 64 - 2 }
         requires after { after < 2 ^ 64 - 2 }
         ensures leaves { self.new ≡ with_event after unit 0 (whats.Undone part place) self.old }
         ensures state { (opening : State) → IsStateOf opening self.old
-            → IsLastKept (state_now opening self.old) unit part.0 place → (part.0 == 0) ≡ false
+            → IsLastKept (state_now opening self.old) unit part.0 place
             → IsStateOf opening self.new }
     {
         self.enter(unit, 0, What::Undone { part, place }, after);

@@ -128,8 +128,8 @@ impl RecordFile {
     /// stays, whatever the answer.
     pub fn reserve(&mut self) -> Result<(), OutOfMemory>
         ensures same { self.new ≡ record self.old {
-            room = self.new.room;
-            files_room = self.new.files_room;
+          room = self.new.room;
+          files_room = self.new.files_room;
         } }
         ensures room { OnOk result (4 ≤ self.new.room) }
         ensures files_room { OnOk result (0 < self.new.files_room) }

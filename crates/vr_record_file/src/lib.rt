@@ -8,8 +8,10 @@ mod asked;
 mod changing;
 mod ending;
 mod file;
+mod laws;
 mod numbers;
 mod reading;
 mod refusing;
 
 pub use file::RecordFile;
+pub use laws::{logged_places_are_locked, stopped_volumes_look_at_no_lock};

@@ -25,8 +25,10 @@ use std::alloc::Global;
 use vr_answer::file_of;
 use vr_history::What;
 use vr_locks::LockNo;
-use vr_types::{Integrity, LockNames, Mode, OutOfMemory, Place, Position, Reply, Request};
-use vr_types::{SharedRequest, Stand, Unit};
+use vr_types::{
+    Integrity, LockNames, Mode, OutOfMemory, Place, Position, Reply, Request, SharedRequest, Stand,
+    Unit,
+};
 
 /// How a read that is done locks its record, where it keeps the lock: for update, and with CRE.
 fn mode_kept(request: &Request) -> Option<Mode>
@@ -34,7 +36,9 @@ fn mode_kept(request: &Request) -> Option<Mode>
 {
     match request {
         Request::Get {
-            update, integrity, ..
+            update,
+            integrity,
+            ..
         } => {
             if *update {
                 Some(Mode::Exclusive)
@@ -63,12 +67,7 @@ impl RecordFile {
     }
 
     /// Where the file of a request stands. It fails only if memory runs out.
-    fn stand(
-        &self,
-        alloc: Global,
-        deck: u32,
-        request: &Request,
-    ) -> Result<Stand, OutOfMemory>
+    fn stand(&self, alloc: Global, deck: u32, request: &Request) -> Result<Stand, OutOfMemory>
         ensures { (on : files.FileRef) → cases.file_of request.now ≡ Some on
             → IfOk result (λ stand. stand ≡ (position_of self.now.files deck on.slot).stand) }
     {
@@ -79,16 +78,11 @@ impl RecordFile {
     }
 
     /// A unit takes the locks that a read keeps, all or none.
-    fn lock_read(
-        &mut self,
-        unit: Unit,
-        request: &Request,
-        names: &LockNames,
-    ) -> Result<(), LockNo>
+    fn lock_read(&mut self, unit: Unit, request: &Request, names: &LockNames) -> Result<(), LockNo>
         ensures refused { IfErr result
             (CauseOf (conflict_kept unit (kept request.now) names.now self.old.locks)) }
         ensures taken { OnOk result (self.new ≡ record self.old {
-            locks = locks_kept unit (kept request.now) names.now self.old.locks;
+          locks = locks_kept unit (kept request.now) names.now self.old.locks;
         }) }
         ensures unchanged { OnErr result (self.new ≡ self.old) }
     {
@@ -102,8 +96,8 @@ impl RecordFile {
     fn place(&mut self, deck: u32, request: &Request, to: Position)
         requires { CanSet self.old deck (cases.file_of request.now) }
         ensures same { self.new ≡ record self.old {
-            files = self.new.files;
-            files_room = self.new.files_room;
+          files = self.new.files;
+          files_room = self.new.files_room;
         } }
         ensures set { (on : files.FileRef) → cases.file_of request.now ≡ Some on
             → SetsOnly self.old.files self.new.files deck on.slot to }
@@ -117,8 +111,8 @@ impl RecordFile {
     fn hold(&mut self, deck: u32, request: &Request, stand: Stand, held: Option<Place>)
         requires { CanSet self.old deck (cases.file_of request.now) }
         ensures same { self.new ≡ record self.old {
-            files = self.new.files;
-            files_room = self.new.files_room;
+          files = self.new.files;
+          files_room = self.new.files_room;
         } }
         ensures set { (on : files.FileRef) (at : List ℕ) → cases.file_of request.now ≡ Some on
             → held ≡ Some at
@@ -159,10 +153,10 @@ impl RecordFile {
         ensures unchanged { OnErr result (self.new ≡ self.old) }
         ensures leaves { OnOk result (self.new ≡ with_event after unit line
             (whats.Asked request reply) (record self.old {
-            locks = locks_kept unit (kept request) names.now self.old.locks;
-            files = self.new.files;
-            files_room = self.new.files_room;
-        })) }
+              locks = locks_kept unit (kept request) names.now self.old.locks;
+              files = self.new.files;
+              files_room = self.new.files_room;
+            })) }
         ensures state { OnOk result ((opening : State) (on : files.FileRef) (place : List ℕ)
             (update : Bool) (integrity : integrities.Integrity) (feedback : ℕ)
             (shown bytes : Option (List ℕ))
@@ -189,9 +183,9 @@ impl RecordFile {
         requires after { after < 2 ^ 64 - 2 }
         ensures leaves { self.new ≡ with_event after unit line
             (whats.Asked request (Done 0 None None)) (record self.old {
-            files = self.new.files;
-            files_room = self.new.files_room;
-        }) }
+              files = self.new.files;
+              files_room = self.new.files_room;
+            }) }
         ensures file { (on : files.FileRef) → cases.file_of request ≡ Some on
             → SetsOnly self.old.files self.new.files unit.deck on.slot
             (record { stand = stands.None; held = None }) }

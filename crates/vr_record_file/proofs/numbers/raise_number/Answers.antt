@@ -1,4 +1,4 @@
-use Rattle.std.proofs.Common.{◌≡◌, ◌<◌, length, get_or, arith}
+use Rattle.std.proofs.Common.{◌<◌, length, get_or, arith}
 use Rattle.std.proofs.lemmas.List.{get_or_default}
 use Rattle.std.proofs.lemmas.List.Edits.{map_over_more}
 use Rattle.vr_record_file.specs.Now.{raised_for}
@@ -11,7 +11,8 @@ loop-number-preserved c =
     let numbers = c.loop-number.numbers in
     let at = c.loop-number.number-index in
     let number : DeckNumber = get_or numbers at none in
-    let inside : at < length numbers = omega (arith, c.loop-number-test.true, c.loop-number.auto.numbers) in
+    let inside : at < length numbers =
+    omega (arith, c.loop-number-test.true, c.loop-number.auto.numbers) in
     let more = map_over_more
     (raised_for c.args.deck) c.args.numbers.now numbers at number c.loop-number-test.true
     c.loop-number.invariant (get_or_default numbers at none number inside) in

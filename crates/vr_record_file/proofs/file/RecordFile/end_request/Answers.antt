@@ -1,4 +1,4 @@
-use Rattle.std.proofs.Common.{◌≡◌, List, None, ap, sym, ◌∙◌, subst}
+use Rattle.std.proofs.Common.{List, None, ap, sym, ◌∙◌, subst}
 use Rattle.vr_browse.specs.Positions.{SetsOnly}
 use Rattle.vr_browse.specs.declared.positions.FilePosition.{FilePosition}
 use Rattle.vr_types.specs.declared.position.Stand.TheVariants.{None as Nowhere}

@@ -1,4 +1,4 @@
-use Rattle.std.proofs.Common.{◌≡◌, ℕ, List, ◌∷◌, [], ◌++◌, ap, ◌∙◌, subst, sym}
+use Rattle.std.proofs.Common.{List, ap, ◌∙◌, subst, sym}
 use Rattle.vr_record_file.specs.Now.{FileNow, IsStateOf, number_of}
 use Rattle.vr_record_file.specs.declared.numbers.DeckNumber.{DeckNumber}
 use Rattle.vr_record_file.proofs.Resting.{number_of_more, numbered_state}

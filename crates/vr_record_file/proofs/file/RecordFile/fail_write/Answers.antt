@@ -1,10 +1,7 @@
 use Rattle.std.proofs.Common.{◌≡◌, ℕ, Some, ◌∙◌, ap, sym, subst}
 use Rattle.vr_types.specs.declared.fault.DeviceFault.TheVariants.{Write}
-use Rattle.vr_types.specs.declared.reply.Refusal.TheVariants.{WriteFault}
-use Rattle.vr_types.specs.declared.reply.Reply.TheVariants.{Refused}
-use Rattle.vr_types.specs.declared.request.Request.{Request}
-use Rattle.vr_history.specs.declared.entry.What.TheVariants.{Asked, Faulted}
-use Rattle.vr_record_file.specs.Now.{FileNow, IsStateOf, asked_failing, failed, lets_go, next_stamp}
+use Rattle.vr_history.specs.declared.entry.What.TheVariants.{Faulted}
+use Rattle.vr_record_file.specs.Now.{FileNow, IsStateOf, failed, next_stamp}
 use Rattle.vr_record_file.specs.Now.{with_event}
 use Rattle.vr_record_file.proofs.Steps.{failed_state}
 use Rattle.vr_record_file.proofs.file.RecordFile.fail_write.Goals as goal

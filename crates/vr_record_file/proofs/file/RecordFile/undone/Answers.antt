@@ -4,7 +4,6 @@ use Rattle.vr_record_file.proofs.Changes.{undone_state}
 use Rattle.vr_record_file.proofs.file.RecordFile.undone.Goals as goal
 
 pub returns-clause-state : goal.returns-clause-state
-returns-clause-state c = λ opening is last other.
+returns-clause-state c = λ opening is last.
     subst (IsStateOf opening) (sym c.enter.ensures.leaves)
-    (undone_state opening c.args.self.now c.args.after c.args.unit c.args.part c.args.place is last
-    other)
+    (undone_state opening c.args.self.now c.args.after c.args.unit c.args.part c.args.place is last)

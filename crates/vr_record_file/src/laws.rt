@@ -1,0 +1,35 @@
+//! Laws of what is in memory, each the contract of a function that does nothing.
+ghost use Rattle.std.specs.Prelude.{◌≡◌, ℕ, false, List, None, Some};
+ghost use Rattle.vr_types.specs.Locks.{Lock, first_conflict, same_unit};
+ghost use Rattle.vr_types.specs.declared.geometry.Geometry.{Geometry};
+ghost use Rattle.vr_types.specs.declared.lock_name.LockName.TheVariants.{Record};
+ghost use Rattle.vr_types.specs.declared.reply.Refusal.{Refusal};
+ghost use Rattle.vr_types.specs.declared.reply.Reply.TheVariants.{Refused};
+ghost use Rattle.vr_types.specs.declared.request.Request.{Request};
+ghost use Rattle.vr_types.specs.declared.unit.Mode.{Mode};
+ghost use Rattle.vr_types.specs.declared.unit.Unit as units;
+ghost use Rattle.vr_history.specs.Replies.{IsAnswered};
+ghost use Rattle.vr_history.specs.State.{Logged, State};
+ghost use Rattle.vr_history.specs.Step.{case_of};
+ghost use Rattle.vr_record_file.specs.Now.{IsLockedIn};
+
+/// A place that the log has is under its unit's exclusive lock, which is in the way of every other
+/// unit.
+#[tactic(auto, using(crate::proofs::Standing::logged_in_the_way))]
+pub fn logged_places_are_locked()
+    ensures { (locks : List Lock) (logged : Logged) (unit : units.Unit) (mode : Mode)
+        → IsLockedIn locks logged → same_unit unit logged.unit ≡ false
+        → first_conflict locks unit mode (Record (record { 0 = logged.part }) logged.place) ≡ None
+        → ⊥ }
+{}
+
+/// Once the volume has stopped no answer looks at locks: what refuses a request over any locks
+/// refuses it.
+#[tactic(auto, using(crate::proofs::Standing::stopped_alike))]
+pub fn stopped_volumes_look_at_no_lock()
+    ensures { (geometry : Geometry) (state : State) (unit : units.Unit) (request : Request)
+        (locks : List Lock) (stamp : ℕ) (refusal : Refusal) → state.stopped ≡ Some stamp
+        → IsAnswered (case_of geometry (record state { locks = locks }) unit request)
+        (Refused refusal)
+        → IsAnswered (case_of geometry state unit request) (Refused refusal) }
+{}
