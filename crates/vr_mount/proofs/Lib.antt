@@ -7,3 +7,5 @@ pub mod Blocks
 pub mod Laying
 pub mod Marking
 pub mod Owning
+pub mod Keys
+pub mod Reading

@@ -4,3 +4,4 @@ pub mod Numbers
 pub mod Records
 pub mod Marks
 pub mod Areas
+pub mod Listing

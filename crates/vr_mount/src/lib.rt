@@ -3,7 +3,8 @@
 //!
 //! It promises that a header is taken exactly where block 0 is one of the volume's number and of a
 //! shape that the device has, and when each answer comes; that records are taken as a catalog
-//! exactly where they keep its rules; and in which areas its parts are.
+//! exactly where they keep its rules; in which areas its parts are; and that a list of a part's
+//! records is whole.
 #![tactic(auto)]
 
 mod areas;
@@ -11,6 +12,7 @@ mod catalog;
 mod distinct;
 mod header;
 mod laws;
+mod listing;
 mod no;
 mod records;
 mod rules;
@@ -19,4 +21,5 @@ pub use areas::{are_apart, are_on, owners_of};
 pub use catalog::catalog_of_records;
 pub use header::read_header;
 pub use laws::{header_version, one_header};
-pub use no::HeaderNo;
+pub use listing::records_of_part;
+pub use no::{HeaderNo, ListNo};

@@ -1,6 +1,6 @@
-//! Why a header is not taken.
+//! Why a header is not taken, and why records are not listed.
 
-use vr_types::DeviceFault;
+use vr_types::{DeviceFault, OutOfMemory};
 
 /// Why block 0 gives no shape.
 #[derive(Clone, Copy, Debug, PartialEq, Eq, Hash)]
@@ -26,5 +26,36 @@ impl From<DeviceFault> for HeaderNo {
             DeviceFault::Read => HeaderNo::Read,
             DeviceFault::Write => HeaderNo::Write,
         }
+    }
+}
+
+/// Why the records of a part are not listed.
+#[derive(Clone, Copy, Debug, PartialEq, Eq, Hash)]
+pub enum ListNo {
+    /// A fault of the device.
+    Fault(DeviceFault),
+    /// There is no memory for the records.
+    Memory,
+}
+
+impl From<DeviceFault> for ListNo {
+    ghost use Rattle.std.specs.Prelude.{◌≡◌};
+    ghost use Rattle.vr_mount.specs.declared.no.ListNo.TheVariants.{Fault};
+
+    ghost from_gives = { λ fault no. no ≡ Fault fault };
+
+    fn from(fault: DeviceFault) -> ListNo {
+        ListNo::Fault(fault)
+    }
+}
+
+impl From<OutOfMemory> for ListNo {
+    ghost use Rattle.std.specs.Prelude.{◌≡◌};
+    ghost use Rattle.vr_mount.specs.declared.no.ListNo.TheVariants.{Memory};
+
+    ghost from_gives = { λ _ no. no ≡ Memory };
+
+    fn from(_error: OutOfMemory) -> ListNo {
+        ListNo::Memory
     }
 }
