@@ -25,10 +25,15 @@ keys-placed : (part : Keyed) (items : List ci.Item) → All (IsKept part) items
     → AreKeys part.key (map (placed part) items)
 keys-placed part [] kept = tt
 keys-placed part (item ∷ items) kept =
-    let first : IsKept part item = All-head (IsKept part) item items kept in
-    (omega (arith, first.valid.least, length-take part.key (drop part.offset item.bytes),
-    length-drop part.offset item.bytes),
-    keys-placed part items (All-tail (IsKept part) item items kept))
+    let first : IsKept part item = All-head (IsKept part) item items kept in (
+      omega (
+        arith,
+        first.valid.least,
+        length-take part.key (drop part.offset item.bytes),
+        length-drop part.offset item.bytes,
+      ),
+      keys-placed part items (All-tail (IsKept part) item items kept),
+    )
 
 keys-filter : (n : ℕ) (range : Range) (xs : Content) → AreKeys n xs
     → AreKeys n (filter (λ (entry : Placed). is_in range entry.0) xs)
