@@ -5,30 +5,32 @@ use Rattle.std.specs.Prelude.{All}
 use Rattle.std.specs.List.{Contains}
 use Rattle.std.proofs.lemmas.Bool.{true≢false}
 use Rattle.std.proofs.lemmas.Bool.Decides.{Decides-eqb}
-use Rattle.vr_types.specs.Content.{Content}
+use Rattle.std.specs.Prelude.{option_map}
+use Rattle.vr_types.specs.Content.{Content, Standing}
 use Rattle.vr_types.specs.Locks.{same_unit}
 use Rattle.vr_types.specs.Seen.{Seen}
 use Rattle.vr_types.specs.declared.geometry.Geometry.{Geometry}
 use Rattle.vr_types.specs.declared.unit.PartNo.{PartNo}
 use Rattle.vr_types.specs.declared.unit.Unit.{Unit as UnitOfRecovery}
 use Rattle.vr_space.specs.Met.{Met}
-use Rattle.vr_space.specs.Part.{IsDueTo, Shape, part_no}
+use Rattle.vr_space.specs.Part.{IsDueTo, KeyedShape, Shape, part_no}
 use Rattle.vr_space.specs.Split.{SplitNow}
 use Rattle.vr_log.specs.LogNow.{LogNow}
 use Rattle.vr_history.specs.Effects.{without_last}
 use Rattle.vr_history.specs.State.{BeforeImage, State}
 use Rattle.vr_history.proofs.Same.{unit_same}
-use Rattle.vr_undo.specs.Records.{befores_of, images_in, logged_of}
+use Rattle.vr_undo.specs.Records.{befores_of, images_in, logged_of, place_of}
 use Rattle.vr_undo.specs.declared.record.KeptRecord.{KeptRecord}
 use Rattle.vr_volume.specs.Laid.{shape_by}
 use Rattle.vr_volume.specs.PutBack.{images_of, oldest}
 use Rattle.vr_volume.specs.Rests.{IsPartAtRest, IsVolumeAtRest}
+use Rattle.vr_volume.specs.Safe.{item_held}
 use Rattle.vr_volume.specs.Steps.{Changing, IsChangeOf, IsPutBack}
 use Rattle.vr_volume.proofs.Moving.{catalog-stays}
 use Rattle.vr_volume.proofs.Rested.{place-some}
 use Rattle.vr_volume.proofs.Undoing.{log-here, put-some}
 use Rattle.vr_event.specs.Changing.{IsSetIn}
-use Rattle.vr_event.specs.Ends.{IsToBack}
+use Rattle.vr_event.specs.Ends.{IsTakenFrom, IsToBack, back_at}
 use Rattle.vr_event.specs.Parts.{but_split}
 use Rattle.vr_event.specs.Store.{ChangedBy, IsPartSet, IsRestedPart, IsSet, IsStored, PartNow}
 use Rattle.vr_event.specs.Store.{StoreNow, blocks_of, part_among}
@@ -36,7 +38,7 @@ use Rattle.vr_event.proofs.Among.{HasShape, among-all, among-shape}
 use Rattle.vr_event.proofs.Keeping.{stored-sound}
 use Rattle.vr_event.proofs.PartsAt.{IsPartAt}
 use Rattle.vr_event.proofs.Placing.{all-with, map-with, shapes-same}
-use Rattle.vr_event.proofs.Recorded.{number-at}
+use Rattle.vr_event.proofs.Recorded.{number-at, part-number-at}
 use Rattle.vr_event.proofs.Storing.{due-longer}
 use Rattle.vr_event.proofs.Worked.{all-both}
 
@@ -188,3 +190,70 @@ module _ (number : ℕ) (store : StoreNow) (unit : UnitOfRecovery) (old new : St
             store.parts set.apart
             (all-both (IsPartSet store.log a) (IsRestedPart store old a) store.parts set.parts
             stored.parts))
+
+-- ---- one that was taken out
+
+held : (shape : Shape) (found : Option (List ℕ)) → option_map Standing found ≡ item_held shape found
+held (KeyedShape part) found = refl
+
+set-undo : (store : StoreNow) (now : Seen) (undo : List KeptRecord) → IsSet store now
+    → IsSet (record store { undo = undo }) now
+set-undo store now undo set = record {
+  allowed = set.allowed;
+  blocks = set.blocks;
+  sound = set.sound;
+  parts = set.parts;
+  apart = set.apart;
+  changed = set.changed;
+}
+
+module _ (number : ℕ) (store : StoreNow) (unit : UnitOfRecovery) (part : PartNo) (place : List ℕ)
+    (state : State) (a : Seen) (set : IsSet store a) (before : PartNow)
+    (found : part_among store.parts part.0 ≡ Some before)
+    (from : IsTakenFrom number store unit state a) where
+  -- the part is at rest
+  pub taken-part : IsPartAtRest store.log.geometry (images_in store.undo) state before.shape
+      before.split before.met a
+  taken-part = subst (λ (i : List BeforeImage).
+      IsPartAtRest store.log.geometry i state before.shape before.split before.met a)
+      (sym from.images)
+      (among-all (IsRestedPart (record store { undo = from.undo }) state a) store.parts part.0
+      before from.stored.parts found)
+
+  module _ (was item : Option (List ℕ)) (new : State)
+      (of : IsChangeOf store.log.geometry state (back_at unit part place was item))
+      (back : IsPutBack (back_at unit part place was item) state new) where
+    pub to-back : IsToBack store.log.geometry number store.log (images_in store.undo) state new
+        (back_at unit part place was item) before.shape before.split before.met place item a
+    to-back = record {
+      volume = subst (λ (i : List BeforeImage).
+          IsVolumeAtRest store.log.geometry number store.log i state a) (sym from.images)
+          from.stored.volume;
+      part = taken-part;
+      of = of;
+      step = back;
+      given = record {
+        part = part-number-at store a set part before found;
+        place_is = refl;
+        item = held before.shape item;
+      };
+    }
+
+    -- Once it is put back the store is the state's after it.
+    pub stored-taken : (b : Seen) (changed : List ChangedBy) (parts : List PartNow) (now : PartNow)
+        → IsPartAt part.0 before now store.parts parts → but_split now ≡ but_split before
+        → IsSetIn store.log.geometry number store.log (images_in store.undo)
+        (images_in store.undo) state new before.shape now.split now.met place
+        (blocks_of unit changed) a b
+        → ((n : ℕ) → Contains (blocks_of unit store.changed) n
+        → Contains (blocks_of unit changed) n)
+        → ((other : UnitOfRecovery) → same_unit other unit ≡ false
+        → blocks_of other changed ≡ blocks_of other store.changed)
+        → IsStored number (record store { parts = parts; changed = changed }) new b
+    stored-taken b changed parts now into same sets had others =
+        stored-back number (record store { undo = from.undo }) unit state new
+        (back_at unit part place was item) a (set-undo store a from.undo set) from.stored before
+        found refl of back b store.undo changed parts now into same
+        (subst (λ (i : List BeforeImage). IsSetIn store.log.geometry number store.log i i state new
+        before.shape now.split now.met place (blocks_of unit changed) a b) from.images sets)
+        had others from.images from.befores (ap (map place_of) from.images)

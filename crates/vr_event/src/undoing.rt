@@ -1,5 +1,6 @@
 //! A before-image of a unit of recovery is put back.
 ghost use Rattle.std.specs.Prelude.{◌≡◌, ◌<◌, ℕ, List, All, IsTrue, OnOk, IfErr, false, map};
+ghost use Rattle.std.specs.Prelude.{◌≢◌, IfSome, None, Option};
 ghost use Rattle.std.specs.List.{Contains};
 ghost use Rattle.vr_types.specs.Faults.{HasCause};
 ghost use Rattle.vr_types.specs.Locks.{same_unit};
@@ -24,22 +25,26 @@ ghost use Rattle.vr_undo.specs.Records.{images_in};
 ghost use Rattle.vr_volume.specs.Committed.{committed_by};
 ghost use Rattle.vr_volume.specs.PutBack.{lengths_kept};
 ghost use Rattle.vr_volume.specs.Safe.{IsSafeImage};
-ghost use Rattle.vr_volume.specs.Steps.{Changing};
-ghost use Rattle.vr_event.specs.Changing.{IsSetIn};
-ghost use Rattle.vr_event.specs.Ends.{IsToBack};
-ghost use Rattle.vr_event.specs.Store.{ChangedBy, blocks_of, changed_by};
+ghost use Rattle.vr_volume.specs.Steps.{Changing, IsChangeOf, IsPutBack};
+ghost use Rattle.vr_event.specs.Changing.{IsSetIn, IsSettable};
+ghost use Rattle.vr_event.specs.Ends.{IsTaken, IsTakenFrom, IsToBack, back_at};
+ghost use Rattle.vr_event.specs.Parts.{OnlyMet};
+ghost use Rattle.vr_event.specs.Store.{ChangedBy, IsSet, IsStored, blocks_of, changed_by};
+ghost use Rattle.vr_event.specs.Store.{part_among, shape_among};
 
 use crate::changed::UnitBlocks;
 use crate::changing::note_put;
+use crate::parts::index_of;
+use crate::store::Store;
 use vr_log::UndoLog;
 use vr_space::Part;
-use vr_types::{Blocks, DeviceFault, Place, Unit};
+use vr_types::{Blocks, DeviceFault, PartNo, Place, Unit};
 use vr_undo::Undo;
 use vr_volume::set_again;
 
 /// Puts a before-image back at its place of a part, and adds the blocks that it put to those of its
 /// unit. A fault is the device's.
-pub(crate) fn set_back<B: Blocks, P: Part>(
+fn set_back<B: Blocks, P: Part>(
     blocks: &mut B,
     log: &UndoLog,
     part: &mut P,
@@ -97,4 +102,69 @@ pub(crate) fn set_back<B: Blocks, P: Part>(
     set_again(blocks, log, part, undo, place, bytes)?;
     note_put(blocks, changed, unit, part.put_blocks())?;
     Ok(())
+}
+
+impl<P: Part> Store<P> {
+    /// Puts back at its place of a part the last before-image of a unit, which was taken out. A
+    /// fault is the device's.
+    pub(crate) fn put_taken<B: Blocks>(
+        &mut self,
+        blocks: &mut B,
+        number: PartNo,
+        unit: Unit,
+        place: &Place,
+        bytes: Option<&[u8]>,
+    ) -> Result<(), DeviceFault>
+        requires set { IsSet self.old (B.seen blocks.old) }
+        requires part { part_among self.old.parts number.0 ≢ None }
+        requires place { IfSome (shape_among self.old.parts number.0)
+            (λ shape. IsPlaceOf shape place.now) }
+        requires item { IfSome (shape_among self.old.parts number.0)
+            (λ shape. IsGiven shape place.now bytes) }
+        requires taken { IsTrue B.tells → IsTaken self.old unit (B.seen blocks.old) }
+        requires can { IsTrue B.tells → IsSettable self.old (B.seen blocks.old).cur number.0
+            place.now (given bytes) }
+        ensures back { IsTrue B.tells → OnOk result ((volume : ℕ) (was : Option (List ℕ))
+            (old new : State) → IsTakenFrom volume self.old unit old (B.seen blocks.old)
+            → IsChangeOf self.old.log.geometry old
+            (back_at unit number place.now was (given bytes.entry))
+            → IsPutBack (back_at unit number place.now was (given bytes.entry)) old new
+            → IsStored volume self.new new (B.seen blocks.new)) }
+        // At every moment, whether it fails or not.
+        ensures moments { IsTrue B.tells → (volume : ℕ) (was : Option (List ℕ)) (old new : State)
+            → IsTakenFrom volume self.old unit old (B.seen blocks.old)
+            → IsChangeOf self.old.log.geometry old
+            (back_at unit number place.now was (given bytes.entry))
+            → IsPutBack (back_at unit number place.now was (given bytes.entry)) old new
+            → Guards (B.seen blocks.old) (B.seen blocks.new)
+            (IsSafeImage self.old.log.geometry volume self.old.log (committed_by old)) }
+        ensures set { IsSet self.new (B.seen blocks.new) }
+        ensures parts { OnlyMet number.0 self.old.parts self.new.parts }
+        ensures others { (other : UnitOfRecovery) → same_unit other unit ≡ false
+            → blocks_of other self.new.changed ≡ blocks_of other self.old.changed }
+        ensures rest { self.new
+            ≡ record self.old { parts = self.new.parts; changed = self.new.changed } }
+        // Where room was asked for at the place, no read is made of it.
+        ensures reads { IfSome (part_among self.old.parts number.0)
+            (λ part. HasMet part.met place.now) → IfErr result (λ fault. fault ≡ Write) }
+        ensures cause { HasCause (B.faults blocks.old) (B.faults blocks.new) result }
+    {
+        match index_of(&self.parts, number) {
+            Some(at) => {
+                let part = &mut self.parts[at].part;
+                let undo = &self.undo;
+                set_back(
+                    blocks,
+                    &self.log,
+                    part,
+                    undo,
+                    &mut self.changed,
+                    unit,
+                    place,
+                    bytes,
+                )
+            }
+            None => unreachable!("the part is laid"),
+        }
+    }
 }
