@@ -16,3 +16,4 @@ pub mod Noting
 pub mod Steps
 pub mod Readying
 pub mod Storing
+pub mod Backs

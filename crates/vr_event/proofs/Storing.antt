@@ -53,7 +53,7 @@ some-same : {X : Type 0} {x y : X} → Some x ≡ Some y → x ≡ y
 some-same same = cc
 
 -- what is due to some blocks is due to more
-due-longer : (shape : Shape) (listed longer place : List ℕ) (a : Seen) → IsSound shape a
+pub due-longer : (shape : Shape) (listed longer place : List ℕ) (a : Seen) → IsSound shape a
     → ((n : ℕ) → Contains listed n → Contains longer n) → IsDueTo shape listed a place
     → IsDueTo shape longer a place
 due-longer shape listed longer place a sound within due =

@@ -118,7 +118,7 @@ fn put_at<B: Blocks, P: Part>(
 
 /// Adds blocks that a change put to those of its unit, or forces them where there is no room for
 /// them. `Write` is the device's.
-fn note_put<B: Blocks>(
+pub(crate) fn note_put<B: Blocks>(
     blocks: &mut B,
     changed: &mut Vec<UnitBlocks>,
     unit: Unit,

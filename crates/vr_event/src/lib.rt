@@ -13,6 +13,7 @@ mod reading;
 mod refusing;
 mod staging;
 mod store;
+mod undoing;
 mod volume;
 
 pub use no::LookNo;

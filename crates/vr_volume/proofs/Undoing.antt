@@ -348,7 +348,8 @@ module _ (geometry : Geometry) (log : LogNow) (old new : State) (change : Changi
     item-back : item_at (new.contents change.part.0) change.place ≡ change.new
     item-back = item-here geometry old new change laid of made.contents
 
-    log-here : oldest (images_of log.records) change.part.0 change.place ≡ Some image
+    -- the log has it
+    pub log-here : oldest (images_of log.records) change.part.0 change.place ≡ Some image
     log-here = logged.kept change.part.0 change.place image was-here
 
     pub logged-put-back : HasLogged log new
