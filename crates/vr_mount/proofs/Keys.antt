@@ -1,18 +1,18 @@
 -- A place with a record has the length of the part's places.
 use Rattle.std.proofs.Common.{◌≡◌, ℕ, Bool, true, false, List, [], ◌∷◌, ◌++◌, map, Option, Some}
-use Rattle.std.proofs.Common.{None, refl, sym, ap, subst, ◌∙◌, length, take, drop, arith}
+use Rattle.std.proofs.Common.{None, sym, ap, subst, ◌∙◌, length, drop, arith}
 use Rattle.std.proofs.lemmas.List.{length-take, length-drop}
 use Rattle.std.proofs.lemmas.List.Elements.{All-head, All-tail}
 use Rattle.std.specs.Prelude.{All, filter, cond}
-use Rattle.vr_types.specs.Content.{Content, Placed, place_cmp, record_at}
+use Rattle.vr_types.specs.Content.{Content, Placed}
 use Rattle.vr_types.specs.Image.{Image, block_at}
 use Rattle.vr_types.proofs.CallerLemmas.{same_place}
 use Rattle.vr_ci.specs.Interval as ci
 use Rattle.vr_seqset.specs.Entry.{Entry}
 use Rattle.vr_space.specs.Room.{Range, is_in}
 use Rattle.vr_space.specs.Keyed.{Keyed, HoldRanges, IsKept, entry_block, entries_of, items_of}
-use Rattle.vr_space.specs.Keyed.{placed, records_of, records_in, range_of, content_from, key_of}
-use Rattle.vr_space.specs.Part.{Shape, KeyedShape, IsPlaceOf, StandsFor, Stands, item_of}
+use Rattle.vr_space.specs.Keyed.{placed, records_of, records_in, range_of, content_from}
+use Rattle.vr_space.specs.Part.{Shape, KeyedShape, IsPlaceOf, Stands, item_of}
 use Rattle.vr_space.specs.Part.{place_length}
 use Rattle.vr_space.proofs.CallerLemmas.{NoneAt, none-record, content_item}
 

@@ -1,4 +1,4 @@
-use Rattle.std.proofs.Common.{◌≡◌, refl, sym, ◌∙◌, ap, subst, Option, None, List, ℕ}
+use Rattle.std.proofs.Common.{refl, sym, ◌∙◌, ap, subst, Option, None, List, ℕ}
 use Rattle.vr_types.proofs.CallerLemmas.{keeps-none, keeps-then}
 use Rattle.vr_space.specs.Part.{place_length}
 use Rattle.vr_mount.proofs.Reading.{AreRead, none_read, added_read, ended_read, still_stands}
