@@ -227,7 +227,7 @@ impl<P: Part> Store<P> {
     /// Makes these bytes the record at a place of a part, or takes the record there away, once `keep`
     /// has prepared it. `Full` says that the log is, and then nothing is done; `Read` and `Write` are
     /// the device's.
-    pub(crate) fn make<B: Blocks>(
+    pub fn make<B: Blocks>(
         &mut self,
         blocks: &mut B,
         number: PartNo,

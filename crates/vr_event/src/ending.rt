@@ -31,7 +31,7 @@ impl<P: Part> Store<P> {
     /// Forces the last four of the blocks that a unit changed, or all where there are no more, and
     /// answers how many are left, at most 2^32 - 1. `Write` is the device's, and then the store is
     /// as before.
-    pub(crate) fn force_some<B: Blocks>(
+    pub fn force_some<B: Blocks>(
         &mut self,
         blocks: &mut B,
         unit: Unit,
@@ -64,7 +64,7 @@ impl<P: Part> Store<P> {
 
     /// Ends a unit of recovery whose changed blocks are all forced: its end is logged and forced,
     /// and what is kept of it is forgotten. `Write` is the device's.
-    pub(crate) fn end<B: Blocks>(
+    pub fn end<B: Blocks>(
         &mut self,
         blocks: &mut B,
         unit: Unit,

@@ -16,6 +16,9 @@ mod store;
 mod undoing;
 mod volume;
 
+pub use changed::UnitBlocks;
 pub use no::LookNo;
+pub use parts::Laid;
+pub use preparing::Prepared;
 pub use store::Store;
 pub use volume::Volume;

@@ -56,7 +56,7 @@ impl<P: Part> Store<P> {
     /// change, so that the rest of it takes none: the record of the log, and room for four more
     /// blocks that the unit changed. Fails only if memory runs out, or for a record of 4 GiB or
     /// more, and then the store is as before.
-    pub(crate) fn keep<B: Blocks>(
+    pub fn keep<B: Blocks>(
         &mut self,
         blocks: &B,
         alloc: Global,
@@ -92,7 +92,7 @@ impl<P: Part> Store<P> {
     }
 
     /// Takes back what `keep` kept, where the change isn't made after all.
-    pub(crate) fn unkeep<B: Blocks>(
+    pub fn unkeep<B: Blocks>(
         &mut self,
         blocks: &B,
         unit: Unit,

@@ -17,7 +17,7 @@ use vr_types::{Blocks, Bytes, PartNo, Place, bytes};
 impl<P: Part> Store<P> {
     /// Copies the record at a place of a part; None where there is none, or no such part. `Fault`
     /// is the device's, and `Memory` says that memory ran out for the copy.
-    pub(crate) fn look<B: Blocks>(
+    pub fn look<B: Blocks>(
         &mut self,
         alloc: Global,
         blocks: &mut B,

@@ -5,7 +5,8 @@ ghost use Rattle.vr_history.specs.Legal.{is_write_fault};
 ghost use Rattle.vr_history.specs.Merged.{last_stamp};
 ghost use Rattle.vr_history.specs.State.{State};
 ghost use Rattle.vr_history.specs.Step.{stand_refused};
-ghost use Rattle.vr_record_file.specs.Now.{MayBeAsked};
+ghost use Rattle.vr_history.specs.declared.entry.What.TheVariants.{Asked};
+ghost use Rattle.vr_record_file.specs.Now.{MayBeAsked, lets_go, with_event};
 ghost use Rattle.vr_event.specs.Volume.{IsHeld, IsWhole};
 
 use crate::volume::Volume;
@@ -15,7 +16,7 @@ use vr_types::{Blocks, Refusal, SharedRequest, Unit};
 impl<B: Blocks, P: Part> Volume<B, P> {
     /// Enters a request that is refused, but for a fault of a write. No block is touched, and what
     /// the blocks hold stays what the history gives.
-    pub(crate) fn refuse(
+    pub fn refuse(
         &mut self,
         unit: Unit,
         line: u32,
@@ -31,7 +32,11 @@ impl<B: Blocks, P: Part> Volume<B, P> {
             → stand_refused request refusal ≡ None → is_write_fault (Refused refusal) ≡ false
             → IsHeld B.seen opening self.new }
         ensures whole { IsWhole B.seen self.old → IsWhole B.seen self.new }
-        ensures blocks { self.new.blocks ≡ self.old.blocks }
+        // The entry, and that its file lets go what it held, are all that is new.
+        ensures leaves { self.new ≡ record self.old {
+          file = with_event after unit line (Asked request (Refused refusal))
+              (lets_go unit.deck request self.old.file);
+        } }
     {
         self.file.refuse(unit, line, request, refusal, after);
     }

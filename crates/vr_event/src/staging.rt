@@ -24,7 +24,7 @@ impl<P: Part> Store<P> {
     /// Whether a record of this length has room at a place of a part, beside what stands there and
     /// what units may put back. The part keeps what it met, so that it may be set at the place
     /// without a read. A fault is the device's.
-    pub(crate) fn ask_room<B: Blocks>(
+    pub fn ask_room<B: Blocks>(
         &mut self,
         blocks: &mut B,
         number: PartNo,
@@ -66,7 +66,7 @@ impl<P: Part> Store<P> {
 
     /// Does the stage that comes before a record of this length at a place of a part, and answers
     /// it. The caller asks for room again. A fault is the device's.
-    pub(crate) fn advance<B: Blocks>(
+    pub fn advance<B: Blocks>(
         &mut self,
         blocks: &mut B,
         number: PartNo,

@@ -4,6 +4,7 @@ ghost use Rattle.std.specs.Prelude.{◌≡◌};
 
 use crate::changed::UnitBlocks;
 use crate::parts::Laid;
+use std::alloc::Global;
 use std::marker::Model;
 use vr_log::UndoLog;
 use vr_space::Part;
@@ -34,4 +35,29 @@ impl<P: Part> Model for Store<P> {
       changed = map changed_by store.changed.items;
       space = store.space;
     } };
+}
+
+impl<P: Part> Store<P> {
+    ghost use Rattle.std.specs.Prelude.{[], map};
+    ghost use Rattle.vr_event.specs.Store.{part_now};
+
+    /// A store of these parts and this log, in which no unit of recovery has changed anything. It
+    /// takes no memory.
+    pub fn new(alloc: Global, parts: Vec<Laid<P>>, log: UndoLog, space: Space) -> Store<P>
+        ensures { result ≡ record {
+          log = log;
+          undo = [];
+          parts = map (part_now P.shape P.split P.met) parts.items;
+          changed = [];
+          space = space;
+        } }
+    {
+        Store {
+            parts,
+            log,
+            undo: Undo::new(alloc),
+            changed: Vec::new(alloc),
+            space,
+        }
+    }
 }

@@ -107,7 +107,7 @@ fn set_back<B: Blocks, P: Part>(
 impl<P: Part> Store<P> {
     /// Puts back at its place of a part the last before-image of a unit, which was taken out. A
     /// fault is the device's.
-    pub(crate) fn put_taken<B: Blocks>(
+    pub fn put_taken<B: Blocks>(
         &mut self,
         blocks: &mut B,
         number: PartNo,
