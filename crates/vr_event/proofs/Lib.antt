@@ -10,3 +10,4 @@ pub mod Kept
 pub mod Setting
 pub mod Like
 pub mod Entering
+pub mod Readings

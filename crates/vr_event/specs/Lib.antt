@@ -5,3 +5,4 @@ pub mod Cause
 pub mod Changing
 pub mod Volume
 pub mod Alike
+pub mod Getting

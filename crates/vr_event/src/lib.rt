@@ -3,8 +3,10 @@
 //! the record file (vr_answer), locks (vr_locks) and positions (vr_browse).
 #![tactic(auto)]
 
+mod answering;
 mod changed;
 mod changing;
+mod getting;
 mod no;
 mod parts;
 mod preparing;

@@ -1,0 +1,136 @@
+//! Direct GETs, and ENDREQ.
+ghost use Rattle.std.specs.Prelude.{◌≡◌, ◌==◌, ◌<◌, ◌≤◌, ◌-◌, ◌^◌, ℕ, IfOk, IfSome, IsTrue, List};
+ghost use Rattle.std.specs.Prelude.{None, cond, false, true};
+ghost use Rattle.std.specs.Option.{option_copied};
+ghost use Rattle.vr_types.specs.Blocks.{Keeps};
+ghost use Rattle.vr_types.specs.Moments.{Guards};
+ghost use Rattle.vr_types.specs.declared.request.FileRef as files;
+ghost use Rattle.vr_types.specs.declared.request.Request.TheVariants as requests;
+ghost use Rattle.vr_types.specs.declared.reply.Reply.TheVariants as replies;
+ghost use Rattle.vr_history.specs.Case as cases;
+ghost use Rattle.vr_history.specs.Found.{place_read as read_at};
+ghost use Rattle.vr_history.specs.Legal.{is_write_fault};
+ghost use Rattle.vr_history.specs.Merged.{last_stamp};
+ghost use Rattle.vr_history.specs.Replies.{first_of};
+ghost use Rattle.vr_history.specs.State.{State};
+ghost use Rattle.vr_history.specs.Step.{IsOfUnit, case_of, stand_refused};
+ghost use Rattle.vr_answer.specs.InHand.{InEach, InEachWith};
+ghost use Rattle.vr_answer.specs.Tried.{file_refusals, record_refusals};
+ghost use Rattle.vr_record_file.specs.Now.{CanSet, IsStateOf, MayBeAsked, is_undoing, state_now};
+ghost use Rattle.vr_volume.specs.Committed.{committed_by};
+ghost use Rattle.vr_volume.specs.Safe.{IsSafeImage};
+ghost use Rattle.vr_event.specs.Getting as getting;
+ghost use Rattle.vr_event.specs.Volume.{Holds, IsHeld, IsWhole};
+
+use crate::no::LookNo;
+use crate::store::Store;
+use crate::volume::Volume;
+use std::alloc::Global;
+use vr_answer::{Case, done, lock_names, place_read, refused_by_record};
+use vr_catalog::Catalog;
+use vr_record_file::RecordFile;
+use vr_space::Part;
+use vr_types::{Blocks, Bytes, DeviceFault, Find, LockNames, OutOfMemory, PartNo, Place, Refusal};
+use vr_types::{Reply, Request, SharedRequest, Unit, place};
+
+/// What a GET comes to before it is entered.
+#[derive(Debug, Drop)]
+pub(crate) enum Outcome {
+    /// It is refused.
+    Refused(Refusal),
+    /// It is done: its reply, the names that it locks, and the place that its file holds for update.
+    Done {
+        reply: Reply,
+        names: LockNames,
+        held: Option<Place>,
+    },
+}
+
+/// A copy of a place, where there is one.
+fn copied(alloc: Global, at: Option<&[u8]>) -> Result<Option<Place>, OutOfMemory>
+    ensures { IfOk result (λ held. held ≡ option_copied at.entry) }
+{
+    match at {
+        None => Ok(None),
+        Some(at) => Ok(Some(place(alloc, at)?)),
+    }
+}
+
+/// Whether a request is a GET for update.
+fn is_for_update(request: &Request) -> bool
+    ensures { result ≡ getting.is_for_update request.now }
+{
+    match request {
+        Request::Get { update, .. } => *update,
+        Request::Point { .. } | Request::Add { .. } | Request::Update { .. } => false,
+        Request::Erase { .. } | Request::EndReq { .. } => false,
+        Request::Commit | Request::Backout => false,
+    }
+}
+
+/// The place that the file of a GET holds once it is done.
+fn held_for(alloc: Global, case: &Case) -> Result<Option<Place>, OutOfMemory>
+    ensures { IfOk result (λ held. InEach case.now (λ whole.
+        held ≡ cond (getting.is_for_update whole.request) (read_at whole) None)) }
+{
+    if is_for_update(case.request) {
+        copied(alloc, place_read(case))
+    } else {
+        Ok(None)
+    }
+}
+
+/// What a GET that is done comes to.
+fn done_outcome(
+    alloc: Global,
+    case: &Case,
+    present: Option<&[u8]>,
+) -> Result<Outcome, OutOfMemory>
+    ensures { IfOk result (λ outcome. InEachWith case.now (option_copied present.entry)
+        (λ whole. first_of (file_refusals whole) ≡ None → first_of (record_refusals whole) ≡ None
+        → getting.IsGetOf whole.request → getting.MayEnd whole outcome)) }
+{
+    let reply = done(alloc, case, present)?;
+    let names = lock_names(alloc, case)?;
+    let held = held_for(alloc, case)?;
+    Ok(Outcome::Done { reply, names, held })
+}
+
+/// What a GET that nothing in memory refuses comes to, by the record that is there.
+fn outcome_of(alloc: Global, case: &Case, present: Option<&[u8]>) -> Result<Outcome, OutOfMemory>
+    ensures { IfOk result (λ outcome. InEachWith case.now (option_copied present.entry)
+        (λ whole. first_of (file_refusals whole) ≡ None → getting.IsGetOf whole.request
+        → getting.MayEnd whole outcome)) }
+{
+    match refused_by_record(alloc, case, present)? {
+        Some(refusal) => Ok(Outcome::Refused(refusal)),
+        None => done_outcome(alloc, case, present),
+    }
+}
+
+impl<B: Blocks, P: Part> Volume<B, P> {
+    /// Enters an ENDREQ of a deck: its file stands nowhere and holds nothing then. No block is
+    /// touched, and what the blocks hold stays what the history gives. There is room for one more
+    /// file, or the file was set before.
+    pub(crate) fn end_request(
+        &mut self,
+        unit: Unit,
+        line: u32,
+        request: SharedRequest,
+        after: u64,
+    )
+        requires room { 0 < self.old.file.room }
+        requires files { CanSet self.old.file unit.deck (cases.file_of request) }
+        requires last { last_stamp 0 self.old.file.entries < 2 ^ 64 - 2 }
+        requires after { after < 2 ^ 64 - 2 }
+        ensures held { IsTrue B.tells → (opening : State) (on : files.FileRef)
+            → IsHeld B.seen opening self.old
+            → MayBeAsked opening self.old.file unit request (replies.Done 0 None None)
+            → request ≡ requests.EndReq on → IsHeld B.seen opening self.new }
+        ensures whole { IsWhole B.seen self.old → IsWhole B.seen self.new }
+        ensures entered { getting.HasEntered after unit line request self.old.file self.new.file }
+        ensures blocks { self.new.blocks ≡ self.old.blocks }
+    {
+        self.file.end_request(unit, line, request, after);
+    }
+}
