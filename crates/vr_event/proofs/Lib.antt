@@ -11,3 +11,6 @@ pub mod Setting
 pub mod Like
 pub mod Entering
 pub mod Readings
+pub mod Early
+pub mod Ended
+pub mod Known

@@ -1,6 +1,6 @@
 -- What a direct GET comes to before it is entered, and which of it may be entered. The rules are those
 -- of the record file.
-use Rattle.std.specs.Prelude.{◌≡◌, ◌⊎◌, ℕ, Bool, false, cond, List, Option, None, IfSome, length}
+use Rattle.std.specs.Prelude.{◌≡◌, ◌⊎◌, ℕ, Bool, false, cond, List, Option, Some, None, length, ◌==◌}
 use Rattle.std.specs.Prelude.{nat_eq}
 use Rattle.std.specs.Option.{option_map_or}
 use Rattle.vr_catalog.specs.Catalog.{definition_of}
@@ -21,9 +21,17 @@ use Rattle.vr_history.specs.declared.entry.What.TheVariants.{Asked}
 use Rattle.vr_history.specs.Case.{Case}
 use Rattle.vr_history.specs.Found.{place_read}
 use Rattle.vr_history.specs.Names.{lock_names}
-use Rattle.vr_history.specs.Replies.{MayReply, done_by}
-use Rattle.vr_history.specs.Step.{stand_refused}
-use Rattle.vr_record_file.specs.Now.{FileNow, failed, with_event}
+use Rattle.vr_history.specs.Replies.{MayReply, done_by, first_of}
+use Rattle.vr_history.specs.State.{State}
+use Rattle.vr_history.specs.Step.{IsOfUnit, case_of, stand_refused}
+use Rattle.vr_answer.specs.Tried.{file_refusals}
+use Rattle.vr_record_file.specs.Now.{FileNow, failed, is_undoing, state_now, with_event}
+use Rattle.vr_types.specs.declared.fault.DeviceFault.TheVariants.{Read, Write}
+use Rattle.vr_types.specs.declared.reply.Refusal.{Refusal}
+use Rattle.vr_types.specs.declared.reply.Refusal.TheVariants.{Memory as NoMemory, ReadFault}
+use Rattle.vr_types.specs.declared.reply.Refusal.TheVariants.{WriteFault}
+use Rattle.vr_event.specs.declared.no.LookNo.{LookNo}
+use Rattle.vr_event.specs.declared.no.LookNo.TheVariants.{Fault, Memory}
 use Rattle.vr_event.specs.declared.getting.Outcome.{Outcome}
 use Rattle.vr_event.specs.declared.getting.Outcome.TheVariants.{Refused, Done}
 
@@ -34,6 +42,20 @@ pub record IsGetOf (request : Request) : Type 0 where
   pub update : Bool
   pub integrity : Integrity
   pub is : request ≡ Get on (Equal place) update integrity
+
+-- it names this place of this part
+pub record NamesAt (request : Request) (part : ℕ) (place : List ℕ) : Type 0 where
+  pub on : FileRef
+  pub update : Bool
+  pub integrity : Integrity
+  pub is : request ≡ Get on (Equal place) update integrity
+  pub base : on.base.0 ≡ part
+
+-- how a read that failed is refused
+abbrev pub refusal_of : LookNo → Refusal
+refusal_of (Fault Read) = ReadFault
+refusal_of (Fault Write) = WriteFault
+refusal_of Memory = NoMemory
 
 -- it is for update
 abbrev pub is_for_update : Request → Bool
@@ -53,6 +75,7 @@ pub record IsDoneAs (case : Case) (reply : Reply) (names : List LockName)
   pub reply_is : reply ≡ done_by case case.request
   pub names_are : names ≡ lock_names case case.request
   pub held_is : held ≡ cond (is_for_update case.request) (place_read case) None
+  pub at : (get : IsGetOf case.request) → place_read case ≡ Some get.place
 
 -- what may be entered of it
 abbrev pub MayEnd : Case → Outcome → Type 0
@@ -66,6 +89,17 @@ is_long_as place definition = nat_eq (length place) definition.key_length
 
 abbrev pub fits_in : List CatEntry → ℕ → List ℕ → Bool
 fits_in entries part place = option_map_or (is_long_as place) (definition_of entries part) false
+
+-- A GET may be entered: it is of its deck's current unit, which has not begun to undo, and nothing in
+-- memory refuses it.
+pub record IsAsked (opening : State) (file : FileNow) (unit : UnitOfRecovery) (request : Request)
+    : Type 0 where
+  pub current : IsOfUnit (state_now opening file) unit
+  pub of_deck : (unit.deck == 0) ≡ false
+  pub goes_on : is_undoing unit file.entries ≡ false
+  pub get : IsGetOf request
+  pub unrefused : first_of (file_refusals (case_of file.geometry (state_now opening file) unit
+      request)) ≡ None
 
 -- A request was entered with some reply, and beside it only locks and positions changed; or a write
 -- failed.

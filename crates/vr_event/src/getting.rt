@@ -4,6 +4,8 @@ ghost use Rattle.std.specs.Prelude.{None, cond, false, true};
 ghost use Rattle.std.specs.Option.{option_copied};
 ghost use Rattle.vr_types.specs.Blocks.{Keeps};
 ghost use Rattle.vr_types.specs.Moments.{Guards};
+ghost use Rattle.vr_types.specs.Space.{free_count};
+ghost use Rattle.vr_space.specs.Part.{IsPlaceOf};
 ghost use Rattle.vr_types.specs.declared.request.FileRef as files;
 ghost use Rattle.vr_types.specs.declared.request.Request.TheVariants as requests;
 ghost use Rattle.vr_types.specs.declared.reply.Reply.TheVariants as replies;
@@ -11,6 +13,7 @@ ghost use Rattle.vr_history.specs.Case as cases;
 ghost use Rattle.vr_history.specs.Found.{place_read as read_at};
 ghost use Rattle.vr_history.specs.Legal.{is_write_fault};
 ghost use Rattle.vr_history.specs.Merged.{last_stamp};
+ghost use Rattle.vr_history.specs.RefusedRoom.{free_areas};
 ghost use Rattle.vr_history.specs.Replies.{first_of};
 ghost use Rattle.vr_history.specs.State.{State};
 ghost use Rattle.vr_history.specs.Step.{IsOfUnit, case_of, stand_refused};
@@ -20,6 +23,7 @@ ghost use Rattle.vr_record_file.specs.Now.{CanSet, IsStateOf, MayBeAsked, is_und
 ghost use Rattle.vr_volume.specs.Committed.{committed_by};
 ghost use Rattle.vr_volume.specs.Safe.{IsSafeImage};
 ghost use Rattle.vr_event.specs.Getting as getting;
+ghost use Rattle.vr_event.specs.Store.{IsSet, IsStored, Stands, shape_among};
 ghost use Rattle.vr_event.specs.Volume.{Holds, IsHeld, IsWhole};
 
 use crate::no::LookNo;
@@ -102,9 +106,81 @@ fn outcome_of(alloc: Global, case: &Case, present: Option<&[u8]>) -> Result<Outc
         (λ whole. first_of (file_refusals whole) ≡ None → getting.IsGetOf whole.request
         → getting.MayEnd whole outcome)) }
 {
-    match refused_by_record(alloc, case, present)? {
+    let refused = refused_by_record(alloc, case, present)?;
+    match refused {
         Some(refusal) => Ok(Outcome::Refused(refusal)),
         None => done_outcome(alloc, case, present),
+    }
+}
+
+/// How a read that failed is refused.
+fn refusal_of(no: LookNo) -> Refusal
+    ensures { result ≡ getting.refusal_of no }
+{
+    match no {
+        LookNo::Fault(DeviceFault::Read) => Refusal::ReadFault,
+        LookNo::Fault(DeviceFault::Write) => Refusal::WriteFault,
+        LookNo::Memory => Refusal::Memory,
+    }
+}
+
+/// What a GET that nothing in memory refuses comes to, by the record that was copied.
+fn answered(alloc: Global, case: &Case, present: Option<Bytes>) -> Outcome
+    ensures { InEachWith case.now present (λ whole. first_of (file_refusals whole) ≡ None
+        → getting.IsGetOf whole.request → getting.MayEnd whole result) }
+{
+    let outcome = match &present {
+        None => outcome_of(alloc, case, None),
+        Some(bytes) => outcome_of(alloc, case, Some(bytes.as_slice())),
+    };
+    match outcome {
+        Ok(outcome) => outcome,
+        Err(_) => Outcome::Refused(Refusal::Memory),
+    }
+}
+
+/// Whether a place is as long as the keys of a part of a catalog.
+fn fits(catalog: &Catalog, part: PartNo, place: &Place) -> bool
+    ensures { result ≡ getting.fits_in catalog.now part.0 place.now }
+{
+    match catalog.definition_of(part) {
+        None => false,
+        Some(definition) => place.as_slice().len() == definition.key_length as usize,
+    }
+}
+
+/// Reads the record that a GET names, and decides what the GET comes to. Nothing is put. The place
+/// has the length of the part's keys, and the volume has not stopped.
+fn decide<B: Blocks, P: Part>(
+    alloc: Global,
+    blocks: &mut B,
+    store: &mut Store<P>,
+    file: &RecordFile,
+    unit: Unit,
+    request: &Request,
+    part: PartNo,
+    place: &Place,
+) -> Outcome
+    requires set { IsSet store.old (B.seen blocks.old) }
+    requires place { IfSome (shape_among store.old.parts part.0)
+        (λ shape. IsPlaceOf shape place.now) }
+    requires stands { IsTrue B.tells → Stands store.old (B.seen blocks.old) }
+    ensures ends { IsTrue B.tells → (volume : ℕ) (opening : State) → IsStateOf opening file.now
+        → file.now.stopped ≡ None
+        → IsStored volume store.old (state_now opening file.now) (B.seen blocks.old)
+        → (unit.deck == 0) ≡ false → getting.NamesAt request.now part.0 place.now
+        → let case = case_of file.now.geometry (state_now opening file.now) unit request.now in
+        free_count store.old.space ≡ free_areas case → first_of (file_refusals case) ≡ None
+        → getting.MayEnd case result }
+    ensures same { store.new ≡ store.old }
+    ensures keeps { Keeps B.tells (B.seen blocks.old) (B.seen blocks.new) }
+{
+    match store.look(alloc, blocks, part, place) {
+        Err(no) => Outcome::Refused(refusal_of(no)),
+        Ok(present) => {
+            let case = file.case(unit, request, store.free_areas(), store.used());
+            answered(alloc, &case, present)
+        }
     }
 }
 

@@ -6,6 +6,7 @@
 mod answering;
 mod changed;
 mod changing;
+mod entered;
 mod getting;
 mod no;
 mod parts;

@@ -1,0 +1,171 @@
+-- What a GET that nothing in memory refuses knows of the place that it names.
+use Rattle.std.proofs.Common.{◌≡◌, ◌==◌, ◌||◌, ◌&&◌, ℕ, Bool, true, false, not, cond, List, ◌∷◌, Option}
+use Rattle.std.proofs.Common.{Some, None, refl, sym, ap, subst, ◌∙◌, length, nat_eq}
+use Rattle.std.specs.Prelude.{IfSome, is_none}
+use Rattle.std.specs.Option.{option_and_then, option_map, option_map_or}
+use Rattle.std.proofs.lemmas.Bool.{eqb-true}
+use Rattle.std.proofs.lemmas.Option.{none-some}
+use Rattle.vr_catalog.specs.Catalog.{cluster_definition, definition_of, entry_with_part}
+use Rattle.vr_catalog.specs.Definition.{catalog_definition}
+use Rattle.vr_catalog.specs.declared.definition.Definition.{Definition}
+use Rattle.vr_catalog.specs.declared.entry.CatEntry.{CatEntry}
+use Rattle.vr_types.specs.declared.geometry.Geometry.{Geometry}
+use Rattle.vr_types.specs.declared.reply.Refusal.{Refusal}
+use Rattle.vr_types.specs.declared.reply.Refusal.TheVariants.{NoFile}
+use Rattle.vr_types.specs.declared.request.FileRef.{FileRef}
+use Rattle.vr_types.specs.declared.request.Find.TheVariants.{Equal}
+use Rattle.vr_types.specs.declared.request.Request.{Request}
+use Rattle.vr_types.specs.declared.request.Request.TheVariants.{Get}
+use Rattle.vr_types.specs.declared.unit.AreaNo.{AreaNo}
+use Rattle.vr_types.specs.declared.unit.Kind.{Kind}
+use Rattle.vr_types.specs.declared.unit.Kind.TheVariants.{Keyed, Entry, Relative}
+use Rattle.vr_space.specs.Part.{IsPlaceOf, Shape}
+use Rattle.vr_history.specs.Case.{Case, file_of}
+use Rattle.vr_history.specs.Found.{place_read}
+use Rattle.vr_history.specs.Opened.{Opened, opened}
+use Rattle.vr_history.specs.RefusedFile.{has_length, is_catalog_changing, is_unknown}
+use Rattle.vr_history.specs.RefusedFile.{key_length_wrong, length_wrong, refused_if}
+use Rattle.vr_history.specs.Replies.{first_of}
+use Rattle.vr_history.specs.State.{State}
+use Rattle.vr_volume.specs.Laid.{catalog_shape, shape_by_kind, shape_from, shape_in, shape_of}
+use Rattle.vr_answer.specs.Here.{read_by}
+use Rattle.vr_answer.specs.InHand.{IsCaseOf, whole}
+use Rattle.vr_answer.specs.Opening.{as_opened, definition_here, reached}
+use Rattle.vr_answer.specs.Tried.{file_refusals}
+use Rattle.vr_answer.specs.declared.case.Case.{Case as CaseInHand}
+use Rattle.vr_answer.proofs.OpeningLemmas.{IsKeyed, keyed_here, opened_is}
+use Rattle.vr_answer.proofs.PlaceLemmas.{read_is}
+use Rattle.vr_event.specs.Getting.{IsGetOf, fits_in, is_long_as}
+
+-- ---- a place that is as long as a part's keys is one of its shape
+
+module _ (geometry : Geometry) (place : List ℕ) where
+  abbrev IsPlace : Shape → Type 0
+  IsPlace shape = IsPlaceOf shape place
+
+  by_kind : (part area : ℕ) (definition : Definition) (kind : Kind)
+      → is_long_as place definition ≡ true
+      → IfSome (shape_by_kind geometry part area definition kind) IsPlace
+  by_kind part area definition Keyed long = eqb-true (length place) definition.key_length long
+  by_kind part area definition Entry long = tt
+  by_kind part area definition Relative long = tt
+
+  by_area : (part : ℕ) (area : Option AreaNo) (o : Option Definition)
+      → option_map_or (is_long_as place) o false ≡ true
+      → IfSome (option_and_then (shape_from geometry part area) o) IsPlace
+  by_area part area None long = tt
+  by_area part None (Some definition) long = tt
+  by_area part (Some area) (Some definition) long =
+      by_kind part area.0 definition definition.kind long
+
+  by_entry : (o : Option CatEntry)
+      → option_map_or (is_long_as place) (option_and_then
+      (λ (entry : CatEntry). cluster_definition entry.entry_kind entry) o) false ≡ true
+      → IfSome (option_and_then (shape_of geometry) o) IsPlace
+  by_entry None long = tt
+  by_entry (Some entry) long = by_area entry.part.0 entry.first_area
+      (cluster_definition entry.entry_kind entry) long
+
+  by_zero : (b : Bool) (o : Option CatEntry)
+      → option_map_or (is_long_as place) (cond b (Some catalog_definition) (option_and_then
+      (λ (entry : CatEntry). cluster_definition entry.entry_kind entry) o)) false ≡ true
+      → IfSome (cond b (Some (catalog_shape geometry)) (option_and_then (shape_of geometry) o))
+      IsPlace
+  by_zero true o long = eqb-true (length place) catalog_definition.key_length long
+  by_zero false o long = by_entry o long
+
+  pub fits-shape : (entries : List CatEntry) (part : ℕ) → fits_in entries part place ≡ true
+      → IfSome (shape_in geometry entries part) IsPlace
+  fits-shape entries part long = by_zero (part == 0) (entry_with_part entries part) long
+
+-- ---- a GET that nothing in memory refuses
+
+first-none : (o : Option Refusal) (rest : List (Option Refusal)) → first_of (o ∷ rest) ≡ None
+    → (o ≡ None) × (first_of rest ≡ None)
+first-none None rest none = (refl, none)
+first-none (Some refusal) rest none = absurd (none-some refusal (sym none))
+
+none-false : (test : Bool) (refusal : Refusal) → refused_if test refusal ≡ None → test ≡ false
+none-false false refusal none = refl
+none-false true refusal none = absurd (none-some refusal (sym none))
+
+not-false : (b : Bool) → not b ≡ false → b ≡ true
+not-false true is = refl
+not-false false is = absurd cc
+
+-- the cluster is known, and the place is as long as its keys
+long-known : (place : List ℕ) (o : Option Definition) (changing : Bool) → IsKeyed o
+    → refused_if (is_unknown (as_opened o) || changing) NoFile ≡ None
+    → key_length_wrong (as_opened o) place ≡ None
+    → option_map_or (is_long_as place) o false ≡ true
+long-known place None changing keyed known long = absurd (none-some NoFile (sym known))
+long-known place (Some definition) changing keyed known long =
+    not-false (is_long_as place definition)
+    (none-false (not (is_long_as place definition)) _
+    (by_keyed definition.kind keyed long))
+  where
+    by_keyed : (kind : Kind) → kind ≡ Keyed
+        → key_length_wrong (as_opened (Some (record definition { kind = kind }))) place ≡ None
+        → has_length definition.key_length place ≡ None
+    by_keyed Keyed is wrong = wrong
+    by_keyed Entry is wrong = absurd cc
+    by_keyed Relative is wrong = absurd cc
+
+-- what is known is found by its part
+long-part : (place : List ℕ) (b : Bool) (o : Option Definition)
+    → option_map_or (is_long_as place) (cond b o None) false ≡ true
+    → option_map_or (is_long_as place) o false ≡ true
+long-part place true o long = long
+long-part place false o long = absurd cc
+
+named-known : (place : List ℕ) (o : Option Definition)
+    → option_map_or (is_long_as place) o false ≡ true
+    → option_map (λ (known : Definition). place) o ≡ Some place
+named-known place None long = absurd cc
+named-known place (Some definition) long = refl
+
+module _ (case : CaseInHand) (state : State) (is : IsCaseOf case state)
+    (get : IsGetOf case.request.now) (none : first_of (file_refusals (whole case state)) ≡ None)
+    where
+  abbrev w : Case
+  w = whole case state
+
+  abbrev here : Option Definition
+  here = reached case.catalog.now get.on
+
+  here-is : definition_here case ≡ here
+  here-is = ap (λ (r : Request). option_and_then (reached case.catalog.now) (file_of r)) get.is
+
+  opens : opened w ≡ as_opened here
+  opens = opened_is case state is ∙ ap as_opened here-is
+
+  keyed : IsKeyed here
+  keyed = subst IsKeyed here-is (keyed_here case state is)
+
+  -- the first, and the fifth refusal aren't there
+  no-file : refused_if (is_unknown (as_opened here) || is_catalog_changing w) NoFile ≡ None
+  no-file = sym (ap (λ (r : Request). option_and_then (λ (file : FileRef).
+      refused_if (is_unknown (opened w) || is_catalog_changing w) NoFile) (file_of r)) get.is
+      ∙ ap (λ (o : Opened). refused_if (is_unknown o || is_catalog_changing w) NoFile) opens)
+      ∙ (first-none _ _ none).0
+
+  no-length : key_length_wrong (as_opened here) get.place ≡ None
+  no-length = sym (ap (λ (r : Request). length_wrong (opened w) r) get.is
+      ∙ ap (λ (o : Opened). key_length_wrong o get.place) opens)
+      ∙ (first-none _ _ (first-none _ _ (first-none _ _ (first-none _ _ (first-none _ _
+      none).1).1).1).1).0
+
+  long : option_map_or (is_long_as get.place) here false ≡ true
+  long = long-known get.place here (is_catalog_changing w) keyed no-file no-length
+
+  -- the place is as long as the keys of its part,
+  pub fits-known : fits_in case.catalog.now get.on.base.0 get.place ≡ true
+  fits-known = long-part get.place (get.on.known && is_none get.on.path)
+      (definition_of case.catalog.now get.on.base.0) long
+
+  -- and is the one that is read
+  pub place-known : place_read w ≡ Some get.place
+  place-known = read_is case state is
+      ∙ ap (λ (r : Request). read_by r (definition_here case)) get.is
+      ∙ ap (λ (o : Option Definition). option_map (λ (known : Definition). get.place) o) here-is
+      ∙ named-known get.place here long
