@@ -1,14 +1,16 @@
 -- What a GET that nothing in memory refuses knows of the place that it names.
-use Rattle.std.proofs.Common.{◌≡◌, ◌==◌, ◌||◌, ◌&&◌, ℕ, Bool, true, false, not, cond, List, ◌∷◌, Option}
+use Rattle.std.proofs.Common.{◌≡◌, ◌==◌, ◌||◌, ◌&&◌, ℕ, Bool, true, false, not, cond, List, [], ◌∷◌}
+use Rattle.std.proofs.Common.{Option}
 use Rattle.std.proofs.Common.{Some, None, refl, sym, ap, subst, ◌∙◌, length, nat_eq}
 use Rattle.std.specs.Prelude.{IfSome, is_none}
-use Rattle.std.specs.Option.{option_and_then, option_map, option_map_or}
+use Rattle.std.specs.Option.{option_and_then, option_map, option_map_or, option_or}
 use Rattle.std.proofs.lemmas.Bool.{eqb-true}
 use Rattle.std.proofs.lemmas.Option.{none-some}
 use Rattle.vr_catalog.specs.Catalog.{cluster_definition, definition_of, entry_with_part}
 use Rattle.vr_catalog.specs.Definition.{catalog_definition}
 use Rattle.vr_catalog.specs.declared.definition.Definition.{Definition}
 use Rattle.vr_catalog.specs.declared.entry.CatEntry.{CatEntry}
+use Rattle.vr_types.specs.Content.{record_at}
 use Rattle.vr_types.specs.declared.geometry.Geometry.{Geometry}
 use Rattle.vr_types.specs.declared.reply.Refusal.{Refusal}
 use Rattle.vr_types.specs.declared.reply.Refusal.TheVariants.{NoFile}
@@ -21,21 +23,24 @@ use Rattle.vr_types.specs.declared.unit.Kind.{Kind}
 use Rattle.vr_types.specs.declared.unit.Kind.TheVariants.{Keyed, Entry, Relative}
 use Rattle.vr_space.specs.Part.{IsPlaceOf, Shape}
 use Rattle.vr_history.specs.Case.{Case, file_of}
+use Rattle.vr_history.specs.Change.{place_changed, record_held}
 use Rattle.vr_history.specs.Found.{place_read}
 use Rattle.vr_history.specs.Opened.{Opened, opened}
-use Rattle.vr_history.specs.RefusedFile.{has_length, is_catalog_changing, is_unknown}
+use Rattle.vr_history.specs.RefusedFile.{bad_length, bad_slot, has_length, is_catalog_changing}
+use Rattle.vr_history.specs.RefusedFile.{is_unknown, no_file, not_allowed, stopped}
+use Rattle.vr_history.specs.RefusedRecord.{no_get, no_position}
 use Rattle.vr_history.specs.RefusedFile.{key_length_wrong, length_wrong, refused_if}
 use Rattle.vr_history.specs.Replies.{first_of}
 use Rattle.vr_history.specs.State.{State}
 use Rattle.vr_volume.specs.Laid.{catalog_shape, shape_by_kind, shape_from, shape_in, shape_of}
 use Rattle.vr_answer.specs.Here.{read_by}
 use Rattle.vr_answer.specs.InHand.{IsCaseOf, whole}
+use Rattle.vr_answer.specs.Looked.{record_looked_at}
 use Rattle.vr_answer.specs.Opening.{as_opened, definition_here, reached}
 use Rattle.vr_answer.specs.Tried.{file_refusals}
 use Rattle.vr_answer.specs.declared.case.Case.{Case as CaseInHand}
-use Rattle.vr_answer.proofs.OpeningLemmas.{IsKeyed, keyed_here, opened_is}
-use Rattle.vr_answer.proofs.PlaceLemmas.{read_is}
-use Rattle.vr_event.specs.Getting.{IsGetOf, fits_in, is_long_as}
+use Rattle.vr_answer.proofs.CallerLemmas.{IsKeyed, keyed_here, opened_is, read_is}
+use Rattle.vr_event.specs.Getting.{IsGetOf, NamesAt, fits_in, is_long_as}
 
 -- ---- a place that is as long as a part's keys is one of its shape
 
@@ -80,10 +85,25 @@ module _ (geometry : Geometry) (place : List ℕ) where
 
 -- ---- a GET that nothing in memory refuses
 
-first-none : (o : Option Refusal) (rest : List (Option Refusal)) → first_of (o ∷ rest) ≡ None
-    → (o ≡ None) × (first_of rest ≡ None)
-first-none None rest none = (refl, none)
-first-none (Some refusal) rest none = absurd (none-some refusal (sym none))
+pub get-of : (request : Request) (part : ℕ) (place : List ℕ) → NamesAt request part place
+    → IsGetOf request
+get-of request part place names = record {
+  on = names.on;
+  place = place;
+  update = names.update;
+  integrity = names.integrity;
+  is = names.is;
+}
+
+-- the first, and the fifth of a list
+fifth-none : (a b c d e : Option Refusal) (rest : List (Option Refusal))
+    → first_of (a ∷ b ∷ c ∷ d ∷ e ∷ rest) ≡ None → (a ≡ None) × (e ≡ None)
+fifth-none None None None None None rest none = (refl, refl)
+fifth-none None None None None (Some r) rest none = absurd (none-some r (sym none))
+fifth-none None None None (Some r) e rest none = absurd (none-some r (sym none))
+fifth-none None None (Some r) d e rest none = absurd (none-some r (sym none))
+fifth-none None (Some r) c d e rest none = absurd (none-some r (sym none))
+fifth-none (Some r) b c d e rest none = absurd (none-some r (sym none))
 
 none-false : (test : Bool) (refusal : Refusal) → refused_if test refusal ≡ None → test ≡ false
 none-false false refusal none = refl
@@ -142,18 +162,21 @@ module _ (case : CaseInHand) (state : State) (is : IsCaseOf case state)
   keyed : IsKeyed here
   keyed = subst IsKeyed here-is (keyed_here case state is)
 
-  -- the first, and the fifth refusal aren't there
+  -- the name is known, and the length is right
+  both : (no_file w ≡ None) × (bad_length w ≡ None)
+  both = fifth-none (no_file w) (stopped w) (not_allowed w) (bad_slot w) (bad_length w)
+      (no_position w ∷ no_get w ∷ []) none
+
   no-file : refused_if (is_unknown (as_opened here) || is_catalog_changing w) NoFile ≡ None
   no-file = sym (ap (λ (r : Request). option_and_then (λ (file : FileRef).
       refused_if (is_unknown (opened w) || is_catalog_changing w) NoFile) (file_of r)) get.is
       ∙ ap (λ (o : Opened). refused_if (is_unknown o || is_catalog_changing w) NoFile) opens)
-      ∙ (first-none _ _ none).0
+      ∙ both.0
 
   no-length : key_length_wrong (as_opened here) get.place ≡ None
   no-length = sym (ap (λ (r : Request). length_wrong (opened w) r) get.is
       ∙ ap (λ (o : Opened). key_length_wrong o get.place) opens)
-      ∙ (first-none _ _ (first-none _ _ (first-none _ _ (first-none _ _ (first-none _ _
-      none).1).1).1).1).0
+      ∙ both.1
 
   long : option_map_or (is_long_as get.place) here false ≡ true
   long = long-known get.place here (is_catalog_changing w) keyed no-file no-length
@@ -169,3 +192,16 @@ module _ (case : CaseInHand) (state : State) (is : IsCaseOf case state)
       ∙ ap (λ (r : Request). read_by r (definition_here case)) get.is
       ∙ ap (λ (o : Option Definition). option_map (λ (known : Definition). get.place) o) here-is
       ∙ named-known get.place here long
+
+-- the record that is looked at is that of the place
+pub looked-is : (case : CaseInHand) (state : State) → IsCaseOf case state → (part : ℕ)
+    (place : List ℕ) → NamesAt case.request.now part place
+    → first_of (file_refusals (whole case state)) ≡ None
+    → record_looked_at (whole case state) ≡ record_at (state.contents part) place
+looked-is case state is part place names none =
+    let w : Case = whole case state in
+    ap (λ (o : Option (List ℕ)). option_and_then (record_held w) (option_or o (place_changed w)))
+    (place-known case state is (get-of case.request.now part place names) none)
+    ∙ ap (λ (n : ℕ). record_at (state.contents n) place)
+    (ap (λ (r : Request). option_map_or (λ (file : FileRef). file.base.0) (file_of r) 0) names.is
+    ∙ names.base)

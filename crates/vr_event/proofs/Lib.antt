@@ -14,3 +14,4 @@ pub mod Readings
 pub mod Early
 pub mod Ended
 pub mod Known
+pub mod Entries

@@ -21,6 +21,7 @@ ghost use Rattle.vr_answer.specs.InHand.{InEach, InEachWith};
 ghost use Rattle.vr_answer.specs.Tried.{file_refusals, record_refusals};
 ghost use Rattle.vr_record_file.specs.Now.{CanSet, IsStateOf, MayBeAsked, is_undoing, state_now};
 ghost use Rattle.vr_volume.specs.Committed.{committed_by};
+ghost use Rattle.vr_volume.specs.Laid.{shape_in};
 ghost use Rattle.vr_volume.specs.Safe.{IsSafeImage};
 ghost use Rattle.vr_event.specs.Getting as getting;
 ghost use Rattle.vr_event.specs.Store.{IsSet, IsStored, Stands, shape_among};
@@ -149,8 +150,34 @@ fn fits(catalog: &Catalog, part: PartNo, place: &Place) -> bool
     }
 }
 
-/// Reads the record that a GET names, and decides what the GET comes to. Nothing is put. The place
-/// has the length of the part's keys, and the volume has not stopped.
+/// Reads the record that a GET names, and decides what the GET comes to. Nothing is put.
+fn looked<B: Blocks, P: Part>(
+    alloc: Global,
+    blocks: &mut B,
+    store: &mut Store<P>,
+    case: &Case,
+    part: PartNo,
+    place: &Place,
+) -> Outcome
+    requires set { IsSet store.old (B.seen blocks.old) }
+    requires place { IfSome (shape_among store.old.parts part.0)
+        (λ shape. IsPlaceOf shape place.now) }
+    requires stands { IsTrue B.tells → Stands store.old (B.seen blocks.old) }
+    ensures ends { IsTrue B.tells → (volume : ℕ) → InEach case.now (λ whole.
+        IsStored volume store.old whole.state (B.seen blocks.old)
+        → getting.NamesAt whole.request part.0 place.now → first_of (file_refusals whole) ≡ None
+        → getting.MayEnd whole result) }
+    ensures same { store.new ≡ store.old }
+    ensures keeps { Keeps B.tells (B.seen blocks.old) (B.seen blocks.new) }
+{
+    match store.look(alloc, blocks, part, place) {
+        Err(no) => Outcome::Refused(refusal_of(no)),
+        Ok(present) => answered(alloc, case, present),
+    }
+}
+
+/// Decides what a GET comes to that nothing in memory refuses, so that its place has the length of
+/// its part's keys, on a volume that has not stopped. Nothing is put.
 fn decide<B: Blocks, P: Part>(
     alloc: Global,
     blocks: &mut B,
@@ -162,8 +189,8 @@ fn decide<B: Blocks, P: Part>(
     place: &Place,
 ) -> Outcome
     requires set { IsSet store.old (B.seen blocks.old) }
-    requires place { IfSome (shape_among store.old.parts part.0)
-        (λ shape. IsPlaceOf shape place.now) }
+    requires laid { (number : ℕ) → shape_among store.old.parts number
+        ≡ shape_in file.now.geometry file.now.catalog number }
     requires stands { IsTrue B.tells → Stands store.old (B.seen blocks.old) }
     ensures ends { IsTrue B.tells → (volume : ℕ) (opening : State) → IsStateOf opening file.now
         → file.now.stopped ≡ None
@@ -175,12 +202,11 @@ fn decide<B: Blocks, P: Part>(
     ensures same { store.new ≡ store.old }
     ensures keeps { Keeps B.tells (B.seen blocks.old) (B.seen blocks.new) }
 {
-    match store.look(alloc, blocks, part, place) {
-        Err(no) => Outcome::Refused(refusal_of(no)),
-        Ok(present) => {
-            let case = file.case(unit, request, store.free_areas(), store.used());
-            answered(alloc, &case, present)
-        }
+    let case = file.case(unit, request, store.free_areas(), store.used());
+    if fits(case.catalog, part, place) {
+        looked(alloc, blocks, store, &case, part, place)
+    } else {
+        Outcome::Refused(Refusal::NotFound)
     }
 }
 
