@@ -19,6 +19,7 @@ use Rattle.vr_types.specs.declared.request.Find.TheVariants.{Equal}
 use Rattle.vr_types.specs.declared.request.Request.{Request}
 use Rattle.vr_types.specs.declared.request.Request.TheVariants.{Get}
 use Rattle.vr_types.specs.declared.unit.AreaNo.{AreaNo}
+use Rattle.vr_types.specs.declared.unit.Unit.{Unit as UnitOfRecovery}
 use Rattle.vr_types.specs.declared.unit.Kind.{Kind}
 use Rattle.vr_types.specs.declared.unit.Kind.TheVariants.{Keyed, Entry, Relative}
 use Rattle.vr_space.specs.Part.{IsPlaceOf, Shape}
@@ -32,6 +33,7 @@ use Rattle.vr_history.specs.RefusedRecord.{no_get, no_position}
 use Rattle.vr_history.specs.RefusedFile.{key_length_wrong, length_wrong, refused_if}
 use Rattle.vr_history.specs.Replies.{first_of}
 use Rattle.vr_history.specs.State.{State}
+use Rattle.vr_history.specs.Step.{case_of}
 use Rattle.vr_volume.specs.Laid.{catalog_shape, shape_by_kind, shape_from, shape_in, shape_of}
 use Rattle.vr_answer.specs.Here.{read_by}
 use Rattle.vr_answer.specs.InHand.{IsCaseOf, whole}
@@ -85,7 +87,7 @@ module _ (geometry : Geometry) (place : List ℕ) where
 
 -- ---- a GET that nothing in memory refuses
 
-pub get-of : (request : Request) (part : ℕ) (place : List ℕ) → NamesAt request part place
+abbrev pub get-of : (request : Request) (part : ℕ) (place : List ℕ) → NamesAt request part place
     → IsGetOf request
 get-of request part place names = record {
   on = names.on;
@@ -205,3 +207,13 @@ looked-is case state is part place names none =
     ∙ ap (λ (n : ℕ). record_at (state.contents n) place)
     (ap (λ (r : Request). option_map_or (λ (file : FileRef). file.base.0) (file_of r) 0) names.is
     ∙ names.base)
+
+-- the request as it meets the volume
+pub whole-is : (case : CaseInHand) (state : State) (geometry : Geometry) (unit : UnitOfRecovery)
+    (request : Request) → case.geometry ≡ geometry → case.unit ≡ unit
+    → case.request.now ≡ request
+    → whole case state ≡ case_of geometry state unit request
+whole-is case state geometry unit request shape of asked =
+    ap (λ (g : Geometry). case_of g state case.unit case.request.now) shape
+    ∙ ap (λ (u : UnitOfRecovery). case_of geometry state u case.request.now) of
+    ∙ ap (λ (r : Request). case_of geometry state unit r) asked

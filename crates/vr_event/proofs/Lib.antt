@@ -15,3 +15,4 @@ pub mod Early
 pub mod Ended
 pub mod Known
 pub mod Entries
+pub mod Faults

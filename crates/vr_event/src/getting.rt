@@ -203,7 +203,7 @@ fn decide<B: Blocks, P: Part>(
     ensures keeps { Keeps B.tells (B.seen blocks.old) (B.seen blocks.new) }
 {
     let case = file.case(unit, request, store.free_areas(), store.used());
-    if fits(case.catalog, part, place) {
+    if fits(file.catalog(), part, place) {
         looked(alloc, blocks, store, &case, part, place)
     } else {
         Outcome::Refused(Refusal::NotFound)
