@@ -16,3 +16,4 @@ pub mod Ended
 pub mod Known
 pub mod Entries
 pub mod Faults
+pub mod Held

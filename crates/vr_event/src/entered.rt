@@ -1,5 +1,5 @@
 //! What is decided of a request, entered.
-ghost use Rattle.std.specs.Prelude.{◌≡◌, ◌<◌, ◌-◌, ◌^◌, ℕ, IsTrue, List, None};
+ghost use Rattle.std.specs.Prelude.{◌≡◌, ◌<◌, ◌-◌, ◌^◌, ℕ, IsTrue, List, None, OnErr, OnOk};
 ghost use Rattle.vr_types.specs.declared.reply.Refusal.TheVariants.{WriteFault};
 ghost use Rattle.vr_types.specs.declared.reply.Reply.TheVariants as replies;
 ghost use Rattle.vr_types.specs.declared.request.FileRef as files;
@@ -9,7 +9,7 @@ ghost use Rattle.vr_history.specs.Merged.{last_stamp};
 ghost use Rattle.vr_history.specs.State.{State};
 ghost use Rattle.vr_history.specs.Step.{case_of, stand_refused};
 ghost use Rattle.vr_record_file.specs.Now.{CanSet, MayBeAsked, failed, state_now};
-ghost use Rattle.vr_event.specs.Getting.{HasEntered, IsAsked, MayEnd};
+ghost use Rattle.vr_event.specs.Getting.{HasEntered, IsAsked, IsEntered, MayEnd};
 ghost use Rattle.vr_event.specs.declared.getting.Outcome.TheVariants as outcomes;
 ghost use Rattle.vr_event.specs.Volume.{IsHeld, IsWhole};
 
@@ -17,7 +17,7 @@ use crate::getting::Outcome;
 use crate::volume::Volume;
 use std::alloc::Global;
 use vr_space::Part;
-use vr_types::{Blocks, LockNames, Place, Refusal, Reply, SharedRequest, Unit};
+use vr_types::{Blocks, LockNames, OutOfMemory, Place, Refusal, Reply, SharedRequest, Unit};
 
 /// Whether a refusal is that of a fault of a write.
 fn is_write_fault(refusal: &Refusal) -> bool
@@ -78,6 +78,40 @@ impl<B: Blocks, P: Part> Volume<B, P> {
         }
     }
 
+    /// Enters a GET that is done, with the locks that it takes. It fails only if memory runs out,
+    /// and then nothing changes.
+    fn try_read(
+        &mut self,
+        alloc: Global,
+        unit: Unit,
+        line: u32,
+        request: &SharedRequest,
+        reply: Reply,
+        names: &LockNames,
+        held: Option<Place>,
+        after: u64,
+    ) -> Result<(), OutOfMemory>
+        requires room { 0 < self.old.file.room }
+        requires files { CanSet self.old.file unit.deck (cases.file_of request.now) }
+        requires last { last_stamp 0 self.old.file.entries < 2 ^ 64 - 2 }
+        requires after { after < 2 ^ 64 - 2 }
+        ensures held { OnOk result (IsTrue B.tells → (opening : State)
+            → IsHeld B.seen opening self.old → IsAsked opening self.old.file unit request.now
+            → MayEnd (case_of self.old.file.geometry (state_now opening self.old.file) unit
+            request.now) (outcomes.Done reply names.now held) → IsHeld B.seen opening self.new) }
+        ensures whole { IsWhole B.seen self.old → IsWhole B.seen self.new }
+        ensures entered { OnOk result
+            (IsEntered after unit line request.now self.old.file self.new.file) }
+        ensures same { OnErr result (self.new ≡ self.old) }
+        ensures blocks { self.new.blocks ≡ self.old.blocks }
+    {
+        let shared = request.share()?;
+        match self.file.read(alloc, unit, line, shared, reply, names, held, after) {
+            Ok(()) => Ok(()),
+            Err(_) => Err(OutOfMemory),
+        }
+    }
+
     /// Enters a GET that is done, and takes its locks, in memory that may run out: then it is
     /// refused for that.
     fn enter_read(
@@ -103,15 +137,9 @@ impl<B: Blocks, P: Part> Volume<B, P> {
         ensures entered { HasEntered after unit line request self.old.file self.new.file }
         ensures blocks { self.new.blocks ≡ self.old.blocks }
     {
-        let entered = match request.share() {
-            Ok(shared) => {
-                let file = &mut self.file;
-                file.read(alloc, unit, line, shared, reply, &names, held, after).is_ok()
-            }
-            Err(_) => false,
-        };
-        if !entered {
-            self.refuse(unit, line, request, Refusal::Memory, after);
+        match self.try_read(alloc, unit, line, &request, reply, &names, held, after) {
+            Ok(()) => {}
+            Err(_) => self.refuse(unit, line, request, Refusal::Memory, after),
         }
     }
 

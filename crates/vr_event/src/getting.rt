@@ -206,7 +206,8 @@ fn decide<B: Blocks, P: Part>(
     if fits(file.catalog(), part, place) {
         looked(alloc, blocks, store, &case, part, place)
     } else {
-        Outcome::Refused(Refusal::NotFound)
+        let length = place.as_slice().len().min(u32::MAX as usize) as u32;
+        Outcome::Refused(Refusal::BadLength { length })
     }
 }
 
