@@ -1,6 +1,7 @@
 -- What the entry of a GET that is done leaves of a volume.
 use Rattle.std.proofs.Common.{◌≡◌, ℕ, Bool, cond, List, Option, Some, None, refl, ap, sym, ◌∙◌}
 use Rattle.std.proofs.Common.{subst}
+use Rattle.std.specs.Prelude.{Err, Ok, OnOk, Result}
 use Rattle.vr_browse.specs.declared.positions.FilePosition.{FilePosition}
 use Rattle.vr_types.specs.Locks.{Lock}
 use Rattle.vr_types.specs.Seen.{Seen}
@@ -28,6 +29,12 @@ use Rattle.vr_event.specs.declared.getting.Outcome.TheVariants.{Done}
 use Rattle.vr_event.specs.Volume.{IsHeld, VolumeNow}
 use Rattle.vr_event.proofs.Entries.{may-asked}
 use Rattle.vr_event.proofs.Readings.{alike-read, held-entered}
+
+-- of what a call says where it succeeds
+pub ok-both : {X E : Type 0} {A B C : Type 0} (result : Result X E) → OnOk result A
+    → OnOk result B → (A → B → C) → OnOk result C
+ok-both (Ok x) a b both = both a b
+ok-both (Err e) a b both = tt
 
 -- what the call that enters a read says of its state
 abbrev pub IsReadState : State → FileNow → FileNow → UnitOfRecovery → Request → Reply

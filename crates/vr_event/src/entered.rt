@@ -16,8 +16,9 @@ ghost use Rattle.vr_event.specs.Volume.{IsHeld, IsWhole};
 use crate::getting::Outcome;
 use crate::volume::Volume;
 use std::alloc::Global;
+use vr_locks::LockNo;
 use vr_space::Part;
-use vr_types::{Blocks, LockNames, OutOfMemory, Place, Refusal, Reply, SharedRequest, Unit};
+use vr_types::{Blocks, LockNames, Place, Refusal, Reply, SharedRequest, Unit};
 
 /// Whether a refusal is that of a fault of a write.
 fn is_write_fault(refusal: &Refusal) -> bool
@@ -78,8 +79,8 @@ impl<B: Blocks, P: Part> Volume<B, P> {
         }
     }
 
-    /// Enters a GET that is done, with the locks that it takes. It fails only if memory runs out,
-    /// and then nothing changes.
+    /// Enters a GET that is done, with the locks that it takes. Where it fails, memory ran out or a
+    /// lock is in the way, and nothing changes.
     fn try_read(
         &mut self,
         alloc: Global,
@@ -90,7 +91,7 @@ impl<B: Blocks, P: Part> Volume<B, P> {
         names: &LockNames,
         held: Option<Place>,
         after: u64,
-    ) -> Result<(), OutOfMemory>
+    ) -> Result<(), LockNo>
         requires room { 0 < self.old.file.room }
         requires files { CanSet self.old.file unit.deck (cases.file_of request.now) }
         requires last { last_stamp 0 self.old.file.entries < 2 ^ 64 - 2 }
@@ -106,10 +107,7 @@ impl<B: Blocks, P: Part> Volume<B, P> {
         ensures blocks { self.new.blocks ≡ self.old.blocks }
     {
         let shared = request.share()?;
-        match self.file.read(alloc, unit, line, shared, reply, names, held, after) {
-            Ok(()) => Ok(()),
-            Err(_) => Err(OutOfMemory),
-        }
+        self.file.read(alloc, unit, line, shared, reply, names, held, after)
     }
 
     /// Enters a GET that is done, and takes its locks, in memory that may run out: then it is
