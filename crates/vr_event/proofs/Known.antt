@@ -148,52 +148,52 @@ named-known place (Some definition) long = refl
 
 module _ (case : CaseInHand) (state : State) (is : IsCaseOf case state)
     (get : IsGetOf case.request.now) (none : first_of (file_refusals (whole case state)) ≡ None)
-    where
-  abbrev w : Case
-  w = whole case state
+  where
+    abbrev w : Case
+    w = whole case state
 
-  abbrev here : Option Definition
-  here = reached case.catalog.now get.on
+    abbrev here : Option Definition
+    here = reached case.catalog.now get.on
 
-  here-is : definition_here case ≡ here
-  here-is = ap (λ (r : Request). option_and_then (reached case.catalog.now) (file_of r)) get.is
+    here-is : definition_here case ≡ here
+    here-is = ap (λ (r : Request). option_and_then (reached case.catalog.now) (file_of r)) get.is
 
-  opens : opened w ≡ as_opened here
-  opens = opened_is case state is ∙ ap as_opened here-is
+    opens : opened w ≡ as_opened here
+    opens = opened_is case state is ∙ ap as_opened here-is
 
-  keyed : IsKeyed here
-  keyed = subst IsKeyed here-is (keyed_here case state is)
+    keyed : IsKeyed here
+    keyed = subst IsKeyed here-is (keyed_here case state is)
 
-  -- the name is known, and the length is right
-  both : (no_file w ≡ None) × (bad_length w ≡ None)
-  both = fifth-none (no_file w) (stopped w) (not_allowed w) (bad_slot w) (bad_length w)
-      (no_position w ∷ no_get w ∷ []) none
+    -- the name is known, and the length is right
+    both : (no_file w ≡ None) × (bad_length w ≡ None)
+    both = fifth-none (no_file w) (stopped w) (not_allowed w) (bad_slot w) (bad_length w)
+        (no_position w ∷ no_get w ∷ []) none
 
-  no-file : refused_if (is_unknown (as_opened here) || is_catalog_changing w) NoFile ≡ None
-  no-file = sym (ap (λ (r : Request). option_and_then (λ (file : FileRef).
-      refused_if (is_unknown (opened w) || is_catalog_changing w) NoFile) (file_of r)) get.is
-      ∙ ap (λ (o : Opened). refused_if (is_unknown o || is_catalog_changing w) NoFile) opens)
-      ∙ both.0
+    no-file : refused_if (is_unknown (as_opened here) || is_catalog_changing w) NoFile ≡ None
+    no-file = sym (ap (λ (r : Request). option_and_then (λ (file : FileRef).
+        refused_if (is_unknown (opened w) || is_catalog_changing w) NoFile) (file_of r)) get.is
+        ∙ ap (λ (o : Opened). refused_if (is_unknown o || is_catalog_changing w) NoFile) opens)
+        ∙ both.0
 
-  no-length : key_length_wrong (as_opened here) get.place ≡ None
-  no-length = sym (ap (λ (r : Request). length_wrong (opened w) r) get.is
-      ∙ ap (λ (o : Opened). key_length_wrong o get.place) opens)
-      ∙ both.1
+    no-length : key_length_wrong (as_opened here) get.place ≡ None
+    no-length = sym (ap (λ (r : Request). length_wrong (opened w) r) get.is
+        ∙ ap (λ (o : Opened). key_length_wrong o get.place) opens)
+        ∙ both.1
 
-  long : option_map_or (is_long_as get.place) here false ≡ true
-  long = long-known get.place here (is_catalog_changing w) keyed no-file no-length
+    long : option_map_or (is_long_as get.place) here false ≡ true
+    long = long-known get.place here (is_catalog_changing w) keyed no-file no-length
 
-  -- the place is as long as the keys of its part,
-  pub fits-known : fits_in case.catalog.now get.on.base.0 get.place ≡ true
-  fits-known = long-part get.place (get.on.known && is_none get.on.path)
-      (definition_of case.catalog.now get.on.base.0) long
+    -- the place is as long as the keys of its part,
+    pub fits-known : fits_in case.catalog.now get.on.base.0 get.place ≡ true
+    fits-known = long-part get.place (get.on.known && is_none get.on.path)
+        (definition_of case.catalog.now get.on.base.0) long
 
-  -- and is the one that is read
-  pub place-known : place_read w ≡ Some get.place
-  place-known = read_is case state is
-      ∙ ap (λ (r : Request). read_by r (definition_here case)) get.is
-      ∙ ap (λ (o : Option Definition). option_map (λ (known : Definition). get.place) o) here-is
-      ∙ named-known get.place here long
+    -- and is the one that is read
+    pub place-known : place_read w ≡ Some get.place
+    place-known = read_is case state is
+        ∙ ap (λ (r : Request). read_by r (definition_here case)) get.is
+        ∙ ap (λ (o : Option Definition). option_map (λ (known : Definition). get.place) o) here-is
+        ∙ named-known get.place here long
 
 -- the record that is looked at is that of the place
 pub looked-is : (case : CaseInHand) (state : State) → IsCaseOf case state → (part : ℕ)

@@ -55,14 +55,38 @@ module _ (geometry : Geometry) (opening : State) (entries : List Entry) (entry :
   alike-by : (on : FileRef) (place : List ℕ) (update : Bool) (integrity : Integrity)
       → AreAlike before (read_leaves (case_of geometry before entry.unit
       (Get on (Equal place) update integrity)) on place update integrity)
-  alike-by on place true integrity = record { contents = refl; befores = refl; logged = refl;
-      used = refl; numbers = refl; owned = refl }
-  alike-by on place false Nri = record { contents = refl; befores = refl; logged = refl;
-      used = refl; numbers = refl; owned = refl }
-  alike-by on place false Cr = record { contents = refl; befores = refl; logged = refl;
-      used = refl; numbers = refl; owned = refl }
-  alike-by on place false Cre = record { contents = refl; befores = refl; logged = refl;
-      used = refl; numbers = refl; owned = refl }
+  alike-by on place true integrity = record {
+    contents = refl;
+    befores = refl;
+    logged = refl;
+    used = refl;
+    numbers = refl;
+    owned = refl;
+  }
+  alike-by on place false Nri = record {
+    contents = refl;
+    befores = refl;
+    logged = refl;
+    used = refl;
+    numbers = refl;
+    owned = refl;
+  }
+  alike-by on place false Cr = record {
+    contents = refl;
+    befores = refl;
+    logged = refl;
+    used = refl;
+    numbers = refl;
+    owned = refl;
+  }
+  alike-by on place false Cre = record {
+    contents = refl;
+    befores = refl;
+    logged = refl;
+    used = refl;
+    numbers = refl;
+    owned = refl;
+  }
 
   -- a GET of a place
   pub alike-read : (on : FileRef) (place : List ℕ) (update : Bool) (integrity : Integrity)

@@ -107,9 +107,9 @@ pub record IsEntered (after : ℕ) (unit : UnitOfRecovery) (line : ℕ) (request
     (old new : FileNow) : Type 0 where
   pub reply : Reply
   pub leaves : new ≡ with_event after unit line (Asked request reply) (record old {
-      locks = new.locks;
-      files = new.files;
-      files_room = new.files_room;
+    locks = new.locks;
+    files = new.files;
+    files_room = new.files_room;
   })
 
 abbrev pub HasEntered : ℕ → UnitOfRecovery → ℕ → Request → FileNow → FileNow → Type 0

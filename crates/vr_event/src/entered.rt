@@ -29,13 +29,7 @@ fn is_write_fault(refusal: &Refusal) -> bool
 
 impl<B: Blocks, P: Part> Volume<B, P> {
     /// Enters a request that a fault of a write refused, and the fault, which stops the volume.
-    pub(crate) fn fail_write(
-        &mut self,
-        unit: Unit,
-        line: u32,
-        request: SharedRequest,
-        after: u64,
-    )
+    pub(crate) fn fail_write(&mut self, unit: Unit, line: u32, request: SharedRequest, after: u64)
         requires room { 1 < self.old.file.room }
         requires last { last_stamp 0 self.old.file.entries < 2 ^ 64 - 2 }
         requires after { after < 2 ^ 64 - 2 }
@@ -107,7 +101,8 @@ impl<B: Blocks, P: Part> Volume<B, P> {
         ensures blocks { self.new.blocks ≡ self.old.blocks }
     {
         let shared = request.share()?;
-        self.file.read(alloc, unit, line, shared, reply, names, held, after)
+        self.file
+            .read(alloc, unit, line, shared, reply, names, held, after)
     }
 
     /// Enters a GET that is done, and takes its locks, in memory that may run out: then it is

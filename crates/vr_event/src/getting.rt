@@ -35,8 +35,10 @@ use vr_answer::{Case, done, lock_names, place_read, refused_by_record};
 use vr_catalog::Catalog;
 use vr_record_file::RecordFile;
 use vr_space::Part;
-use vr_types::{Blocks, Bytes, DeviceFault, Find, LockNames, OutOfMemory, PartNo, Place, Refusal};
-use vr_types::{Reply, Request, SharedRequest, Unit, place};
+use vr_types::{
+    Blocks, Bytes, DeviceFault, Find, LockNames, OutOfMemory, PartNo, Place, Refusal, Reply,
+    Request, SharedRequest, Unit, place,
+};
 
 /// What a GET comes to before it is entered.
 #[derive(Debug, Drop)]
@@ -86,11 +88,7 @@ fn held_for(alloc: Global, case: &Case) -> Result<Option<Place>, OutOfMemory>
 }
 
 /// What a GET that is done comes to.
-fn done_outcome(
-    alloc: Global,
-    case: &Case,
-    present: Option<&[u8]>,
-) -> Result<Outcome, OutOfMemory>
+fn done_outcome(alloc: Global, case: &Case, present: Option<&[u8]>) -> Result<Outcome, OutOfMemory>
     ensures { IfOk result (λ outcome. InEachWith case.now (option_copied present.entry)
         (λ whole. first_of (file_refusals whole) ≡ None → first_of (record_refusals whole) ≡ None
         → getting.IsGetOf whole.request → getting.MayEnd whole outcome)) }
@@ -215,13 +213,7 @@ impl<B: Blocks, P: Part> Volume<B, P> {
     /// Enters an ENDREQ of a deck: its file stands nowhere and holds nothing then. No block is
     /// touched, and what the blocks hold stays what the history gives. There is room for one more
     /// file, or the file was set before.
-    pub(crate) fn end_request(
-        &mut self,
-        unit: Unit,
-        line: u32,
-        request: SharedRequest,
-        after: u64,
-    )
+    pub(crate) fn end_request(&mut self, unit: Unit, line: u32, request: SharedRequest, after: u64)
         requires room { 0 < self.old.file.room }
         requires files { CanSet self.old.file unit.deck (cases.file_of request) }
         requires last { last_stamp 0 self.old.file.entries < 2 ^ 64 - 2 }
