@@ -34,8 +34,10 @@ pub use Rattle.vr_answer.proofs.AfterLemmas.{after_endreq, after_read, after_ref
 pub use Rattle.vr_answer.proofs.KeptLemmas.{kept_in_the_way, kept_throughout}
 -- an exclusive lock is there once it is taken, stays as others are taken, and as another unit ends
 pub use Rattle.vr_answer.proofs.KeptLemmas.{any_left, kept_with, other_held, taken}
--- no alternate index stands over a part, and no pair of one moves
-pub use Rattle.vr_answer.proofs.OpeningLemmas.{moves_none}
+-- no alternate index stands over a part, and no pair of one moves; what a file is on, which is
+-- key-sequenced; and the place that a read names
+pub use Rattle.vr_answer.proofs.OpeningLemmas.{IsKeyed, keyed_here, moves_none, opened_is}
+pub use Rattle.vr_answer.proofs.PlaceLemmas.{read_is}
 pub use Rattle.vr_answer.proofs.TakingLemmas.{taken_alike}
 
 -- the first of two lists

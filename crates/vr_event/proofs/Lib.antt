@@ -17,3 +17,10 @@ pub mod Steps
 pub mod Readying
 pub mod Storing
 pub mod Backs
+pub mod Readings
+pub mod Early
+pub mod Ended
+pub mod Known
+pub mod Entries
+pub mod Faults
+pub mod Held

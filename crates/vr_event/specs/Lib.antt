@@ -6,3 +6,4 @@ pub mod Changing
 pub mod Volume
 pub mod Alike
 pub mod Ends
+pub mod Getting

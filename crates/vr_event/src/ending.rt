@@ -31,11 +31,7 @@ impl<P: Part> Store<P> {
     /// Forces the last four of the blocks that a unit changed, or all where there are no more, and
     /// answers how many are left, at most 2^32 - 1. `Write` is the device's, and then the store is
     /// as before.
-    pub fn force_some<B: Blocks>(
-        &mut self,
-        blocks: &mut B,
-        unit: Unit,
-    ) -> Result<u32, DeviceFault>
+    pub fn force_some<B: Blocks>(&mut self, blocks: &mut B, unit: Unit) -> Result<u32, DeviceFault>
         requires set { IsSet self.old (B.seen blocks.old) }
         ensures left { IfOk result (λ left. left
             ≡ min (length (blocks_of unit self.new.changed)) 4294967295) }

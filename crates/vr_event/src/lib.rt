@@ -3,9 +3,12 @@
 //! the record file (vr_answer), locks (vr_locks) and positions (vr_browse).
 #![tactic(auto)]
 
+mod answering;
 mod changed;
 mod changing;
 mod ending;
+mod entered;
+mod getting;
 mod no;
 mod parts;
 mod preparing;

@@ -1,11 +1,11 @@
 //! Requests that a volume refuses.
 ghost use Rattle.std.specs.Prelude.{◌≡◌, ◌<◌, ◌-◌, ◌^◌, IsTrue, None, false};
 ghost use Rattle.vr_types.specs.declared.reply.Reply.TheVariants.{Refused};
+ghost use Rattle.vr_history.specs.declared.entry.What.TheVariants.{Asked};
 ghost use Rattle.vr_history.specs.Legal.{is_write_fault};
 ghost use Rattle.vr_history.specs.Merged.{last_stamp};
 ghost use Rattle.vr_history.specs.State.{State};
 ghost use Rattle.vr_history.specs.Step.{stand_refused};
-ghost use Rattle.vr_history.specs.declared.entry.What.TheVariants.{Asked};
 ghost use Rattle.vr_record_file.specs.Now.{MayBeAsked, lets_go, with_event};
 ghost use Rattle.vr_event.specs.Volume.{IsHeld, IsWhole};
 
@@ -32,11 +32,9 @@ impl<B: Blocks, P: Part> Volume<B, P> {
             → stand_refused request refusal ≡ None → is_write_fault (Refused refusal) ≡ false
             → IsHeld B.seen opening self.new }
         ensures whole { IsWhole B.seen self.old → IsWhole B.seen self.new }
-        // The entry, and that its file lets go what it held, are all that is new.
-        ensures leaves { self.new ≡ record self.old {
-          file = with_event after unit line (Asked request (Refused refusal))
-              (lets_go unit.deck request self.old.file);
-        } }
+        ensures leaves { self.new.file ≡ with_event after unit line
+            (Asked request (Refused refusal)) (lets_go unit.deck request self.old.file) }
+        ensures blocks { self.new.blocks ≡ self.old.blocks }
     {
         self.file.refuse(unit, line, request, refusal, after);
     }

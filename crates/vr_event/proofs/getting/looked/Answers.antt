@@ -1,0 +1,21 @@
+use Rattle.std.proofs.Common.{◌≡◌, subst, sym, ◌∙◌}
+use Rattle.vr_types.specs.declared.reply.Refusal.{Refusal}
+use Rattle.vr_answer.specs.InHand.{whole}
+use Rattle.vr_event.specs.Getting.{MayEnd}
+use Rattle.vr_event.specs.declared.getting.Outcome.TheVariants.{Refused}
+use Rattle.vr_event.proofs.Ended.{may-fail}
+use Rattle.vr_event.proofs.Known.{get-of, looked-is}
+use Rattle.vr_event.proofs.getting.looked.Goals as goal
+
+pub returns-in-Err-clause-ends : goal.returns-in-Err-clause-ends
+returns-in-Err-clause-ends g c told volume state is stored names none =
+    subst (λ (r : Refusal). MayEnd (whole c.args.case.now state) (Refused r))
+    (sym c.refusal_of.ensures) (may-fail (whole c.args.case.now state)
+    (get-of c.args.case.now.request.now c.args.part.0 c.args.place.now names) none c.in-Err.no)
+
+pub returns-in-Ok-clause-ends : goal.returns-in-Ok-clause-ends
+returns-in-Ok-clause-ends g c told volume state is stored names none =
+    c.answered.ensures state is
+    (c.in-Ok.ensures.found told volume state stored
+    ∙ sym (looked-is c.args.case.now state is c.args.part.0 c.args.place.now names none)) none
+    (get-of c.args.case.now.request.now c.args.part.0 c.args.place.now names)

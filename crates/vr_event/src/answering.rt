@@ -1,0 +1,70 @@
+//! The refusals that need no record.
+ghost use Rattle.std.specs.Prelude.{◌≡◌, ◌==◌, IsTrue, None, false, option_and_then};
+ghost use Rattle.vr_types.specs.Space.{free_count};
+ghost use Rattle.vr_log.specs.Live.{used_by};
+ghost use Rattle.vr_answer.specs.Scope.{IsDirect};
+ghost use Rattle.vr_answer.specs.Tried.{file_refusals};
+ghost use Rattle.vr_history.specs.Replies.{first_of};
+ghost use Rattle.vr_history.specs.State.{State};
+ghost use Rattle.vr_history.specs.Step.{case_of, stand_refused};
+ghost use Rattle.vr_record_file.specs.Now.{state_now};
+ghost use Rattle.vr_event.specs.Volume.{IsHeld};
+
+use crate::store::Store;
+use crate::volume::Volume;
+use std::alloc::Global;
+use vr_answer::{Case, refused_by_file};
+use vr_locks::lock_table;
+use vr_space::Part;
+use vr_types::{Blocks, Refusal, Request, Unit};
+
+impl<P: Part> Store<P> {
+    /// How many areas no part has.
+    pub(crate) fn free_areas(&self) -> u32
+        ensures { result ≡ free_count self.now.space }
+    {
+        self.space.free()
+    }
+
+    /// The bytes of the log in use.
+    pub(crate) fn used(&self) -> u64
+        requires { self.now.log.broken ≡ false }
+        ensures { result ≡ used_by self.now.log.records }
+    {
+        self.log.used()
+    }
+}
+
+impl<B: Blocks, P: Part> Volume<B, P> {
+    /// The first refusal of a direct request of a deck by what is in memory: `NoFile`, `Stopped`,
+    /// `NotAllowed`, `BadLength`, and `NoGet` where an update or an erase finds nothing held. None
+    /// of them looks at locks or at the log, so it is told of neither. It takes no memory, and the
+    /// refusal moves no file.
+    pub(crate) fn refused_early(
+        &self,
+        alloc: Global,
+        unit: Unit,
+        request: &Request,
+    ) -> Option<Refusal>
+        ensures value { IsTrue B.tells → (opening : State) → IsHeld B.seen opening self.now
+            → (unit.deck == 0) ≡ false → IsDirect request.now
+            → result ≡ first_of (file_refusals (case_of self.now.file.geometry
+            (state_now opening self.now.file) unit request.now)) }
+        ensures stays { IsDirect request.now
+            → option_and_then (stand_refused request.now) result ≡ None }
+    {
+        let locks = lock_table(alloc);
+        refused_by_file(&Case {
+            geometry: self.file.geometry(),
+            catalog: self.file.catalog(),
+            locks: &locks,
+            held: self.file.held(unit.deck, request),
+            stopped: self.file.stopped(),
+            free: self.store.free_areas(),
+            used: 0,
+            unit,
+            request,
+            catalog_changing: false,
+        })
+    }
+}
