@@ -1,6 +1,6 @@
 -- Literals: the function that the definition has for them answers what the rules of literals say.
 use Rattle.std.proofs.Common.{◌≡◌, ◌≢◌, ℕ, ◌+◌, ◌*◌, ◌<◌, List, [], ◌∷◌, ◌++◌, codes, true, false, cond, Bool}
-use Rattle.std.proofs.Common.{◌==◌, ◌&&◌, nat_lt, ◌⊎◌, inl, inr, refl, sym, ap, ◌∙◌, Option, Some, None}
+use Rattle.std.proofs.Common.{◌==◌, ◌&&◌, nat_lt, ◌⊎◌, inl, inr, refl, sym, ap, subst, ◌∙◌, Option, Some, None}
 use Rattle.std.specs.Char.{digit_value}
 use Rattle.std.proofs.lemmas.Bool.{cases_Bool, lt-ltb, ltb-true, and_from, and_parts, cond-true}
 use Rattle.std.proofs.lemmas.Bool.{false_from_ne_true, cond-false}
@@ -93,6 +93,13 @@ digits_there (high ∷ low ∷ digits) (b ∷ bytes) h =
     ∙ ap (onto (16 * digit_value high + digit_value low)) (digits_there digits bytes h.3)
     ∙ ap (λ n. Some (n ∷ bytes)) (sym h.2)
 
+one_pair : (high low : ℕ) (digits rest bytes : List ℕ) → digit_value high < 16
+    → digit_value low < 16 → bytes ≡ (16 * digit_value high + digit_value low) ∷ rest
+    → SpellsBytes digits rest → SpellsBytes (high ∷ low ∷ digits) bytes
+one_pair high low digits rest bytes first second same spelled =
+    subst (λ (all : List ℕ). SpellsBytes (high ∷ low ∷ digits) all) (sym same)
+    (first, second, refl, spelled)
+
 digits_back : (text bytes : List ℕ) → digits_in text ≡ Some bytes
     → (digits : List ℕ) × (text ≡ digits ++ 39 ∷ []) × SpellsBytes digits bytes
 digits_back [] bytes h = let f : ⊥ = cc in absurd f
@@ -105,9 +112,12 @@ digits_back (high ∷ low ∷ ds) bytes h =
           sym (cond-true _ _ _ both) ∙ h in
           let put = onto_some _ (digits_in ds) bytes e in
           let rest = digits_back ds put.0 put.1 in
-          let each = and_parts _ _ both in
-          (high ∷ low ∷ rest.0, ap (λ text. high ∷ low ∷ text) rest.1,
-          rw put.2 (ltb-true _ _ each.0, ltb-true _ _ each.1, refl, rest.2))
+          let each = and_parts _ _ both in (
+            high ∷ low ∷ rest.0,
+            ap (λ text. high ∷ low ∷ text) rest.1,
+            one_pair high low rest.0 put.0 bytes (ltb-true _ _ each.0) (ltb-true _ _ each.1) put.2
+                rest.2,
+          )
       | inr other ↦
           let e : None ≡ Some bytes = sym (cond-false _ _ _ other) ∙ h in
           let f : ⊥ = cc in absurd f
@@ -135,8 +145,12 @@ letter_at a rest bytes h =
                 let x : a ≡ 88 = (Decides-eqb a 88).0 same in
                 let e : digits_in rest ≡ Some bytes = sym (cond-true _ _ _ same) ∙ next in
                 let spelled = digits_back rest bytes e in
-                inr (spelled.0, ap (λ n. n ∷ 39 ∷ rest) x
-                ∙ ap (λ text. 88 ∷ 39 ∷ text) spelled.1, spelled.2)
+                inr (
+                  spelled.0,
+                  ap (λ n. n ∷ 39 ∷ rest) x
+                      ∙ ap (λ text. 88 ∷ 39 ∷ text) spelled.1,
+                  spelled.2,
+                )
             | inr none ↦
                 let e : None ≡ Some bytes = sym (cond-false _ _ _ none) ∙ next in
                 let f : ⊥ = cc in absurd f

@@ -72,8 +72,11 @@ literal_in text = if is_plain text then form_in text else None
 abbrev pub is_letter : ℕ → Bool
 is_letter b = is_ascii_alphabetic b || b == 64 || b == 35 || b == 36
 
+abbrev pub are_letters : List ℕ → Bool
+are_letters name = list_all (λ b. is_letter b || is_ascii_digit b) name
+
 -- the name of a file, as on cards: 1 to 8 letters and digits, the first not a digit
 abbrev pub is_file_name : List ℕ → Bool
 is_file_name name =
-    not (length name == 0) && nat_le (length name) 8 && is_letter (slice_index name 0)
-    && list_all (λ b. is_letter b || is_ascii_digit b) name
+    if length name == 0 || nat_lt 8 (length name) then false else (is_letter (slice_index name 0)
+    && are_letters name)

@@ -3,9 +3,7 @@ ghost use Rattle.std.specs.Prelude.{◌≡◌};
 ghost use Rattle.vr_deck_text.specs.Rows.{is_column_of, operand_named, verb_named, rows_of, needs_of};
 ghost use Rattle.vr_deck_text.specs.Rows.{overlaps, joined, covers};
 
-use crate::tables::{
-    DATA, GET_ROWS, NOTHING, NO_ROWS, PLACE, POINT_ROWS, PUT_ROWS, VERBS,
-};
+use crate::tables::{DATA, GET_ROWS, NO_ROWS, NOTHING, PLACE, POINT_ROWS, PUT_ROWS, VERBS};
 use vr_types::Integrity;
 
 /// What operands settle. Two operands of a line exclude each other where both settle a thing.

@@ -1,7 +1,7 @@
 //! Words as names, numbers and literals.
 ghost use Rattle.std.specs.Prelude.{◌≡◌, true, IfOk, IfSome, IfNone, false};
 ghost use Rattle.vr_deck_text.specs.Values.{is_plain, name_in, number_in, literal_in};
-ghost use Rattle.vr_deck_text.specs.Values.{is_letter, is_file_name};
+ghost use Rattle.vr_deck_text.specs.Values.{is_letter, are_letters, is_file_name};
 
 use std::alloc::Global;
 use vr_text::{LiteralFault, number, read_literal};
@@ -114,14 +114,20 @@ fn is_letter(byte: u8) -> bool
     byte.is_ascii_alphabetic() || byte == b'@' || byte == b'#' || byte == b'$'
 }
 
+/// Whether each byte is a letter or a digit.
+fn are_letters(name: &[u8]) -> bool
+    ensures { result ≡ are_letters name.now }
+{
+    name.iter()
+        .all(|byte| is_letter(*byte) || byte.is_ascii_digit())
+}
+
 /// Whether a word is the name of a file.
 pub(crate) fn is_file_name(name: &[u8]) -> bool
     ensures { result ≡ is_file_name name.now }
 {
-    !name.is_empty()
-        && name.len() <= NAME_LIMIT
-        && is_letter(name[0])
-        && name
-            .iter()
-            .all(|byte| is_letter(*byte) || byte.is_ascii_digit())
+    if name.is_empty() || name.len() > NAME_LIMIT {
+        return false;
+    }
+    is_letter(name[0]) && are_letters(name)
 }

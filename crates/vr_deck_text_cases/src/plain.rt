@@ -6,6 +6,16 @@ use crate::simple::{is_data_set, is_name, literal_of, number_of};
 use std::alloc::Global;
 use std::fmt::Write;
 
+const OF_GET: [&str; 9] = [
+    "KEY=", "RBA=", "RRN=", "SEQ", "GE", "UPD", "NRI", "CR", "CRE",
+];
+
+const OF_POINT: [&str; 4] = ["KEY=", "RBA=", "RRN=", "GE"];
+
+const OF_PUT: [&str; 3] = ["RRN=", "UPD", "DATA="];
+
+const OF_OTHERS: [&str; 0] = [];
+
 /// A file that was declared.
 #[derive(Clone, Copy)]
 struct Known<'a> {
@@ -51,6 +61,30 @@ pub fn write_outcome(alloc: Global, text: &str, out: &mut String) -> Answer {
     say(out, deck.orders.as_str())
 }
 
+/// The bytes of a text from one place up to another.
+fn part(text: &[u8], from: usize, to: usize) -> &[u8] {
+    match text.get(from..to) {
+        Some(part) => part,
+        None => b"",
+    }
+}
+
+/// The words from one on.
+fn rest_of<'a, 'b>(words: &'b [&'a [u8]], from: usize) -> &'b [&'a [u8]] {
+    match words.get(from..words.len()) {
+        Some(rest) => rest,
+        None => words,
+    }
+}
+
+/// The words before one.
+fn first_of<'a, 'b>(words: &'b [&'a [u8]], to: usize) -> &'b [&'a [u8]] {
+    match words.get(0..to) {
+        Some(first) => first,
+        None => words,
+    }
+}
+
 /// The words of a line.
 fn words_of<'a>(alloc: Global, line: &'a [u8]) -> Result<Vec<&'a [u8]>, Stop> {
     let mut words = Vec::new(alloc);
@@ -62,13 +96,13 @@ fn words_of<'a>(alloc: Global, line: &'a [u8]) -> Result<Vec<&'a [u8]>, Stop> {
         }
         if *byte == b' ' && quotes % 2 == 0 {
             if start < at {
-                words.push(line.get(start..at).unwrap_or(b""))?;
+                words.push(part(line, start, at))?;
             }
             start = at.saturating_add(1);
         }
     }
     if start < line.len() {
-        words.push(line.get(start..line.len()).unwrap_or(b""))?;
+        words.push(part(line, start, line.len()))?;
     }
     Ok(words)
 }
@@ -86,7 +120,7 @@ fn read_line<'a>(
         return Ok(0);
     }
     let verb = words[0];
-    let rest = words.get(1..words.len()).unwrap_or(&[]);
+    let rest = rest_of(words, 1);
     if verb == b"FILE".as_slice() {
         declare(alloc, deck, rest)
     } else if verb == b"COMMIT".as_slice() || verb == b"BACKOUT".as_slice() {
@@ -128,7 +162,7 @@ fn declare<'a>(alloc: Global, deck: &mut Deck<'a>, words: &[&'a [u8]]) -> Result
     if !is_data_set(data_set) {
         return Ok(5);
     }
-    let rest = words.get(2..words.len()).unwrap_or(&[]);
+    let rest = rest_of(words, 2);
     let cause = operands_fault(alloc, &["NRI", "CR", "CRE"], rest)?;
     if cause == 0 {
         let integrity = integrity_of(rest, "NRI");
@@ -181,7 +215,7 @@ fn integrity_of(words: &[&[u8]], other: &'static str) -> &'static str {
 fn head_of(word: &[u8]) -> &[u8] {
     for (at, byte) in word.iter().enumerate() {
         if *byte == b'=' {
-            return word.get(0..at.saturating_add(1)).unwrap_or(b"");
+            return part(word, 0, at.saturating_add(1));
         }
     }
     word
@@ -189,7 +223,7 @@ fn head_of(word: &[u8]) -> &[u8] {
 
 /// What follows that.
 fn tail_of(word: &[u8]) -> &[u8] {
-    word.get(head_of(word).len()..word.len()).unwrap_or(b"")
+    part(word, head_of(word).len(), word.len())
 }
 
 /// Whether two operands exclude each other.
@@ -213,7 +247,7 @@ fn operands_fault(alloc: Global, known: &[&str], words: &[&[u8]]) -> Result<u8, 
         if !is_among(known, head) {
             return Ok(9);
         }
-        for before in words.get(0..at).unwrap_or(&[]) {
+        for before in first_of(words, at) {
             if clash(head_of(before), head, is_among(known, b"DATA=")) {
                 return Ok(6);
             }
@@ -231,13 +265,13 @@ fn operands_fault(alloc: Global, known: &[&str], words: &[&[u8]]) -> Result<u8, 
 /// The operands that a verb has.
 fn known_of(verb: &[u8]) -> &'static [&'static str] {
     if verb == b"GET".as_slice() {
-        &["KEY=", "RBA=", "RRN=", "SEQ", "GE", "UPD", "NRI", "CR", "CRE"]
+        &OF_GET
     } else if verb == b"POINT".as_slice() {
-        &["KEY=", "RBA=", "RRN=", "GE"]
+        &OF_POINT
     } else if verb == b"PUT".as_slice() {
-        &["RRN=", "UPD", "DATA="]
+        &OF_PUT
     } else {
-        &[]
+        &OF_OTHERS
     }
 }
 
@@ -262,7 +296,7 @@ fn read_order(
     if place == deck.files.len() {
         return Ok(3);
     }
-    let rest = words.get(1..words.len()).unwrap_or(&[]);
+    let rest = rest_of(words, 1);
     let cause = operands_fault(alloc, known_of(verb), rest)?;
     if cause != 0 {
         return Ok(cause);

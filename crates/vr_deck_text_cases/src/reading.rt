@@ -64,21 +64,25 @@ fn write_order(alloc: Global, order: &Order, out: &mut String) -> Answer {
             update,
             integrity,
         } => {
+            let file = *file;
             write!(out, "GET{file}")?;
             write_seek(alloc, seek, out)?;
             say(out, if *update { ",UPD," } else { "," })?;
             say(out, integrity_name(*integrity))
         }
         Ask::Point { file, seek } => {
+            let file = *file;
             write!(out, "POINT{file}")?;
             write_seek(alloc, seek, out)
         }
         Ask::Add { file, at, bytes } => {
+            let file = *file;
             write!(out, "ADD{file}")?;
             write_place(alloc, at, out)?;
             write_bytes(alloc, bytes.as_slice(), out)
         }
         Ask::Update { file, bytes } => {
+            let file = *file;
             write!(out, "UPDATE{file}")?;
             write_bytes(alloc, bytes.as_slice(), out)
         }
@@ -129,10 +133,12 @@ fn write_at(alloc: Global, at: &At, out: &mut String) -> Answer {
             say_digits(alloc, out, key.as_slice())
         }
         At::Rba(number) => {
+            let number = *number;
             write!(out, ",RBA{number}")?;
             Ok(())
         }
         At::Rrn(number) => {
+            let number = *number;
             write!(out, ",RRN{number}")?;
             Ok(())
         }

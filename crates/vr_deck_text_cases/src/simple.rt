@@ -62,7 +62,7 @@ pub fn literal_of(alloc: Global, word: &[u8]) -> Result<Option<Vec<u8>>, Stop> {
     if word.len() < 3 || word[1] != b'\'' || word[word.len() - 1] != b'\'' {
         return Ok(None);
     }
-    let inner = word.get(2..word.len().saturating_sub(1)).unwrap_or(b"");
+    let inner = &word[2..word.len() - 1];
     if word[0] == b'C' {
         characters(alloc, inner)
     } else if word[0] == b'X' {
