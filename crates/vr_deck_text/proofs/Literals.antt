@@ -1,13 +1,13 @@
 -- Literals: the function that the definition has for them answers what the rules of literals say.
-use Rattle.std.proofs.Common.{◌≡◌, ◌≢◌, ℕ, ◌+◌, ◌*◌, ◌<◌, List, [], ◌∷◌, ◌++◌, codes, true, false, cond, Bool}
+use Rattle.std.proofs.Common.{◌≡◌, ◌≢◌, ℕ, ◌+◌, ◌*◌, ◌<◌, List, [], ◌∷◌, ◌++◌, true, false, cond}
 use Rattle.std.proofs.Common.{◌==◌, ◌&&◌, nat_lt, ◌⊎◌, inl, inr, refl, sym, ap, subst, ◌∙◌, Option, Some, None}
 use Rattle.std.specs.Char.{digit_value}
 use Rattle.std.proofs.lemmas.Bool.{cases_Bool, lt-ltb, ltb-true, and_from, and_parts, cond-true}
-use Rattle.std.proofs.lemmas.Bool.{false_from_ne_true, cond-false}
+use Rattle.std.proofs.lemmas.Bool.{cond-false}
 use Rattle.std.proofs.lemmas.Bool.Decides.{Decides-eqb}
 use Rattle.vr_text.specs.declared.literal.LiteralFault.{LiteralFault}
 use Rattle.vr_text.specs.declared.literal.LiteralFault.TheVariants.{Memory}
-use Rattle.vr_text.specs.Literal.{doubled, character_form, SpellsBytes, IsLiteral, CauseOf}
+use Rattle.vr_text.specs.Literal.{doubled, SpellsBytes, IsLiteral, CauseOf}
 use Rattle.vr_text.proofs.CallerLemmas.{literal_has_no_cause}
 use Rattle.vr_deck_text.specs.Values.{is_plain, onto, characters_in, digits_in, form_in, literal_in}
 

@@ -1,6 +1,6 @@
 -- The run of the lines, and of the words of a line.
 use Rattle.std.proofs.Common.{◌≡◌, ℕ, ◌+◌, ◌<◌, ◌≤◌, List, [], ◌∷◌, length, drop, refl, sym, ap, ◌∙◌, add-one}
-use Rattle.std.proofs.Common.{◌⊎◌, inl, inr, Result, Ok, Err, get_or}
+use Rattle.std.proofs.Common.{◌⊎◌, inl, inr, Result, Ok, Err}
 use Rattle.std.proofs.lemmas.List.{drop_all}
 use Rattle.std.proofs.Math.Seq.{drop-cons}
 use Rattle.vr_text.specs.Lines.{Line, line_at}

@@ -1,7 +1,7 @@
 -- The deck that lines say, or their first fault: line by line, and word by word from the left. What
 -- is missing is told last. The requests are those of Using Data Sets; how a deck is written is this
 -- project's own.
-use Rattle.std.specs.Prelude.{◌≡◌, ℕ, ◌+◌, Bool, true, false, not, ◌&&◌, ◌||◌, ◌==◌, nat_le, nat_lt, List, []}
+use Rattle.std.specs.Prelude.{◌≡◌, ℕ, ◌+◌, Bool, not, ◌&&◌, ◌||◌, ◌==◌, nat_le, nat_lt, List, []}
 use Rattle.std.specs.Prelude.{◌∷◌, ◌++◌, length, slice_index, bytes_eq, Option, Some, None, Result, Ok, Err}
 use Rattle.std.specs.Prelude.{if◌then◌else◌, is_some}
 use Rattle.std.specs.Option.{unwrap_or}
@@ -25,7 +25,6 @@ use Rattle.vr_deck_text.specs.declared.text.Ask.TheVariants as asks
 use Rattle.vr_deck_text.specs.declared.text.At.{At}
 use Rattle.vr_deck_text.specs.declared.text.DeckFile.{DeckFile}
 use Rattle.vr_deck_text.specs.declared.text.DeckText.{DeckText}
-use Rattle.vr_deck_text.specs.declared.text.Order.{Order}
 use Rattle.vr_deck_text.specs.declared.text.Seek.{Seek}
 use Rattle.vr_deck_text.specs.declared.text.Seek.TheVariants.{Next, Equal, AtLeast}
 use Rattle.vr_deck_text.specs.Operands.{operands_in}

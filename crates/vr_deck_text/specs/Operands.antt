@@ -1,5 +1,5 @@
 -- The operands of a line: word by word, after the table of the verb.
-use Rattle.std.specs.Prelude.{◌≡◌, ℕ, Bool, List, [], ◌∷◌, Option, Some, None, Result, Ok, Err, if◌then◌else◌}
+use Rattle.std.specs.Prelude.{◌≡◌, ℕ, List, [], ◌∷◌, Option, Some, None, Result, Ok, Err, if◌then◌else◌}
 use Rattle.vr_types.specs.declared.unit.Integrity.{Integrity}
 use Rattle.vr_deck_text.specs.declared.fault.DeckCause.{DeckCause}
 use Rattle.vr_deck_text.specs.declared.fault.DeckCause.TheVariants as causes

@@ -10,7 +10,6 @@ use Rattle.vr_deck_text.specs.declared.row.Operand.{Operand}
 use Rattle.vr_deck_text.specs.declared.row.Row.{Row}
 use Rattle.vr_deck_text.specs.declared.row.Settles.{Settles}
 use Rattle.vr_deck_text.specs.declared.row.Verb.{Verb}
-use Rattle.vr_deck_text.specs.declared.row.VerbRow.{VerbRow}
 use Rattle.vr_deck_text.specs.declared.tables.TheConstants.{GET_ROWS, POINT_ROWS, PUT_ROWS, NO_ROWS}
 use Rattle.vr_deck_text.specs.declared.tables.TheConstants.{VERBS, PLACE, DATA, NOTHING}
 

@@ -343,7 +343,14 @@ fn write_order(
     if verb != b"PUT".as_slice() {
         say_text(alloc, out, verb)?;
     } else {
-        say(out, if has_one(words, &["UPD"]) { "UPDATE" } else { "ADD" })?;
+        say(
+            out,
+            if has_one(words, &["UPD"]) {
+                "UPDATE"
+            } else {
+                "ADD"
+            },
+        )?;
     }
     write!(out, "{place}")?;
     for word in words {
@@ -351,7 +358,14 @@ fn write_order(
     }
     say(out, if has_one(words, &["GE"]) { ",GE" } else { "" })?;
     if verb == b"GET".as_slice() {
-        say(out, if has_one(words, &["UPD"]) { ",UPD," } else { "," })?;
+        say(
+            out,
+            if has_one(words, &["UPD"]) {
+                ",UPD,"
+            } else {
+                ","
+            },
+        )?;
         say(out, integrity_of(words, integrity))?;
     }
     for word in words {
@@ -372,7 +386,14 @@ fn write_place(alloc: Global, out: &mut String, word: &[u8]) -> Answer {
         say(out, ",KEY")?;
         write_literal(alloc, out, tail_of(word))
     } else if head == b"RBA=".as_slice() || head == b"RRN=".as_slice() {
-        say(out, if head == b"RBA=".as_slice() { ",RBA" } else { ",RRN" })?;
+        say(
+            out,
+            if head == b"RBA=".as_slice() {
+                ",RBA"
+            } else {
+                ",RRN"
+            },
+        )?;
         let number = number_of(tail_of(word)).unwrap_or(0);
         write!(out, "{number}")?;
         Ok(())
