@@ -71,18 +71,18 @@ fn part(text: &[u8], from: usize, to: usize) -> &[u8] {
 
 /// The words from one on.
 fn rest_of<'a, 'b>(words: &'b [&'a [u8]], from: usize) -> &'b [&'a [u8]] {
-    match words.get(from..words.len()) {
-        Some(rest) => rest,
-        None => words,
+    if from > words.len() {
+        return words;
     }
+    &words[from..]
 }
 
 /// The words before one.
 fn first_of<'a, 'b>(words: &'b [&'a [u8]], to: usize) -> &'b [&'a [u8]] {
-    match words.get(0..to) {
-        Some(first) => first,
-        None => words,
+    if to > words.len() {
+        return words;
     }
+    &words[..to]
 }
 
 /// The words of a line.
