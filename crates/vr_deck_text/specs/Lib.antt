@@ -1,0 +1,5 @@
+pub mod Words
+pub mod Values
+pub mod Rows
+pub mod Operands
+pub mod Deck
