@@ -5,7 +5,7 @@ ghost use Rattle.vr_attach.specs.Attached.{IsOfKeyed};
 ghost use Rattle.vr_keyed_cases.specs.TheLayout.{the_geometry};
 
 use crate::answers::{Answer, Stop, say, say_fault, say_number};
-use crate::held::Held;
+use crate::held::{Held, boxed_blocks};
 use crate::images::last_blocks;
 use crate::plain_damage::{Found, damage_in};
 use crate::traced::Traced;
@@ -15,7 +15,7 @@ use vr_attach::PartNo2;
 use vr_catalog::{CatEntry, EntryKind, FreeSpace, ShareOptions, SpaceUnit};
 use vr_device::memory_device;
 use vr_keyed::Keyed;
-use vr_types::{AreaNo, Blocks, Geometry, Kind, NameFault, PartNo, dataset_name};
+use vr_types::{AreaNo, Blocks, DeviceFault, Geometry, Kind, NameFault, PartNo, dataset_name};
 
 /// The longest record of the entry. The part itself takes longer ones.
 const LONGEST: u32 = 300;
@@ -133,9 +133,14 @@ fn put_byte(blocks: &mut [u8], place: usize, byte: u32) -> Answer {
 }
 
 /// The part's four blocks on blocks 6 to 9 of a volume.
-fn volume(alloc: Global, blocks: &[u8], fails: &[u64]) -> Result<Traced, Stop> {
+fn volume(alloc: Global, blocks: &[u8], fails: &[u64]) -> Result<Box<Traced>, Stop> {
     let device = memory_device(alloc, 512, 10, fails)?;
-    let mut traced = Traced::over(alloc, device)?;
+    let mut traced = boxed_blocks(alloc, device)?;
+    write_blocks(&mut traced, blocks);
+    Ok(traced)
+}
+
+fn write_blocks(traced: &mut Traced, blocks: &[u8]) {
     for n in 0..4u32 {
         let from = n as usize * 512;
         if let Some(block) = blocks.get(from..from + 512) {
@@ -143,48 +148,66 @@ fn volume(alloc: Global, blocks: &[u8], fails: &[u64]) -> Result<Traced, Stop> {
         }
     }
     traced.clear_notes();
-    Ok(traced)
 }
 
 /// Writes what attaching answers, with the calls of the device, and what the plain program says
 /// where that is something else.
 fn attach_to(alloc: Global, blocks: &[u8], fails: &[u64], out: &mut String) -> Answer {
     let mut traced = volume(alloc, blocks, fails)?;
-    let found = attached(alloc, &mut traced, out)?;
-    say(out, traced.notes())?;
-    if fails.is_empty() && found != damage_in(blocks, LONGEST as usize) {
-        say(out, ", but the plain program says ")?;
-        say_found(out, damage_in(blocks, LONGEST as usize))?;
-    }
-    Ok(())
+    let attached = attached(alloc, &mut traced)?;
+    say_compared(out, attached, traced.notes(), blocks, fails.is_empty())
 }
 
-/// Attaches the part: what is found damaged, if something is.
-fn attached(alloc: Global, traced: &mut Traced, out: &mut String) -> Result<Option<Found>, Stop> {
+/// What attaching answered, but out of memory.
+#[derive(Clone, Copy)]
+enum Outcome {
+    Sound,
+    Damaged(Found),
+    Fault(DeviceFault),
+}
+
+/// Attaches the part.
+fn attached(alloc: Global, traced: &mut Traced) -> Result<Outcome, Stop> {
     let geometry = geometry();
     if !geometry.is_allowed() || geometry.areas() < 2 {
         return Err(Stop::Line);
     }
     let entry = entry(alloc)?;
-    match Keyed::attach(alloc, traced, &geometry, &entry, 8) {
-        Ok(_) => {
-            say(out, "ok")?;
-            Ok(None)
-        }
-        Err(PartNo2::Damaged { block, rule }) => {
-            let found = Some(Found {
-                block: (block as usize).saturating_sub(6),
-                rule,
-            });
-            say_found(out, found)?;
-            Ok(found)
-        }
-        Err(PartNo2::Fault(fault)) => {
-            say_fault(out, Err(fault))?;
-            Ok(None)
-        }
-        Err(PartNo2::Memory) => Err(Stop::Memory),
+    match Keyed::attach(alloc, traced, &geometry, &entry, 8).err() {
+        None => Ok(Outcome::Sound),
+        Some(PartNo2::Damaged { block, rule }) => Ok(Outcome::Damaged(Found {
+            block: (block as usize).saturating_sub(6),
+            rule,
+        })),
+        Some(PartNo2::Fault(fault)) => Ok(Outcome::Fault(fault)),
+        Some(PartNo2::Memory) => Err(Stop::Memory),
     }
+}
+
+/// Writes the answer and the calls. Where it is to be judged, the plain program's follows if that
+/// is something else.
+fn say_compared(
+    out: &mut String,
+    attached: Outcome,
+    notes: &str,
+    blocks: &[u8],
+    is_judged: bool,
+) -> Answer {
+    let found = match attached {
+        Outcome::Damaged(found) => Some(found),
+        _ => None,
+    };
+    match attached {
+        Outcome::Fault(fault) => say_fault(out, Err(fault))?,
+        _ => say_found(out, found)?,
+    }
+    say(out, notes)?;
+    let plain = damage_in(blocks, LONGEST as usize);
+    if is_judged && found != plain {
+        say(out, ", but the plain program says ")?;
+        say_found(out, plain)?;
+    }
+    Ok(())
 }
 
 fn say_found(out: &mut String, found: Option<Found>) -> Answer {

@@ -47,10 +47,10 @@ fn numbered_call(
     size: u32,
     out: &mut String,
 ) -> Answer {
-    let place = place_of(alloc, key)?;
     if size < 8 || size > 505 {
         return Err(Stop::Line);
     }
+    let place = place_of(alloc, key)?;
     match verb {
         "room" => room(held, &place, size, out),
         "set" => set(alloc, held, &place, size, true, out),
@@ -175,18 +175,26 @@ fn advance(held: &mut Held, place: &Place, size: u32, out: &mut String) -> Resul
 
 /// Takes the record of a key away: `KEY`.
 pub fn erase(alloc: Global, held: &mut Held, rest: &str, out: &mut String) -> Answer {
-    let place = place_of(alloc, number(rest)?)?;
-    let done = held.erase(&place);
+    let done = erased(alloc, held, number(rest)?)?;
     say_fault(out, done)?;
     say_notes(held, out)
 }
 
+fn erased(alloc: Global, held: &mut Held, key: u32) -> Result<Result<(), DeviceFault>, Stop> {
+    let place = place_of(alloc, key)?;
+    Ok(held.erase(&place))
+}
+
 /// How long the record of a key is: `KEY`.
 pub fn get(alloc: Global, held: &mut Held, rest: &str, out: &mut String) -> Answer {
-    let place = place_of(alloc, number(rest)?)?;
-    let stand = held.stand(&place);
+    let stand = stand_of(alloc, held, number(rest)?)?;
     say_stand(out, stand)?;
     say_notes(held, out)
+}
+
+fn stand_of(alloc: Global, held: &mut Held, key: u32) -> Result<Stand, Stop> {
+    let place = place_of(alloc, key)?;
+    Ok(held.stand(&place))
 }
 
 fn say_stand(out: &mut String, stand: Stand) -> Answer {
@@ -201,10 +209,22 @@ fn say_stand(out: &mut String, stand: Stand) -> Answer {
 /// The least place with a record: of all, or `at KEY`, or `after KEY`.
 pub fn next(alloc: Global, held: &mut Held, rest: &str, out: &mut String) -> Answer {
     let mut into = empty_place(alloc, 8)?;
+    next_into(alloc, held, rest, &mut into, out)
+}
+
+fn next_into(
+    alloc: Global,
+    held: &mut Held,
+    rest: &str,
+    into: &mut PlaceBuffer,
+    out: &mut String,
+) -> Answer
+    requires { 8 ≤ into.old.room }
+{
     let found = if rest.is_empty() {
-        held.next(Whence::Start, &mut into)
+        held.next(Whence::Start, into)
     } else {
-        next_from(alloc, held, rest, &mut into)?
+        next_from(alloc, held, rest, into)?
     };
     say_next(out, found, into.as_slice())?;
     say_notes(held, out)

@@ -1,9 +1,9 @@
 //! The part that lines speak of.
-ghost use Rattle.std.specs.Prelude.{◌≡◌, ◌≤◌, length};
+ghost use Rattle.std.specs.Prelude.{◌≡◌, ◌≤◌, length, IfOk};
 ghost use Rattle.vr_space.specs.Part.{IsRecordOf};
 ghost use Rattle.vr_keyed_cases.specs.TheLayout.{the_shape};
 
-use crate::answers::Stop;
+use crate::answers::{Answer, Stop};
 use crate::format::{empty_interval, head, layout};
 use crate::one_kept::OneKept;
 use crate::record::is_whole;
@@ -14,43 +14,43 @@ use vr_keyed::{Keyed, keyed_part};
 use vr_space::{Part, Room, Whence};
 use vr_types::{Blocks, DeviceFault, Place, PlaceBuffer, Space, StageKind, space};
 
-/// The part on its blocks, what is kept, and the records that were noted.
+/// The part on its blocks, what is kept, and the records that were noted. What is large is in
+/// boxes, so that a function that ends drops it by one call.
 #[derive(Drop)]
 pub struct Held {
-    pub blocks: Traced,
-    pub part: Keyed,
+    pub blocks: Box<Traced>,
+    pub part: Box<Keyed>,
     pub space: Space,
     pub kept: OneKept,
     pub mark: String,
-    ghost shape: { ⟦<Keyed as Part>⟧.shape part ≡ the_shape },
+    ghost shape: { ⟦<Keyed as Part>⟧.shape part.value ≡ the_shape },
 }
 
 impl Held {
     /// The part on a device as it is, with no split under way.
-    pub fn over(alloc: Global, device: MemoryDevice) -> Result<Held, Stop> {
-        let blocks = Traced::over(alloc, device)?;
-        let part = keyed_part(alloc, layout())?;
+    pub fn over(alloc: Global, device: MemoryDevice) -> Result<Box<Held>, Stop> {
+        Held::on(alloc, boxed_blocks(alloc, device)?)
+    }
+
+    fn on(alloc: Global, blocks: Box<Traced>) -> Result<Box<Held>, Stop> {
+        let part = boxed_part(alloc)?;
         let space = space(alloc, 1)?;
-        Ok(Held {
+        let held = Held {
             blocks,
             part,
             space,
             kept: OneKept::Nothing,
             mark: String::new(alloc),
-        })
+        };
+        Ok(Box::new(alloc, held)?)
     }
 
     /// A new part, on a device whose calls of these numbers fail. The first three calls make it.
-    pub fn format(alloc: Global, fails: &[u64]) -> Result<Held, Stop> {
-        let head = head(alloc)?;
-        let interval = empty_interval(alloc)?;
+    pub fn format(alloc: Global, fails: &[u64]) -> Result<Box<Held>, Stop> {
         let device = memory_device(alloc, 512, 4, fails)?;
-        let mut held = Held::over(alloc, device)?;
-        let _ = held.blocks.put(0, head.as_slice());
-        let _ = held.blocks.put(1, interval.as_slice());
-        let _ = held.blocks.force(&[]);
-        held.blocks.clear_notes();
-        Ok(held)
+        let mut blocks = boxed_blocks(alloc, device)?;
+        write_first(alloc, &mut blocks)?;
+        Held::on(alloc, blocks)
     }
 
     /// Whether a record of this length has room.
@@ -60,7 +60,7 @@ impl Held {
         requires most { size ≤ 505 }
     {
         self.part
-            .room(&mut self.blocks, &self.space, &self.kept, place, size)
+            .room(&mut *self.blocks, &self.space, &self.kept, place, size)
     }
 
     /// Does the stage that comes before a record of this length.
@@ -69,8 +69,7 @@ impl Held {
         requires least { 8 ≤ size }
         requires most { size ≤ 505 }
     {
-        self.part
-            .advance(&mut self.blocks, &mut self.space, &self.kept, place, size)
+        self.part.advance(&mut *self.blocks, &mut self.space, &self.kept, place, size)
     }
 
     /// Sets a record.
@@ -79,29 +78,54 @@ impl Held {
         requires record { IsRecordOf the_shape place.now bytes.now }
     {
         self.part
-            .set(&mut self.blocks, &self.kept, place, Some(bytes))
+            .set(&mut *self.blocks, &self.kept, place, Some(bytes))
     }
 
     /// Takes a record away.
     pub fn erase(&mut self, place: &Place) -> Result<(), DeviceFault>
         requires place { length place.now ≡ 8 }
     {
-        self.part.set(&mut self.blocks, &self.kept, place, None)
+        self.part.set(&mut *self.blocks, &self.kept, place, None)
     }
 
     /// What stands at a place.
     pub fn stand(&mut self, place: &Place) -> Stand
         requires { length place.now ≡ 8 }
     {
-        stand_at(&mut self.blocks, &mut self.part, place)
+        stand_at(&mut *self.blocks, &mut *self.part, place)
     }
 
     /// Gives the next place with a record.
     pub fn next(&mut self, from: Whence<'_>, into: &mut PlaceBuffer) -> Result<bool, DeviceFault>
         requires { 8 ≤ into.old.room }
     {
-        self.part.next(&mut self.blocks, from, into)
+        self.part.next(&mut *self.blocks, from, into)
     }
+}
+
+/// Blocks over a device, in a box.
+pub fn boxed_blocks(alloc: Global, device: MemoryDevice) -> Result<Box<Traced>, Stop> {
+    let blocks = Traced::over(alloc, device)?;
+    Ok(Box::new(alloc, blocks)?)
+}
+
+/// The part with no split under way, in a box.
+fn boxed_part(alloc: Global) -> Result<Box<Keyed>, Stop>
+    ensures { IfOk result (λ part. ⟦<Keyed as Part>⟧.shape part.value ≡ the_shape) }
+{
+    let part = keyed_part(alloc, layout())?;
+    Ok(Box::new(alloc, part)?)
+}
+
+/// Writes the blocks of a new part.
+fn write_first(alloc: Global, blocks: &mut Traced) -> Answer {
+    let head = head(alloc)?;
+    let _ = blocks.put(0, head.as_slice());
+    let interval = empty_interval(alloc)?;
+    let _ = blocks.put(1, interval.as_slice());
+    let _ = blocks.force(&[]);
+    blocks.clear_notes();
+    Ok(())
 }
 
 /// What stands at a place.

@@ -5,6 +5,7 @@ use crate::held::Held;
 use crate::plain::{say_entries, say_records};
 use crate::words::numbers;
 use std::alloc::Global;
+use std::mem;
 use vr_device::{BlockDevice, ImageNo, MemoryDevice};
 
 /// Which content of its past each block takes, by its number.
@@ -106,10 +107,10 @@ fn add_blocks(image: &mut MemoryDevice, block: &mut [u8], blocks: &mut Vec<u8>) 
 
 /// The block that the choice misfits.
 fn misfit(alloc: Global, device: &MemoryDevice, choice: Choice) -> Result<Option<u32>, Stop> {
-    match device.image(alloc, &choice.numbers()) {
-        Ok(_) => Ok(None),
-        Err(ImageNo::Choice { block }) => Ok(Some(block)),
-        Err(ImageNo::Memory) => Err(Stop::Memory),
+    match device.image(alloc, &choice.numbers()).err() {
+        None => Ok(None),
+        Some(ImageNo::Choice { block }) => Ok(Some(block)),
+        Some(ImageNo::Memory) => Err(Stop::Memory),
     }
 }
 
@@ -202,20 +203,20 @@ impl Tally {
 
 /// Reads each image that a crash may leave now: `images`.
 pub fn images(alloc: Global, held: &Held, out: &mut String) -> Answer {
-    let mut last = String::new(alloc);
-    list(alloc, held, &mut last)?;
-    let tally = tally_all(
-        alloc,
-        held.blocks.device(),
-        held.mark.as_str(),
-        last.as_str(),
-    )?;
+    let tally = tally_of(alloc, held)?;
     say_number(out, tally.noted)?;
     say(out, " noted, ")?;
     say_number(out, tally.last)?;
     say(out, " new, ")?;
     say_number(out, tally.others)?;
     say(out, " others")
+}
+
+fn tally_of(alloc: Global, held: &Held) -> Result<Tally, Stop> {
+    let mut last = String::new(alloc);
+    list(alloc, held, &mut last)?;
+    let device = held.blocks.device();
+    tally_all(alloc, device, held.mark.as_str(), last.as_str())
 }
 
 /// Counts the images of all choices, the content of block 0 first.
@@ -254,18 +255,21 @@ fn count_image(
 
 /// The part on the image of a choice, as after a restart: `crash NUMBER..`, or the last contents.
 pub fn crash(alloc: Global, held: &mut Held, rest: &str, out: &mut String) -> Answer {
-    let new = if rest.is_empty() {
-        let choice = last_choice(alloc, held.blocks.device())?;
-        restarted(alloc, held.blocks.device(), &choice.numbers())?
-    } else {
-        let choice = numbers(alloc, rest)?;
-        restarted(alloc, held.blocks.device(), choice.as_slice())?
-    };
-    *held = new;
+    let mut new = crashed(alloc, held.blocks.device(), rest)?;
+    mem::swap(held, &mut *new);
     say(out, "ok")
 }
 
-fn restarted(alloc: Global, device: &MemoryDevice, choice: &[u32]) -> Result<Held, Stop> {
+fn crashed(alloc: Global, device: &MemoryDevice, rest: &str) -> Result<Box<Held>, Stop> {
+    if rest.is_empty() {
+        let choice = last_choice(alloc, device)?;
+        return restarted(alloc, device, &choice.numbers());
+    }
+    let choice = numbers(alloc, rest)?;
+    restarted(alloc, device, choice.as_slice())
+}
+
+fn restarted(alloc: Global, device: &MemoryDevice, choice: &[u32]) -> Result<Box<Held>, Stop> {
     match device.image(alloc, choice) {
         Ok(image) => Held::over(alloc, image),
         Err(ImageNo::Choice { .. }) => Err(Stop::Line),

@@ -49,7 +49,10 @@ fn run<R: Input + Print + AllocGlobal>(rt: &R) -> io::Result<Tally> {
 }
 
 /// Asks each line of the input. Empty lines and those that begin with `#` are skipped.
-fn ask_lines<R: Input + Print + AllocGlobal>(rt: &R, held: &mut Option<Held>) -> io::Result<Tally> {
+fn ask_lines<R: Input + Print + AllocGlobal>(
+    rt: &R,
+    held: &mut Option<Box<Held>>,
+) -> io::Result<Tally> {
     let mut tally = Tally {
         lines: 0,
         differ: 0,
@@ -57,23 +60,33 @@ fn ask_lines<R: Input + Print + AllocGlobal>(rt: &R, held: &mut Option<Held>) ->
     for line in rt.lines(rt.alloc()) {
         let line = line?;
         let line = line.as_str();
-        if line.is_empty() || line.starts_with("#") {
-            continue;
-        }
-        let (asked, wanted) = line.split_once(" -> ").unwrap_or((line, "ok"));
-        let got = got(rt.alloc(), held, asked)?;
-        tally.lines = tally.lines.saturating_add(1);
-        if got.as_str() != wanted {
-            tally.differ = tally.differ.saturating_add(1);
-            let got = got.as_str();
-            println!(rt; "{asked} -> {got}, but {wanted} is wanted")?;
+        if !line.is_empty() && !line.starts_with("#") {
+            let same = ask(rt, held, line)?;
+            tally.lines = tally.lines.saturating_add(1);
+            tally.differ = tally.differ.saturating_add(if same { 0 } else { 1 });
         }
     }
     Ok(tally)
 }
 
+/// Asks a line, prints it if its answer differs, and says whether it is what is wanted.
+fn ask<R: Print + AllocGlobal>(
+    rt: &R,
+    held: &mut Option<Box<Held>>,
+    line: &str,
+) -> io::Result<bool> {
+    let (asked, wanted) = line.split_once(" -> ").unwrap_or((line, "ok"));
+    let got = got(rt.alloc(), held, asked)?;
+    let got = got.as_str();
+    if got == wanted {
+        return Ok(true);
+    }
+    println!(rt; "{asked} -> {got}, but {wanted} is wanted")?;
+    Ok(false)
+}
+
 /// The answer to a question. A line that is not a question has an answer that says so.
-fn got(alloc: Global, held: &mut Option<Held>, asked: &str) -> Result<String, AllocError> {
+fn got(alloc: Global, held: &mut Option<Box<Held>>, asked: &str) -> Result<String, AllocError> {
     let mut out = String::new(alloc);
     match answer(alloc, held, asked, &mut out) {
         Ok(()) => Ok(out),

@@ -11,23 +11,26 @@ use std::alloc::Global;
 use vr_types::Blocks;
 
 /// Writes the answer to a line. `held` is the part that the lines before it left.
-pub fn answer(alloc: Global, held: &mut Option<Held>, line: &str, out: &mut String) -> Answer {
+pub fn answer(alloc: Global, held: &mut Option<Box<Held>>, line: &str, out: &mut String) -> Answer {
     let (verb, rest) = parted(line);
     if verb == "new" {
         return make(alloc, held, rest, out);
     }
     match held {
-        Some(held) => ask(alloc, held, verb, rest, out),
+        Some(held) => ask(alloc, &mut **held, verb, rest, out),
         None => Err(Stop::Line),
     }
 }
 
 /// Makes the part anew, on a device whose calls of these numbers fail: `new NUMBER..`.
-fn make(alloc: Global, held: &mut Option<Held>, rest: &str, out: &mut String) -> Answer {
-    let fails = long_numbers(alloc, rest)?;
-    let new = Held::format(alloc, fails.as_slice())?;
-    *held = Some(new);
+fn make(alloc: Global, held: &mut Option<Box<Held>>, rest: &str, out: &mut String) -> Answer {
+    *held = Some(made(alloc, rest)?);
     say(out, "ok")
+}
+
+fn made(alloc: Global, rest: &str) -> Result<Box<Held>, Stop> {
+    let fails = long_numbers(alloc, rest)?;
+    Held::format(alloc, fails.as_slice())
 }
 
 fn ask(alloc: Global, held: &mut Held, verb: &str, rest: &str, out: &mut String) -> Answer {
@@ -78,7 +81,8 @@ fn keep(alloc: Global, held: &mut Held, rest: &str, out: &mut String) -> Answer 
         return say(out, "ok");
     }
     let (key, length) = parted(rest);
+    let length = number(length)?;
     let place = place_of(alloc, number(key)?)?;
-    held.kept = OneKept::One(place, number(length)?);
+    held.kept = OneKept::One(place, length);
     say(out, "ok")
 }
