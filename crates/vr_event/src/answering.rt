@@ -40,12 +40,7 @@ impl<B: Blocks, P: Part> Volume<B, P> {
     /// `NotAllowed`, `BadLength`, and `NoGet` where an update or an erase finds nothing held. None
     /// of them looks at locks or at the log, so it is told of neither. It takes no memory, and the
     /// refusal moves no file.
-    pub(crate) fn refused_early(
-        &self,
-        alloc: Global,
-        unit: Unit,
-        request: &Request,
-    ) -> Option<Refusal>
+    pub fn refused_early(&self, alloc: Global, unit: Unit, request: &Request) -> Option<Refusal>
         ensures value { IsTrue B.tells → (opening : State) → IsHeld B.seen opening self.now
             → (unit.deck == 0) ≡ false → IsDirect request.now
             → result ≡ first_of (file_refusals (case_of self.now.file.geometry

@@ -213,7 +213,7 @@ impl<B: Blocks, P: Part> Volume<B, P> {
     /// Enters an ENDREQ of a deck: its file stands nowhere and holds nothing then. No block is
     /// touched, and what the blocks hold stays what the history gives. There is room for one more
     /// file, or the file was set before.
-    pub(crate) fn end_request(&mut self, unit: Unit, line: u32, request: SharedRequest, after: u64)
+    pub fn end_request(&mut self, unit: Unit, line: u32, request: SharedRequest, after: u64)
         requires room { 0 < self.old.file.room }
         requires files { CanSet self.old.file unit.deck (cases.file_of request) }
         requires last { last_stamp 0 self.old.file.entries < 2 ^ 64 - 2 }
@@ -227,5 +227,73 @@ impl<B: Blocks, P: Part> Volume<B, P> {
         ensures blocks { self.new.blocks ≡ self.old.blocks }
     {
         self.file.end_request(unit, line, request, after);
+    }
+
+    /// Decides what a GET comes to that nothing in memory refuses, on a volume that has not stopped:
+    /// its record is looked at, and nothing is put.
+    fn decide_get(&mut self, alloc: Global, unit: Unit, request: &Request) -> Outcome
+        requires whole { IsWhole B.seen self.old }
+        requires going { self.old.file.stopped ≡ None }
+        requires get { getting.IsGetOf request.now }
+        requires holds { IsTrue B.tells → Holds B.seen self.old }
+        ensures ends { IsTrue B.tells → (opening : State) → IsHeld B.seen opening self.old
+            → getting.IsAsked opening self.old.file unit request.now
+            → getting.MayEnd (case_of self.old.file.geometry (state_now opening self.old.file) unit
+            request.now) result }
+        ensures held { IsTrue B.tells → (opening : State) → IsHeld B.seen opening self.old
+            → IsHeld B.seen opening self.new }
+        ensures whole { IsWhole B.seen self.new }
+        ensures file { self.new.file ≡ self.old.file }
+        ensures keeps { Keeps B.tells (B.seen self.old.blocks) (B.seen self.new.blocks) }
+    {
+        match request {
+            Request::Get {
+                file,
+                find,
+                update,
+                integrity,
+            } => match find {
+                Find::Equal(place) => decide(
+                    alloc,
+                    &mut self.blocks,
+                    &mut self.store,
+                    &self.file,
+                    unit,
+                    request,
+                    file.base,
+                    place,
+                ),
+                _ => unreachable!("a GET of a place"),
+            },
+            _ => unreachable!("a GET of a place"),
+        }
+    }
+
+    /// Answers a direct GET of a deck that [`Volume::refused_early`] doesn't refuse, on a volume that
+    /// has not stopped, and enters it at a stamp above `after`: the record at its place is
+    /// looked at, and a GET that is done takes its locks and, for update, holds its place. It is
+    /// refused by what the record is, for a read that fails (`ReadFault`), and where memory runs out
+    /// (`Memory`). Nothing is put, and what the blocks hold stays what the history gives. There is
+    /// room for two events, and for one more file, or the file was set before.
+    pub fn get(&mut self, alloc: Global, unit: Unit, line: u32, request: SharedRequest, after: u64)
+        requires whole { IsWhole B.seen self.old }
+        requires going { self.old.file.stopped ≡ None }
+        requires room { 1 < self.old.file.room }
+        requires files { CanSet self.old.file unit.deck (cases.file_of request) }
+        requires last { last_stamp 0 self.old.file.entries < 2 ^ 64 - 2 }
+        requires after { after < 2 ^ 64 - 2 }
+        requires get { getting.IsGetOf request }
+        requires holds { IsTrue B.tells → Holds B.seen self.old }
+        ensures held { IsTrue B.tells → (opening : State) → IsHeld B.seen opening self.old
+            → getting.IsAsked opening self.old.file unit request → IsHeld B.seen opening self.new }
+        ensures whole { IsWhole B.seen self.new }
+        ensures entered { getting.HasEntered after unit line request self.old.file self.new.file }
+        ensures moments { IsTrue B.tells → (opening : State) → IsHeld B.seen opening self.old
+            → Guards (B.seen self.old.blocks) (B.seen self.new.blocks)
+            (IsSafeImage self.old.store.log.geometry self.old.number self.old.store.log
+            (committed_by (state_now opening self.old.file))) }
+    {
+        let outcome = self.decide_get(alloc, unit, request.get());
+        self.enter_get(alloc, unit, line, request, outcome, after);
     }
 }

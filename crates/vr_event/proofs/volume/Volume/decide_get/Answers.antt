@@ -1,0 +1,61 @@
+use Rattle.std.proofs.Common.{◌≡◌, ap, subst, sym, ◌∙◌, refl}
+use Rattle.vr_types.specs.Space.{free_count}
+use Rattle.vr_types.specs.declared.request.Find.{Find}
+use Rattle.vr_types.specs.declared.request.Request.TheVariants.{Get}
+use Rattle.vr_history.specs.Step.{case_of}
+use Rattle.vr_record_file.specs.Now.{FileNow, state_now}
+use Rattle.vr_event.specs.Getting.{IsAsked, MayEnd}
+use Rattle.vr_event.specs.Store.{IsStored, StoreNow}
+use Rattle.vr_event.specs.Volume.{IsHeld, VolumeNow}
+use Rattle.vr_event.proofs.Keeping.{stored-keeps}
+use Rattle.vr_event.proofs.volume.Volume.decide_get.Goals as goal
+
+pub returns-clause-held : goal.returns-clause-held
+returns-clause-held g c told opening held =
+    let seen = g.B.Blocks.seen in
+    let before : VolumeNow g.row.B.Denot = record {
+      blocks = c.self.inside.blocks;
+      number = c.self.inside.number;
+      store = c.self.inside.store;
+      file = c.self.inside.file;
+    } in
+    let then : IsHeld seen opening before =
+    subst (IsHeld seen opening) (sym c.self.view_is) held in
+    let same = sym c.decide.ensures.same in
+    record {
+      file = then.file;
+      free = ap (λ (s : StoreNow). free_count s.space) c.decide.ensures.same ∙ then.free;
+      stored = λ going. subst (λ (s : StoreNow). IsStored before.number s
+          (state_now opening before.file) (seen c.decide.new.blocks)) same
+          (stored-keeps g.B.Blocks.tells told (seen before.blocks) (seen c.decide.new.blocks)
+          c.decide.ensures.keeps before.number before.store (state_now opening before.file)
+          (g.met.B.Blocks.cur_may before.blocks told) (then.stored going));
+    }
+
+pub returns-clause-ends : goal.returns-clause-ends
+returns-clause-ends g c told opening held asked =
+    let seen = g.B.Blocks.seen in
+    let before : VolumeNow g.row.B.Denot = record {
+      blocks = c.self.inside.blocks;
+      number = c.self.inside.number;
+      store = c.self.inside.store;
+      file = c.self.inside.file;
+    } in
+    let then : IsHeld seen opening before =
+    subst (IsHeld seen opening) (sym c.self.view_is) held in
+    let of-file : before.file ≡ c.args.self.now.file =
+    ap (λ (v : VolumeNow g.row.B.Denot). v.file) c.self.view_is in
+    let mine = subst (λ (f : FileNow). IsAsked opening f c.args.unit c.args.request.now)
+    (sym of-file) asked in
+    let going = ap (λ (f : FileNow). f.stopped) of-file ∙ c.requires.going in
+    subst (λ (f : FileNow). MayEnd (case_of f.geometry (state_now opening f) c.args.unit
+    c.args.request.now) c.decide.result) of-file
+    (c.decide.ensures.ends told before.number opening then.file going (then.stored going)
+    mine.of_deck (record {
+      on = c.in-Get.file;
+      update = c.in-Get.update;
+      integrity = c.in-Get.integrity;
+      is = c.in-Get.is
+          ∙ ap (λ (f : Find). Get c.in-Get.file f c.in-Get.update c.in-Get.integrity) c.in-Equal.is;
+      base = refl;
+    }) then.free mine.unrefused)

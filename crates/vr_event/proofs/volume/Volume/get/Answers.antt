@@ -1,0 +1,36 @@
+use Rattle.std.proofs.Common.{◌≡◌, ap, subst, sym}
+use Rattle.vr_types.specs.declared.request.Request.{Request}
+use Rattle.vr_types.specs.Moments.{Guards}
+use Rattle.vr_history.specs.Step.{case_of}
+use Rattle.vr_record_file.specs.Now.{FileNow, state_now}
+use Rattle.vr_volume.specs.Committed.{committed_by}
+use Rattle.vr_volume.specs.Safe.{IsSafeImage}
+use Rattle.vr_event.specs.Getting.{IsAsked, MayEnd}
+use Rattle.vr_event.proofs.Keeping.{moments-keeps}
+use Rattle.vr_event.proofs.volume.Volume.get.Goals as goal
+
+pub returns-clause-held : goal.returns-clause-held
+returns-clause-held g c told opening held asked =
+    let unit = c.args.unit in
+    let request = c.args.request in
+    let outcome = c.decide_get-outcome.result in
+    let of-request : c.get.result.now ≡ request = c.get.ensures in
+    let of-file = sym c.decide_get-outcome.ensures.file in
+    let ends = c.decide_get-outcome.ensures.ends told opening held
+    (subst (IsAsked opening c.args.self.now.file unit) (sym of-request) asked) in
+    c.enter_get.ensures.held told opening (c.decide_get-outcome.ensures.held told opening held)
+    (subst (λ (f : FileNow). IsAsked opening f unit request) of-file asked)
+    (subst (λ (f : FileNow). MayEnd (case_of f.geometry (state_now opening f) unit request)
+    outcome) of-file (subst (λ (r : Request). MayEnd (case_of c.args.self.now.file.geometry
+    (state_now opening c.args.self.now.file) unit r) outcome) of-request ends))
+
+pub returns-clause-moments : goal.returns-clause-moments
+returns-clause-moments g c told opening held =
+    let seen = g.B.Blocks.seen in
+    let old = c.args.self.now in
+    let state = state_now opening old.file in
+    subst (λ (b : g.row.B.Denot). Guards (seen old.blocks) (seen b)
+    (IsSafeImage old.store.log.geometry old.number old.store.log (committed_by state)))
+    (sym c.enter_get.ensures.blocks)
+    (moments-keeps g.B.Blocks.tells told (seen old.blocks) (seen c.decide_get-outcome.new.self.blocks)
+    c.decide_get-outcome.ensures.keeps old.number old.store state (held.stored c.requires.going))
