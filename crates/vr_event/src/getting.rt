@@ -272,9 +272,10 @@ impl<B: Blocks, P: Part> Volume<B, P> {
     /// Answers a direct GET of a deck that [`Volume::refused_early`] doesn't refuse, on a volume that
     /// has not stopped, and enters it at a stamp above `after`: the record at its place is
     /// looked at, and a GET that is done takes its locks and, for update, holds its place. It is
-    /// refused by what the record is, for a read that fails (`ReadFault`), and where memory runs out
-    /// (`Memory`). Nothing is put, and what the blocks hold stays what the history gives. There is
-    /// room for two events, and for one more file, or the file was set before.
+    /// refused by what the record is, for a read that fails (`ReadFault`; a device that answers a
+    /// fault of a write stops the volume, as `WriteFault`), and where memory runs out (`Memory`).
+    /// Nothing is put, and what the blocks hold stays what the history gives. There is room for two
+    /// events, and for one more file, or the file was set before.
     pub fn get(&mut self, alloc: Global, unit: Unit, line: u32, request: SharedRequest, after: u64)
         requires whole { IsWhole B.seen self.old }
         requires going { self.old.file.stopped ≡ None }
