@@ -1,6 +1,6 @@
 -- What the end of a unit of recovery leaves of a volume.
 use Rattle.std.proofs.Common.{◌≡◌, ◌∷◌, ◌++◌, [], ℕ, Bool, true, false, cond, ◌==◌, ◌||◌, List}
-use Rattle.std.proofs.Common.{Option, Some, None, refl, ap, sym, ◌∙◌, subst, inl, inr, filter, find}
+use Rattle.std.proofs.Common.{Option, Some, None, refl, ap, sym, ◌∙◌, subst, inl, inr, filter}
 use Rattle.std.proofs.Common.{arith, if◌then◌else◌, nat_eq}
 use Rattle.std.proofs.lemmas.Bool.Decides.{nat_tests}
 use Rattle.std.proofs.lemmas.Option.{none-some}
@@ -8,7 +8,6 @@ use Rattle.std.specs.List.{AllByRecursion, list_any}
 use Rattle.std.specs.Option.{option_and_then}
 use Rattle.vr_catalog.specs.Catalog.{entry_with_part, parts_in}
 use Rattle.vr_catalog.specs.declared.entry.CatEntry.{CatEntry}
-use Rattle.vr_types.specs.Content.{Content}
 use Rattle.vr_types.specs.Seen.{Seen}
 use Rattle.vr_types.specs.Space.{free_count}
 use Rattle.vr_types.specs.declared.geometry.Geometry.{Geometry}
@@ -35,7 +34,6 @@ use Rattle.vr_record_file.specs.Now.{FileNow, IsStateOf, MayBeAsked, entry_next,
 use Rattle.vr_volume.specs.Committed.{IsLaidState}
 use Rattle.vr_volume.specs.Laid.{shape_in, shape_of}
 use Rattle.vr_volume.specs.Steps.{IsEndedIn}
-use Rattle.vr_space.specs.Part.{Shape}
 use Rattle.vr_event.specs.EndedFile.{IsEnded}
 use Rattle.vr_event.specs.Store.{IsStored, StoreNow}
 use Rattle.vr_event.specs.Volume.{IsHeld, VolumeNow}

@@ -1,4 +1,4 @@
-use Rattle.std.proofs.Common.{◌≡◌, ◌∙◌, ◌+◌, ◌<◌, None, ap, inl, refl, subst, sym}
+use Rattle.std.proofs.Common.{◌≡◌, ◌∙◌, ◌+◌, ◌<◌, None, ap, inl, subst, sym}
 use Rattle.vr_types.specs.Moments.{Guards}
 use Rattle.vr_types.specs.declared.reply.Reply.TheVariants.{Done}
 use Rattle.vr_log.specs.LogNow.{with_record}
@@ -9,7 +9,7 @@ use Rattle.vr_record_file.specs.Now.{FileNow, MayBeAsked, state_now}
 use Rattle.vr_volume.specs.Committed.{committed_by}
 use Rattle.vr_volume.specs.Safe.{IsSafeImage}
 use Rattle.vr_volume.specs.Steps.{IsEndedIn}
-use Rattle.vr_event.specs.Store.{IsStored, StoreNow}
+use Rattle.vr_event.specs.Store.{StoreNow}
 use Rattle.vr_event.specs.Volume.{IsHeld, VolumeNow}
 use Rattle.vr_event.proofs.UnitEnded.{held-ended, held-stopped, may-fail-write}
 use Rattle.vr_event.proofs.volume.Volume.commit.Goals as goal
