@@ -24,3 +24,4 @@ pub mod Known
 pub mod Entries
 pub mod Faults
 pub mod Held
+pub mod UnitEnded

@@ -7,3 +7,4 @@ pub mod Volume
 pub mod Alike
 pub mod Ends
 pub mod Getting
+pub mod EndedFile

@@ -6,6 +6,7 @@
 mod answering;
 mod changed;
 mod changing;
+mod committing;
 mod ending;
 mod entered;
 mod getting;

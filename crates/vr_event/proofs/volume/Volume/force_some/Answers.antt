@@ -1,0 +1,45 @@
+use Rattle.std.proofs.Common.{◌∙◌, ap, subst, sym}
+use Rattle.vr_types.specs.Moments.{Guards}
+use Rattle.vr_types.specs.Space.{free_count}
+use Rattle.vr_record_file.specs.Now.{state_now}
+use Rattle.vr_volume.specs.Committed.{committed_by}
+use Rattle.vr_volume.specs.Safe.{IsSafeImage}
+use Rattle.vr_event.specs.Store.{StoreNow}
+use Rattle.vr_event.specs.Volume.{IsHeld, VolumeNow}
+use Rattle.vr_event.proofs.volume.Volume.force_some.Goals as goal
+
+pub returns-clause-held : goal.returns-clause-held
+returns-clause-held g c told opening held =
+    let seen = g.B.Blocks.seen in
+    let before : VolumeNow g.row.B.Denot = record {
+      blocks = c.self.inside.blocks;
+      number = c.self.inside.number;
+      store = c.self.inside.store;
+      file = c.self.inside.file;
+    } in
+    let then : IsHeld seen opening before =
+    subst (IsHeld seen opening) (sym c.self.view_is) held in
+    record {
+      file = then.file;
+      free = ap (λ (s : StoreNow). free_count s.space) c.force_some.ensures.rest ∙ then.free;
+      stored = λ going. c.force_some.ensures.stored told before.number
+          (state_now opening before.file) (then.stored going);
+    }
+
+pub returns-clause-moments : goal.returns-clause-moments
+returns-clause-moments g c told opening held =
+    let seen = g.B.Blocks.seen in
+    let before : VolumeNow g.row.B.Denot = record {
+      blocks = c.self.inside.blocks;
+      number = c.self.inside.number;
+      store = c.self.inside.store;
+      file = c.self.inside.file;
+    } in
+    let then : IsHeld seen opening before =
+    subst (IsHeld seen opening) (sym c.self.view_is) held in
+    subst (λ (v : VolumeNow g.row.B.Denot). Guards (seen v.blocks) (seen c.force_some.new.blocks)
+    (IsSafeImage v.store.log.geometry v.number v.store.log
+    (committed_by (state_now opening v.file)))) c.self.view_is
+    (c.force_some.ensures.moments told before.number (state_now opening before.file)
+    (then.stored (ap (λ (v : VolumeNow g.row.B.Denot). v.file.stopped) c.self.view_is
+    ∙ c.requires.going)))
