@@ -25,3 +25,4 @@ pub mod Entries
 pub mod Faults
 pub mod Held
 pub mod UnitEnded
+pub mod UnitIdle

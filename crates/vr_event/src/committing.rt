@@ -9,7 +9,7 @@ ghost use Rattle.vr_types.specs.Moments.{Guards};
 ghost use Rattle.vr_types.specs.declared.unit.Unit.{Unit as UnitOfRecovery};
 ghost use Rattle.vr_types.specs.declared.reply.Reply.TheVariants.{Done};
 ghost use Rattle.vr_types.specs.declared.request.Request.TheVariants.{Commit};
-ghost use Rattle.vr_log.specs.Live.{is_in, live_in};
+ghost use Rattle.vr_log.specs.Live.{is_in, live_in, used_by};
 ghost use Rattle.vr_log.specs.LogNow.{with_record};
 ghost use Rattle.vr_log.specs.declared.record.EndKind.TheVariants.{Committed};
 ghost use Rattle.vr_log.specs.declared.record.LogRecord.TheVariants.{End};
@@ -18,7 +18,7 @@ ghost use Rattle.vr_history.specs.State.{State};
 ghost use Rattle.vr_record_file.specs.Now.{MayBeAsked, has_deck, number_of, state_now};
 ghost use Rattle.vr_volume.specs.Committed.{committed_by};
 ghost use Rattle.vr_volume.specs.Safe.{IsSafeImage};
-ghost use Rattle.vr_event.specs.EndedFile.{HasEnded};
+ghost use Rattle.vr_event.specs.EndedFile.{HasEnded, IsEnded};
 ghost use Rattle.vr_event.specs.Store.{blocks_of};
 ghost use Rattle.vr_event.specs.Volume.{Holds, IsHeld, IsWhole};
 
@@ -105,5 +105,30 @@ impl<B: Blocks, P: Part> Volume<B, P> {
             Ok(()) => self.file.end_unit(unit, line, request, after),
             Err(_) => self.file.fail_write(unit, line, request, after),
         }
+    }
+
+    /// Commits a unit of recovery that isn't live in the log, since it changed nothing: the COMMIT
+    /// is entered, and no block is touched. It takes no memory.
+    pub fn commit_idle(&mut self, unit: Unit, line: u32, request: SharedRequest, after: u64)
+        requires room { 0 < self.old.file.room }
+        requires last { last_stamp 0 self.old.file.entries < 2 ^ 64 - 2 }
+        requires after { after < 2 ^ 64 - 2 }
+        requires deck { has_deck unit.deck self.old.file.numbers ≡ true }
+        requires number { number_of self.old.file.numbers unit.deck < 2 ^ 32 - 1 }
+        requires going { self.old.file.stopped ≡ None }
+        requires dead { is_in unit (live_in self.old.store.log.records) ≡ false }
+        // Once no unit is live, the log has begun again.
+        requires idle { live_in self.old.store.log.records ≡ []
+            → used_by self.old.store.log.records ≡ 0 }
+        ensures held { IsTrue B.tells → (opening : State) → IsHeld B.seen opening self.old
+            → MayBeAsked opening self.old.file unit request (Done 0 None None)
+            → request ≡ Commit → IsHeld B.seen opening self.new }
+        ensures whole { IsWhole B.seen self.old → IsWhole B.seen self.new }
+        ensures entered { IsEnded after unit line request self.old.file self.new.file }
+        ensures blocks { self.new.blocks ≡ self.old.blocks }
+        ensures store { self.new.store ≡ self.old.store }
+        ensures volume { self.new.number ≡ self.old.number }
+    {
+        self.file.end_unit(unit, line, request, after);
     }
 }
