@@ -26,3 +26,4 @@ pub mod Faults
 pub mod Held
 pub mod UnitEnded
 pub mod UnitIdle
+pub mod Causes

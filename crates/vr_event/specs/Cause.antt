@@ -1,7 +1,24 @@
--- When a call that copies a record may answer what it answers.
-use Rattle.std.specs.Prelude.{◌≡◌, ◌<◌, ◌≤◌, Result, IsErrOf, OnOk}
+-- When a call that copies a record may answer what it answers, and when a GET may be refused for a
+-- fault of the device.
+use Rattle.std.specs.Prelude.{◌≡◌, ◌<◌, ◌≤◌, ◌⊎◌, ℕ, Bool, true, false, Result, IsErrOf, OnOk}
 use Rattle.vr_types.specs.Faults.{Faults}
 use Rattle.vr_types.specs.declared.fault.DeviceFault.TheVariants.{Read, Write}
+use Rattle.vr_types.specs.declared.reply.Refusal.{Refusal}
+use Rattle.vr_types.specs.declared.reply.Refusal.TheVariants.{EndOfData, Duplicate, NotFound}
+use Rattle.vr_types.specs.declared.reply.Refusal.TheVariants.{NoAddress, NoSpace, NoPosition, NoGet}
+use Rattle.vr_types.specs.declared.reply.Refusal.TheVariants.{KeyChanged, LengthChanged, BadLength}
+use Rattle.vr_types.specs.declared.reply.Refusal.TheVariants.{BadSlot, Held, LogFull, Stopped}
+use Rattle.vr_types.specs.declared.reply.Refusal.TheVariants.{ReadFault, WriteFault}
+use Rattle.vr_types.specs.declared.reply.Refusal.TheVariants.{Memory as NoMemory}
+use Rattle.vr_types.specs.declared.reply.Refusal.TheVariants.{NotAllowed, NoFile}
+use Rattle.vr_types.specs.declared.reply.Reply.{Reply}
+use Rattle.vr_types.specs.declared.reply.Reply.TheVariants.{Done, Refused}
+use Rattle.vr_types.specs.declared.request.Request.{Request}
+use Rattle.vr_types.specs.declared.unit.Unit.{Unit as UnitOfRecovery}
+use Rattle.vr_record_file.specs.Now.{FileNow, failed}
+use Rattle.vr_event.specs.Getting.{IsEntered}
+use Rattle.vr_event.specs.declared.getting.Outcome.{Outcome}
+use Rattle.vr_event.specs.declared.getting.Outcome.TheVariants as outcomes
 use Rattle.vr_event.specs.declared.no.LookNo.{LookNo}
 use Rattle.vr_event.specs.declared.no.LookNo.TheVariants.{Fault, Memory}
 
@@ -15,3 +32,57 @@ pub record HasLookCause {T : Type 0} (before now : Faults) (result : Result T Lo
     pub memory : IsErrOf result Memory → now ≡ before
     pub read : IsErrOf result (Fault Read) → before.reads < now.reads
     pub write : IsErrOf result (Fault Write) → before.writes < now.writes
+
+-- A reply is a fault of the device only where the count of that fault rose, and neither count falls.
+pub record HasReplyCause (before now : Faults) (reply : Reply) : Type 0 where
+  pub reads : before.reads ≤ now.reads
+  pub writes : before.writes ≤ now.writes
+  pub read : reply ≡ Refused ReadFault → before.reads < now.reads
+  pub write : reply ≡ Refused WriteFault → before.writes < now.writes
+
+-- a request was entered with a reply that is a fault of the device only where the count of it rose
+pub record IsEnteredFor (before now : Faults) (after : ℕ) (unit : UnitOfRecovery) (line : ℕ)
+    (request : Request) (old new : FileNow) : Type 0 where
+  pub entered : IsEntered after unit line request old new
+  pub cause : HasReplyCause before now entered.reply
+
+-- Neither count falls. The reply that is entered is a fault of the device only where the count of it
+-- rose, and a fault of a write stops the volume only where the count of writes rose.
+pub record HasGetCause (before now : Faults) (after : ℕ) (unit : UnitOfRecovery) (line : ℕ)
+    (request : Request) (old new : FileNow) : Type 0 where
+  pub reads : before.reads ≤ now.reads
+  pub writes : before.writes ≤ now.writes
+  pub entered : IsEnteredFor before now after unit line request old new
+      ⊎ ((new ≡ failed after unit line request old) × (before.writes < now.writes))
+
+-- a refusal that is a fault of the device
+abbrev pub is_fault : Refusal → Bool
+is_fault ReadFault = true
+is_fault WriteFault = true
+is_fault EndOfData = false
+is_fault (Duplicate part) = false
+is_fault NotFound = false
+is_fault NoAddress = false
+is_fault (NoSpace need free) = false
+is_fault NoPosition = false
+is_fault NoGet = false
+is_fault KeyChanged = false
+is_fault LengthChanged = false
+is_fault (BadLength length) = false
+is_fault BadSlot = false
+is_fault (Held holder name mode) = false
+is_fault (LogFull used need size) = false
+is_fault (Stopped stamp) = false
+is_fault NoMemory = false
+is_fault NotAllowed = false
+is_fault NoFile = false
+
+-- the reply that an outcome is entered with
+abbrev pub reply_of : Outcome → Reply
+reply_of (outcomes.Refused refusal) = Refused refusal
+reply_of (outcomes.Done reply names held) = reply
+
+-- it is a fault of the device
+abbrev pub is_faulted : Reply → Bool
+is_faulted (Done feedback place bytes) = false
+is_faulted (Refused refusal) = is_fault refusal

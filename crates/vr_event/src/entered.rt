@@ -9,6 +9,8 @@ ghost use Rattle.vr_history.specs.Merged.{last_stamp};
 ghost use Rattle.vr_history.specs.State.{State};
 ghost use Rattle.vr_history.specs.Step.{case_of, stand_refused};
 ghost use Rattle.vr_record_file.specs.Now.{CanSet, MayBeAsked, failed, state_now};
+ghost use Rattle.vr_types.specs.Faults.{Faults};
+ghost use Rattle.vr_event.specs.Cause.{HasGetCause, HasReplyCause, IsEnteredFor, reply_of};
 ghost use Rattle.vr_event.specs.Getting.{HasEntered, IsAsked, IsEntered, MayEnd};
 ghost use Rattle.vr_event.specs.declared.getting.Outcome.TheVariants as outcomes;
 ghost use Rattle.vr_event.specs.Volume.{IsHeld, IsWhole};
@@ -64,6 +66,8 @@ impl<B: Blocks, P: Part> Volume<B, P> {
             → stand_refused request refusal ≡ None → IsHeld B.seen opening self.new }
         ensures whole { IsWhole B.seen self.old → IsWhole B.seen self.new }
         ensures entered { HasEntered after unit line request self.old.file self.new.file }
+        ensures cause { (before now : Faults) → HasReplyCause before now (replies.Refused refusal)
+            → HasGetCause before now after unit line request self.old.file self.new.file }
         ensures blocks { self.new.blocks ≡ self.old.blocks }
     {
         if is_write_fault(&refusal) {
@@ -97,6 +101,8 @@ impl<B: Blocks, P: Part> Volume<B, P> {
         ensures whole { IsWhole B.seen self.old → IsWhole B.seen self.new }
         ensures entered { OnOk result
             (IsEntered after unit line request.now self.old.file self.new.file) }
+        ensures replied { OnOk result ((before now : Faults) → HasReplyCause before now reply
+            → IsEnteredFor before now after unit line request.now self.old.file self.new.file) }
         ensures same { OnErr result (self.new ≡ self.old) }
         ensures blocks { self.new.blocks ≡ self.old.blocks }
     {
@@ -128,6 +134,8 @@ impl<B: Blocks, P: Part> Volume<B, P> {
             (outcomes.Done reply names held) → IsHeld B.seen opening self.new }
         ensures whole { IsWhole B.seen self.old → IsWhole B.seen self.new }
         ensures entered { HasEntered after unit line request self.old.file self.new.file }
+        ensures cause { (before now : Faults) → HasReplyCause before now reply
+            → HasGetCause before now after unit line request self.old.file self.new.file }
         ensures blocks { self.new.blocks ≡ self.old.blocks }
     {
         match self.try_read(alloc, unit, line, &request, reply, &names, held, after) {
@@ -157,6 +165,8 @@ impl<B: Blocks, P: Part> Volume<B, P> {
             outcome → IsHeld B.seen opening self.new }
         ensures whole { IsWhole B.seen self.old → IsWhole B.seen self.new }
         ensures entered { HasEntered after unit line request self.old.file self.new.file }
+        ensures cause { (before now : Faults) → HasReplyCause before now (reply_of outcome)
+            → HasGetCause before now after unit line request self.old.file self.new.file }
         ensures blocks { self.new.blocks ≡ self.old.blocks }
     {
         match outcome {

@@ -1,11 +1,12 @@
 //! Direct GETs, and ENDREQ.
-ghost use Rattle.std.specs.Prelude.{◌≡◌, ◌==◌, ◌<◌, ◌≤◌, ◌-◌, ◌^◌, ℕ, IfOk, IfSome, IsTrue, List};
+ghost use Rattle.std.specs.Prelude.{◌≡◌, ◌⊎◌, ◌==◌, ◌<◌, ◌≤◌, ◌-◌, ◌^◌, ℕ, IfOk, IfSome, IsTrue, List};
 ghost use Rattle.std.specs.Prelude.{None, cond, false, true};
 ghost use Rattle.std.specs.Option.{option_copied};
 ghost use Rattle.vr_types.specs.Blocks.{Keeps};
 ghost use Rattle.vr_types.specs.Moments.{Guards};
 ghost use Rattle.vr_types.specs.Space.{free_count};
 ghost use Rattle.vr_space.specs.Part.{IsPlaceOf};
+ghost use Rattle.vr_types.specs.declared.reply.Refusal.TheVariants.{Memory as NoMemory};
 ghost use Rattle.vr_types.specs.declared.request.FileRef as files;
 ghost use Rattle.vr_types.specs.declared.request.Request.TheVariants as requests;
 ghost use Rattle.vr_types.specs.declared.reply.Reply.TheVariants as replies;
@@ -23,7 +24,10 @@ ghost use Rattle.vr_record_file.specs.Now.{CanSet, IsStateOf, MayBeAsked, is_und
 ghost use Rattle.vr_volume.specs.Committed.{committed_by};
 ghost use Rattle.vr_volume.specs.Laid.{shape_in};
 ghost use Rattle.vr_volume.specs.Safe.{IsSafeImage};
+ghost use Rattle.vr_event.specs.Cause.{HasGetCause, HasReplyCause, is_fault as faults, is_faulted};
+ghost use Rattle.vr_event.specs.Cause.{reply_of};
 ghost use Rattle.vr_event.specs.Getting as getting;
+ghost use Rattle.vr_event.specs.declared.getting.Outcome.TheVariants as outcomes;
 ghost use Rattle.vr_event.specs.Store.{IsSet, IsStored, Stands, shape_among};
 ghost use Rattle.vr_event.specs.Volume.{Holds, IsHeld, IsWhole};
 
@@ -123,6 +127,38 @@ fn refusal_of(no: LookNo) -> Refusal
     }
 }
 
+/// Whether a refusal is a fault of the device.
+fn is_fault(refusal: &Refusal) -> bool
+    ensures { result ≡ faults refusal.now }
+{
+    matches!(refusal, Refusal::ReadFault | Refusal::WriteFault)
+}
+
+/// Whether what a GET comes to is entered as a fault of the device.
+fn is_fault_outcome(outcome: &Outcome) -> bool
+    ensures { result ≡ is_faulted (reply_of outcome.now) }
+{
+    match outcome {
+        Outcome::Refused(refusal) => is_fault(refusal),
+        Outcome::Done { reply, .. } => match reply {
+            Reply::Refused(refusal) => is_fault(refusal),
+            Reply::Done { .. } => false,
+        },
+    }
+}
+
+/// What is decided in memory, which is never a fault of the device.
+fn unless_fault(outcome: Outcome) -> Outcome
+    ensures is { (result ≡ outcome) ⊎ (result ≡ outcomes.Refused NoMemory) }
+    ensures calm { is_faulted (reply_of result) ≡ false }
+{
+    if is_fault_outcome(&outcome) {
+        Outcome::Refused(Refusal::Memory)
+    } else {
+        outcome
+    }
+}
+
 /// What a GET that nothing in memory refuses comes to, by the record that was copied.
 fn answered(alloc: Global, case: &Case, present: Option<Bytes>) -> Outcome
     ensures { InEachWith case.now present (λ whole. first_of (file_refusals whole) ≡ None
@@ -167,10 +203,11 @@ fn looked<B: Blocks, P: Part>(
         → getting.MayEnd whole result) }
     ensures same { store.new ≡ store.old }
     ensures keeps { Keeps B.tells (B.seen blocks.old) (B.seen blocks.new) }
+    ensures cause { HasReplyCause (B.faults blocks.old) (B.faults blocks.new) (reply_of result) }
 {
     match store.look(alloc, blocks, part, place) {
         Err(no) => Outcome::Refused(refusal_of(no)),
-        Ok(present) => answered(alloc, case, present),
+        Ok(present) => unless_fault(answered(alloc, case, present)),
     }
 }
 
@@ -199,6 +236,7 @@ fn decide<B: Blocks, P: Part>(
         → getting.MayEnd case result }
     ensures same { store.new ≡ store.old }
     ensures keeps { Keeps B.tells (B.seen blocks.old) (B.seen blocks.new) }
+    ensures cause { HasReplyCause (B.faults blocks.old) (B.faults blocks.new) (reply_of result) }
 {
     let case = file.case(unit, request, store.free_areas(), store.used());
     if fits(file.catalog(), part, place) {
@@ -245,6 +283,8 @@ impl<B: Blocks, P: Part> Volume<B, P> {
         ensures whole { IsWhole B.seen self.new }
         ensures file { self.new.file ≡ self.old.file }
         ensures keeps { Keeps B.tells (B.seen self.old.blocks) (B.seen self.new.blocks) }
+        ensures cause { HasReplyCause (B.faults self.old.blocks) (B.faults self.new.blocks)
+            (reply_of result) }
     {
         match request {
             Request::Get {
@@ -293,6 +333,8 @@ impl<B: Blocks, P: Part> Volume<B, P> {
             → Guards (B.seen self.old.blocks) (B.seen self.new.blocks)
             (IsSafeImage self.old.store.log.geometry self.old.number self.old.store.log
             (committed_by (state_now opening self.old.file))) }
+        ensures cause { HasGetCause (B.faults self.old.blocks) (B.faults self.new.blocks) after unit
+            line request self.old.file self.new.file }
     {
         let outcome = self.decide_get(alloc, unit, request.get());
         self.enter_get(alloc, unit, line, request, outcome, after);

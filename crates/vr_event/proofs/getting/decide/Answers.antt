@@ -1,4 +1,4 @@
-use Rattle.std.proofs.Common.{◌≡◌, ℕ, List, None, false, true, ap, subst, sym, ◌∙◌}
+use Rattle.std.proofs.Common.{◌≡◌, ℕ, List, None, false, true, ap, refl, subst, sym, ◌∙◌}
 use Rattle.vr_types.specs.declared.request.Request.{Request}
 use Rattle.vr_types.proofs.CallerLemmas.{keeps-none}
 use Rattle.vr_catalog.specs.declared.entry.CatEntry.{CatEntry}
@@ -11,6 +11,7 @@ use Rattle.vr_answer.specs.Tried.{file_refusals}
 use Rattle.vr_record_file.specs.Now.{state_now}
 use Rattle.vr_event.specs.Getting.{MayEnd, NamesAt, fits_in}
 use Rattle.vr_event.proofs.Known.{fits-known, get-of, whole-is}
+use Rattle.vr_event.proofs.Causes.{cause-still}
 use Rattle.vr_event.proofs.getting.decide.Goals as goal
 
 pub returns-then-fits-clause-ends : goal.returns-then-fits-clause-ends
@@ -57,3 +58,6 @@ pub returns-else-fits-clause-keeps : goal.returns-else-fits-clause-keeps
 returns-else-fits-clause-keeps g c =
     keeps-none g.B.Blocks.tells (g.B.Blocks.seen c.args.blocks.now)
     (λ told image is. g.met.B.Blocks.images_may c.args.blocks.now image told is)
+
+pub returns-else-fits-clause-cause : goal.returns-else-fits-clause-cause
+returns-else-fits-clause-cause g c = cause-still _ _ refl

@@ -5,6 +5,9 @@ use Rattle.vr_event.specs.Getting.{MayEnd}
 use Rattle.vr_event.specs.declared.getting.Outcome.TheVariants.{Refused}
 use Rattle.vr_event.proofs.Ended.{may-fail}
 use Rattle.vr_event.proofs.Known.{get-of, looked-is}
+use Rattle.vr_types.specs.declared.reply.Reply.TheVariants as replies
+use Rattle.vr_event.specs.Cause.{HasReplyCause}
+use Rattle.vr_event.proofs.Causes.{cause-calm, cause-look, may-unless}
 use Rattle.vr_event.proofs.getting.looked.Goals as goal
 
 pub returns-in-Err-clause-ends : goal.returns-in-Err-clause-ends
@@ -15,7 +18,20 @@ returns-in-Err-clause-ends g c told volume state is stored names none =
 
 pub returns-in-Ok-clause-ends : goal.returns-in-Ok-clause-ends
 returns-in-Ok-clause-ends g c told volume state is stored names none =
-    c.answered.ensures state is
+    let get = get-of c.args.case.now.request.now c.args.part.0 c.args.place.now names in
+    may-unless (whole c.args.case.now state) get none c.answered.result c.unless_fault.result
+    c.unless_fault.ensures.is
+    (c.answered.ensures state is
     (c.in-Ok.ensures.found told volume state stored
-    ∙ sym (looked-is c.args.case.now state is c.args.part.0 c.args.place.now names none)) none
-    (get-of c.args.case.now.request.now c.args.part.0 c.args.place.now names)
+    ∙ sym (looked-is c.args.case.now state is c.args.part.0 c.args.place.now names none)) none get)
+
+pub returns-in-Err-clause-cause : goal.returns-in-Err-clause-cause
+returns-in-Err-clause-cause g c =
+    subst (λ (r : Refusal). HasReplyCause (g.B.Blocks.faults c.args.blocks.now)
+    (g.B.Blocks.faults c.look.new.blocks) (replies.Refused r))
+    (sym c.refusal_of.ensures) (cause-look _ _ c.in-Err.no c.in-Err.ensures.cause)
+
+pub returns-in-Ok-clause-cause : goal.returns-in-Ok-clause-cause
+returns-in-Ok-clause-cause g c =
+    cause-calm _ _ _ c.in-Ok.ensures.cause.reads c.in-Ok.ensures.cause.writes
+    c.unless_fault.ensures.calm

@@ -8,6 +8,7 @@ use Rattle.vr_event.specs.Getting.{IsAsked, MayEnd}
 use Rattle.vr_event.specs.Store.{IsStored, StoreNow}
 use Rattle.vr_event.specs.Volume.{IsHeld, VolumeNow}
 use Rattle.vr_event.proofs.Keeping.{stored-keeps}
+use Rattle.vr_event.specs.Cause.{HasReplyCause, reply_of}
 use Rattle.vr_event.proofs.volume.Volume.decide_get.Goals as goal
 
 pub returns-clause-held : goal.returns-clause-held
@@ -59,3 +60,9 @@ returns-clause-ends g c told opening held asked =
           ∙ ap (λ (f : Find). Get c.in-Get.file f c.in-Get.update c.in-Get.integrity) c.in-Equal.is;
       base = refl;
     }) then.free mine.unrefused)
+
+pub returns-clause-cause : goal.returns-clause-cause
+returns-clause-cause g c =
+    subst (λ (v : VolumeNow g.row.B.Denot). HasReplyCause (g.B.Blocks.faults v.blocks)
+    (g.B.Blocks.faults c.decide.new.blocks) (reply_of c.decide.result)) c.self.view_is
+    c.decide.ensures.cause

@@ -2,6 +2,8 @@ use Rattle.std.proofs.Common.{◌≡◌, subst}
 use Rattle.vr_history.specs.Step.{case_of}
 use Rattle.vr_record_file.specs.Now.{state_now}
 use Rattle.vr_event.specs.Getting.{MayEnd}
+use Rattle.vr_event.specs.Cause.{HasReplyCause, reply_of}
+use Rattle.vr_event.specs.declared.getting.Outcome.{Outcome}
 use Rattle.vr_event.proofs.volume.Volume.enter_get.Goals as goal
 
 pub returns-in-Done-clause-held : goal.returns-in-Done-clause-held
@@ -10,3 +12,13 @@ returns-in-Done-clause-held g c told opening held asked may =
     c.enter_read.ensures.held told opening held asked
     (subst (MayEnd (case_of file.geometry (state_now opening file) c.args.unit c.args.request))
     c.in-Done.is may)
+
+pub returns-in-Refused-clause-cause : goal.returns-in-Refused-clause-cause
+returns-in-Refused-clause-cause g c before now cause =
+    c.enter_refused.ensures.cause before now
+    (subst (λ (o : Outcome). HasReplyCause before now (reply_of o)) c.in-Refused.is cause)
+
+pub returns-in-Done-clause-cause : goal.returns-in-Done-clause-cause
+returns-in-Done-clause-cause g c before now cause =
+    c.enter_read.ensures.cause before now
+    (subst (λ (o : Outcome). HasReplyCause before now (reply_of o)) c.in-Done.is cause)

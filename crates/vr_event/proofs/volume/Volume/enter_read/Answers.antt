@@ -7,6 +7,8 @@ use Rattle.vr_event.specs.Volume.{IsHeld, VolumeNow}
 use Rattle.vr_event.specs.declared.no.LookNo.TheVariants.{Memory}
 use Rattle.vr_event.proofs.Ended.{may-fail}
 use Rattle.vr_event.proofs.Entries.{may-asked}
+use Rattle.vr_event.specs.Cause.{HasGetCause}
+use Rattle.vr_event.proofs.Causes.{cause-calm, cause-entered, entered-refused}
 use Rattle.vr_event.proofs.volume.Volume.enter_read.Goals as goal
 
 pub returns-in-Err-clause-held : goal.returns-in-Err-clause-held
@@ -19,3 +21,14 @@ returns-in-Err-clause-held g c told opening held asked may =
     (subst (λ (v : VolumeNow g.row.B.Denot). MayBeAsked opening v.file c.args.unit c.args.request
     (Refused NoMemory)) same (may-asked opening file c.args.unit c.args.request (Refused NoMemory)
     asked (may-fail case asked.get asked.unrefused Memory).0)) refl refl
+
+pub returns-in-Ok-clause-cause : goal.returns-in-Ok-clause-cause
+returns-in-Ok-clause-cause g c before now cause =
+    cause-entered (c.in-Ok.ensures.replied before now cause)
+
+pub returns-in-Err-clause-cause : goal.returns-in-Err-clause-cause
+returns-in-Err-clause-cause g c before now cause =
+    subst (λ (v : VolumeNow g.row.B.Denot). HasGetCause before now c.args.after c.args.unit
+    c.args.line c.args.request v.file c.refuse.new.self.file) c.in-Err.ensures.same
+    (cause-entered (entered-refused NoMemory c.refuse.ensures.leaves
+    (cause-calm before now (Refused NoMemory) cause.reads cause.writes refl)))

@@ -3,6 +3,8 @@ use Rattle.vr_types.specs.declared.reply.Refusal.{Refusal}
 use Rattle.vr_types.specs.declared.reply.Reply.TheVariants.{Refused}
 use Rattle.vr_record_file.specs.Now.{MayBeAsked}
 use Rattle.vr_event.proofs.Faults.{write-is}
+use Rattle.vr_event.specs.Cause.{HasReplyCause}
+use Rattle.vr_event.proofs.Causes.{cause-entered, cause-failed, entered-refused}
 use Rattle.vr_event.proofs.volume.Volume.enter_refused.Goals as goal
 
 pub returns-then-is_write_fault-clause-held : goal.returns-then-is_write_fault-clause-held
@@ -16,3 +18,14 @@ pub returns-else-is_write_fault-clause-held : goal.returns-else-is_write_fault-c
 returns-else-is_write_fault-clause-held g c told opening held asked stays =
     c.refuse.ensures.held told opening held asked stays
     (sym c.is_write_fault.ensures ∙ c.if-is_write_fault.false)
+
+pub returns-then-is_write_fault-clause-cause : goal.returns-then-is_write_fault-clause-cause
+returns-then-is_write_fault-clause-cause g c before now cause =
+    cause-failed
+    (subst (λ (r : Refusal). HasReplyCause before now (Refused r))
+    (write-is c.args.refusal (sym c.is_write_fault.ensures ∙ c.if-is_write_fault.true)) cause)
+    c.fail_write.ensures.entered
+
+pub returns-else-is_write_fault-clause-cause : goal.returns-else-is_write_fault-clause-cause
+returns-else-is_write_fault-clause-cause g c before now cause =
+    cause-entered (entered-refused c.args.refusal c.refuse.ensures.leaves cause)

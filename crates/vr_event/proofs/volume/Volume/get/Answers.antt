@@ -7,6 +7,7 @@ use Rattle.vr_volume.specs.Committed.{committed_by}
 use Rattle.vr_volume.specs.Safe.{IsSafeImage}
 use Rattle.vr_event.specs.Getting.{IsAsked, MayEnd}
 use Rattle.vr_event.proofs.Keeping.{moments-keeps}
+use Rattle.vr_event.specs.Cause.{HasGetCause}
 use Rattle.vr_event.proofs.volume.Volume.get.Goals as goal
 
 pub returns-clause-held : goal.returns-clause-held
@@ -34,3 +35,16 @@ returns-clause-moments g c told opening held =
     (sym c.enter_get.ensures.blocks)
     (moments-keeps g.B.Blocks.tells told (seen old.blocks) (seen c.decide_get-outcome.new.self.blocks)
     c.decide_get-outcome.ensures.keeps old.number old.store state (held.stored c.requires.going))
+
+pub returns-clause-cause : goal.returns-clause-cause
+returns-clause-cause g c =
+    let faults = g.B.Blocks.faults in
+    let old = c.args.self.now in
+    let looked = c.decide_get-outcome.new.self in
+    subst (λ (b : g.row.B.Denot). HasGetCause (faults old.blocks) (faults b) c.args.after c.args.unit
+    c.args.line c.args.request old.file c.enter_get.new.self.file) (sym c.enter_get.ensures.blocks)
+    (subst (λ (f : FileNow). HasGetCause (faults old.blocks) (faults looked.blocks) c.args.after
+    c.args.unit c.args.line c.args.request f c.enter_get.new.self.file)
+    c.decide_get-outcome.ensures.file
+    (c.enter_get.ensures.cause (faults old.blocks) (faults looked.blocks)
+    c.decide_get-outcome.ensures.cause))

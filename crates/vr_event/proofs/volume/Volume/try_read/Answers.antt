@@ -6,6 +6,7 @@ use Rattle.vr_event.specs.Getting.{IsAsked, MayEnd}
 use Rattle.vr_event.specs.declared.getting.Outcome.TheVariants.{Done}
 use Rattle.vr_event.specs.Volume.{IsHeld, VolumeNow}
 use Rattle.vr_event.proofs.Held.{held-read, ok-both}
+use Rattle.vr_event.proofs.Causes.{entered-read}
 use Rattle.vr_event.proofs.volume.Volume.try_read.Goals as goal
 
 pub returns-clause-held : goal.returns-clause-held
@@ -37,3 +38,11 @@ returns-clause-held g c = ok-both c.read.result c.read.ensures.leaves c.read.ens
     (subst (λ (f : FileNow). MayEnd (case_of f.geometry (state_now opening f) unit
     c.args.request.now) (Done reply names holds)) (sym of-file) may))
     (subst (IsHeld seen opening) (sym c.self.view_is) held))
+
+pub returns-clause-replied : goal.returns-clause-replied
+returns-clause-replied g c = ok-both c.read.result c.read.ensures.leaves c.read.ensures.leaves
+    (λ leaves again before now cause. entered-read c.in_ok-shared.shared c.args.request.now
+    c.args.reply c.self.inside.file c.args.self.now.file c.read.new.self
+    (locks_kept c.args.unit (mode_kept c.in_ok-shared.shared) c.args.names.now
+    c.self.inside.file.locks) c.in_ok-shared.ensures
+    (ap (λ (v : VolumeNow g.row.B.Denot). v.file) c.self.view_is) leaves cause)
