@@ -1,5 +1,6 @@
 //! A change of a place of a store: it is logged where its unit has not logged the place yet, and set.
 ghost use Rattle.std.specs.Prelude.{◌≡◌, ◌≢◌, ◌<◌, ℕ, List, All, IsTrue, OnOk, IfErr, false, map};
+ghost use Rattle.std.specs.Prelude.{true};
 ghost use Rattle.std.specs.Prelude.{IfSome, None, Option, option_map};
 ghost use Rattle.std.specs.List.{Contains};
 ghost use Rattle.vr_types.specs.Blocks.{Keeps};
@@ -102,6 +103,7 @@ fn put_at<B: Blocks, P: Part>(
     ensures split { OnOk result (P.split part.new ≡ P.split part.old) }
     ensures full { prepared.now.logged ≡ false
         → IsFullWhere log.old (need_of (live_in log.old.records) prepared.now.rec) result }
+    ensures never_full { prepared.now.logged ≡ true → IfErr result (λ no. IsFullNo no → ⊥) }
     ensures unchanged { IfErr result (λ no. IsFullNo no
         → (log.new ≡ log.old) × (blocks.new ≡ blocks.old) × (part.new ≡ part.old)) }
     // Where the place is met, no read is made of it.
@@ -211,6 +213,7 @@ fn set_at<B: Blocks, P: Part>(
     ensures split { OnOk result (P.split part.new ≡ P.split part.old) }
     ensures full { prepared.now.logged ≡ false
         → IsFullWhere log.old (need_of (live_in log.old.records) prepared.now.rec) result }
+    ensures never_full { prepared.now.logged ≡ true → IfErr result (λ no. IsFullNo no → ⊥) }
     ensures unchanged { IfErr result (λ no. IsFullNo no
         → (log.new ≡ log.old) × (blocks.new ≡ blocks.old) × (part.new ≡ part.old)
         × (changed.new ≡ changed.old)) }
@@ -270,6 +273,8 @@ impl<P: Part> Store<P> {
             → blocks_of other self.new.changed ≡ blocks_of other self.old.changed }
         ensures full { prepared.now.logged ≡ false → IsFullWhere self.old.log
             (need_of (live_in self.old.log.records) prepared.now.rec) result }
+        // A place that is logged takes no more of the log.
+        ensures never_full { prepared.now.logged ≡ true → IfErr result (λ no. IsFullNo no → ⊥) }
         ensures unchanged { IfErr result (λ no. IsFullNo no
             → (self.new ≡ self.old) × (blocks.new ≡ blocks.old)) }
         // Where room was asked for at the place, no read is made of it.

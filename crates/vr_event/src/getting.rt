@@ -20,7 +20,9 @@ ghost use Rattle.vr_history.specs.State.{State};
 ghost use Rattle.vr_history.specs.Step.{IsOfUnit, case_of, stand_refused};
 ghost use Rattle.vr_answer.specs.InHand.{InEach, InEachWith};
 ghost use Rattle.vr_answer.specs.Tried.{file_refusals, record_refusals};
+ghost use Rattle.vr_history.specs.declared.entry.What.TheVariants as whats;
 ghost use Rattle.vr_record_file.specs.Now.{CanSet, IsStateOf, MayBeAsked, is_undoing, state_now};
+ghost use Rattle.vr_record_file.specs.Now.{with_event};
 ghost use Rattle.vr_volume.specs.Committed.{committed_by};
 ghost use Rattle.vr_volume.specs.Laid.{shape_in};
 ghost use Rattle.vr_volume.specs.Safe.{IsSafeImage};
@@ -261,7 +263,11 @@ impl<B: Blocks, P: Part> Volume<B, P> {
             → MayBeAsked opening self.old.file unit request (replies.Done 0 None None)
             → request ≡ requests.EndReq on → IsHeld B.seen opening self.new }
         ensures whole { IsWhole B.seen self.old → IsWhole B.seen self.new }
-        ensures entered { getting.HasEntered after unit line request self.old.file self.new.file }
+        ensures leaves { self.new.file ≡ with_event after unit line
+            (whats.Asked request (replies.Done 0 None None)) (record self.old.file {
+              files = self.new.file.files;
+              files_room = self.new.file.files_room;
+            }) }
         ensures blocks { self.new.blocks ≡ self.old.blocks }
     {
         self.file.end_request(unit, line, request, after);
