@@ -36,7 +36,8 @@ pub use Rattle.vr_answer.proofs.KeptLemmas.{kept_in_the_way, kept_throughout}
 pub use Rattle.vr_answer.proofs.KeptLemmas.{any_left, kept_with, other_held, taken}
 -- no alternate index stands over a part, and no pair of one moves; what a file is on, which is
 -- key-sequenced; and the place that a read names
-pub use Rattle.vr_answer.proofs.OpeningLemmas.{IsKeyed, keyed_here, moves_none, opened_is}
+pub use Rattle.vr_answer.proofs.OpeningLemmas.{IsKeyed, definition_keyed, keyed_here, moves_none}
+pub use Rattle.vr_answer.proofs.OpeningLemmas.{opened_is}
 pub use Rattle.vr_answer.proofs.PlaceLemmas.{read_is}
 pub use Rattle.vr_answer.proofs.TakingLemmas.{taken_alike}
 

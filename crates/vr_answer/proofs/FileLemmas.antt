@@ -23,7 +23,8 @@ use Rattle.vr_history.specs.RefusedRecord.{is_nowhere, is_sequential, no_get, no
 use Rattle.vr_history.specs.Replies.{before_all, first_of}
 use Rattle.vr_history.specs.State.{State}
 use Rattle.vr_answer.specs.declared.case.Case.{Case as CaseInHand}
-use Rattle.vr_answer.specs.Here.{before_here, file_here, form_by, form_here, no_file_here}
+use Rattle.vr_answer.specs.Here.{asked_here, before_here, file_here, form_by, form_here}
+use Rattle.vr_answer.specs.Here.{no_file_here}
 use Rattle.vr_answer.specs.Here.{no_get_here, stopped_here}
 use Rattle.vr_answer.specs.InHand.{IsCaseOf, whole}
 use Rattle.vr_answer.specs.Opening.{as_opened, definition_here}
@@ -192,3 +193,24 @@ module _ (case : CaseInHand) (state : State) (is : IsCaseOf case state) where
       ∙ ap (λ (o : Option Refusal). option_or (before_here case) o)
       (option_or-assoc allowed long (no_get_here case)
       ∙ ap (λ (o : Option Refusal). option_or o (no_get_here case)) form_is))
+
+-- ---- a volume that stopped
+
+last_of_or : {A : Type 0} (a b : Option A) → option_or a b ≡ None → b ≡ None
+last_of_or None b none = none
+last_of_or (Some x) b none = absurd cc
+
+first_of_or : {A : Type 0} (a b : Option A) → option_or a b ≡ None → a ≡ None
+first_of_or None b none = refl
+first_of_or (Some x) b none = none
+
+none_mapped : {A B : Type 0} (f : A → B) (o : Option A) → option_map f o ≡ None → o ≡ None
+none_mapped f None none = refl
+none_mapped f (Some x) none = absurd cc
+
+-- where there is no refusal, the volume hasn't stopped
+pub stopped_refused : (case : CaseInHand) → file_here case ≡ None → case.stopped ≡ None
+stopped_refused case none =
+    none_mapped Stopped case.stopped
+    (last_of_or (no_file_here case) (stopped_here case)
+    (first_of_or (before_here case) (asked_here case) none))

@@ -11,4 +11,5 @@ mod Outcomes
 mod PlaceLemmas
 mod RecordLemmas
 mod StayLemmas
+mod CalmLemmas
 mod TakingLemmas

@@ -86,7 +86,7 @@ keyed_through None each definition there = absurd (none-some definition there)
 keyed_through (Some entry) each definition there =
     keyed_entry entry entry.entry_kind definition (each entry refl) there
 
-definition_keyed : (entries : List CatEntry) (part : ℕ) (definition : Definition)
+pub definition_keyed : (entries : List CatEntry) (part : ℕ) (definition : Definition)
     → AreKeyedClusters entries → definition_of entries part ≡ Some definition
     → definition.kind ≡ Keyed
 definition_keyed entries part definition are there = by_zero (part == 0) there

@@ -1,6 +1,6 @@
 //! Refusals by what is in memory: the file, the volume, what the request names, and what its file
 //! holds for update.
-ghost use Rattle.std.specs.Prelude.{◌≡◌, ◌-◌, ◌^◌, length, min, not, None, option_and_then};
+ghost use Rattle.std.specs.Prelude.{◌≡◌, ◌≢◌, ◌-◌, ◌^◌, length, min, not, None, option_and_then};
 ghost use Rattle.vr_history.specs.RefusedFile as refusals;
 ghost use Rattle.vr_history.specs.Replies as replies;
 ghost use Rattle.vr_answer.specs.Here as here;
@@ -9,6 +9,7 @@ ghost use Rattle.vr_answer.specs.Opening.{as_opened};
 ghost use Rattle.vr_history.specs.Step.{stand_refused};
 ghost use Rattle.vr_answer.specs.Scope.{IsDirect};
 ghost use Rattle.vr_answer.specs.Tried as tried;
+ghost use Rattle.vr_answer.specs.Tried.{IsCalm};
 
 use crate::case::{Case, definition, file_of};
 use vr_catalog::Definition;
@@ -237,6 +238,10 @@ pub fn refused_by_file(case: &Case) -> Option<Refusal>
         result ≡ replies.first_of (tried.file_refusals whole)) }
     ensures stays { IsDirect case.now.request.now
         → option_and_then (stand_refused case.now.request.now) result ≡ None }
+    // A volume that stopped refuses each request.
+    ensures stops { case.now.stopped ≢ None → result ≢ None }
+    // It is no fault of the device.
+    ensures calm { IsCalm result }
 {
     file_here(case)
 }

@@ -1,19 +1,20 @@
 -- Where the keyed parts of a volume are on its blocks: the catalog, which is part 0, in area 0, and
 -- each key-sequenced cluster in the area that its entry names. There are clusters of one area yet.
 -- The rules are this project's own.
-use Rattle.std.specs.Prelude.{ℕ, Option, Some, None}
+use Rattle.std.specs.Prelude.{◌≡◌, ◌≢◌, ℕ, List, Option, Some, None, if◌then◌else◌, ◌==◌}
 use Rattle.std.specs.Option.{option_and_then}
+use Rattle.vr_types.specs.Content.{Content}
 use Rattle.vr_types.specs.Geometry.{head_block}
 use Rattle.vr_types.specs.declared.geometry.Geometry.{Geometry}
 use Rattle.vr_types.specs.declared.unit.AreaNo.{AreaNo}
 use Rattle.vr_types.specs.declared.unit.Kind.{Kind}
 use Rattle.vr_types.specs.declared.unit.Kind.TheVariants as kinds
-use Rattle.vr_catalog.specs.Catalog.{cluster_definition}
+use Rattle.vr_catalog.specs.Catalog.{cluster_definition, entries_in, entry_with_part}
 use Rattle.vr_catalog.specs.Definition.{catalog_definition}
 use Rattle.vr_catalog.specs.declared.definition.Definition.{Definition}
 use Rattle.vr_catalog.specs.declared.entry.CatEntry.{CatEntry}
 use Rattle.vr_space.specs.Keyed.{Keyed}
-use Rattle.vr_space.specs.Part.{Shape, KeyedShape}
+use Rattle.vr_space.specs.Part.{Shape, KeyedShape, InPart}
 
 -- a keyed part of this definition, whose first area is this one
 abbrev pub keyed_part : Geometry → ℕ → ℕ → Definition → Keyed
@@ -48,3 +49,18 @@ shape_from geometry part (Some area) definition =
 abbrev pub shape_of : Geometry → CatEntry → Option Shape
 shape_of geometry entry = option_and_then (shape_from geometry entry.part.0 entry.first_area)
     (cluster_definition entry.entry_kind entry)
+
+-- the shape of a part, by the entries of the catalog
+abbrev pub shape_in : Geometry → List CatEntry → ℕ → Option Shape
+shape_in geometry entries part =
+    if part == 0 then Some (catalog_shape geometry)
+    else option_and_then (shape_of geometry) (entry_with_part entries part)
+
+-- by a content of part 0
+abbrev pub shape_by : Geometry → Content → ℕ → Option Shape
+shape_by geometry catalog part = shape_in geometry (entries_in catalog) part
+
+-- no block is in two parts
+abbrev pub AreApart : (ℕ → Option Shape) → Type 0
+AreApart shapes = (one other : ℕ) (here there : Shape) → shapes one ≡ Some here
+    → shapes other ≡ Some there → one ≢ other → (n : ℕ) → InPart here n → InPart there n → ⊥

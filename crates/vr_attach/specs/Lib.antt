@@ -1,3 +1,5 @@
+pub mod Header
+pub mod CatalogRules
 pub mod Laid
 pub mod Damage
 pub mod Attached

@@ -5,6 +5,7 @@ use Rattle.std.specs.Prelude.{All}
 use Rattle.std.specs.List.{Contains}
 use Rattle.std.proofs.lemmas.Bool.{true≢false}
 use Rattle.std.proofs.lemmas.Bool.Decides.{Decides-eqb}
+use Rattle.std.proofs.lemmas.List.Elements.{All-nil}
 use Rattle.std.specs.Prelude.{option_map}
 use Rattle.vr_types.specs.Content.{Content, Standing}
 use Rattle.vr_types.specs.Locks.{same_unit}
@@ -32,8 +33,8 @@ use Rattle.vr_volume.proofs.Undoing.{log-here, put-some}
 use Rattle.vr_event.specs.Changing.{IsSetIn}
 use Rattle.vr_event.specs.Ends.{IsTakenFrom, IsToBack, back_at}
 use Rattle.vr_event.specs.Parts.{but_split}
-use Rattle.vr_event.specs.Store.{ChangedBy, IsPartSet, IsRestedPart, IsSet, IsStored, PartNow}
-use Rattle.vr_event.specs.Store.{StoreNow, blocks_of, part_among}
+use Rattle.vr_event.specs.Store.{ChangedBy, IsFitImage, IsPartSet, IsRestedPart, IsSet, IsStored}
+use Rattle.vr_event.specs.Store.{PartNow, StoreNow, blocks_of, part_among}
 use Rattle.vr_event.proofs.Among.{HasShape, among-all, among-shape}
 use Rattle.vr_event.proofs.Keeping.{stored-sound}
 use Rattle.vr_event.proofs.PartsAt.{IsPartAt}
@@ -58,7 +59,8 @@ some-same same = cc
 -- ---- a store of which one was put back
 
 module _ (number : ℕ) (store : StoreNow) (unit : UnitOfRecovery) (old new : State)
-    (change : Changing) (a : Seen) (set : IsSet store a) (stored : IsStored number store old a)
+    (change : Changing) (a : Seen) (set : IsSet (record store { undo = [] }) a)
+    (stored : IsStored number store old a)
     (before : PartNow) (found : part_among store.parts change.part.0 ≡ Some before)
     (own : change.unit ≡ unit) (of : IsChangeOf store.log.geometry old change)
     (back : IsPutBack change old new) where
@@ -104,8 +106,8 @@ module _ (number : ℕ) (store : StoreNow) (unit : UnitOfRecovery) (old new : St
       due-other listed apart due =
           subst (λ (s : Shape). IsDueTo s listed b q) has.is
           (sets.others_due has.part.shape has.part.split has.part.met
-          (λ is. apart (sym (number-at store a set p has.part has.found) ∙ is
-          ∙ number-at store a set change.part.0 before found))
+          (λ is. apart (sym (number-at (record store { undo = [] }) a set p has.part has.found) ∙ is
+          ∙ number-at (record store { undo = [] }) a set change.part.0 before found))
           (among-all (IsRestedPart store old a) store.parts p has.part stored.parts has.found)
           listed q (subst (λ (s : Shape). IsDueTo s listed a q) (sym has.is) due)
           (λ n there. absurd (omega (arith, there.1))))
@@ -184,7 +186,7 @@ module _ (number : ℕ) (store : StoreNow) (unit : UnitOfRecovery) (old new : St
             change.part.0 now
             (λ p apart both. sets.others p.shape p.split p.met
             (λ is. apart (ap (λ (n : PartNo). n.0) (sym both.0.number) ∙ is
-            ∙ number-at store a set change.part.0 before found)) both.1)
+            ∙ number-at (record store { undo = [] }) a set change.part.0 before found)) both.1)
             (subst (λ (s : Shape). IsPartAtRest store.log.geometry (images_in store.undo) new s
             now.split now.met b) (sym (ap (λ (p : PartNow). p.shape) same)) sets.part)
             store.parts set.apart
@@ -196,15 +198,17 @@ module _ (number : ℕ) (store : StoreNow) (unit : UnitOfRecovery) (old new : St
 held : (shape : Shape) (found : Option (List ℕ)) → option_map Standing found ≡ item_held shape found
 held (KeyedShape part) found = refl
 
-set-undo : (store : StoreNow) (now : Seen) (undo : List KeptRecord) → IsSet store now
-    → IsSet (record store { undo = undo }) now
-set-undo store now undo set = record {
+set-bare : (store : StoreNow) (now : Seen) → IsSet store now
+    → IsSet (record store { undo = [] }) now
+set-bare store now set = record {
   allowed = set.allowed;
   blocks = set.blocks;
   sound = set.sound;
   parts = set.parts;
   apart = set.apart;
   changed = set.changed;
+  idle = set.idle;
+  kept = All-nil (IsFitImage store.parts);
 }
 
 module _ (number : ℕ) (store : StoreNow) (unit : UnitOfRecovery) (part : PartNo) (place : List ℕ)
@@ -252,7 +256,7 @@ module _ (number : ℕ) (store : StoreNow) (unit : UnitOfRecovery) (part : PartN
         → IsStored number (record store { parts = parts; changed = changed }) new b
     stored-taken b changed parts now into same sets had others =
         stored-back number (record store { undo = from.undo }) unit state new
-        (back_at unit part place was item) a (set-undo store a from.undo set) from.stored before
+        (back_at unit part place was item) a (set-bare store a set) from.stored before
         found refl of back b store.undo changed parts now into same
         (subst (λ (i : List BeforeImage). IsSetIn store.log.geometry number store.log i i state new
         before.shape now.split now.met place (blocks_of unit changed) a b) from.images sets)

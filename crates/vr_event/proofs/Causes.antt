@@ -1,11 +1,11 @@
 -- Replies that are faults of the device, and what they are entered for.
-use Rattle.std.proofs.Common.{arith, ◌≡◌, ◌⊎◌, ◌<◌, ◌≤◌, ℕ, false, true, List, None, refl, ap, sym, ◌∙◌}
+use Rattle.std.proofs.Common.{arith, ◌≡◌, ◌⊎◌, ◌≤◌, ℕ, false, true, List, None, refl, ap, sym, ◌∙◌}
 use Rattle.std.proofs.Common.{subst, inl, inr, Err}
 use Rattle.vr_types.specs.Faults.{Faults}
 use Rattle.vr_types.specs.Locks.{Lock}
 use Rattle.vr_types.specs.declared.fault.DeviceFault.TheVariants.{Read, Write}
 use Rattle.vr_types.specs.declared.reply.Refusal.{Refusal}
-use Rattle.vr_types.specs.declared.reply.Refusal.TheVariants.{Memory as NoMemory, ReadFault}
+use Rattle.vr_types.specs.declared.reply.Refusal.TheVariants.{Memory as NoMemory}
 use Rattle.vr_types.specs.declared.reply.Refusal.TheVariants.{WriteFault}
 use Rattle.vr_types.specs.declared.reply.Reply.{Reply}
 use Rattle.vr_types.specs.declared.reply.Reply.TheVariants as replies

@@ -1,6 +1,6 @@
 -- What is in memory, as the refusals that need no record see it: they look neither at locks nor at the
 -- log.
-use Rattle.std.proofs.Common.{◌≡◌, ◌==◌, ℕ, false, [], refl}
+use Rattle.std.proofs.Common.{◌≡◌, false, [], refl}
 use Rattle.std.specs.Option.{option_copied}
 use Rattle.vr_history.specs.Case.{file_of}
 use Rattle.vr_history.specs.RefusedRoom.{free_areas}

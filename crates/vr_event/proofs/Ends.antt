@@ -1,5 +1,5 @@
 -- What the calls that end a unit leave of a store.
-use Rattle.std.proofs.Common.{◌≡◌, ◌<◌, ℕ, Bool, true, false, not, IsTrue, List, [], Option, Some, None}
+use Rattle.std.proofs.Common.{◌≡◌, ◌<◌, ℕ, Bool, true, false, not, IsTrue, List, [], ◌∷◌, Option, Some}
 use Rattle.std.proofs.Common.{refl, sym, ap, subst, ◌∙◌, arith, filter}
 use Rattle.std.specs.Prelude.{All}
 use Rattle.std.proofs.lemmas.Bool.{true≢false}
@@ -12,12 +12,12 @@ use Rattle.vr_types.specs.Locks.{same_unit}
 use Rattle.vr_types.specs.Regions.{Touches}
 use Rattle.vr_types.specs.Seen.{Left, Seen}
 use Rattle.vr_types.specs.declared.geometry.Geometry.{Geometry}
-use Rattle.vr_types.specs.declared.unit.PartNo.{PartNo}
 use Rattle.vr_types.specs.declared.unit.Unit.{Unit as UnitOfRecovery}
 use Rattle.vr_space.specs.Met.{Met}
-use Rattle.vr_space.specs.Part.{IsAtRest, IsDueTo, IsSound, Shape, item_of, part_no}
+use Rattle.vr_space.specs.Part.{IsDueTo, IsSound, Shape, item_of}
 use Rattle.vr_space.specs.Split.{SplitNow}
-use Rattle.vr_space.proofs.CallerLemmas.{StaysPart, rest-sound}
+use Rattle.vr_space.proofs.CallerLemmas.{StaysPart}
+use Rattle.vr_log.specs.Live.{live_in}
 use Rattle.vr_log.specs.LogNow.{IsOf, LogNow}
 use Rattle.vr_log.specs.Standing.{InLog}
 use Rattle.vr_log.specs.declared.record.EndKind.{EndKind}
@@ -28,6 +28,7 @@ use Rattle.vr_undo.specs.Records.{befores_of, images_in, logged_of}
 use Rattle.vr_undo.specs.declared.record.KeptRecord.{KeptRecord}
 use Rattle.vr_volume.specs.Committed.{IsFirmFor}
 use Rattle.vr_volume.specs.Due.{AreRead, IsDueFor}
+use Rattle.vr_volume.specs.Ended.{ended}
 use Rattle.vr_volume.specs.EndedLog.{IsEndedLog}
 use Rattle.vr_volume.specs.Laid.{shape_by}
 use Rattle.vr_volume.specs.PutBack.{images_of, is_image_of, oldest}
@@ -39,11 +40,14 @@ use Rattle.vr_volume.proofs.Calls.{stays-part}
 use Rattle.vr_volume.proofs.ForceCalls.{due-kept, firm-for}
 use Rattle.vr_volume.proofs.Meeting.{filter-alone, find-passes}
 use Rattle.vr_volume.proofs.Rested.{due-stays}
-use Rattle.vr_event.specs.Store.{ChangedBy, IsPartSet, IsRestedPart, IsSet, IsStored, PartNow}
-use Rattle.vr_event.specs.Store.{StoreNow, blocks_of, shape_among}
+use Rattle.vr_event.specs.Store.{ChangedBy, IsFitImage, IsPartSet, IsRestedPart, IsSet, IsStored}
+use Rattle.vr_event.specs.Store.{StoreNow, blocks_of}
 use Rattle.vr_event.proofs.Among.{HasShape, among-all, among-shape}
 use Rattle.vr_event.proofs.Keeping.{set-still, stored-keeps, stored-sound}
 use Rattle.vr_event.proofs.Recorded.{number-at}
+
+some-empty : {X : Type 0} (x : X) (xs : List X) → x ∷ xs ≡ [] → ⊥
+some-empty x xs is = cc
 
 -- ---- some of its blocks are forced
 
@@ -217,14 +221,28 @@ module _ (store : StoreNow) (a : Seen) (set : IsSet store a) (volume : ℕ) (old
       due = due-ended;
     }
 
+-- Once no unit is live the log has begun again.
+pub idle-ended : (old new : LogNow) (unit : UnitOfRecovery) (kind : EndKind)
+    → IsEndedLog old unit kind new → live_in new.records ≡ [] → new.records ≡ []
+idle-ended old new unit kind is none = by_live (live_in (ended old unit kind)) refl
+  where
+    by_live : (live : List UnitOfRecovery) → live_in (ended old unit kind) ≡ live
+        → new.records ≡ []
+    by_live [] here = (is.begun here).0
+    by_live (one ∷ live) here =
+        let on = is.on (λ empty. some-empty one live (sym here ∙ empty)) in
+        absurd (some-empty one live (sym here ∙ sym (ap live_in on.0) ∙ none))
+
 -- It is set, by a log of the same geometry.
 pub set-ended : (store : StoreNow) (a b : Seen) (log : LogNow) (undo : List KeptRecord)
-    (changed : List ChangedBy) → IsSet store a → log.geometry ≡ store.log.geometry
+    (changed : List ChangedBy) → IsSet store a
+    → (live_in log.records ≡ [] → log.records ≡ [])
+    → All (IsFitImage store.parts) (befores_of undo) → log.geometry ≡ store.log.geometry
     → log.broken ≡ false → IsOf log.geometry b
     → ((count : ℕ) → All (λ (by : ChangedBy). All (λ n. n < count) by.blocks) store.changed
     → All (λ (by : ChangedBy). All (λ n. n < count) by.blocks) changed)
     → IsSet (record store { log = log; undo = undo; changed = changed }) b
-set-ended store a b log undo changed set same sound shape each =
+set-ended store a b log undo changed set idle kept same sound shape each =
     let still : IsSet store b = set-still store a b
     (shape.count ∙ ap (λ (g : Geometry). g.blocks) same ∙ sym set.blocks.count)
     (shape.size ∙ ap (λ (g : Geometry). g.size) same ∙ sym set.blocks.size) set in
@@ -241,4 +259,6 @@ set-ended store a b log undo changed set same sound shape each =
           }) store.parts still.parts;
       apart = still.apart;
       changed = each b.count still.changed;
+      idle = idle;
+      kept = kept;
     }

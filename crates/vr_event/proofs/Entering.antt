@@ -7,13 +7,12 @@ use Rattle.vr_types.specs.declared.reply.Reply.TheVariants.{Refused}
 use Rattle.vr_types.specs.declared.request.FileRef.{FileRef}
 use Rattle.vr_types.specs.declared.request.Request.{Request}
 use Rattle.vr_history.specs.declared.entry.Entry.{Entry}
-use Rattle.vr_history.specs.declared.entry.What.{What}
 use Rattle.vr_history.specs.declared.entry.What.TheVariants.{Asked}
 use Rattle.vr_history.specs.Case.{file_of}
 use Rattle.vr_history.specs.Effects.{drops_held}
 use Rattle.vr_history.specs.Legal.{state_of}
 use Rattle.vr_history.specs.State.{State}
-use Rattle.vr_history.specs.Step.{after_what, case_of, stand_refused, state_after}
+use Rattle.vr_history.specs.Step.{after_what, case_of, stand_refused}
 use Rattle.vr_history.proofs.CallerLemmas.{state_of-append}
 use Rattle.vr_answer.proofs.CallerLemmas.{after_refused}
 use Rattle.vr_types.specs.Seen.{Seen}

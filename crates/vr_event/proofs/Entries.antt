@@ -1,32 +1,24 @@
 -- What the entries of a GET leave of a volume: of one that a fault of a write refused, and of one that
 -- is done.
-use Rattle.std.proofs.Common.{◌≡◌, ◌∷◌, ◌++◌, [], ℕ, Bool, true, cond, List, Option, Some, None}
-use Rattle.std.proofs.Common.{refl, ap, sym, ◌∙◌, subst, inl}
+use Rattle.std.proofs.Common.{◌≡◌, ℕ}
+use Rattle.std.proofs.Common.{refl, ap, sym, ◌∙◌, inl}
 use Rattle.std.proofs.lemmas.Option.{none-some}
-use Rattle.vr_browse.specs.declared.positions.FilePosition.{FilePosition}
-use Rattle.vr_types.specs.Locks.{Lock}
 use Rattle.vr_types.specs.Seen.{Seen}
 use Rattle.vr_types.specs.declared.fault.DeviceFault.TheVariants.{Write}
-use Rattle.vr_types.specs.declared.lock_name.LockName.{LockName}
 use Rattle.vr_types.specs.declared.reply.Refusal.TheVariants.{WriteFault}
 use Rattle.vr_types.specs.declared.reply.Reply.{Reply}
-use Rattle.vr_types.specs.declared.reply.Reply.TheVariants.{Done, Refused}
-use Rattle.vr_types.specs.declared.request.Find.TheVariants.{Equal}
+use Rattle.vr_types.specs.declared.reply.Reply.TheVariants.{Refused}
 use Rattle.vr_types.specs.declared.request.Request.{Request}
-use Rattle.vr_types.specs.declared.request.Request.TheVariants.{Get}
 use Rattle.vr_types.specs.declared.unit.Unit.{Unit as UnitOfRecovery}
-use Rattle.vr_history.specs.declared.entry.Entry.{Entry}
 use Rattle.vr_history.specs.declared.entry.What.TheVariants.{Asked, Faulted}
-use Rattle.vr_history.specs.Found.{place_read}
-use Rattle.vr_history.specs.Legal.{state_of}
-use Rattle.vr_history.specs.Replies.{MayReply, done_by}
-use Rattle.vr_history.specs.State.{Owned, State}
+use Rattle.vr_history.specs.Replies.{MayReply}
+use Rattle.vr_history.specs.State.{State}
 use Rattle.vr_history.specs.Step.{case_of}
 use Rattle.vr_history.proofs.CallerLemmas.{state_of-append}
 use Rattle.vr_record_file.specs.Now.{FileNow, IsStateOf, MayBeAsked, asked_failing, entry_next}
 use Rattle.vr_record_file.specs.Now.{failed, state_now}
-use Rattle.vr_event.specs.Getting.{IsAsked, IsDoneAs}
-use Rattle.vr_event.specs.Volume.{IsHeld, VolumeNow}
+use Rattle.vr_event.specs.Getting.{IsAsked}
+use Rattle.vr_event.specs.Volume.{IsFileHeld, IsHeld, VolumeNow}
 use Rattle.vr_event.proofs.Entering.{alike_refused}
 
 -- it may be entered with each reply that it may have
@@ -54,12 +46,12 @@ failed-owned opening file after unit line request =
     (entry_next file.entries after unit line (Asked request (Refused WriteFault))) request WriteFault
     refl refl).owned
 
--- so a volume is held, of which nothing is said any more but its history
-pub held-failed : {B : Type 0} (seen : B → Seen) (opening : State) (volume : VolumeNow B)
+-- so a volume is held, of which nothing is said any more but its history,
+pub held-known : {B : Type 0} (seen : B → Seen) (opening : State) (volume : VolumeNow B)
     (to : FileNow) (after : ℕ) (unit : UnitOfRecovery) (line : ℕ) (request : Request)
-    → to ≡ failed after unit line request volume.file → IsHeld seen opening volume
+    → to ≡ failed after unit line request volume.file → IsFileHeld opening volume
     → IsStateOf opening to → IsHeld seen opening (record volume { file = to })
-held-failed seen opening volume to after unit line request leaves held file =
+held-known seen opening volume to after unit line request leaves known file =
     let owned : (state_now opening to).owned ≡ (state_now opening volume.file).owned =
     ap (λ (f : FileNow). (state_now opening f).owned) leaves
     ∙ failed-owned opening volume.file after unit line request in
@@ -67,6 +59,19 @@ held-failed seen opening volume to after unit line request leaves held file =
     ap (λ (f : FileNow). f.geometry) leaves in
     record {
       file = file;
-      free = cc (held.free, geometry, owned);
+      free = cc (known.free, geometry, owned);
       stored = λ going. absurd (none-some _ (sym going ∙ ap (λ (f : FileNow). f.stopped) leaves));
     }
+
+pub file-held : {B : Type 0} (seen : B → Seen) (opening : State) (volume : VolumeNow B)
+    → IsHeld seen opening volume → IsFileHeld opening volume
+file-held seen opening volume held = record { file = held.file; free = held.free }
+
+-- also one that was held
+pub held-failed : {B : Type 0} (seen : B → Seen) (opening : State) (volume : VolumeNow B)
+    (to : FileNow) (after : ℕ) (unit : UnitOfRecovery) (line : ℕ) (request : Request)
+    → to ≡ failed after unit line request volume.file → IsHeld seen opening volume
+    → IsStateOf opening to → IsHeld seen opening (record volume { file = to })
+held-failed seen opening volume to after unit line request leaves held file =
+    held-known seen opening volume to after unit line request leaves
+    (file-held seen opening volume held) file

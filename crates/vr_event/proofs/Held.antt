@@ -1,5 +1,5 @@
 -- What the entry of a GET that is done leaves of a volume.
-use Rattle.std.proofs.Common.{◌≡◌, ℕ, Bool, cond, List, Option, Some, None, refl, ap, sym, ◌∙◌}
+use Rattle.std.proofs.Common.{◌≡◌, ℕ, Bool, cond, List, Option, Some, None, ap, ◌∙◌}
 use Rattle.std.proofs.Common.{subst}
 use Rattle.std.specs.Prelude.{Err, Ok, OnOk, Result}
 use Rattle.vr_browse.specs.declared.positions.FilePosition.{FilePosition}

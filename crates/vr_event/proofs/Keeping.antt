@@ -45,6 +45,8 @@ set-still store a b count size set = record {
   apart = set.apart;
   changed = subst (λ (count : ℕ). All (λ (by : ChangedBy). All (λ n. n < count) by.blocks)
       store.changed) (sym count) set.changed;
+  idle = set.idle;
+  kept = set.kept;
 }
 
 pub set-keeps : (tells : Bool) (store : StoreNow) (a b : Seen) → Keeps tells a b → IsSet store a

@@ -1,23 +1,30 @@
 -- A store of which something more is kept, or other blocks are changed.
 use Rattle.std.proofs.Common.{◌≡◌, ◌<◌, ◌&&◌, ℕ, Bool, true, false, not, List, refl, sym, ap, subst}
 use Rattle.std.proofs.Common.{◌∙◌}
-use Rattle.std.specs.Prelude.{All, OnErr, Result, Ok, Err}
+use Rattle.std.specs.Prelude.{All, IfErr, OnErr, Result, Ok, Err}
+use Rattle.std.specs.Result.{IsErrAnd}
 use Rattle.vr_types.specs.Seen.{Seen}
 use Rattle.vr_types.specs.declared.unit.PartNo.{PartNo}
 use Rattle.vr_types.specs.declared.unit.Unit.{Unit as UnitOfRecovery}
 use Rattle.vr_history.specs.State.{State}
-use Rattle.vr_undo.specs.Records.{with_record, is_record_at, without_last_by}
+use Rattle.vr_undo.specs.Records.{befores_of, is_record_at, with_record, without_last_by}
 use Rattle.vr_undo.specs.declared.before.Before.{Before}
 use Rattle.vr_undo.specs.declared.record.KeptRecord.{KeptRecord}
 use Rattle.vr_undo.proofs.Stating.{as-before}
 use Rattle.vr_volume.specs.Due.{IsDueFor}
 use Rattle.vr_event.specs.Changing.{IsKeptFor, IsPrepared, has_kept, has_logged, with_kept}
-use Rattle.vr_event.specs.Store.{ChangedBy, IsSet, IsStored, StoreNow, blocks_of}
+use Rattle.vr_event.specs.Store.{ChangedBy, IsFitImage, IsSet, IsStored, StoreNow, blocks_of}
 use Rattle.vr_event.specs.declared.preparing.Prepared.{Prepared}
 
 pub on-err : {X E : Type 0} {A : Type 0} (result : Result X E) → A → OnErr result A
 on-err (Ok x) a = tt
 on-err (Err e) a = a
+
+-- what is handed on is the error that came
+pub err-as : {T E : Type 0} (result : Result T E) (fault : E) (P : E → Type 0)
+    → IsErrAnd result (λ given. given ≡ fault) → P fault → IfErr result P
+err-as (Ok value) fault P is holds = tt
+err-as (Err given) fault P is holds = subst P (sym is) holds
 
 module _ (store : StoreNow) (now : Seen) (changed : List ChangedBy)
     (same : (unit : UnitOfRecovery) → blocks_of unit changed ≡ blocks_of unit store.changed) where
@@ -58,14 +65,32 @@ pub set-changed : (store : StoreNow) (now : Seen) (changed : List ChangedBy)
     (undo : List KeptRecord)
     → ((count : ℕ) → All (λ (by : ChangedBy). All (λ n. n < count) by.blocks) store.changed
     → All (λ (by : ChangedBy). All (λ n. n < count) by.blocks) changed)
+    → All (IsFitImage store.parts) (befores_of undo)
     → IsSet store now → IsSet (record store { undo = undo; changed = changed }) now
-set-changed store now changed undo each set = record {
+set-changed store now changed undo each kept set = record {
   allowed = set.allowed;
   blocks = set.blocks;
   sound = set.sound;
   parts = set.parts;
   apart = set.apart;
   changed = each now.count set.changed;
+  idle = set.idle;
+  kept = kept;
+}
+
+-- where other blocks are changed
+pub set-listed : (store : StoreNow) (now : Seen) (changed : List ChangedBy)
+    → All (λ (by : ChangedBy). All (λ n. n < now.count) by.blocks) changed
+    → IsSet store now → IsSet (record store { changed = changed }) now
+set-listed store now changed each set = record {
+  allowed = set.allowed;
+  blocks = set.blocks;
+  sound = set.sound;
+  parts = set.parts;
+  apart = set.apart;
+  changed = each;
+  idle = set.idle;
+  kept = set.kept;
 }
 
 -- what is kept, taken back where anything was new

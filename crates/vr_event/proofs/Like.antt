@@ -1,17 +1,12 @@
 -- A store that is a state's is that of each state which differs in nothing that it knows of.
 use Rattle.std.proofs.Common.{◌≡◌, ◌∙◌, ℕ, List, ap, subst, sym}
-use Rattle.std.specs.Prelude.{All}
 use Rattle.std.proofs.lemmas.List.Elements.{All-weaker}
 use Rattle.vr_types.specs.Content.{Content}
-use Rattle.vr_types.specs.Locks.{Lock}
 use Rattle.vr_types.specs.Seen.{Seen}
-use Rattle.vr_types.specs.declared.position.Position.{Position}
-use Rattle.vr_history.specs.State.{BeforeImage, Logged, Owned, State}
+use Rattle.vr_history.specs.State.{BeforeImage, Logged, State}
 use Rattle.vr_volume.specs.Committed.{HasLogged, IsKeptIn, IsLaidState}
-use Rattle.vr_volume.specs.Rests.{IsPartAtRest, IsVolumeAtRest}
-use Rattle.vr_undo.specs.Records.{images_in}
 use Rattle.vr_event.specs.Alike.{AreAlike}
-use Rattle.vr_event.specs.Store.{IsRestedPart, IsStored, PartNow, StoreNow}
+use Rattle.vr_event.specs.Store.{IsRestedPart, IsStored, StoreNow}
 
 -- the state with other locks, positions, areas and stop
 abbrev other : State → State → State

@@ -20,6 +20,7 @@ use Rattle.vr_space.specs.Part.{IsDueTo, IsPlaceOf, IsSound, Shape, part_no}
 use Rattle.vr_space.proofs.CallerLemmas.{firm-due, rest-sound}
 use Rattle.vr_history.specs.State.{BeforeImage, Logged, State, is_kept, is_logged}
 use Rattle.vr_history.proofs.Same.{unit_same}
+use Rattle.vr_log.specs.Live.{live_in}
 use Rattle.vr_log.specs.LogNow.{IsOf, LogNow}
 use Rattle.vr_undo.specs.Records.{before_of, befores_of, has_at, image_of, images_in, is_logged_in}
 use Rattle.vr_undo.specs.Records.{logged_of}
@@ -373,9 +374,10 @@ module _ (number : ℕ) (store : StoreNow) (unit : UnitOfRecovery) (part : PartN
 -- A store whose log goes on, and of which other blocks are changed, is set.
 pub set-logged : (store : StoreNow) (log : LogNow) (changed : List ChangedBy) (now : Seen)
     → log.geometry ≡ store.log.geometry → log.broken ≡ false
+    → (live_in log.records ≡ [] → log.records ≡ [])
     → All (λ (by : ChangedBy). All (λ n. n < now.count) by.blocks) changed → IsSet store now
     → IsSet (record store { log = log; changed = changed }) now
-set-logged store log changed now same sound each set = record {
+set-logged store log changed now same sound idle each set = record {
   allowed = subst IsAllowed (sym same) set.allowed;
   blocks = subst (λ (g : Geometry). IsOf g now) (sym same) set.blocks;
   sound = sound;
@@ -387,4 +389,6 @@ set-logged store log changed now same sound each set = record {
       }) store.parts set.parts;
   apart = set.apart;
   changed = each;
+  idle = idle;
+  kept = set.kept;
 }

@@ -16,7 +16,6 @@ use Rattle.vr_types.specs.declared.reply.Refusal.TheVariants.{WriteFault}
 use Rattle.vr_types.specs.declared.reply.Reply.{Reply}
 use Rattle.vr_types.specs.declared.reply.Reply.TheVariants.{Done, Refused}
 use Rattle.vr_types.specs.declared.request.Request.{Request}
-use Rattle.vr_types.specs.declared.request.Request.TheVariants.{Commit}
 use Rattle.vr_types.specs.declared.unit.Unit.{Unit as UnitOfRecovery}
 use Rattle.vr_history.specs.declared.entry.Entry.{Entry}
 use Rattle.vr_history.specs.declared.entry.What.TheVariants.{Asked}
@@ -29,8 +28,9 @@ use Rattle.vr_history.specs.Replies.{first_of, refused_or}
 use Rattle.vr_history.specs.State.{Owned, State}
 use Rattle.vr_history.specs.Step.{after_what, case_of}
 use Rattle.vr_history.proofs.CallerLemmas.{state_of-append}
-use Rattle.vr_answer.proofs.CallerLemmas.{after_commit}
-use Rattle.vr_record_file.specs.Now.{FileNow, IsStateOf, MayBeAsked, entry_next, failed, state_now}
+use Rattle.vr_answer.proofs.CallerLemmas.{after_backout, after_commit}
+use Rattle.vr_record_file.specs.Now.{EndsUnit, FileNow, IsStateOf, MayBeAsked, entry_next, failed}
+use Rattle.vr_record_file.specs.Now.{state_now}
 use Rattle.vr_volume.specs.Committed.{IsLaidState}
 use Rattle.vr_volume.specs.Laid.{shape_in, shape_of}
 use Rattle.vr_volume.specs.Steps.{IsEndedIn}
@@ -154,23 +154,33 @@ may-fail-write opening file unit request feedback place bytes asked =
       goes_on = asked.goes_on;
     }
 
--- the state after a COMMIT that is done
+-- what such a request leaves, once it is done
+ended-what : (geometry : Geometry) (before : State) (unit : UnitOfRecovery) (stamp : ℕ)
+    (request : Request) → EndsUnit request
+    → after_what geometry before unit stamp (Asked request (Done 0 None None))
+    ≡ ends_unit unit before
+ended-what geometry before unit stamp request (inl is) =
+    ap (λ (r : Request). after_what geometry before unit stamp (Asked r (Done 0 None None))) is
+    ∙ after_commit geometry before unit 0 None None
+ended-what geometry before unit stamp request (inr is) =
+    ap (λ (r : Request). after_what geometry before unit stamp (Asked r (Done 0 None None))) is
+    ∙ after_backout geometry before unit 0 None None
+
+-- the state after a COMMIT or a BACKOUT that is done
 pub state-ended : (opening : State) (file to : FileNow) (after : ℕ) (unit : UnitOfRecovery)
-    (line : ℕ) (request : Request) → request ≡ Commit → IsEnded after unit line request file to
+    (line : ℕ) (request : Request) → EndsUnit request → IsEnded after unit line request file to
     → state_now opening to ≡ ends_unit unit (state_now opening file)
 state-ended opening file to after unit line request is leaves =
     let entry : Entry = entry_next file.entries after unit line (Asked request (Done 0 None None)) in
     let before : State = state_now opening file in
     ap (λ (f : FileNow). state_now opening f) leaves
     ∙ state_of-append file.geometry opening file.entries entry
-    ∙ ap (λ (r : Request). after_what file.geometry before unit entry.stamp
-    (Asked r (Done 0 None None))) is
-    ∙ after_commit file.geometry before unit 0 None None
+    ∙ ended-what file.geometry before unit entry.stamp request is
 
 -- A volume is held by that state, where its store is.
 pub held-ended : {B : Type 0} (seen : B → Seen) (opening : State) (volume : VolumeNow B)
     (to : FileNow) (store : StoreNow) (blocks : B) (after : ℕ) (unit : UnitOfRecovery) (line : ℕ)
-    (request : Request) → request ≡ Commit → IsEnded after unit line request volume.file to
+    (request : Request) → EndsUnit request → IsEnded after unit line request volume.file to
     → volume.file.stopped ≡ None → store.space ≡ volume.store.space
     → IsHeld seen opening volume → IsStateOf opening to
     → ((new : State) → IsEndedIn unit (state_now opening volume.file) new

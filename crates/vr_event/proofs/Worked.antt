@@ -16,13 +16,14 @@ use Rattle.vr_space.specs.Part.{DueMore, InPart, IsOn, Knows, Shape, part_no}
 use Rattle.vr_space.specs.Split.{SplitNow}
 use Rattle.vr_space.proofs.CallerLemmas.{due-keeps, rest-sound}
 use Rattle.vr_history.specs.State.{BeforeImage, State}
-use Rattle.vr_undo.specs.Records.{images_in}
+use Rattle.vr_undo.specs.Records.{befores_of, images_in}
 use Rattle.vr_volume.specs.Rests.{IsPartAtRest, IsVolumeAtRest}
 use Rattle.vr_volume.proofs.Rested.{part-keeps, volume-keeps}
 use Rattle.vr_event.specs.Parts.{but_split}
 use Rattle.vr_event.specs.Store.{IsPartSet, IsRestedPart, IsSet, IsStored, PartNow, StoreNow}
 use Rattle.vr_event.specs.Store.{blocks_of, part_among}
 use Rattle.vr_event.proofs.Among.{HasShape, among-all, among-number, among-shape}
+use Rattle.vr_event.proofs.Fits.{fits-parts}
 use Rattle.vr_event.proofs.Keeping.{set-still}
 use Rattle.vr_event.proofs.PartsAt.{IsPartAt}
 use Rattle.vr_event.proofs.Placing.{all-with, map-with, shapes-same}
@@ -78,6 +79,8 @@ module _ (store : StoreNow) (number : ℕ) (before after : PartNow) (new : List 
             ∙ map-with (λ (part : PartNow). part.number.0) number before after
             (ap (λ (n : PartNo). n.0) same-number) store.parts at.found)) set.apart;
         changed = set.changed;
+        idle = set.idle;
+        kept = fits-parts new store.parts same-parts (befores_of store.undo) set.kept;
       }
 
   module _ (volume : ℕ) (state : State) (a b : Seen) (set : IsSet store a)

@@ -81,6 +81,11 @@ pub record IsKeptFor (number : ℕ) (store : StoreNow) (unit : UnitOfRecovery) (
 
 -- ---- how it is made
 
+-- a record of the log that is a before-image
+abbrev pub IsBefore : LogRecord → Type 0
+IsBefore (records.Before unit part place old) = Unit {0}
+IsBefore (records.End unit kind) = ⊥
+
 -- The first change of a place is logged; any other is a further one, or one that is kept again.
 abbrev pub IsStep : Bool → LogNow → Changing → State → State → Type 0
 IsStep false log change old new = IsFirstChange log change old new

@@ -6,5 +6,11 @@ pub mod Changing
 pub mod Volume
 pub mod Alike
 pub mod Ends
+pub mod Backing
 pub mod Getting
 pub mod EndedFile
+pub mod Acting
+pub mod Putting
+pub mod Opening
+pub mod Made
+pub mod Serving

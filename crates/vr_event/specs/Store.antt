@@ -1,21 +1,23 @@
 -- What stands behind the blocks of a volume in memory: its parts, its log, its before-images, and
 -- the blocks that units of recovery changed; and when these and the blocks are those of a state of
 -- the record file. The rules are this project's own.
-use Rattle.std.specs.Prelude.{◌≡◌, ◌<◌, ℕ, Bool, false, ◌==◌, List, [], All, Option, Some}
-use Rattle.std.specs.Prelude.{find, map, option_map}
+use Rattle.std.specs.Prelude.{◌≡◌, ◌≢◌, ◌<◌, ℕ, Bool, false, ◌==◌, List, [], All, Option, Some}
+use Rattle.std.specs.Prelude.{IfSome, None, find, map, option_map}
 use Rattle.std.specs.List.{IsDistinct}
 use Rattle.std.specs.Option.{option_map_or}
 use Rattle.std.specs.Prelude.{nat_eq}
+use Rattle.vr_types.specs.Content.{Item, Standing, Withdrawn}
 use Rattle.vr_types.specs.Geometry.{IsAllowed}
 use Rattle.vr_types.specs.Locks.{same_unit}
 use Rattle.vr_types.specs.Seen.{Seen}
 use Rattle.vr_types.specs.declared.unit.PartNo.{PartNo}
 use Rattle.vr_types.specs.declared.unit.Unit.{Unit as UnitOfRecovery}
 use Rattle.vr_space.specs.Met.{Met}
-use Rattle.vr_space.specs.Part.{InPart, IsOn, Shape, part_no}
+use Rattle.vr_space.specs.Part.{InPart, IsOn, IsPlaceOf, IsRecordOf, Shape, part_no}
 use Rattle.vr_space.specs.Split.{SplitNow}
+use Rattle.vr_log.specs.Live.{live_in}
 use Rattle.vr_log.specs.LogNow.{IsOf, LogNow}
-use Rattle.vr_history.specs.State.{State}
+use Rattle.vr_history.specs.State.{BeforeImage, State}
 use Rattle.vr_undo.specs.Records.{befores_of, images_in, logged_of}
 use Rattle.vr_undo.specs.declared.record.KeptRecord.{KeptRecord}
 use Rattle.vr_volume.specs.Due.{IsDueFor}
@@ -73,6 +75,17 @@ pub record StoreNow : Type 0 where
   pub changed : List ChangedBy
   pub space : List (Option PartNo)
 
+-- a store, by its fields
+abbrev pub store_of : {P : Type 0} → (P → Shape) → (P → Option SplitNow) → (P → List Met) → LogNow
+    → List KeptRecord → List (Laid P) → List UnitBlocks → List (Option PartNo) → StoreNow
+store_of shape split met log undo parts changed space = record {
+  log = log;
+  undo = undo;
+  parts = map (part_now shape split met) parts;
+  changed = map changed_by changed;
+  space = space;
+}
+
 -- ---- what holds whether or not the device reports its contents
 
 -- a part is on blocks of the device past the log, under its number
@@ -81,7 +94,20 @@ pub record IsPartSet (log : LogNow) (now : Seen) (part : PartNow) : Type 0 where
   pub on : IsOn part.shape now
   pub apart : (n : ℕ) → InPart part.shape n → log.geometry.log < n
 
--- the numbers of the parts differ, and each changed block is one of the device
+-- a record, or none, that may stand at a place of a part
+abbrev pub IsOldOf : Shape → List ℕ → Option Item → Type 0
+IsOldOf shape place None = Unit {0}
+IsOldOf shape place (Some (Standing bytes)) = IsRecordOf shape place bytes
+IsOldOf shape place (Some (Withdrawn n)) = ⊥
+
+-- A before-image is of a place of one of the parts, and its record, if it has one, may stand there.
+pub record IsFitImage (parts : List PartNow) (image : BeforeImage) : Type 0 where
+  pub part : part_among parts image.part ≢ None
+  pub place : IfSome (shape_among parts image.part) (λ shape. IsPlaceOf shape image.place)
+  pub old : IfSome (shape_among parts image.part) (λ shape. IsOldOf shape image.place image.old)
+
+-- The numbers of the parts differ, and each changed block is one of the device. Once no unit is
+-- live the log has no record, and what units may put back is fit for the parts.
 pub record IsSet (store : StoreNow) (now : Seen) : Type 0 where
   pub allowed : IsAllowed store.log.geometry
   pub blocks : IsOf store.log.geometry now
@@ -89,6 +115,8 @@ pub record IsSet (store : StoreNow) (now : Seen) : Type 0 where
   pub parts : All (IsPartSet store.log now) store.parts
   pub apart : IsDistinct nat_eq (map (λ (part : PartNow). part.number.0) store.parts)
   pub changed : All (λ (by : ChangedBy). All (λ n. n < now.count) by.blocks) store.changed
+  pub idle : live_in store.log.records ≡ [] → store.log.records ≡ []
+  pub kept : All (IsFitImage store.parts) (befores_of store.undo)
 
 -- ---- what holds where it does
 

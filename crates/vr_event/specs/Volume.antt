@@ -1,12 +1,8 @@
 -- A volume between two events: what it has in memory is what its history gives from its opening, and
 -- its blocks are at rest by that state. The rules are this project's own.
-use Rattle.std.specs.Prelude.{◌≡◌, ◌≢◌, ◌⊎◌, ℕ, Bool, IsTrue, List, Option, Some, None, All}
-use Rattle.vr_types.specs.Content.{item_at}
-use Rattle.vr_types.specs.Image.{Image}
-use Rattle.vr_types.specs.Seen.{Left, Seen}
+use Rattle.std.specs.Prelude.{◌≡◌, ℕ, None}
+use Rattle.vr_types.specs.Seen.{Seen}
 use Rattle.vr_types.specs.Space.{free_count}
-use Rattle.vr_types.specs.declared.geometry.Geometry.{Geometry}
-use Rattle.vr_types.specs.declared.unit.Unit.{Unit as UnitOfRecovery}
 use Rattle.vr_history.specs.RefusedRoom.{free_areas}
 use Rattle.vr_history.specs.State.{State}
 use Rattle.vr_history.specs.Step.{case_of}
@@ -22,11 +18,12 @@ pub record VolumeNow (B : Type 0) : Type 0 where
   pub store : StoreNow
   pub file : FileNow
 
--- Whether or not the device reports its contents: as long as no write failed, the store is set; its
--- parts are those of the catalog.
+-- Whether or not the device reports its contents: as long as no write failed, the store is set, and
+-- its parts are those of the catalog. Of a volume that stopped no call looks at the store.
 pub record IsWhole {B : Type 0} (seen : B → Seen) (volume : VolumeNow B) : Type 0 where
-  pub geometry : volume.store.log.geometry ≡ volume.file.geometry
-  pub laid : (part : ℕ) → shape_among volume.store.parts part
+  pub geometry : volume.file.stopped ≡ None
+      → volume.store.log.geometry ≡ volume.file.geometry
+  pub laid : volume.file.stopped ≡ None → (part : ℕ) → shape_among volume.store.parts part
       ≡ shape_in volume.file.geometry volume.file.catalog part
   pub set : volume.file.stopped ≡ None → IsSet volume.store (seen volume.blocks)
 
@@ -45,3 +42,11 @@ pub record IsHeld {B : Type 0} (seen : B → Seen) (opening : State) (volume : V
 pub record Holds {B : Type 0} (seen : B → Seen) (volume : VolumeNow B) : Type 0 where
   pub opening : State
   pub held : IsHeld seen opening volume
+
+-- What is told of a volume once a write has failed, before that is entered: its history, and the
+-- areas that no part has.
+pub record IsFileHeld {B : Type 0} (opening : State) (volume : VolumeNow B) : Type 0 where
+  pub file : IsStateOf opening volume.file
+  pub free : free_count volume.store.space
+      ≡ free_areas (case_of volume.file.geometry (state_now opening volume.file)
+      (record { deck = 0; number = 0 }) Commit)

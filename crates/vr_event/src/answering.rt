@@ -1,9 +1,9 @@
 //! The refusals that need no record.
-ghost use Rattle.std.specs.Prelude.{◌≡◌, ◌==◌, IsTrue, None, false, option_and_then};
+ghost use Rattle.std.specs.Prelude.{◌≡◌, ◌≢◌, ◌==◌, IsTrue, None, false, option_and_then};
 ghost use Rattle.vr_types.specs.Space.{free_count};
 ghost use Rattle.vr_log.specs.Live.{used_by};
 ghost use Rattle.vr_answer.specs.Scope.{IsDirect};
-ghost use Rattle.vr_answer.specs.Tried.{file_refusals};
+ghost use Rattle.vr_answer.specs.Tried.{IsCalm, file_refusals};
 ghost use Rattle.vr_history.specs.Replies.{first_of};
 ghost use Rattle.vr_history.specs.State.{State};
 ghost use Rattle.vr_history.specs.Step.{case_of, stand_refused};
@@ -47,6 +47,10 @@ impl<B: Blocks, P: Part> Volume<B, P> {
             (state_now opening self.now.file) unit request.now)) }
         ensures stays { IsDirect request.now
             → option_and_then (stand_refused request.now) result ≡ None }
+        // A volume that stopped refuses each request.
+        ensures stops { self.now.file.stopped ≢ None → result ≢ None }
+        // It is no fault of the device.
+        ensures calm { IsCalm result }
     {
         let locks = lock_table(alloc);
         refused_by_file(&Case {

@@ -156,3 +156,13 @@ pub(crate) fn forget(changed: &mut Vec<UnitBlocks>, unit: Unit)
 {
     changed.retain(|by| !is_unit(unit, by.unit));
 }
+
+/// Whether none of the blocks of a unit is left.
+pub(crate) fn is_none(changed: &Vec<UnitBlocks>, unit: Unit) -> bool
+    ensures { IsTrue result → blocks_of unit (map changed_by changed.now.items) ≡ [] }
+{
+    match place_of(changed, unit) {
+        Some(at) => changed[at].blocks.as_slice().is_empty(),
+        None => true,
+    }
+}

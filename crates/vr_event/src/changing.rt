@@ -34,7 +34,7 @@ ghost use Rattle.vr_volume.specs.Committed.{committed_by};
 ghost use Rattle.vr_volume.specs.PutBack.{lengths_kept};
 ghost use Rattle.vr_volume.specs.Safe.{IsSafeImage};
 ghost use Rattle.vr_volume.specs.Steps.{Changing};
-ghost use Rattle.vr_event.specs.Changing.{IsMadeOf, IsNoted, IsReady, IsReadyBy, IsSetIn};
+ghost use Rattle.vr_event.specs.Changing.{IsBefore, IsMadeOf, IsNoted, IsReady, IsReadyBy, IsSetIn};
 ghost use Rattle.vr_event.specs.Changing.{IsSettable, IsToSet, log_with, need_with};
 ghost use Rattle.vr_event.specs.Parts.{OnlyMet};
 ghost use Rattle.vr_event.specs.Store.{ChangedBy, IsSet, IsStored, blocks_of, changed_by};
@@ -95,7 +95,10 @@ fn put_at<B: Blocks, P: Part>(
         → Guards (B.seen blocks.old) (B.seen blocks.new) (IsSafeImage log.old.geometry volume
         (log_with prepared.now.logged log.old prepared.now.rec) (committed_by old)) }
     ensures put { OnOk result (All (InPart (P.shape part.old)) (P.put part.new)) }
+    ensures records { OnOk result (log.new.records
+        ≡ (log_with prepared.now.logged log.old prepared.now.rec).records) }
     ensures geometry { OnOk result (log.new.geometry ≡ log.old.geometry) }
+    ensures generation { OnOk result (log.new.generation ≡ log.old.generation) }
     ensures sound { OnOk result (log.new.broken ≡ false) }
     ensures count { OnOk result ((B.seen blocks.new).count ≡ (B.seen blocks.old).count) }
     ensures size { OnOk result ((B.seen blocks.new).size ≡ (B.seen blocks.old).size) }
@@ -205,7 +208,10 @@ fn set_at<B: Blocks, P: Part>(
         (map changed_by changed.old.items)
         → All (λ (by : ChangedBy). All (λ n. n < (B.seen blocks.old).count) by.blocks)
         (map changed_by changed.new.items) }
+    ensures records { OnOk result (log.new.records
+        ≡ (log_with prepared.now.logged log.old prepared.now.rec).records) }
     ensures geometry { OnOk result (log.new.geometry ≡ log.old.geometry) }
+    ensures generation { OnOk result (log.new.generation ≡ log.old.generation) }
     ensures sound { OnOk result (log.new.broken ≡ false) }
     ensures count { OnOk result ((B.seen blocks.new).count ≡ (B.seen blocks.old).count) }
     ensures size { OnOk result ((B.seen blocks.new).size ≡ (B.seen blocks.old).size) }
@@ -246,7 +252,7 @@ impl<P: Part> Store<P> {
         requires item { IfSome (shape_among self.old.parts number.0)
             (λ shape. IsGiven shape place.now bytes) }
         requires lengths { HasLengths prepared.now.rec }
-        requires live { EndsLive (live_in self.old.log.records) prepared.now.rec }
+        requires before { IsBefore prepared.now.rec }
         requires ready { IsTrue B.tells
             → IsReady self.old unit number place.now prepared.now (B.seen blocks.old) }
         requires can { IsTrue B.tells → IsSettable self.old (B.seen blocks.old).cur number.0
@@ -269,6 +275,8 @@ impl<P: Part> Store<P> {
         ensures undo { self.new.undo ≡ self.old.undo }
         ensures space { self.new.space ≡ self.old.space }
         ensures parts { OnOk result (OnlyMet number.0 self.old.parts self.new.parts) }
+        ensures geometry { OnOk result (self.new.log.geometry ≡ self.old.log.geometry) }
+        ensures generation { OnOk result (self.new.log.generation ≡ self.old.log.generation) }
         ensures others { (other : UnitOfRecovery) → same_unit other unit ≡ false
             → blocks_of other self.new.changed ≡ blocks_of other self.old.changed }
         ensures full { prepared.now.logged ≡ false → IsFullWhere self.old.log

@@ -43,6 +43,7 @@ impl<B: Blocks, P: Part> Volume<B, P> {
         ensures entered { self.new.file ≡ failed after unit line request self.old.file }
         ensures blocks { self.new.blocks ≡ self.old.blocks }
         ensures store { self.new.store ≡ self.old.store }
+        ensures volume { self.new.number ≡ self.old.number }
     {
         self.file.fail_write(unit, line, request, after);
     }
@@ -69,6 +70,8 @@ impl<B: Blocks, P: Part> Volume<B, P> {
         ensures cause { (before now : Faults) → HasReplyCause before now (replies.Refused refusal)
             → HasGetCause before now after unit line request self.old.file self.new.file }
         ensures blocks { self.new.blocks ≡ self.old.blocks }
+        ensures store { self.new.store ≡ self.old.store }
+        ensures volume { self.new.number ≡ self.old.number }
     {
         if is_write_fault(&refusal) {
             self.fail_write(unit, line, request, after);
@@ -105,6 +108,8 @@ impl<B: Blocks, P: Part> Volume<B, P> {
             → IsEnteredFor before now after unit line request.now self.old.file self.new.file) }
         ensures same { OnErr result (self.new ≡ self.old) }
         ensures blocks { self.new.blocks ≡ self.old.blocks }
+        ensures store { self.new.store ≡ self.old.store }
+        ensures volume { self.new.number ≡ self.old.number }
     {
         let shared = request.share()?;
         self.file
@@ -137,6 +142,8 @@ impl<B: Blocks, P: Part> Volume<B, P> {
         ensures cause { (before now : Faults) → HasReplyCause before now reply
             → HasGetCause before now after unit line request self.old.file self.new.file }
         ensures blocks { self.new.blocks ≡ self.old.blocks }
+        ensures store { self.new.store ≡ self.old.store }
+        ensures volume { self.new.number ≡ self.old.number }
     {
         match self.try_read(alloc, unit, line, &request, reply, &names, held, after) {
             Ok(()) => {}
@@ -168,6 +175,8 @@ impl<B: Blocks, P: Part> Volume<B, P> {
         ensures cause { (before now : Faults) → HasReplyCause before now (reply_of outcome)
             → HasGetCause before now after unit line request self.old.file self.new.file }
         ensures blocks { self.new.blocks ≡ self.old.blocks }
+        ensures store { self.new.store ≡ self.old.store }
+        ensures volume { self.new.number ≡ self.old.number }
     {
         match outcome {
             Outcome::Refused(refusal) => self.enter_refused(unit, line, request, refusal, after),

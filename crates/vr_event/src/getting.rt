@@ -1,6 +1,6 @@
 //! Direct GETs, and ENDREQ.
 ghost use Rattle.std.specs.Prelude.{◌≡◌, ◌⊎◌, ◌==◌, ◌<◌, ◌≤◌, ◌-◌, ◌^◌, ℕ, IfOk, IfSome, IsTrue, List};
-ghost use Rattle.std.specs.Prelude.{None, cond, false, true};
+ghost use Rattle.std.specs.Prelude.{None, [], cond, false, true};
 ghost use Rattle.std.specs.Option.{option_copied};
 ghost use Rattle.vr_types.specs.Blocks.{Keeps};
 ghost use Rattle.vr_types.specs.Moments.{Guards};
@@ -23,12 +23,13 @@ ghost use Rattle.vr_answer.specs.Tried.{file_refusals, record_refusals};
 ghost use Rattle.vr_history.specs.declared.entry.What.TheVariants as whats;
 ghost use Rattle.vr_record_file.specs.Now.{CanSet, IsStateOf, MayBeAsked, is_undoing, state_now};
 ghost use Rattle.vr_record_file.specs.Now.{with_event};
-ghost use Rattle.vr_volume.specs.Committed.{committed_by};
+ghost use Rattle.vr_volume.specs.Crashes.{RecoversTo};
 ghost use Rattle.vr_volume.specs.Laid.{shape_in};
-ghost use Rattle.vr_volume.specs.Safe.{IsSafeImage};
+ghost use Rattle.vr_event.specs.Acting.{IsActed};
 ghost use Rattle.vr_event.specs.Cause.{HasGetCause, HasReplyCause, is_fault as faults, is_faulted};
 ghost use Rattle.vr_event.specs.Cause.{reply_of};
 ghost use Rattle.vr_event.specs.Getting as getting;
+ghost use Rattle.vr_event.specs.declared.act.Act.TheVariants as acts;
 ghost use Rattle.vr_event.specs.declared.getting.Outcome.TheVariants as outcomes;
 ghost use Rattle.vr_event.specs.Store.{IsSet, IsStored, Stands, shape_among};
 ghost use Rattle.vr_event.specs.Volume.{Holds, IsHeld, IsWhole};
@@ -119,7 +120,7 @@ fn outcome_of(alloc: Global, case: &Case, present: Option<&[u8]>) -> Result<Outc
 }
 
 /// How a read that failed is refused.
-fn refusal_of(no: LookNo) -> Refusal
+pub(crate) fn refusal_of(no: LookNo) -> Refusal
     ensures { result ≡ getting.refusal_of no }
 {
     match no {
@@ -130,7 +131,7 @@ fn refusal_of(no: LookNo) -> Refusal
 }
 
 /// Whether a refusal is a fault of the device.
-fn is_fault(refusal: &Refusal) -> bool
+pub(crate) fn is_fault(refusal: &Refusal) -> bool
     ensures { result ≡ faults refusal.now }
 {
     matches!(refusal, Refusal::ReadFault | Refusal::WriteFault)
@@ -177,7 +178,7 @@ fn answered(alloc: Global, case: &Case, present: Option<Bytes>) -> Outcome
 }
 
 /// Whether a place is as long as the keys of a part of a catalog.
-fn fits(catalog: &Catalog, part: PartNo, place: &Place) -> bool
+pub(crate) fn fits(catalog: &Catalog, part: PartNo, place: &Place) -> bool
     ensures { result ≡ getting.fits_in catalog.now part.0 place.now }
 {
     match catalog.definition_of(part) {
@@ -268,7 +269,11 @@ impl<B: Blocks, P: Part> Volume<B, P> {
               files = self.new.file.files;
               files_room = self.new.file.files_room;
             }) }
+        ensures acted { IsActed (B.faults self.old.blocks) (B.faults self.new.blocks) acts.Done
+            after unit line request self.old.file self.new.file }
         ensures blocks { self.new.blocks ≡ self.old.blocks }
+        ensures store { self.new.store ≡ self.old.store }
+        ensures volume { self.new.number ≡ self.old.number }
     {
         self.file.end_request(unit, line, request, after);
     }
@@ -288,6 +293,8 @@ impl<B: Blocks, P: Part> Volume<B, P> {
             → IsHeld B.seen opening self.new }
         ensures whole { IsWhole B.seen self.new }
         ensures file { self.new.file ≡ self.old.file }
+        ensures store { self.new.store ≡ self.old.store }
+        ensures number { self.new.number ≡ self.old.number }
         ensures keeps { Keeps B.tells (B.seen self.old.blocks) (B.seen self.new.blocks) }
         ensures cause { HasReplyCause (B.faults self.old.blocks) (B.faults self.new.blocks)
             (reply_of result) }
@@ -337,10 +344,14 @@ impl<B: Blocks, P: Part> Volume<B, P> {
         ensures entered { getting.HasEntered after unit line request self.old.file self.new.file }
         ensures moments { IsTrue B.tells → (opening : State) → IsHeld B.seen opening self.old
             → Guards (B.seen self.old.blocks) (B.seen self.new.blocks)
-            (IsSafeImage self.old.store.log.geometry self.old.number self.old.store.log
-            (committed_by (state_now opening self.old.file))) }
+            (RecoversTo self.old.store.log.geometry self.old.number
+            (state_now opening self.old.file) []) }
         ensures cause { HasGetCause (B.faults self.old.blocks) (B.faults self.new.blocks) after unit
             line request self.old.file self.new.file }
+        ensures acted { IsActed (B.faults self.old.blocks) (B.faults self.new.blocks) acts.Done
+            after unit line request self.old.file self.new.file }
+        ensures store { self.new.store ≡ self.old.store }
+        ensures number { self.new.number ≡ self.old.number }
     {
         let outcome = self.decide_get(alloc, unit, request.get());
         self.enter_get(alloc, unit, line, request, outcome, after);

@@ -3,24 +3,38 @@
 //! the record file (vr_answer), locks (vr_locks) and positions (vr_browse).
 #![tactic(auto)]
 
+mod act;
+mod acting;
 mod answering;
+mod assembling;
+mod backing;
+mod backout;
 mod changed;
 mod changing;
 mod committing;
 mod ending;
 mod entered;
+mod faulting;
+mod fitting;
 mod getting;
+mod laws;
 mod no;
 mod parts;
 mod preparing;
+mod putting;
+mod putting_events;
 mod reading;
 mod refusing;
 mod staging;
+mod standing;
 mod store;
 mod undoing;
 mod volume;
+mod weighing;
 
+pub use act::Act;
 pub use changed::UnitBlocks;
+pub use laws::{event_adds, event_calms, event_takes_room};
 pub use no::LookNo;
 pub use parts::Laid;
 pub use preparing::Prepared;

@@ -1,15 +1,16 @@
 //! What a change of a place takes before anything of it is done: its memory, and a before-image that
 //! is kept.
-ghost use Rattle.std.specs.Prelude.{◌≡◌, ℕ, List, IfOk, OnErr, OnOk};
+ghost use Rattle.std.specs.Prelude.{◌≡◌, ◌≢◌, ℕ, List, None, IfOk, IfSome, OnErr, OnOk};
 ghost use Rattle.std.specs.Option.{option_copied};
 ghost use Rattle.vr_types.specs.declared.unit.Unit.{Unit as UnitOfRecovery};
+ghost use Rattle.vr_space.specs.Part.{IsGiven, IsPlaceOf};
 ghost use Rattle.vr_log.specs.declared.record.LogRecord.TheVariants as records;
 ghost use Rattle.vr_history.specs.State.{State};
 ghost use Rattle.vr_undo.specs.Records.{before_of};
 ghost use Rattle.vr_undo.specs.declared.before.Before.{Before};
 ghost use Rattle.vr_undo.specs.declared.record.KeptRecord.{KeptRecord};
 ghost use Rattle.vr_event.specs.Changing.{IsKeptFor, IsPrepared, with_kept};
-ghost use Rattle.vr_event.specs.Store.{IsSet, IsStored, blocks_of};
+ghost use Rattle.vr_event.specs.Store.{IsSet, IsStored, blocks_of, part_among, shape_among};
 
 use crate::changed::make_room;
 use crate::store::Store;
@@ -65,6 +66,11 @@ impl<P: Part> Store<P> {
         place: &Place,
         old: Option<&[u8]>,
     ) -> Result<Prepared, OutOfMemory>
+        requires part { part_among self.old.parts part.0 ≢ None }
+        requires place { IfSome (shape_among self.old.parts part.0)
+            (λ shape. IsPlaceOf shape place.now) }
+        requires item { IfSome (shape_among self.old.parts part.0)
+            (λ shape. IsGiven shape place.now old) }
         ensures prepared { IfOk result (λ prepared. IsPrepared prepared unit
             (before_of part place.now (option_copied old.entry)) self.old.undo) }
         ensures undo { OnOk result (self.new.undo ≡ with_kept unit

@@ -35,6 +35,8 @@ impl<B: Blocks, P: Part> Volume<B, P> {
         ensures leaves { self.new.file ≡ with_event after unit line
             (Asked request (Refused refusal)) (lets_go unit.deck request self.old.file) }
         ensures blocks { self.new.blocks ≡ self.old.blocks }
+        ensures store { self.new.store ≡ self.old.store }
+        ensures volume { self.new.number ≡ self.old.number }
     {
         self.file.refuse(unit, line, request, refusal, after);
     }

@@ -1,9 +1,8 @@
 -- A fault that is handed on while a part is attached.
-use Rattle.std.proofs.Common.{◌≡◌, ap}
+use Rattle.std.proofs.Common.{ap}
 use Rattle.std.specs.Prelude.{Result, Ok, Err}
 use Rattle.vr_types.specs.Faults.{Faults, HasCause}
 use Rattle.vr_types.specs.declared.fault.DeviceFault.{DeviceFault}
-use Rattle.vr_types.specs.declared.fault.DeviceFault.TheVariants.{Read, Write}
 use Rattle.vr_attach.specs.Attached.{HasPartCause}
 use Rattle.vr_attach.specs.declared.part_no.PartNo2.{PartNo2}
 use Rattle.vr_attach.specs.declared.part_no.PartNo2.TheVariants.{Damaged, Fault, Memory}

@@ -487,3 +487,10 @@ add-last part place n before now new all true is same has count bytes key =
 add-last part place n before now new all false is same has count bytes key =
     λ fits. last-full part place before now key has count bytes is.1
     (subst (HaveRoom part.size) (sym same) fits)
+
+-- what is weighed, told of other words for it
+pub match-same : (part : Keyed) (added : Bool) (now one other : Lengths) → one ≡ other
+    → MatchBool added (now ≡ one) (HaveRoom part.size one → ⊥)
+    → MatchBool added (now ≡ other) (HaveRoom part.size other → ⊥)
+match-same part added now one other same = subst
+    (λ (l : Lengths). MatchBool added (now ≡ l) (HaveRoom part.size l → ⊥)) same

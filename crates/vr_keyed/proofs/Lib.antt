@@ -18,3 +18,4 @@ pub mod Advancing
 pub mod StageKinds
 pub mod Keeping
 pub mod Attaching
+pub mod Walking

@@ -9,3 +9,4 @@ pub mod Planned
 pub mod Advance
 pub mod Owned
 pub mod Attached
+pub mod Rooms

@@ -2,11 +2,11 @@
 ghost use Rattle.std.specs.Prelude.{◌≡◌, IsTrue, IfOk, IfErr};
 ghost use Rattle.vr_types.specs.Blocks.{Keeps};
 ghost use Rattle.vr_types.specs.Geometry.{IsAllowed};
-ghost use Rattle.vr_space.specs.Part.{KeyedShape, Stands};
+ghost use Rattle.vr_space.specs.Part.{IsOn, KeyedShape, Stands};
 ghost use Rattle.vr_attach.specs.Attached.{HasPartCause, IsDamageShown, IsOfKeyed};
 ghost use Rattle.vr_attach.specs.Laid.{keyed_part as part_of};
 ghost use Rattle.vr_catalog.specs.Catalog.{definition_in};
-ghost use Rattle.vr_keyed.specs.Attached.{IsAttached};
+ghost use Rattle.vr_keyed.specs.Attached.{IsAttached, IsAttachedTo, IsDamageIn};
 
 use crate::keyed::{Keyed, keyed_part};
 use std::alloc::Global;
@@ -32,6 +32,34 @@ fn layout_for(geometry: &Geometry, entry: &CatEntry, area: AreaNo, length: u16) 
 }
 
 impl Keyed {
+    /// The part of a layout, as its blocks stand: with no split under way, and nothing met. Its area
+    /// is the one of this number, of so many of the volume. The answers are those of `attach`.
+    pub fn attach_layout<B: Blocks>(
+        alloc: Global,
+        blocks: &mut B,
+        layout: Layout,
+        area: u32,
+        areas: u32,
+    ) -> Result<Keyed, PartNo2>
+        requires on { IsOn (KeyedShape layout) (B.seen blocks.old) }
+        ensures attached { IfOk result (IsAttachedTo layout) }
+        ensures stands { IsTrue B.tells → IfOk result (λ keyed.
+            Stands (KeyedShape keyed.part) (B.seen blocks.old).cur) }
+        ensures damaged { IsTrue B.tells → IfErr result
+            (IsDamageIn layout area areas (B.seen blocks.old).cur) }
+        ensures keeps { Keeps B.tells (B.seen blocks.old) (B.seen blocks.new) }
+        ensures cause { HasPartCause (B.faults blocks.old) (B.faults blocks.new) result }
+    {
+        let mut keyed = keyed_part(alloc, layout)?;
+        match keyed.first_damage(blocks, area, areas)? {
+            None => Ok(keyed),
+            Some(damage) => Err(PartNo2::Damaged {
+                block: damage.block,
+                rule: damage.rule.number(),
+            }),
+        }
+    }
+
     /// The part of an entry, as its blocks stand: with no split under way, and nothing met. It
     /// reads the head and each interval of an entry once. `Damaged`: the blocks stand for no
     /// content; which block and which rule are shown `vr_attach` says. `Fault` is the device's;
@@ -59,13 +87,6 @@ impl Keyed {
             unreachable!("the part has an area")
         };
         let layout = layout_for(geometry, entry, area, length);
-        let mut keyed = keyed_part(alloc, layout)?;
-        match keyed.first_damage(blocks, area.0, geometry.areas())? {
-            None => Ok(keyed),
-            Some(damage) => Err(PartNo2::Damaged {
-                block: damage.block,
-                rule: damage.rule.number(),
-            }),
-        }
+        Keyed::attach_layout(alloc, blocks, layout, area.0, geometry.areas())
     }
 }

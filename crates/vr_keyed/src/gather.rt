@@ -1,5 +1,5 @@
 //! Weighing what stands in an interval, and what is kept for its places.
-ghost use Rattle.std.specs.Prelude.{◌≡◌, ◌≤◌, ◌-◌, ℕ, List, Option, [], IsTrue, false};
+ghost use Rattle.std.specs.Prelude.{◌≡◌, ◌≤◌, ◌-◌, ◌↔◌, ℕ, List, Option, [], IsTrue, false};
 ghost use Rattle.std.specs.Prelude.{All, MatchBool, MatchOption, Some, None, length, map, filter};
 ghost use Rattle.std.specs.Prelude.{if◌then◌else◌};
 ghost use Rattle.std.specs.Borrow.{Bor};
@@ -156,6 +156,33 @@ fn add_kept<K: Kept>(kept: &K, part: PartNo, range: &LentRange<'_>, weights: &mu
     true
 }
 
+/// Weighs what stands in the range of an interval, and what is kept for its places. False where
+/// there is no room for that many, since they have none in the interval.
+fn gather_kept<K: Kept>(
+    layout: &Layout,
+    range: &LentRange<'_>,
+    block: &[u8],
+    kept: &K,
+    weights: &mut Weights,
+) -> bool
+    ensures gathered { let all = K.kept kept.now (part_no (KeyedShape layout.now)) in
+        let lengths = lengths_of layout.now all (range_lent range.now) block.now in
+        HoldsRange layout.now (range_lent range.now) block.now
+        → ArePlaces layout.now.key all → HasRoomFor layout.now weights.old → MatchBool result
+        (weights.new.lengths ≡ lengths) (HaveRoom layout.now.size lengths → ⊥) }
+    ensures count { weights.new.count ≡ weights.old.count }
+    ensures bytes { weights.new.bytes ≡ weights.old.bytes }
+{
+    weights.clear();
+    let Ok(view) = CiView::read(Form::Plain, block) else {
+        return false;
+    };
+    if !add_records(layout, range, &view, weights) {
+        return false;
+    }
+    add_kept(kept, part_of(layout), range, weights)
+}
+
 /// Weighs what stands in the range of an interval, what is kept for its places, and a record of
 /// this length at a place. False where there is no room for that many, since what stands and what
 /// is kept has none in the interval.
@@ -178,17 +205,33 @@ pub fn gather_lengths<K: Kept>(
     ensures count { weights.new.count ≡ weights.old.count }
     ensures bytes { weights.new.bytes ≡ weights.old.bytes }
 {
-    weights.clear();
-    let Ok(view) = CiView::read(Form::Plain, block) else {
-        return false;
-    };
-    if !add_records(layout, range, &view, weights) {
-        return false;
-    }
-    if !add_kept(kept, part_of(layout), range, weights) {
+    if !gather_kept(layout, range, block, kept, weights) {
         return false;
     }
     weights.add(place.as_slice(), longest)
+}
+
+/// Whether what stands in the range of an interval, and what is kept for its places, has room in it.
+pub(crate) fn has_kept_room<K: Kept>(
+    layout: &Layout,
+    range: &LentRange<'_>,
+    block: &[u8],
+    kept: &K,
+    weights: &mut Weights,
+) -> bool
+    ensures room { let all = K.kept kept.now (part_no (KeyedShape layout.now)) in
+        let lengths = lengths_of layout.now all (range_lent range.now) block.now in
+        HoldsRange layout.now (range_lent range.now) block.now
+        → ArePlaces layout.now.key all → HasRoomFor layout.now weights.old
+        → (IsTrue result ↔ HaveRoom layout.now.size lengths) }
+    ensures count { weights.new.count ≡ weights.old.count }
+    ensures bytes { weights.new.bytes ≡ weights.old.bytes }
+{
+    if !gather_kept(layout, range, block, kept, weights) {
+        return false;
+    }
+    let room = layout.size.saturating_sub(4);
+    weights.weight() <= u64::from(room)
 }
 
 /// Whether a record of this length has room at a place of an interval, beside what stands there and

@@ -1,10 +1,11 @@
 //! A keyed part of one area.
-ghost use Rattle.std.specs.Prelude.{◌≡◌, ◌≤◌, [], Some, None, IfOk, IsTrue, MatchOption};
+ghost use Rattle.std.specs.Prelude.{◌≡◌, ◌≤◌, ◌↔◌, [], Some, None, IfOk, IsTrue, MatchOption};
 ghost use Rattle.std.specs.Prelude.{vec_capacity};
 ghost use Rattle.vr_types.specs.Blocks.{Keeps};
 ghost use Rattle.vr_types.specs.Faults.{HasCause};
-ghost use Rattle.vr_space.specs.Part.{KeyedShape, IsOn, Stands};
+ghost use Rattle.vr_space.specs.Part.{HasRoom, KeyedShape, IsOn, Stands, part_no};
 ghost use Rattle.vr_attach.specs.Damage.{IsDamagedAt};
+ghost use Rattle.vr_keyed.specs.Lent.{ArePlaces};
 ghost use Rattle.vr_keyed.specs.Ready.{put_of};
 ghost use Rattle.vr_keyed.specs.Splits.{IsSplit};
 
@@ -12,6 +13,7 @@ use crate::advance::advance_at;
 use crate::look::look_in;
 use crate::next::next_in;
 use crate::room::{UnderWay, room_at};
+use crate::rooms::rooms_in;
 use crate::set::set;
 use crate::slot::{Slot, empty_slot};
 use crate::slots::Slots;
@@ -20,7 +22,7 @@ use std::marker::Model;
 use vr_attach::{Damage, first_damage};
 use vr_space::{Kept, Layout, Part, Room, Whence};
 use vr_split::{CiSplit, Weights, ci_split, empty_weights};
-use vr_types::{Blocks, DeviceFault, OutOfMemory, Place, PlaceBuffer, Space, StageKind};
+use vr_types::{Blocks, DeviceFault, OutOfMemory, PartNo, Place, PlaceBuffer, Space, StageKind};
 
 /// A key-sequenced part of one area on blocks (DFSMS Using Data Sets, key-sequenced data sets): its
 /// head is a sequence-set record, and its records stand in control intervals. It has the buffers
@@ -108,6 +110,13 @@ pub fn keyed_part(alloc: Global, layout: Layout) -> Result<Keyed, OutOfMemory>
 }
 
 impl Keyed {
+    /// The number of the part.
+    pub fn number(&self) -> PartNo
+        ensures { result ≡ part_no (KeyedShape self.now.part) }
+    {
+        self.layout.part
+    }
+
     /// The first damage of the part's blocks, if there is one. The part's area is the one of this
     /// number, of so many of the volume.
     pub(crate) fn first_damage<B: Blocks>(
@@ -126,6 +135,35 @@ impl Keyed {
         ensures cause { HasCause (B.faults blocks.old) (B.faults blocks.new) result }
     {
         first_damage(blocks, &self.layout, area, areas, self.out.as_mut_slice())
+    }
+
+    /// Whether each interval of the part has room for what is kept for its range, beside its
+    /// records: what a volume that is opened has to have before its before-images are put back. It
+    /// reads the head and each interval of an entry once.
+    pub fn has_rooms<B: Blocks, K: Kept>(
+        &mut self,
+        blocks: &mut B,
+        kept: &K,
+    ) -> Result<bool, DeviceFault>
+        requires on { IsOn (KeyedShape self.old.part) (B.seen blocks.old) }
+        requires kept { ArePlaces self.old.part.key
+            (K.kept kept.now (part_no (KeyedShape self.old.part))) }
+        requires stands { IsTrue B.tells
+            → Stands (KeyedShape self.old.part) (B.seen blocks.old).cur }
+        ensures same { self.new ≡ self.old }
+        ensures rooms { IsTrue B.tells → IfOk result (λ is. IsTrue is
+            ↔ HasRoom (KeyedShape self.old.part)
+            (K.kept kept.now (part_no (KeyedShape self.old.part))) (B.seen blocks.old).cur) }
+        ensures keeps { Keeps B.tells (B.seen blocks.old) (B.seen blocks.new) }
+        ensures cause { HasCause (B.faults blocks.old) (B.faults blocks.new) result }
+    {
+        rooms_in(
+            blocks,
+            &self.layout,
+            kept,
+            self.out.as_mut_slice(),
+            &mut self.weights,
+        )
     }
 }
 

@@ -11,6 +11,7 @@ mod meet;
 mod next;
 mod plan;
 mod room;
+mod rooms;
 mod set;
 mod slot;
 mod slots;

@@ -204,6 +204,13 @@ impl UndoLog {
         self.live.len()
     }
 
+    /// The generation.
+    pub fn generation(&self) -> u64
+        ensures { result ≡ self.now.generation }
+    {
+        self.tail.generation
+    }
+
     /// Adds a record that has room.
     fn enter<B: Blocks>(&mut self, blocks: &mut B, rec: &LogRecord) -> Result<(), DeviceFault>
         requires sound { self.old.broken ≡ false }

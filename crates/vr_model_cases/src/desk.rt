@@ -1,9 +1,8 @@
 //! What the lines before a question have left: a volume, and the stamp of the next entry.
 
-use crate::answers::{Answer, Stop, say};
-use crate::words::{long_of, parted, place_of, record_of, small_of, word_of};
 use std::alloc::Global;
 use std::mem::replace;
+use vr_case_words::{Answer, Stop, long_of, parted, place_of, record_of, say, small_of, word_of};
 use vr_catalog::{
     CatEntry, EntryKind, FreeSpace, RECORD_LENGTH, ShareOptions, SpaceUnit, write_entry,
 };

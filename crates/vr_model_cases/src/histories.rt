@@ -1,7 +1,7 @@
 //! What the entries that were taken are as a history.
 
-use crate::answers::{Answer, Stop, say, say_number};
 use std::alloc::Global;
+use vr_case_words::{Answer, Stop, say, say_number};
 use vr_history::{Entry, History};
 use vr_merge::{NumberedEntry, is_stamped, merge};
 use vr_model::{FileState, are_steps, is_legal};

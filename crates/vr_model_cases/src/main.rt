@@ -6,21 +6,17 @@
 //! and ends: what the answers show is tested, and its whole output is compared.
 #![tactic(auto)]
 
-mod answers;
 mod desk;
-mod entries;
 mod histories;
 mod question;
-mod replies;
 mod views;
-mod words;
 
-use crate::answers::Stop;
 use crate::desk::Desk;
 use crate::question::answer;
 use std::alloc::{AllocError, Global};
 use std::io;
 use std::process::ExitCode;
+use vr_case_words::Stop;
 
 /// How many lines were asked, and how many of them differ.
 #[derive(Clone, Copy)]

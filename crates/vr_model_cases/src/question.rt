@@ -1,11 +1,9 @@
 //! Which call a question asks.
 
-use crate::answers::{Answer, Stop, say};
 use crate::desk::Desk;
-use crate::entries::entry_of;
-use crate::words::parted;
 use crate::{histories, views};
 use std::alloc::Global;
+use vr_case_words::{Answer, Stop, entry_of, parted, say};
 use vr_model::apply;
 
 /// Writes the answer to a line.
@@ -26,7 +24,7 @@ pub fn answer(alloc: Global, desk: &mut Desk, line: &str, out: &mut String) -> A
 
 /// Takes an entry, and says whether it is a step.
 fn enter(alloc: Global, desk: &mut Desk, line: &str, out: &mut String) -> Answer {
-    let entry = entry_of(alloc, desk.stamp, line)?;
+    let entry = entry_of(alloc, desk.stamp, 0, line)?;
     let taken = apply(alloc, &mut desk.state, &entry)?;
     if taken {
         desk.stamp = desk.stamp.saturating_add(1);

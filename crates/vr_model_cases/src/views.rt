@@ -1,8 +1,7 @@
 //! What a state has, as the table writes it.
 
-use crate::answers::{Answer, Stop, say, say_number, say_text};
-use crate::words::{parted, place_of, word_of};
 use std::alloc::Global;
+use vr_case_words::{Answer, Stop, parted, place_of, say, say_number, say_text, word_of};
 use vr_model::{FileState, Stored};
 use vr_types::{Place, Stand};
 

@@ -5,7 +5,7 @@ use Rattle.vr_types.specs.declared.geometry.Geometry.{Geometry}
 use Rattle.vr_catalog.specs.declared.entry.CatEntry.{CatEntry}
 use Rattle.vr_log.specs.LogNow.{IsOf}
 use Rattle.vr_space.specs.Part.{IsOn, KeyedShape, Shape}
-use Rattle.vr_volume.specs.Laid.{shape_in}
+use Rattle.vr_attach.specs.Laid.{shape_in}
 use Rattle.vr_mount.specs.Areas.{AreOn, EndsBefore}
 use Rattle.vr_mount.proofs.Laying.{IsAt, shape_at}
 

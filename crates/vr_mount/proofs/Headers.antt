@@ -13,7 +13,7 @@ use Rattle.vr_types.specs.Fields.{four, four_at, AreZeros, padded}
 use Rattle.vr_types.specs.Geometry.{IsAllowed}
 use Rattle.vr_types.specs.declared.geometry.Geometry.{Geometry}
 use Rattle.vr_types.proofs.CallerLemmas.{block_size_least, zeros_are, zeros_after}
-use Rattle.vr_volume.specs.Header.{header_block, header_bytes, mark}
+use Rattle.vr_attach.specs.Header.{header_block, header_bytes, mark}
 use Rattle.vr_mount.specs.Header.{IsHeaderOf, stated, version_in}
 
 pub header_cells : (g : Geometry) (number tens ones : ℕ) (s b l a : List ℕ)

@@ -15,8 +15,8 @@ use Rattle.vr_catalog.specs.declared.definition.Definition.{Definition}
 use Rattle.vr_catalog.specs.declared.entry.CatEntry.{CatEntry}
 use Rattle.vr_space.specs.Part.{Shape, KeyedShape, InPart}
 use Rattle.vr_attach.specs.Laid.{keyed_shape, catalog_shape, shape_by_kind, shape_from, shape_of}
-use Rattle.vr_volume.specs.Laid.{shape_in}
-use Rattle.vr_volume.specs.Volume.{AreApart}
+use Rattle.vr_attach.specs.Laid.{shape_in}
+use Rattle.vr_attach.specs.Laid.{AreApart}
 use Rattle.vr_mount.specs.Areas.{area_in, AreOn, EndsBefore, IsBelow}
 use Rattle.vr_mount.specs.Numbers.{area_by_kind, laid_area, number_by, numbers_by, AreToldApart}
 use Rattle.vr_mount.specs.declared.distinct.Which.TheVariants.{Part, Area}

@@ -14,8 +14,8 @@ use Rattle.vr_types.specs.declared.unit.PartNo.{PartNo}
 use Rattle.vr_catalog.specs.Catalog.{entry_with_part}
 use Rattle.vr_catalog.specs.declared.entry.CatEntry.{CatEntry}
 use Rattle.vr_space.specs.Part.{Shape, KeyedShape}
-use Rattle.vr_volume.specs.Laid.{shape_in}
-use Rattle.vr_volume.specs.Volume.{AreApart}
+use Rattle.vr_attach.specs.Laid.{shape_in}
+use Rattle.vr_attach.specs.Laid.{AreApart}
 use Rattle.vr_mount.specs.Areas.{AreOn, AreOwners, BeginsWith, IsLaidIn, area_in}
 use Rattle.vr_mount.specs.Areas.{catalog_part, part_of}
 use Rattle.vr_mount.specs.Marks.{marked}

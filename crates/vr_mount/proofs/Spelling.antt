@@ -11,7 +11,7 @@ use Rattle.vr_types.specs.declared.geometry.Geometry.{Geometry}
 use Rattle.vr_catalog.specs.Catalog.{entries_in}
 use Rattle.vr_catalog.specs.Record.{entry_of}
 use Rattle.vr_catalog.specs.declared.entry.CatEntry.{CatEntry}
-use Rattle.vr_volume.specs.CatalogRules.{IsCatalog}
+use Rattle.vr_attach.specs.CatalogRules.{IsCatalog}
 use Rattle.vr_mount.specs.Records.{AreRules, AreSpelled, IsAdded, IsDecided, bytes_of}
 use Rattle.vr_mount.specs.Records.{SpellsEntry}
 use Rattle.vr_mount.proofs.Telling.{all_mapped, mapped_all, filter_map_more}

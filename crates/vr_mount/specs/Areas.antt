@@ -10,7 +10,7 @@ use Rattle.vr_types.specs.declared.unit.PartNo.{PartNo}
 use Rattle.vr_catalog.specs.Catalog.{entry_with_part}
 use Rattle.vr_catalog.specs.declared.entry.CatEntry.{CatEntry}
 use Rattle.vr_space.specs.Part.{Shape, KeyedShape}
-use Rattle.vr_volume.specs.Laid.{shape_in}
+use Rattle.vr_attach.specs.Laid.{shape_in}
 use Rattle.vr_mount.specs.Numbers.{laid_area}
 
 -- the area of a part, where the entries lay it: the catalog's own is area 0

@@ -6,7 +6,7 @@ use Rattle.vr_types.specs.Fields.{four_at}
 use Rattle.vr_types.specs.Geometry.{IsAllowed}
 use Rattle.vr_types.specs.Image.{Block}
 use Rattle.vr_types.specs.declared.geometry.Geometry.{Geometry}
-use Rattle.vr_volume.specs.Header.{header_block, mark}
+use Rattle.vr_attach.specs.Header.{header_block, mark}
 use Rattle.vr_mount.specs.declared.no.HeaderNo.{HeaderNo}
 use Rattle.vr_mount.specs.declared.no.HeaderNo.TheVariants.{Damaged, Version, Read, Write}
 

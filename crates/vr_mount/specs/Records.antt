@@ -1,4 +1,4 @@
--- The records of a catalog, and the rules of its entries. The rules are those of vr_volume.
+-- The records of a catalog, and the rules of its entries. The rules are those of vr_attach.
 use Rattle.std.specs.Prelude.{◌≡◌, ℕ, Bool, true, false, List, [], ◌∷◌, ◌++◌, map, All, IsTrue}
 use Rattle.std.specs.Prelude.{nat_eq, Some, None, is_some}
 use Rattle.std.specs.List.{IsDistinct, filter_map}
@@ -7,7 +7,7 @@ use Rattle.vr_types.specs.declared.geometry.Geometry.{Geometry}
 use Rattle.vr_catalog.specs.Catalog.{entries_in, parts_in}
 use Rattle.vr_catalog.specs.Record.{entry_of}
 use Rattle.vr_catalog.specs.declared.entry.CatEntry.{CatEntry}
-use Rattle.vr_volume.specs.CatalogRules.{IsCatalog, IsEntryOf}
+use Rattle.vr_attach.specs.CatalogRules.{IsCatalog, IsEntryOf}
 
 -- the bytes of the records of a content, in the order of their places
 abbrev pub bytes_of : Content → List (List ℕ)

@@ -3,7 +3,7 @@ ghost use Rattle.std.specs.Prelude.{◌≡◌, ◌∷◌, [], IfOk, IfSome, IsTr
 ghost use Rattle.std.specs.List.{IsDistinct};
 ghost use Rattle.vr_types.specs.Content.{Content};
 ghost use Rattle.vr_catalog.specs.Catalog.{entries_in, parts_in};
-ghost use Rattle.vr_volume.specs.CatalogRules.{IsCatalog};
+ghost use Rattle.vr_attach.specs.CatalogRules.{IsCatalog};
 ghost use Rattle.vr_mount.specs.Records.{IsDecided, bytes_of};
 
 use crate::records::read_each;

@@ -7,7 +7,7 @@ ghost use Rattle.vr_types.specs.Geometry.{IsAllowed};
 ghost use Rattle.vr_types.specs.Image.{block_at};
 ghost use Rattle.vr_types.specs.declared.geometry.Geometry.{Geometry as Shape};
 ghost use Rattle.vr_log.specs.LogNow.{IsOf};
-ghost use Rattle.vr_volume.specs.Header.{header_block, header_bytes as bytes_of};
+ghost use Rattle.vr_attach.specs.Header.{header_block, header_bytes as bytes_of};
 ghost use Rattle.vr_mount.specs.Header.{HasHeaderCause, IsHeaderOf, IsOwnNo, IsRefusal};
 ghost use Rattle.vr_mount.specs.Header.{version_in as version_stated, stated as shape_stated};
 

@@ -2,7 +2,7 @@
 ghost use Rattle.std.specs.Prelude.{◌≡◌, ◌≤◌, ℕ, Some};
 ghost use Rattle.vr_types.specs.Geometry.{IsAllowed};
 ghost use Rattle.vr_types.specs.declared.geometry.Geometry.{Geometry};
-ghost use Rattle.vr_volume.specs.Header.{header_block};
+ghost use Rattle.vr_attach.specs.Header.{header_block};
 ghost use Rattle.vr_mount.specs.Header.{version_in};
 
 /// A block is the header of one shape and number at most.

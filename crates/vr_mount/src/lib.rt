@@ -1,5 +1,5 @@
 //! Opening a volume, what is decided of its header and of its catalog. It stands on the blocks
-//! (vr_types), the catalog (vr_catalog) and what the blocks of a volume stand for (vr_volume).
+//! (vr_types), the catalog (vr_catalog) and where the parts of a volume are (vr_attach).
 //!
 //! It promises that a header is taken exactly where block 0 is one of the volume's number and of a
 //! shape that the device has, and when each answer comes; that records are taken as a catalog

@@ -6,7 +6,7 @@ ghost use Rattle.vr_catalog.specs.Define.{is_path_kind as path_kind, is_relative
 ghost use Rattle.vr_catalog.specs.Define.{place_length_of as places_of};
 ghost use Rattle.vr_catalog.specs.Limits.{ends_past as past_end, is_bad_cluster as bad_cluster};
 ghost use Rattle.vr_catalog.specs.declared.entry.EntryKind.TheVariants.{Cluster};
-ghost use Rattle.vr_volume.specs.CatalogRules.{
+ghost use Rattle.vr_attach.specs.CatalogRules.{
   IsEntryOf,
   related_in as base_in,
   is_cluster as cluster,

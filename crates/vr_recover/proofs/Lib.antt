@@ -1,3 +1,4 @@
+pub mod CallerLemmas
 pub mod Headers
 pub mod Tops
 pub mod Records
@@ -6,8 +7,17 @@ pub mod Areas
 pub mod Made
 pub mod NewVolume
 pub mod Safe
-pub mod Opened
+pub mod Settled
 pub mod PuttingBack
 pub mod BackingOut
 pub mod KeptLengths
 pub mod PartsBack
+pub mod Opening
+pub mod Attaching
+pub mod Keeping
+pub mod Shapes
+pub mod Agreeing
+pub mod Recovery
+pub mod Refusals
+pub mod Clearing
+pub mod OpenLemmas

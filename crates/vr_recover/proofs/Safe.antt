@@ -65,7 +65,7 @@ have-rooms part image low (entry ∷ entries) hold = (
 )
 
 -- and a part
-part-fits : (shape : Shape) (image : Image) (content : Content) → StandsFor shape image content
+pub part-fits : (shape : Shape) (image : Image) (content : Content) → StandsFor shape image content
     → HasRoom shape [] image
 part-fits (KeyedShape part) image content stands =
     have-rooms part image None (entries_of (block_at image part.head)) stands.intervals

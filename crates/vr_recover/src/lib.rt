@@ -10,18 +10,28 @@
 #![tactic(auto)]
 
 mod backing_out;
+mod begun;
 mod clusters;
 mod fillers;
+mod finding;
 mod first;
 mod fitting;
 mod format;
 mod head;
 mod header;
+mod imaging;
 mod interval;
+mod laid;
 mod laws;
+mod mounted;
 mod no;
+mod open;
+mod open_no;
 mod part;
+mod restoring;
+mod rooming;
 mod start;
+mod syncing;
 mod undoing;
 mod undone;
 mod undone_parts;
@@ -33,3 +43,5 @@ pub use laws::{
     settled_may_be_undone, settled_part_is_opened,
 };
 pub use no::FormatNo;
+pub use open::{Opened, open_volume};
+pub use open_no::OpenNo;

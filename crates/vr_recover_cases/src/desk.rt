@@ -20,6 +20,14 @@ impl Desk {
         self.device = Some(device);
     }
 
+    /// The device, which isn't there any more.
+    pub fn take(&mut self) -> Result<MemoryDevice, Stop> {
+        match self.device.take() {
+            Some(device) => Ok(device),
+            None => Err(Stop::Line),
+        }
+    }
+
     /// The device, to call it.
     pub fn device(&mut self) -> Result<&mut MemoryDevice, Stop> {
         match &mut self.device {

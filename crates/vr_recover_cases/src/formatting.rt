@@ -47,7 +47,8 @@ fn write_all(device: &mut MemoryDevice, block: &[u8]) -> Answer {
     device.sync().ok().ok_or(Stop::Line)
 }
 
-fn write(device: &mut MemoryDevice, n: u32, block: &[u8]) -> Answer {
+/// Writes a block of the device.
+pub fn write(device: &mut MemoryDevice, n: u32, block: &[u8]) -> Answer {
     if n >= device.blocks() || block.len() != device.size() as usize {
         return Err(Stop::Line);
     }

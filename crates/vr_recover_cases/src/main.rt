@@ -9,6 +9,7 @@
 mod answers;
 mod desk;
 mod formatting;
+mod opening;
 mod plain;
 mod question;
 mod shapes;

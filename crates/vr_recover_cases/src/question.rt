@@ -3,7 +3,7 @@
 use crate::answers::{Answer, Stop};
 use crate::desk::Desk;
 use crate::words::parted;
-use crate::{formatting, plain, shapes};
+use crate::{formatting, opening, plain, shapes};
 use std::alloc::Global;
 
 /// Writes the answer to a line. `desk` has what the lines before it left.
@@ -16,6 +16,8 @@ pub fn answer(alloc: Global, desk: &mut Desk, line: &str, out: &mut String) -> A
         "calls" => formatting::calls(desk, out),
         "faults" => formatting::faults(alloc, rest, out),
         "shape" => shapes::shape(alloc, rest, out),
+        "put" => opening::put(alloc, desk, rest, out),
+        "open" => opening::open(alloc, desk, rest, out),
         "plain" => plain::plain(alloc, desk, out),
         _ => Err(Stop::Line),
     }

@@ -32,3 +32,4 @@ pub use Rattle.vr_space.proofs.Framing.{StaysPart, rest-stays, room-stays, knows
 pub use Rattle.vr_space.proofs.Framing.{same-stays}
 pub use Rattle.vr_space.proofs.Fewer.{Rise, Under, fewer-room, rise-with, under-both, under-more}
 pub use Rattle.vr_space.proofs.Fewer.{under-self}
+pub use Rattle.vr_space.proofs.Intervals.{interval-owners, interval-stage}

@@ -5,6 +5,7 @@ pub mod KeyedSound
 pub mod UnderWay
 pub mod Searching
 pub mod Adding
+pub mod Intervals
 pub mod Composing
 pub mod Rising
 pub mod Rooms

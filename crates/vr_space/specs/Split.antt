@@ -5,7 +5,7 @@ use Rattle.std.specs.Prelude.{if◌then◌else◌, nat_eq, slice_index}
 use Rattle.std.specs.List.{list_any, flat_map}
 use Rattle.vr_types.specs.Image.{Block, Image, block_at}
 use Rattle.vr_types.specs.declared.unit.StageKind.{StageKind}
-use Rattle.vr_types.specs.declared.unit.StageKind.TheVariants.{CiCopy}
+use Rattle.vr_types.specs.declared.unit.StageKind.TheVariants.{CiCopy, CiSwitch, CiClean}
 use Rattle.vr_seqset.specs.Entry.{Entry}
 use Rattle.vr_seqset.specs.Numbers.{intervals_used}
 use Rattle.vr_space.specs.declared.room.Room as answer
@@ -84,3 +84,10 @@ keyed_room part split image kept place n =
     room_after (keyed_stage part split image place)
     (room_by (keyed_fits part image kept place n)
     (room_by_split split (free_interval part (block_at image part.head))))
+
+-- a stage of a split of one interval, which takes no area
+abbrev pub IsIntervalStage : StageKind → Type 0
+IsIntervalStage CiCopy = Unit {0}
+IsIntervalStage CiSwitch = Unit {0}
+IsIntervalStage CiClean = Unit {0}
+IsIntervalStage stage = ⊥

@@ -160,6 +160,7 @@ pub trait Part {
             (free_count space.old) (K.kept kept.now (part_no (shape self.old))) place.now length) }
         ensures owners { IfOk result (λ kind.
             OwnersAfter (part_no (shape self.old)) kind space.old space.new) }
+        ensures owners_stay { OnErr result (space.new ≡ space.old) }
         // At every moment, whether it fails or not.
         ensures adds { IsTrue B.tells → AddsTo (shape self.old) Nothing
             (B.seen blocks.old) (B.seen blocks.new) }

@@ -23,3 +23,5 @@ pub mod Histories
 pub mod EndCalls
 pub mod ForceCalls
 pub mod Lasting
+pub mod Crashing
+pub mod CallerLemmas

@@ -14,3 +14,4 @@ pub mod Cause
 pub mod EndedLog
 pub mod Due
 pub mod Durable
+pub mod Crashes

@@ -1,24 +1,20 @@
 -- What the blocks of a whole volume stand for: its log, and a content of each part. And what they
 -- recover to: the contents with the before-images of units that haven't ended put back. The rules
 -- are this project's own.
-use Rattle.std.specs.Prelude.{◌≡◌, ◌≢◌, ◌+◌, ◌<◌, ℕ, [], All, IfSome, Option, Some, None}
+use Rattle.std.specs.Prelude.{◌≡◌, ◌+◌, ◌<◌, ℕ, [], All, IfSome, Option, Some, None}
 use Rattle.std.specs.Option.{option_and_then}
 use Rattle.vr_types.specs.Content.{Content as ContentOf, record_of}
 use Rattle.vr_types.specs.Image.{Image, block_at}
 use Rattle.vr_types.specs.declared.geometry.Geometry.{Geometry}
-use Rattle.vr_space.specs.Part.{Shape, KeyedShape, StandsFor, InPart, IsPlaceOf, IsRecordOf, HasRoom}
+use Rattle.vr_space.specs.Part.{Shape, KeyedShape, StandsFor, IsPlaceOf, IsRecordOf, HasRoom}
 use Rattle.vr_history.specs.State.{BeforeImage}
 use Rattle.vr_log.specs.Content.{Content as LogContent}
 use Rattle.vr_log.specs.Spells.{Spells}
 use Rattle.vr_volume.specs.CatalogRules.{IsCatalog}
 use Rattle.vr_volume.specs.Header.{header_block}
 use Rattle.vr_volume.specs.Laid.{shape_by}
+pub use Rattle.vr_attach.specs.Laid.{AreApart}
 use Rattle.vr_volume.specs.PutBack.{AreAlone, images_of, put_back, lengths_kept}
-
--- no block is in two parts
-abbrev pub AreApart : (ℕ → Option Shape) → Type 0
-AreApart shapes = (one other : ℕ) (here there : Shape) → shapes one ≡ Some here
-    → shapes other ≡ Some there → one ≢ other → (n : ℕ) → InPart here n → InPart there n → ⊥
 
 -- the content of part 0 once the before-images are put back: it says which parts there are
 abbrev pub catalog_back : LogContent → (ℕ → ContentOf) → ContentOf

@@ -140,6 +140,7 @@ pub fn do_stage<B: Blocks, P: Part, K: Kept>(
         (free_count space.old) (K.kept kept.now (part_no (P.shape part.old))) place.now length) }
     ensures owners { IfOk result (λ kind.
         OwnersAfter (part_no (P.shape part.old)) kind space.old space.new) }
+    ensures owners_stay { OnErr result (space.new ≡ space.old) }
     ensures same { IsTrue B.tells → SameRecords (P.shape part.old)
         (B.seen blocks.old).cur (B.seen blocks.new).cur }
     ensures due { IsTrue B.tells → OnOk result

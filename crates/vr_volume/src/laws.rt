@@ -1,20 +1,25 @@
 //! Laws of what the blocks of a volume stand for, and of what they recover to: each is the contract
 //! of a function that does nothing.
-ghost use Rattle.std.specs.Prelude.{◌≡◌, ◌≤◌, ℕ, List, length};
+ghost use Rattle.std.specs.Prelude.{◌≡◌, ◌≤◌, ◌⊎◌, ◌∷◌, ℕ, List, [], Option, length};
 ghost use Rattle.vr_types.specs.Content.{Content};
 ghost use Rattle.vr_types.specs.Image.{Image, block_at};
 ghost use Rattle.vr_types.specs.Seen.{Left};
+ghost use Rattle.vr_types.specs.declared.unit.PartNo.{PartNo};
 ghost use Rattle.vr_types.specs.declared.geometry.Geometry.{Geometry};
 ghost use Rattle.vr_log.specs.Content.{Content as LogContent};
-ghost use Rattle.vr_log.specs.LogNow.{LogNow};
+ghost use Rattle.vr_log.specs.LogNow.{LogNow, with_record};
+ghost use Rattle.vr_log.specs.declared.record.EndKind.TheVariants.{BackedOut, Committed};
+ghost use Rattle.vr_log.specs.declared.record.LogRecord.TheVariants.{Before, End};
 ghost use Rattle.vr_log.specs.declared.record.LogRecord.{LogRecord};
 ghost use Rattle.vr_types.specs.declared.unit.Unit.{Unit as UnitOfRecovery};
 ghost use Rattle.vr_history.specs.declared.entry.Entry.{Entry};
 ghost use Rattle.vr_history.specs.Committed.{committed, is_counted};
 ghost use Rattle.vr_history.specs.Laws.{HasPartThroughout, record_now};
 ghost use Rattle.vr_history.specs.Legal.{AreSteps, state_of};
-ghost use Rattle.vr_history.specs.State.{Owned, opening_state};
+ghost use Rattle.vr_history.specs.State.{BeforeImage, Owned, State, opening_state};
 ghost use Rattle.vr_volume.specs.Committed.{CountAlike, committed_by};
+ghost use Rattle.vr_volume.specs.Crashes.{RecoversTo};
+ghost use Rattle.vr_volume.specs.Rests.{IsVolumeAtRest};
 ghost use Rattle.vr_volume.specs.Safe.{IsImageSafe, IsSafe, IsSafeImage};
 ghost use Rattle.vr_volume.specs.Volume.{Recovers, VolumeStandsFor};
 
@@ -65,4 +70,36 @@ pub fn committed_by_its_history()
         → (place : List ℕ)
         → record_now (committed_by (state_of geometry opening entries) records) part place
         ≡ record_now (committed geometry opening entries others) part place }
+{}
+
+/// While an event of a volume at rest goes on, an image that is safe by the log recovers to what is
+/// committed in the state (`rest`); so does one by the log with a before-image more (`before`), and
+/// by the log with the end of a unit that is backed out (`backed_out`). With a commit the image
+/// recovers to that, or to what is committed where the unit counts (`commit`).
+pub fn crash_recovers<B: Blocks>(blocks: &B)
+    ensures rest { (geometry : Geometry) (number : ℕ) (log : LogNow) (images : List BeforeImage)
+        (state : State)
+        → IsVolumeAtRest geometry number log images state (B.seen blocks.now)
+        → (image : Image) → IsSafeImage geometry number log (committed_by state) image
+        → RecoversTo geometry number state [] image }
+    ensures before { (geometry : Geometry) (number : ℕ) (log : LogNow) (images : List BeforeImage)
+        (state : State)
+        → IsVolumeAtRest geometry number log images state (B.seen blocks.now)
+        → (unit : UnitOfRecovery) (part : PartNo) (place : List ℕ) (old : Option (List ℕ))
+        (image : Image)
+        → IsSafeImage geometry number (with_record log (Before unit part place old))
+        (committed_by state) image → RecoversTo geometry number state [] image }
+    ensures backed_out { (geometry : Geometry) (number : ℕ) (log : LogNow)
+        (images : List BeforeImage) (state : State)
+        → IsVolumeAtRest geometry number log images state (B.seen blocks.now)
+        → (unit : UnitOfRecovery) (image : Image)
+        → IsSafeImage geometry number (with_record log (End unit BackedOut))
+        (committed_by state) image → RecoversTo geometry number state [] image }
+    ensures commit { (geometry : Geometry) (number : ℕ) (log : LogNow)
+        (images : List BeforeImage) (state : State)
+        → IsVolumeAtRest geometry number log images state (B.seen blocks.now)
+        → (unit : UnitOfRecovery) (image : Image)
+        → IsSafeImage geometry number (with_record log (End unit Committed))
+        (committed_by state) image → RecoversTo geometry number state [] image
+        ⊎ RecoversTo geometry number state (unit ∷ []) image }
 {}

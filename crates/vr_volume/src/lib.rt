@@ -19,7 +19,8 @@ pub use changing::{do_stage, force_blocks, set_free};
 pub use durable::state_recovers;
 pub use forcing::{force_changed, forced_is_firm};
 pub use laws::{
-    committed_by_its_history, each_image_is_safe, image_recovers, one_recovery, one_volume,
+    committed_by_its_history, crash_recovers, each_image_is_safe, image_recovers, one_recovery,
+    one_volume,
 };
 pub use logging::{append_before, append_end, force_log, restart_log};
 pub use unit_end::end_unit;

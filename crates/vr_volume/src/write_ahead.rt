@@ -58,7 +58,9 @@ fn log_forced<B: Blocks>(blocks: &mut B, log: &mut UndoLog, rec: &LogRecord) -> 
         (HasLog (with_record log.old rec.now)) (B.seen blocks.old) (B.seen blocks.new) }
     ensures logged { IsTrue B.tells → OnOk result (IsLogged log.old rec.now log.new) }
     ensures stands { IsTrue B.tells → OnOk result (LogStands log.new (B.seen blocks.new)) }
+    ensures records { OnOk result (log.new.records ≡ log.old.records ++ rec.now ∷ []) }
     ensures geometry { OnOk result (log.new.geometry ≡ log.old.geometry) }
+    ensures generation { OnOk result (log.new.generation ≡ log.old.generation) }
     ensures sound { OnOk result (log.new.broken ≡ false) }
     ensures count { OnOk result ((B.seen blocks.new).count ≡ (B.seen blocks.old).count) }
     ensures size { OnOk result ((B.seen blocks.new).size ≡ (B.seen blocks.old).size) }
@@ -134,7 +136,9 @@ pub fn change<B: Blocks, P: Part, K: Kept>(
     ensures due { IsTrue B.tells → OnOk result
         (DueMoreAt (P.shape part.old) place.now (P.put part.new)
         (B.seen blocks.old) (B.seen blocks.new)) }
+    ensures records { OnOk result (log.new.records ≡ log.old.records ++ rec.now ∷ []) }
     ensures geometry { OnOk result (log.new.geometry ≡ log.old.geometry) }
+    ensures generation { OnOk result (log.new.generation ≡ log.old.generation) }
     ensures sound { OnOk result (log.new.broken ≡ false) }
     ensures count { OnOk result ((B.seen blocks.new).count ≡ (B.seen blocks.old).count) }
     ensures size { OnOk result ((B.seen blocks.new).size ≡ (B.seen blocks.old).size) }

@@ -1,7 +1,6 @@
-use Rattle.std.proofs.Common.{◌≡◌, ◌<◌, ◌∷◌, ◌++◌, ℕ, List, [], map, ap, subst, sym, refl}
+use Rattle.std.proofs.Common.{◌≡◌, ◌<◌, ◌∷◌, ◌++◌, List, [], map, ap, subst, sym, refl}
 use Rattle.std.proofs.Common.{Result, Ok, Err, set}
 use Rattle.std.specs.Prelude.{All, OnErr, OnOk}
-use Rattle.vr_types.specs.declared.unit.Unit.{Unit as UnitOfRecovery}
 use Rattle.vr_event.specs.Store.{ChangedBy, blocks_of, changed_by}
 use Rattle.vr_event.specs.declared.changed.UnitBlocks.{UnitBlocks}
 use Rattle.vr_event.proofs.Listed.{blocks-added, each-added, same-after}

@@ -1,5 +1,4 @@
-use Rattle.std.proofs.Common.{◌≡◌, ◌<◌, ℕ, List, [], map, subst, sym, refl}
-use Rattle.std.specs.Prelude.{All}
+use Rattle.std.proofs.Common.{ℕ, List, subst, sym, refl}
 use Rattle.std.specs.List.{Contains}
 use Rattle.vr_event.specs.declared.changed.UnitBlocks.{UnitBlocks}
 use Rattle.vr_event.proofs.Listed.{each-after, others-after, unit-after, unit-each, unit-listed}

@@ -1,7 +1,8 @@
-use Rattle.std.proofs.Common.{◌∙◌, ⊎_elim, refl, sym}
+use Rattle.std.proofs.Common.{◌∙◌, ⊎_elim, Bool, ap, refl, sym}
 use Rattle.vr_space.specs.Part.{given}
 use Rattle.vr_undo.specs.Records.{images_in}
 use Rattle.vr_volume.specs.Committed.{committed_by}
+use Rattle.vr_event.specs.Changing.{log_with}
 use Rattle.vr_event.proofs.Setting.{first-here, guards-again, guards-first, images-more, laid-here}
 use Rattle.vr_event.proofs.Setting.{lengths-same, place-logged, rec-here, same-part, set-again}
 use Rattle.vr_event.proofs.Setting.{step-again, step-first, to-puts}
@@ -160,3 +161,8 @@ returns-in_ok-change-clause-made g c told volume old new change images to =
           split' met' to.volume to.part apart rested;
       due = ensured.due told;
     }
+
+pub returns-in_ok-change-clause-records : goal.returns-in_ok-change-clause-records
+returns-in_ok-change-clause-records g c = c.in_ok-change.ensures.records
+    ∙ ap (λ (b : Bool). (log_with b c.args.log.now c.args.prepared.now.rec).records)
+    (sym c.if-prepared.false)

@@ -1,4 +1,3 @@
-use Rattle.std.proofs.Common.{◌≡◌}
 use Rattle.vr_answer.specs.InHand.{whole}
 use Rattle.vr_event.proofs.Ended.{may-done}
 use Rattle.vr_event.proofs.Known.{place-known}

@@ -1,4 +1,4 @@
-use Rattle.std.proofs.Common.{◌≡◌, subst, sym, ◌∙◌}
+use Rattle.std.proofs.Common.{subst, sym, ◌∙◌}
 use Rattle.vr_types.specs.declared.reply.Refusal.{Refusal}
 use Rattle.vr_answer.specs.InHand.{whole}
 use Rattle.vr_event.specs.Getting.{MayEnd}

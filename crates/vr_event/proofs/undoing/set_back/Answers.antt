@@ -1,4 +1,4 @@
-use Rattle.std.proofs.Common.{List, ap, map, refl, subst, sym, ℕ, ◌∙◌, ◌≡◌}
+use Rattle.std.proofs.Common.{List, ap, map, refl, subst, sym, ℕ, ◌∙◌}
 use Rattle.vr_types.specs.declared.unit.PartNo.{PartNo}
 use Rattle.vr_space.specs.Part.{given}
 use Rattle.vr_space.proofs.CallerLemmas.{rest-sound}

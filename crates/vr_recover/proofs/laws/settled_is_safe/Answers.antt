@@ -1,4 +1,4 @@
-use Rattle.vr_recover.proofs.Opened.{settled-safe}
+use Rattle.vr_recover.proofs.Settled.{settled-safe}
 use Rattle.vr_recover.proofs.laws.settled_is_safe.Goals as goal
 
 pub returns : goal.returns

@@ -1,4 +1,4 @@
-use Rattle.vr_recover.proofs.Opened.{settled-undone}
+use Rattle.vr_recover.proofs.Settled.{settled-undone}
 use Rattle.vr_recover.proofs.laws.settled_may_be_undone.Goals as goal
 
 pub returns : goal.returns

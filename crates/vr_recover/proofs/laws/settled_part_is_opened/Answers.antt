@@ -1,4 +1,4 @@
-use Rattle.vr_recover.proofs.Opened.{part-opened}
+use Rattle.vr_recover.proofs.Settled.{part-opened}
 use Rattle.vr_recover.proofs.laws.settled_part_is_opened.Goals as goal
 
 pub returns : goal.returns

@@ -1,189 +1,30 @@
-use Rattle.std.proofs.Common.{◌≡◌, List, Option, Result, Ok, Err, IfErr, refl, sym, ap, subst, map}
-use Rattle.std.proofs.Common.{set, [], None, rules, IsTrue}
-use Rattle.std.specs.Result.{IsErrAnd}
-use Rattle.vr_types.specs.declared.unit.PartNo.{PartNo}
-use Rattle.vr_space.specs.Part.{HasKeptRoom, IsLengthOf, IsPlaceOf, OwnersAfter, Shape, part_no}
-use Rattle.vr_undo.specs.Records.{images_in}
-use Rattle.vr_undo.specs.declared.record.KeptRecord.{KeptRecord}
+use Rattle.std.proofs.Common.{sym, subst}
+use Rattle.std.proofs.lemmas.Result.{IfErr-weaker, on_ok_weaker}
+use Rattle.vr_types.specs.Moments.{Guards}
 use Rattle.vr_volume.specs.Committed.{committed_by}
-use Rattle.vr_volume.specs.PutBack.{lengths_kept}
-use Rattle.vr_volume.specs.Rests.{IsPartAtRest}
-use Rattle.vr_volume.proofs.Rested.{laid-rest}
-use Rattle.vr_event.specs.Parts.{but_split}
-use Rattle.vr_event.specs.Store.{IsSet, IsStored, StoreNow, part_now}
-use Rattle.vr_event.proofs.PartsAt.{laid-at, laid-found, none-laid, only-split, part-of}
-use Rattle.vr_event.proofs.Recorded.{at-shape, number-at, part-number-at, rested-at, set-at}
-use Rattle.vr_event.proofs.Rooms.{due-at, room-at}
-use Rattle.vr_event.proofs.Worked.{set-worked, stored-met, stored-worked}
+use Rattle.vr_volume.specs.Safe.{IsSafeImage}
+use Rattle.vr_event.specs.Store.{IsStored, StoreNow}
 use Rattle.vr_event.proofs.store.Store.advance.Goals as goal
 
-pub do_stage-requires : goal.do_stage-requires
-do_stage-requires g c =
-    let shape = g.P.Part.shape in
-    let split = g.P.Part.split in
-    let met = g.P.Part.met in
-    let store = c.args.self.now in
-    let a = g.B.Blocks.seen c.args.blocks.now in
-    let laid = c.index_mut.result.now in
-    let number = c.args.number.0 in
-    let part = part_now shape split met laid in
-    let undos = ap (λ (s : StoreNow). s.undo) c.self.view_is in
-    let found = laid-found shape split met c.self.inside.parts.items number c.deref.result.now
-    c.index_of.result store.parts c.deref.ensures.value
-    (ap (λ (s : StoreNow). s.parts) c.self.view_is) c.index_of.ensures c.in-Some.at c.in-Some.is
-    laid c.index_mut.ensures.value in
-    let rested = λ (told : IsTrue g.B.Blocks.tells).
-    let stands = c.requires.stands told in
-    rested-at store a c.requires.set stands.number stands.state number part found stands.stored in
-    record {
-      on = (set-at store a c.requires.set number part found).on;
-      place = at-shape (λ (s : Shape). IsPlaceOf s c.args.place.now) store.parts number part found
-          c.requires.place;
-      length = at-shape (λ (s : Shape). IsLengthOf s c.args.length) store.parts number part found
-          c.requires.length;
-      rests = λ told. (rested told).rests;
-      room = λ told. subst (λ (undo : List KeptRecord). HasKeptRoom part.shape
-          (lengths_kept (images_in undo) (part_no part.shape).0) a) (sym undos) (rested told).room;
-      knows = λ told. (rested told).knows;
-      due = λ told. due-at store c.self.inside.space c.self.inside.undo
-          (ap (λ (s : StoreNow). s.space) c.self.view_is) undos number part found
-          (number-at store a c.requires.set number part found) a.cur c.args.place.now c.args.length
-          (c.requires.due told);
-    }
+pub returns-clause-stored : goal.returns-clause-stored
+returns-clause-stored g c told = on_ok_weaker c.advance_at.result
+    (λ holds volume state stored. holds volume state
+    (subst (λ (s : StoreNow). IsStored volume s state (g.B.Blocks.seen c.args.blocks.now))
+    (sym c.self.view_is) stored)) (c.advance_at.ensures.stored told)
 
-pub unreachable-requires : goal.unreachable-requires
-unreachable-requires g c = c.requires.part
-    (none-laid g.P.Part.shape g.P.Part.split g.P.Part.met c.self.inside.parts.items c.args.number.0
-    c.deref.result.now c.index_of.result c.args.self.now.parts c.deref.ensures.value
-    (ap (λ (s : StoreNow). s.parts) c.self.view_is) c.index_of.ensures c.in-None.is)
+pub returns-clause-moments : goal.returns-clause-moments
+returns-clause-moments g c told volume state =
+    subst (λ (s : StoreNow). IsStored volume s state (g.B.Blocks.seen c.args.blocks.now)
+    → Guards (g.B.Blocks.seen c.args.blocks.now) (g.B.Blocks.seen c.advance_at.new.blocks)
+    (IsSafeImage s.log.geometry volume s.log (committed_by state))) c.self.view_is
+    (c.advance_at.ensures.moments told volume state)
 
-err-as : {T E : Type 0} (result : Result T E) (fault : E) (P : E → Type 0)
-    → IsErrAnd result (λ given. given ≡ fault) → P fault → IfErr result P
-err-as (Ok value) fault P is holds = tt
-err-as (Err given) fault P is holds = subst P (sym is) holds
-
-pub returns-in_err-kind-in-Some : goal.returns-in_err-kind-in-Some
-returns-in_err-kind-in-Some g c =
-    let shape = g.P.Part.shape in
-    let split = g.P.Part.split in
-    let met = g.P.Part.met in
-    let store = c.args.self.now in
-    let inside = c.self.inside in
-    let a = g.B.Blocks.seen c.args.blocks.now in
-    let b = g.B.Blocks.seen c.do_stage.new.blocks in
-    let laid = c.index_mut.result.now in
-    let number = c.args.number.0 in
-    let space = c.do_stage.new.space in
-    let before = part_now shape split met laid in
-    let after = part_now shape split met
-    (record { number = laid.number; part = c.do_stage.new.part }) in
-    let at = laid-at shape split met inside.parts.items number c.deref.result.now c.index_of.result
-    store.parts c.deref.ensures.value (ap (λ (s : StoreNow). s.parts) c.self.view_is)
-    c.index_of.ensures c.in-Some.at c.in-Some.is laid
-    (record { number = laid.number; part = c.do_stage.new.part }) c.index_mut.ensures.value in
-    let parts = map (part_now shape split met) (set inside.parts.items c.in-Some.at
-    (record { number = laid.number; part = c.do_stage.new.part })) in
-    let seen = ap (λ (s : StoreNow). record s { parts = parts; space = space })
-    (sym c.self.view_is) in
-    let same = ap (λ (s : Shape). but_split (part-of laid.number s None []))
-    c.do_stage.ensures.shape in
-    record {
-      stage = search rules;
-      owners = search rules;
-      set = subst (λ (s : StoreNow). IsSet s b) seen
-          (set-worked store number before after parts space at same a b
-          c.do_stage.ensures.count c.do_stage.ensures.size c.requires.set);
-      stored = search rules;
-      moments = λ told volume state stored.
-          (c.do_stage.ensures.safe told store.log.geometry volume store.log (committed_by state)
-          stored.volume.safe
-          (laid-rest store.log.geometry volume store.log (images_in store.undo) state a
-          stored.volume before.shape before.split before.met
-          (rested-at store a c.requires.set volume state number before at.found stored) _
-          (ap (λ (undo : List KeptRecord). lengths_kept (images_in undo) (part_no before.shape).0)
-          (ap (λ (s : StoreNow). s.undo) c.self.view_is)))).0;
-      unread = err-as c.from_residual.result c.in_err-kind-in-Some.field-0.0 _
-          c.from_residual.ensures.1
-          (λ read.
-          let kept = c.in_err-kind-in-Some.ensures.unread read in (
-            kept.0,
-            λ told volume state stored. subst (λ (s : StoreNow). IsStored volume s state b) seen
-                (stored-met g.B.Blocks.tells told a b kept.0
-                (g.met.B.Blocks.cur_may c.args.blocks.now told) store number before after parts
-                space at same c.in_err-kind-in-Some.ensures.split volume state c.requires.set
-                stored (kept.1 told)),
-          ));
-      parts = only-split number before after store.parts parts at refl same;
-      rest = sym seen;
-      cause = search rules;
-    }
-
-pub returns : goal.returns
-returns g c =
-    let shape = g.P.Part.shape in
-    let split = g.P.Part.split in
-    let met = g.P.Part.met in
-    let store = c.args.self.now in
-    let inside = c.self.inside in
-    let a = g.B.Blocks.seen c.args.blocks.now in
-    let b = g.B.Blocks.seen c.do_stage.new.blocks in
-    let laid = c.index_mut.result.now in
-    let number = c.args.number.0 in
-    let space = c.do_stage.new.space in
-    let done = c.in_ok-kind-in-Some in
-    let images = images_in store.undo in
-    let spaces = ap (λ (s : StoreNow). s.space) c.self.view_is in
-    let undos = ap (λ (s : StoreNow). s.undo) c.self.view_is in
-    let before = part_now shape split met laid in
-    let after = part_now shape split met
-    (record { number = laid.number; part = c.do_stage.new.part }) in
-    let at = laid-at shape split met inside.parts.items number c.deref.result.now c.index_of.result
-    store.parts c.deref.ensures.value (ap (λ (s : StoreNow). s.parts) c.self.view_is)
-    c.index_of.ensures c.in-Some.at c.in-Some.is laid
-    (record { number = laid.number; part = c.do_stage.new.part }) c.index_mut.ensures.value in
-    let parts = map (part_now shape split met) (set inside.parts.items c.in-Some.at
-    (record { number = laid.number; part = c.do_stage.new.part })) in
-    let seen = ap (λ (s : StoreNow). record s { parts = parts; space = space })
-    (sym c.self.view_is) in
-    let same = ap (λ (s : Shape). but_split (part-of laid.number s None []))
-    c.do_stage.ensures.shape in
-    let lengths = ap
-    (λ (undo : List KeptRecord). lengths_kept (images_in undo) (part_no before.shape).0) undos in
-    record {
-      stage = λ told. room-at store inside.space inside.undo spaces undos number before at.found
-          (number-at store a c.requires.set number before at.found) a.cur c.args.place.now
-          c.args.length _ (done.ensures.stage told);
-      owners = subst (λ (owners : List (Option PartNo)). OwnersAfter c.args.number done.kind owners
-          space) spaces
-          (subst (λ (owner : PartNo). OwnersAfter owner done.kind inside.space space)
-          (part-number-at store a c.requires.set c.args.number before at.found)
-          done.ensures.owners);
-      set = subst (λ (s : StoreNow). IsSet s b) seen
-          (set-worked store number before after parts space at same a b
-          c.do_stage.ensures.count c.do_stage.ensures.size c.requires.set);
-      stored = λ told volume state stored.
-          let mine = rested-at store a c.requires.set volume state number before at.found stored in
-          let rest = done.ensures.at_rest told volume store.log images state stored.volume mine
-          lengths in
-          subst (λ (s : StoreNow). IsStored volume s state b) seen
-          (stored-worked store number before after parts space at same volume state a b
-          c.requires.set stored rest.0
-          (subst (λ (s : Shape). IsPartAtRest store.log.geometry images state s after.split
-          after.met b) (sym c.do_stage.ensures.shape) rest.1)
-          (λ other apart rested. done.ensures.others told volume store.log images state
-          other.shape other.split other.met stored.volume mine apart rested)
-          (done.ensures.due told)
-          (λ other apart rested. done.ensures.others_due told volume store.log images state
-          other.shape other.split other.met stored.volume mine apart rested));
-      moments = λ told volume state stored.
-          (c.do_stage.ensures.safe told store.log.geometry volume store.log (committed_by state)
-          stored.volume.safe
-          (laid-rest store.log.geometry volume store.log images state a stored.volume before.shape
-          before.split before.met
-          (rested-at store a c.requires.set volume state number before at.found stored) _
-          lengths)).0;
-      unread = search rules;
-      parts = only-split number before after store.parts parts at refl same;
-      rest = sym seen;
-      cause = search rules;
-    }
+pub returns-clause-unread : goal.returns-clause-unread
+returns-clause-unread g c = IfErr-weaker c.advance_at.result _ _
+    (λ fault unread is.
+    let kept = unread is in (
+      kept.0,
+      λ told volume state stored. kept.1 told volume state
+          (subst (λ (s : StoreNow). IsStored volume s state (g.B.Blocks.seen c.args.blocks.now))
+          (sym c.self.view_is) stored),
+    )) c.advance_at.ensures.unread

@@ -1,4 +1,6 @@
 use Rattle.std.proofs.Common.{◌≡◌, ◌<◌, ◌+◌, ◌∙◌, [], ap, filter, map, refl, sym, subst}
+use Rattle.std.specs.Prelude.{All}
+use Rattle.std.proofs.lemmas.List.Elements.{All-filter}
 use Rattle.vr_types.specs.Moments.{Guards}
 use Rattle.vr_log.specs.LogNow.{HasLog, with_record}
 use Rattle.vr_log.specs.declared.record.LogRecord.TheVariants.{End}
@@ -7,8 +9,8 @@ use Rattle.vr_history.specs.State.{BeforeImage, Logged}
 use Rattle.vr_undo.specs.Records.{befores_of, images_in, logged_of}
 use Rattle.vr_volume.specs.Committed.{committed_by}
 use Rattle.vr_volume.specs.Safe.{IsSafeImage}
-use Rattle.vr_event.specs.Store.{IsSet, IsStored, StoreNow, blocks_of, changed_by, part_now}
-use Rattle.vr_event.proofs.Ends.{firm, set-ended, stored-ended}
+use Rattle.vr_event.specs.Store.{IsFitImage, IsSet, IsStored, StoreNow, blocks_of, changed_by, part_now}
+use Rattle.vr_event.proofs.Ends.{firm, idle-ended, set-ended, stored-ended}
 use Rattle.vr_event.proofs.store.Store.end.Goals as goal
 
 pub returns-in_err-end_unit-clause-moments : goal.returns-in_err-end_unit-clause-moments
@@ -99,9 +101,13 @@ returns-clause-set g c =
       changed = map changed_by inside.changed.items;
       space = inside.space;
     } in
+    let is-set = subst (λ (s : StoreNow). IsSet s a) (sym c.self.view_is) c.requires.set in
     set-ended store a b c.end_unit.new.log c.end_unit.new.undo
-    (map changed_by c.forget.new.changed.items)
-    (subst (λ (s : StoreNow). IsSet s a) (sym c.self.view_is) c.requires.set)
+    (map changed_by c.forget.new.changed.items) is-set
+    (idle-ended store.log c.end_unit.new.log c.args.unit c.args.kind done.log)
+    (subst (All (IsFitImage store.parts)) (sym done.befores)
+    (All-filter (λ (kept : BeforeImage). is_other c.args.unit kept.unit)
+    (IsFitImage store.parts) (befores_of store.undo) is-set.kept))
     done.log.geometry done.log.sound done.shape c.forget.ensures.each
 
 pub returns-clause-images : goal.returns-clause-images

@@ -1,8 +1,9 @@
-use Rattle.std.proofs.Common.{map}
-use Rattle.vr_event.specs.Store.{IsStored, StoreNow, changed_by, part_now}
+use Rattle.std.proofs.Common.{◌<◌, ℕ, map, subst, sym}
+use Rattle.std.specs.Prelude.{All}
+use Rattle.vr_event.specs.Store.{ChangedBy, IsSet, IsStored, StoreNow, changed_by, part_now}
 use Rattle.vr_event.proofs.Ends.{stored-forced}
-use Rattle.vr_event.proofs.Keeping.{moments-keeps}
-use Rattle.std.proofs.Common.{subst}
+use Rattle.vr_event.proofs.Keeping.{moments-keeps, set-keeps}
+use Rattle.vr_event.proofs.Kept.{set-listed}
 use Rattle.vr_event.proofs.store.Store.force_some.Goals as goal
 
 pub returns-in_err-left-clause-stored : goal.returns-in_err-left-clause-stored
@@ -54,3 +55,43 @@ returns-clause-moments g c told volume state stored =
     moments-keeps g.B.Blocks.tells told (g.B.Blocks.seen c.args.blocks.now)
     (g.B.Blocks.seen c.force_listed.new.blocks) c.force_listed.ensures.keeps volume c.args.self.now
     state stored
+
+pub returns-in_err-left-clause-set : goal.returns-in_err-left-clause-set
+returns-in_err-left-clause-set g c =
+    let inside = c.self.inside in
+    let a = g.B.Blocks.seen c.args.blocks.now in
+    let b = g.B.Blocks.seen c.force_listed.new.blocks in
+    let store : StoreNow = record {
+      log = inside.log;
+      undo = inside.undo;
+      parts = map (part_now g.P.Part.shape g.P.Part.split g.P.Part.met) inside.parts.items;
+      changed = map changed_by inside.changed.items;
+      space = inside.space;
+    } in
+    let changed = map changed_by c.force_listed.new.changed.items in
+    let keeps = c.force_listed.ensures.keeps in
+    set-listed store b changed
+    (subst (λ (count : ℕ). All (λ (by : ChangedBy). All (λ n. n < count) by.blocks) changed)
+    (sym keeps.count_same) c.force_listed.ensures.each)
+    (set-keeps g.B.Blocks.tells store a b keeps
+    (subst (λ (s : StoreNow). IsSet s a) (sym c.self.view_is) c.requires.set))
+
+pub returns-clause-set : goal.returns-clause-set
+returns-clause-set g c =
+    let inside = c.self.inside in
+    let a = g.B.Blocks.seen c.args.blocks.now in
+    let b = g.B.Blocks.seen c.force_listed.new.blocks in
+    let store : StoreNow = record {
+      log = inside.log;
+      undo = inside.undo;
+      parts = map (part_now g.P.Part.shape g.P.Part.split g.P.Part.met) inside.parts.items;
+      changed = map changed_by inside.changed.items;
+      space = inside.space;
+    } in
+    let changed = map changed_by c.force_listed.new.changed.items in
+    let keeps = c.force_listed.ensures.keeps in
+    set-listed store b changed
+    (subst (λ (count : ℕ). All (λ (by : ChangedBy). All (λ n. n < count) by.blocks) changed)
+    (sym keeps.count_same) c.force_listed.ensures.each)
+    (set-keeps g.B.Blocks.tells store a b keeps
+    (subst (λ (s : StoreNow). IsSet s a) (sym c.self.view_is) c.requires.set))

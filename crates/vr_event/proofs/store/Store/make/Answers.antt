@@ -6,7 +6,7 @@ use Rattle.vr_types.specs.Moments.{Guards}
 use Rattle.vr_space.specs.Met.{HasMet}
 use Rattle.vr_space.specs.Part.{CanSet, IsGiven, IsPlaceOf, Shape, given}
 use Rattle.vr_space.specs.Split.{SplitNow}
-use Rattle.vr_log.specs.Live.{EndsLive, live_in}
+use Rattle.vr_log.specs.Live.{live_in}
 use Rattle.vr_log.specs.declared.no.LogNo.{LogNo}
 use Rattle.vr_log.specs.declared.no.LogNo.TheVariants.{Read}
 use Rattle.vr_undo.specs.Records.{images_in}
@@ -17,6 +17,7 @@ use Rattle.vr_event.specs.Changing.{IsReady, IsReadyBy, IsSettable, log_with, ne
 use Rattle.vr_event.specs.Parts.{OnlyMet}
 use Rattle.vr_event.specs.Store.{ChangedBy, IsSet, PartNow, StoreNow, changed_by, part_among}
 use Rattle.vr_event.specs.Store.{part_now, shape_among}
+use Rattle.vr_event.proofs.Fits.{ends-before, idle-made}
 use Rattle.vr_event.proofs.PartsAt.{laid-at, laid-found, none-laid, only-met, part-of}
 use Rattle.vr_event.proofs.Readying.{change, kept, made-state, rested, room-to, to-any, to-set}
 use Rattle.vr_event.proofs.Recorded.{at-shape, number-at, set-at}
@@ -62,8 +63,7 @@ set_at-requires g c =
       sound = is-set.sound;
       shape = is-set.blocks;
       lengths = c.requires.lengths;
-      live = subst (λ (s : StoreNow). EndsLive (live_in s.log.records) prepared.rec)
-          (sym c.self.view_is) c.requires.live;
+      live = ends-before prepared.rec (live_in v.log.records) c.requires.before;
       stands = λ told. (some told).ready.kept.stored.volume.stands;
       on = (set-at v a is-set number before found).on;
       apart = (set-at v a is-set number before found).apart;
@@ -278,6 +278,8 @@ returns-clause-set g c =
     let b = g.B.Blocks.seen c.set_at.new.blocks in
     let ensured = c.in_ok-set_at-in-Some.ensures in
     set-logged (record v { parts = parts }) c.set_at.new.log changed b ensured.geometry ensured.sound
+    (idle-made inside.log c.set_at.new.log prepared.logged prepared.rec c.requires.before
+    ensured.records is-set.idle)
     (subst (λ (count : ℕ). All (λ (by : ChangedBy). All (λ n. n < count) by.blocks) changed)
     (sym ensured.count) (c.set_at.ensures.each is-set.changed))
     (set-worked v number before now parts v.space at

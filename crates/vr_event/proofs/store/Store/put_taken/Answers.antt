@@ -1,4 +1,4 @@
-use Rattle.std.proofs.Common.{◌≡◌, ◌<◌, ℕ, [], Option, None, IsTrue, refl, sym, ap, subst, map, set}
+use Rattle.std.proofs.Common.{◌<◌, ℕ, [], Option, None, IsTrue, refl, sym, ap, subst, map, set}
 use Rattle.std.proofs.Common.{◌∙◌}
 use Rattle.std.specs.Prelude.{All, IfSome}
 use Rattle.std.proofs.lemmas.Result.{on_ok_weaker}
@@ -378,7 +378,7 @@ returns-clause-set g c =
     let changed = map changed_by c.set_back.new.changed.items in
     let b = g.B.Blocks.seen c.set_back.new.blocks in
     let same = ap (λ (s : Shape). part-of laid.number s None []) c.set_back.ensures.part in
-    set-logged (record v { parts = parts }) v.log changed b refl is-set.sound
+    set-logged (record v { parts = parts }) v.log changed b refl is-set.sound is-set.idle
     (subst (λ (count : ℕ). All (λ (by : ChangedBy). All (λ n. n < count) by.blocks) changed)
     (sym c.set_back.ensures.count) (c.set_back.ensures.each is-set.changed))
     (set-worked v number before now parts v.space at same a b c.set_back.ensures.count

@@ -2,7 +2,10 @@ use Rattle.std.proofs.Common.{None, ap, refl, subst, sym}
 use Rattle.vr_types.specs.declared.reply.Reply.TheVariants.{Done}
 use Rattle.vr_history.specs.declared.entry.What.TheVariants.{Asked}
 use Rattle.vr_record_file.specs.Now.{FileNow, MayBeAsked, entry_next}
+use Rattle.vr_event.specs.Acting.{IsActed}
 use Rattle.vr_event.specs.Volume.{IsHeld, VolumeNow}
+use Rattle.vr_event.specs.declared.act.Act.TheVariants as acts
+use Rattle.vr_event.proofs.Acts.{acted-entered, entered-done}
 use Rattle.vr_event.proofs.Readings.{alike-ended, held-entered}
 use Rattle.vr_event.proofs.volume.Volume.end_request.Goals as goal
 
@@ -26,3 +29,13 @@ returns-clause-held g c told opening on held asked is =
     (alike-ended file.geometry opening file.entries (entry_next file.entries c.args.after c.args.unit
     c.args.line (Asked c.args.request (Done 0 None None))) c.args.request 0 None None refl on is)
     then (c.end_request.ensures.state opening on then.file may is)
+
+pub returns-clause-acted : goal.returns-clause-acted
+returns-clause-acted g c =
+    let faults = g.B.Blocks.faults in
+    subst (λ (v : VolumeNow g.row.B.Denot). IsActed (faults v.blocks) (faults c.self.inside.blocks)
+    acts.Done c.args.after c.args.unit c.args.line c.args.request v.file c.end_request.new.self)
+    c.self.view_is
+    (acted-entered (entered-done c.args.after c.args.unit c.args.line c.args.request
+    c.self.inside.file c.end_request.new.self (faults c.self.inside.blocks)
+    c.end_request.ensures.leaves))

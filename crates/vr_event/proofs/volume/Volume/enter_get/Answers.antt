@@ -1,4 +1,4 @@
-use Rattle.std.proofs.Common.{◌≡◌, subst}
+use Rattle.std.proofs.Common.{subst}
 use Rattle.vr_history.specs.Step.{case_of}
 use Rattle.vr_record_file.specs.Now.{state_now}
 use Rattle.vr_event.specs.Getting.{MayEnd}

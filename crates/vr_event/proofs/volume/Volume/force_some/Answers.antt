@@ -1,11 +1,11 @@
-use Rattle.std.proofs.Common.{◌∙◌, ap, subst, sym}
+use Rattle.std.proofs.Common.{[], ◌∙◌, ap, subst, sym}
 use Rattle.vr_types.specs.Moments.{Guards}
 use Rattle.vr_types.specs.Space.{free_count}
 use Rattle.vr_record_file.specs.Now.{state_now}
-use Rattle.vr_volume.specs.Committed.{committed_by}
-use Rattle.vr_volume.specs.Safe.{IsSafeImage}
+use Rattle.vr_volume.specs.Crashes.{RecoversTo}
 use Rattle.vr_event.specs.Store.{StoreNow}
 use Rattle.vr_event.specs.Volume.{IsHeld, VolumeNow}
+use Rattle.vr_event.proofs.Recovers.{recovers-safe}
 use Rattle.vr_event.proofs.volume.Volume.force_some.Goals as goal
 
 pub returns-clause-held : goal.returns-clause-held
@@ -35,11 +35,13 @@ returns-clause-moments g c told opening held =
       store = c.self.inside.store;
       file = c.self.inside.file;
     } in
+    let state = state_now opening before.file in
     let then : IsHeld seen opening before =
     subst (IsHeld seen opening) (sym c.self.view_is) held in
+    let stored = then.stored (ap (λ (v : VolumeNow g.row.B.Denot). v.file.stopped) c.self.view_is
+    ∙ c.requires.going) in
     subst (λ (v : VolumeNow g.row.B.Denot). Guards (seen v.blocks) (seen c.force_some.new.blocks)
-    (IsSafeImage v.store.log.geometry v.number v.store.log
-    (committed_by (state_now opening v.file)))) c.self.view_is
-    (c.force_some.ensures.moments told before.number (state_now opening before.file)
-    (then.stored (ap (λ (v : VolumeNow g.row.B.Denot). v.file.stopped) c.self.view_is
-    ∙ c.requires.going)))
+    (RecoversTo v.store.log.geometry v.number (state_now opening v.file) [])) c.self.view_is
+    (recovers-safe before.number before.store state (seen before.blocks)
+    (seen c.force_some.new.blocks) stored
+    (c.force_some.ensures.moments told before.number state stored))

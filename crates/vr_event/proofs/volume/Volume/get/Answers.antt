@@ -1,12 +1,12 @@
-use Rattle.std.proofs.Common.{◌≡◌, subst, sym}
+use Rattle.std.proofs.Common.{◌≡◌, [], subst, sym}
 use Rattle.vr_types.specs.declared.request.Request.{Request}
 use Rattle.vr_types.specs.Moments.{Guards}
 use Rattle.vr_history.specs.Step.{case_of}
 use Rattle.vr_record_file.specs.Now.{FileNow, state_now}
-use Rattle.vr_volume.specs.Committed.{committed_by}
-use Rattle.vr_volume.specs.Safe.{IsSafeImage}
+use Rattle.vr_volume.specs.Crashes.{RecoversTo}
 use Rattle.vr_event.specs.Getting.{IsAsked, MayEnd}
-use Rattle.vr_event.proofs.Keeping.{moments-keeps}
+use Rattle.vr_event.proofs.Acts.{acted-got}
+use Rattle.vr_event.proofs.Recovers.{recovers-keeps}
 use Rattle.vr_event.specs.Cause.{HasGetCause}
 use Rattle.vr_event.proofs.volume.Volume.get.Goals as goal
 
@@ -31,10 +31,25 @@ returns-clause-moments g c told opening held =
     let old = c.args.self.now in
     let state = state_now opening old.file in
     subst (λ (b : g.row.B.Denot). Guards (seen old.blocks) (seen b)
-    (IsSafeImage old.store.log.geometry old.number old.store.log (committed_by state)))
+    (RecoversTo old.store.log.geometry old.number state []))
     (sym c.enter_get.ensures.blocks)
-    (moments-keeps g.B.Blocks.tells told (seen old.blocks) (seen c.decide_get-outcome.new.self.blocks)
-    c.decide_get-outcome.ensures.keeps old.number old.store state (held.stored c.requires.going))
+    (recovers-keeps old.number old.store state (seen old.blocks)
+    (seen c.decide_get-outcome.new.self.blocks) (held.stored c.requires.going) g.B.Blocks.tells told
+    c.decide_get-outcome.ensures.keeps)
+
+pub returns-clause-acted : goal.returns-clause-acted
+returns-clause-acted g c =
+    let faults = g.B.Blocks.faults in
+    let old = c.args.self.now in
+    let looked = c.decide_get-outcome.new.self in
+    acted-got
+    (subst (λ (b : g.row.B.Denot). HasGetCause (faults old.blocks) (faults b) c.args.after c.args.unit
+    c.args.line c.args.request old.file c.enter_get.new.self.file) (sym c.enter_get.ensures.blocks)
+    (subst (λ (f : FileNow). HasGetCause (faults old.blocks) (faults looked.blocks) c.args.after
+    c.args.unit c.args.line c.args.request f c.enter_get.new.self.file)
+    c.decide_get-outcome.ensures.file
+    (c.enter_get.ensures.cause (faults old.blocks) (faults looked.blocks)
+    c.decide_get-outcome.ensures.cause)))
 
 pub returns-clause-cause : goal.returns-clause-cause
 returns-clause-cause g c =

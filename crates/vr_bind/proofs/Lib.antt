@@ -1,0 +1,3 @@
+mod Basing
+mod Placing
+mod Volumes

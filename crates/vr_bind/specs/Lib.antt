@@ -1,0 +1,5 @@
+pub mod Named
+pub mod Places
+pub mod Bound
+pub mod Found
+pub mod Placed

@@ -1,0 +1,171 @@
+-- What a step of a BACKOUT leaves of a volume that is held.
+use Rattle.std.proofs.Common.{◌≡◌, ℕ, List, Option, Some, None, refl, ap, sym, ◌∙◌}
+use Rattle.std.proofs.Common.{subst, Result, Ok, Err}
+use Rattle.std.specs.Option.{option_and_then, option_map_or}
+use Rattle.std.specs.Prelude.{IfErr, OnOk}
+use Rattle.vr_catalog.specs.Catalog.{definition_of}
+use Rattle.vr_catalog.specs.declared.definition.Definition.{Definition}
+use Rattle.vr_types.specs.Content.{Item, item_at}
+use Rattle.vr_types.specs.Seen.{Seen}
+use Rattle.vr_types.specs.Space.{free_count}
+use Rattle.vr_types.specs.declared.unit.Kind.{Kind}
+use Rattle.vr_types.specs.declared.unit.Kind.TheVariants.{Keyed}
+use Rattle.vr_types.specs.declared.unit.PartNo.{PartNo}
+use Rattle.vr_types.specs.declared.unit.Unit.{Unit as UnitOfRecovery}
+use Rattle.vr_history.specs.declared.entry.What.TheVariants.{Split, Undone}
+use Rattle.vr_history.specs.Effects.{changes, last_kept, takes_out}
+use Rattle.vr_history.specs.Opened.{catalog_of}
+use Rattle.vr_history.specs.State.{BeforeImage, State}
+use Rattle.vr_history.specs.Step.{change_back, put_back, puts_back, withdrawn_by}
+use Rattle.vr_history.proofs.CallerLemmas.{state_of-append}
+use Rattle.vr_answer.specs.Scope.{HasClustersAlone}
+use Rattle.vr_answer.proofs.CallerLemmas.{definition_keyed}
+use Rattle.vr_record_file.specs.Now.{FileNow, IsStateOf, entry_next, state_now, with_event}
+use Rattle.vr_event.specs.Alike.{AreAlike}
+use Rattle.vr_event.specs.Backing.{IsBackIn}
+use Rattle.vr_event.specs.Store.{IsStored, StoreNow}
+use Rattle.vr_event.specs.Volume.{IsFileHeld, IsHeld, VolumeNow}
+use Rattle.vr_event.proofs.Entering.{held-alike}
+
+-- where the store is that of the same state, and has the areas that it had
+pub held-with : {B : Type 0} (seen : B → Seen) (opening : State) (volume : VolumeNow B)
+    (store : StoreNow) (blocks : B) → store.space ≡ volume.store.space
+    → (volume.file.stopped ≡ None
+    → IsStored volume.number store (state_now opening volume.file) (seen blocks))
+    → IsHeld seen opening volume
+    → IsHeld seen opening (record volume { blocks = blocks; store = store })
+held-with seen opening volume store blocks space stored held = record {
+  file = held.file;
+  free = ap free_count space ∙ held.free;
+  stored = stored;
+}
+
+pub known-with : {B : Type 0} (seen : B → Seen) (opening : State) (volume : VolumeNow B)
+    (store : StoreNow) (blocks : B) → store.space ≡ volume.store.space
+    → IsHeld seen opening volume
+    → IsFileHeld opening (record volume { blocks = blocks; store = store })
+known-with seen opening volume store blocks space held = record {
+  file = held.file;
+  free = ap free_count space ∙ held.free;
+}
+
+-- a split of an interval that is entered leaves the state
+pub held-split : {B : Type 0} (seen : B → Seen) (opening : State) (volume : VolumeNow B)
+    (to : FileNow) (after : ℕ) (unit : UnitOfRecovery) (part : PartNo)
+    → to ≡ with_event after unit 0 (Split part) volume.file → IsHeld seen opening volume
+    → IsStateOf opening to → IsHeld seen opening (record volume { file = to })
+held-split seen opening volume to after unit part leaves held file =
+    let before : State = state_now opening volume.file in
+    let same : state_now opening to ≡ before = ap (λ (f : FileNow). state_now opening f) leaves
+    ∙ state_of-append volume.file.geometry opening volume.file.entries
+    (entry_next volume.file.entries after unit 0 (Split part)) in
+    held-alike seen opening volume to (ap (λ (f : FileNow). f.geometry) leaves)
+    (ap (λ (f : FileNow). f.stopped) leaves)
+    (subst (AreAlike before) (sym same) (record {
+      contents = refl;
+      befores = refl;
+      logged = refl;
+      used = refl;
+      numbers = refl;
+      owned = refl;
+    })) held file
+
+-- a volume is what its fields are
+pub held-at : {B : Type 0} (seen : B → Seen) (opening : State) (volume : VolumeNow B) (blocks : B)
+    (number : ℕ) (store : StoreNow) → volume.blocks ≡ blocks → volume.number ≡ number
+    → volume.store ≡ store
+    → IsHeld seen opening
+    (record { blocks = blocks; number = number; store = store; file = volume.file })
+    → IsHeld seen opening volume
+held-at {B} seen opening volume blocks number store same-blocks same-number same-store held =
+    subst (λ (b : B). IsHeld seen opening (record volume { blocks = b })) (sym same-blocks)
+    (subst (λ (n : ℕ). IsHeld seen opening (record volume { blocks = blocks; number = n }))
+    (sym same-number)
+    (subst (λ (s : StoreNow).
+    IsHeld seen opening (record volume { blocks = blocks; number = number; store = s }))
+    (sym same-store) held))
+
+-- ---- a before-image that is put back
+
+-- of a key-sequenced cluster an added record goes
+none-withdrawn : (found : Option Item) (o : Option Definition)
+    → ((definition : Definition) → o ≡ Some definition → definition.kind ≡ Keyed)
+    → option_and_then (λ (definition : Definition). withdrawn_by definition.kind found) o ≡ None
+none-withdrawn found None each = refl
+none-withdrawn found (Some definition) each =
+    ap (λ (kind : Kind). withdrawn_by kind found) (each definition refl)
+
+back-item : (state : State) (last : BeforeImage) → HasClustersAlone state → (old : Option Item)
+    → put_back state last old ≡ old
+back-item state last alone (Some old) = refl
+back-item state last alone None =
+    none-withdrawn (item_at (state.contents last.part) last.place)
+    (definition_of (catalog_of state) last.part)
+    (λ definition there. definition_keyed (catalog_of state) last.part definition alone there)
+
+pub undone-in : (state : State) (unit : UnitOfRecovery) (last : BeforeImage)
+    → HasClustersAlone state → last_kept state unit ≡ Some last
+    → IsBackIn unit state (puts_back unit state)
+undone-in state unit last alone is =
+    subst (λ (found : Option BeforeImage). IsBackIn unit state (option_map_or
+    (λ (kept : BeforeImage). takes_out unit (changes (change_back state kept) state)) found state))
+    (sym is)
+    (record {
+      last = last;
+      is = is;
+      contents = ap (λ (item : Option Item). Rattle.vr_history.specs.Effects.with_change
+          (record { part = last.part; place = last.place; new = item }) state.contents)
+          (back-item state last alone last.old);
+      befores = refl;
+      logged = refl;
+      used = refl;
+      numbers = refl;
+    })
+
+-- the state once it is entered
+pub undone-state : (opening : State) (file to : FileNow) (after : ℕ) (unit : UnitOfRecovery)
+    (part : PartNo) (place : List ℕ) → to ≡ with_event after unit 0 (Undone part place) file
+    → state_now opening to ≡ puts_back unit (state_now opening file)
+undone-state opening file to after unit part place leaves =
+    ap (λ (f : FileNow). state_now opening f) leaves
+    ∙ state_of-append file.geometry opening file.entries
+    (entry_next file.entries after unit 0 (Undone part place))
+
+-- the areas stay
+owned-back : (state : State) (unit : UnitOfRecovery) (found : Option BeforeImage)
+    → (option_map_or (λ (kept : BeforeImage).
+    takes_out unit (changes (change_back state kept) state)) found state).owned ≡ state.owned
+owned-back state unit None = refl
+owned-back state unit (Some last) = refl
+
+pub held-undone : {B : Type 0} (seen : B → Seen) (opening : State) (volume : VolumeNow B)
+    (to : FileNow) (store : StoreNow) (blocks : B) (after : ℕ) (unit : UnitOfRecovery)
+    (part : PartNo) (place : List ℕ)
+    → to ≡ with_event after unit 0 (Undone part place) volume.file
+    → store.space ≡ volume.store.space → volume.file.stopped ≡ None
+    → IsHeld seen opening volume → IsStateOf opening to
+    → IsStored volume.number store (puts_back unit (state_now opening volume.file)) (seen blocks)
+    → IsHeld seen opening (record volume { blocks = blocks; store = store; file = to })
+held-undone seen opening volume to store blocks after unit part place leaves space going held file
+    stored =
+    let before : State = state_now opening volume.file in
+    let state = undone-state opening volume.file to after unit part place leaves in
+    let owned : (state_now opening to).owned ≡ before.owned =
+    ap (λ (s : State). s.owned) state ∙ owned-back before unit (last_kept before unit) in
+    let geometry : to.geometry ≡ volume.file.geometry =
+    ap (λ (f : FileNow). f.geometry) leaves in
+    record {
+      file = file;
+      free = cc (held.free, geometry, owned, space);
+      stored = λ on. subst (λ (s : State). IsStored volume.number store s (seen blocks))
+          (sym state) stored;
+    }
+
+-- of what a call says where it fails
+pub of-err : {T E : Type 0} (P : E → Type 0) (result : Result T E) (fault : E)
+    → result ≡ Err fault → IfErr result P → P fault
+of-err P result fault is holds = subst (λ (r : Result _ _). IfErr r P) is holds
+
+pub of-ok : {T E : Type 0} (P : Type 0) (result : Result T E) (value : T)
+    → result ≡ Ok value → OnOk result P → P
+of-ok P result value is holds = subst (λ (r : Result _ _). OnOk r P) is holds

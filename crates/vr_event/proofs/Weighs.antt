@@ -1,0 +1,198 @@
+-- How a change is refused.
+use Rattle.std.proofs.Common.{◌≡◌, ◌≢◌, ◌⊎◌, ◌<◌, ◌+◌, ◌||◌, ℕ, Bool, true, false, List, ◌∷◌, Option}
+use Rattle.std.proofs.Common.{Some, None, refl, sym, ap, subst, ◌∙◌, inl, inr, IsTrue, arith}
+use Rattle.std.specs.Option.{option_and_then}
+use Rattle.vr_catalog.specs.declared.definition.Definition.{Definition}
+use Rattle.vr_types.specs.declared.fault.DeviceFault.TheVariants.{Read, Write}
+use Rattle.vr_types.specs.declared.reply.Refusal.{Refusal}
+use Rattle.vr_types.specs.declared.reply.Refusal.TheVariants.{Memory as NoMemory, NoFile, NoSpace}
+use Rattle.vr_types.specs.declared.reply.Reply.TheVariants.{Refused}
+use Rattle.vr_types.specs.declared.request.FileRef.{FileRef}
+use Rattle.vr_types.specs.declared.request.Request.{Request}
+use Rattle.vr_types.specs.declared.request.Request.TheVariants.{Get, Point, Add, Update, Erase}
+use Rattle.vr_types.specs.declared.request.Request.TheVariants.{EndReq, Commit, Backout}
+use Rattle.vr_types.specs.declared.unit.Kind.TheVariants.{Keyed}
+use Rattle.vr_history.specs.Case.{Case, file_of, new_record}
+use Rattle.vr_history.specs.Change.{place_asked}
+use Rattle.vr_history.specs.Opened.{Cluster, opened}
+use Rattle.vr_history.specs.RefusedFile.{is_catalog_changing, is_unknown, no_file, refused_if}
+use Rattle.vr_history.specs.RefusedRoom.{free_areas, log_full}
+use Rattle.vr_history.specs.Replies.{FillsKeyed, LacksRoom, before_room, first_of, may_read}
+use Rattle.vr_history.specs.Replies.{may_want}
+use Rattle.vr_history.specs.State.{State}
+use Rattle.vr_history.specs.Step.{stand_refused}
+use Rattle.vr_answer.specs.InHand.{IsCaseOf, whole}
+use Rattle.vr_answer.specs.Opening.{as_opened, definition_here}
+use Rattle.vr_answer.specs.Scope.{IsDirect}
+use Rattle.vr_answer.specs.Tried.{file_refusals, record_refusals}
+use Rattle.vr_answer.specs.declared.case.Case.{Case as CaseInHand}
+use Rattle.vr_answer.proofs.CallerLemmas.{IsKeyed, answered_by_log, answered_by_record, keyed_here}
+use Rattle.vr_answer.proofs.CallerLemmas.{lacks_memory, lacks_room, meets_read_fault}
+use Rattle.vr_answer.proofs.CallerLemmas.{meets_write_fault, opened_is}
+use Rattle.vr_event.specs.Getting.{refusal_of}
+use Rattle.vr_event.specs.Putting.{IsChange, IsRefusedBy, MayRefuse}
+use Rattle.vr_event.specs.declared.no.LookNo.{LookNo}
+use Rattle.vr_event.specs.declared.no.LookNo.TheVariants.{Fault, Memory}
+
+module _ (case : Case) where
+  -- by the record and by locks,
+  pub refuse-record : (refusal : Refusal) → Some refusal ≡ first_of (record_refusals case)
+      → option_and_then (stand_refused case.request) (Some refusal) ≡ None
+      → MayRefuse case refusal
+  refuse-record refusal is stays none =
+      (inl (answered_by_record case refusal none (sym is)), stays)
+
+  -- and by the log
+  pub refuse-log : first_of (record_refusals case) ≡ None → (refused : Option Refusal)
+      → refused ≡ log_full case
+      → option_and_then (stand_refused case.request) refused ≡ None → IsRefusedBy case refused
+  refuse-log no-record None is stays = (no-record, sym is)
+  refuse-log no-record (Some refusal) is stays =
+      λ none. (inl (answered_by_log case refusal none no-record (sym is)), stays)
+
+-- ---- for want of memory, by a fault, or for want of room
+
+none-some : {X : Type 0} {x : X} → None ≡ Some x → ⊥
+none-some same = cc
+
+-- a request that names a place to change
+pub asks-change : (case : Case) (request : Request) (place : List ℕ)
+    → place_asked case request ≡ Some place → IsChange request
+asks-change case (Add on named bytes) place is = tt
+asks-change case (Update on bytes) place is = tt
+asks-change case (Erase on) place is = tt
+asks-change case (Get on find update integrity) place is = none-some is
+asks-change case (Point on find) place is = none-some is
+asks-change case (EndReq on) place is = none-some is
+asks-change case Commit place is = none-some is
+asks-change case Backout place is = none-some is
+
+change-wants : (request : Request) → IsChange request → IsTrue (may_want request)
+change-wants (Add on named bytes) is = refl
+change-wants (Update on bytes) is = refl
+change-wants (Erase on) is = refl
+change-wants (Get on find update integrity) is = refl
+change-wants (Point on find) is = refl
+change-wants (EndReq on) is = refl
+change-wants Commit is = absurd is
+change-wants Backout is = absurd is
+
+change-reads : (request : Request) → IsChange request → IsTrue (may_read request)
+change-reads (Add on named bytes) is = refl
+change-reads (Update on bytes) is = refl
+change-reads (Erase on) is = refl
+change-reads (Get on find update integrity) is = refl
+change-reads (Point on find) is = refl
+change-reads (EndReq on) is = refl
+change-reads Commit is = absurd is
+change-reads Backout is = absurd is
+
+pub change-direct : (request : Request) → IsChange request → IsDirect request
+change-direct (Add on named bytes) is = tt
+change-direct (Update on bytes) is = tt
+change-direct (Erase on) is = tt
+change-direct (Get on find update integrity) is = absurd is
+change-direct (Point on find) is = absurd is
+change-direct (EndReq on) is = absurd is
+change-direct Commit is = absurd is
+change-direct Backout is = absurd is
+
+module _ (case : Case) (change : IsChange case.request) where
+  pub refuse-memory : MayRefuse case NoMemory
+  refuse-memory none =
+      (inr (inr (inl (lacks_memory case none (change-wants case.request change)))), refl)
+
+  pub refuse-look : (no : LookNo) → MayRefuse case (refusal_of no)
+  refuse-look (Fault Read) none =
+      (inr (inr (inr (meets_read_fault case none (change-reads case.request change)))), refl)
+  refuse-look (Fault Write) none = (inr (inr (inr (meets_write_fault case none))), refl)
+  refuse-look Memory none = refuse-memory none
+
+  pub refuse-unless : (refusal result : Refusal)
+      → (result ≡ refusal) ⊎ (result ≡ NoMemory) → MayRefuse case refusal
+      → MayRefuse case result
+  refuse-unless refusal result (inl is) may = subst (MayRefuse case) (sym is) may
+  refuse-unless refusal result (inr is) may = subst (MayRefuse case) (sym is) refuse-memory
+
+first-none : (a : Option Refusal) (rest : List (Option Refusal)) → first_of (a ∷ rest) ≡ None
+    → a ≡ None
+first-none None rest none = refl
+first-none (Some refusal) rest none = absurd (none-some (sym none))
+
+unrefused-false : (test : Bool) (refusal : Refusal) → refused_if test refusal ≡ None
+    → test ≡ false
+unrefused-false false refusal none = refl
+unrefused-false true refusal none = absurd (none-some (sym none))
+
+or-first : (a b : Bool) → (a || b) ≡ false → a ≡ false
+or-first false b is = refl
+or-first true b is = absurd cc
+
+change-known : (request : Request) (test : Bool) → IsChange request
+    → option_and_then (λ (file : FileRef). refused_if test NoFile) (file_of request) ≡ None
+    → test ≡ false
+change-known (Add on named bytes) test is none = unrefused-false test NoFile none
+change-known (Update on bytes) test is none = unrefused-false test NoFile none
+change-known (Erase on) test is none = unrefused-false test NoFile none
+change-known (Get on find update integrity) test is none = absurd is
+change-known (Point on find) test is none = absurd is
+change-known (EndReq on) test is none = absurd is
+change-known Commit test is none = absurd is
+change-known Backout test is none = absurd is
+
+-- what a change is on is a key-sequenced cluster
+pub record IsOnKeyed (case : Case) : Type 0 where
+  pub definition : Definition
+  pub on : opened case ≡ Cluster definition
+  pub keyed : definition.kind ≡ Keyed
+
+pub on-keyed : (case : CaseInHand) (state : State) → IsCaseOf case state
+    → IsChange case.request.now → first_of (file_refusals (whole case state)) ≡ None
+    → IsOnKeyed (whole case state)
+on-keyed case state is change none = by_found (definition_here case) (opened_is case state is)
+    (keyed_here case state is)
+    (or-first (is_unknown (opened (whole case state))) (is_catalog_changing (whole case state))
+    (change-known case.request.now _ change
+    (first-none (no_file (whole case state)) _ none)))
+  where
+    by_found : (found : Option Definition) → opened (whole case state) ≡ as_opened found
+        → IsKeyed found → is_unknown (opened (whole case state)) ≡ false
+        → IsOnKeyed (whole case state)
+    by_found None on keyed known =
+        let no : true ≡ false = sym (ap is_unknown on) ∙ known in absurd cc
+    by_found (Some definition) on keyed known =
+        record { definition = definition; on = on; keyed = keyed }
+
+module _ (case : CaseInHand) (state : State) (is : IsCaseOf case state)
+    (change : IsChange case.request.now)
+    (no-record : first_of (record_refusals (whole case state)) ≡ None) where
+  abbrev w : Case
+  w = whole case state
+
+  lacks : first_of (file_refusals w) ≡ None → (bytes : List ℕ)
+      → new_record case.request.now ≡ Some bytes → (need : ℕ) → free_areas w < need
+      → LacksRoom w (Refused (NoSpace need (free_areas w)))
+  lacks none bytes new need less =
+      let on = on-keyed case state is change none in
+      lacks_room w on.definition bytes need none no-record on.on on.keyed new less
+
+  -- more areas are needed than are free
+  pub refuse-space : (bytes : List ℕ) → new_record case.request.now ≡ Some bytes → (free : ℕ)
+      → free ≡ free_areas w → MayRefuse w (NoSpace (free + 1) free)
+  refuse-space bytes new free is-free none = (
+    inr (inl (subst (λ (n : ℕ). LacksRoom w (Refused (NoSpace (free + 1) n))) (sym is-free)
+        (lacks none bytes new (free + 1) (omega (arith, is-free))))),
+    refl,
+  )
+
+  -- nothing refuses it before its room, and it fills a part
+  pub fills : first_of (file_refusals w) ≡ None → new_record case.request.now ≢ None
+      → (first_of (before_room w) ≡ None) × FillsKeyed w
+  fills none some = by_new (new_record case.request.now) refl
+    where
+      by_new : (new : Option (List ℕ)) → new_record case.request.now ≡ new
+          → (first_of (before_room w) ≡ None) × FillsKeyed w
+      by_new None is = absurd (some is)
+      by_new (Some bytes) is =
+          let all = lacks none bytes is (free_areas w + 1) (omega arith) in
+          (all.0, all.1)

@@ -1,0 +1,164 @@
+use Rattle.std.proofs.Common.{◌≡◌, ◌∙◌, ℕ, List, [], None, Option, ap, subst, sym}
+use Rattle.vr_types.proofs.CallerLemmas.{guards-then}
+use Rattle.vr_types.specs.Moments.{Guards}
+use Rattle.vr_types.specs.declared.geometry.Geometry.{Geometry}
+use Rattle.vr_types.specs.declared.request.Request.{Request}
+use Rattle.vr_types.specs.declared.reply.Reply.TheVariants.{Refused}
+use Rattle.vr_types.specs.declared.unit.Unit.{Unit as UnitOfRecovery}
+use Rattle.vr_history.specs.Replies.{FillsKeyed, before_room, first_of}
+use Rattle.vr_history.specs.State.{State}
+use Rattle.vr_history.specs.Step.{case_of}
+use Rattle.vr_log.specs.LogNow.{LogNow}
+use Rattle.vr_record_file.specs.Now.{FileNow, MayBeAsked, state_now}
+use Rattle.vr_volume.specs.Crashes.{RecoversTo}
+use Rattle.vr_event.specs.Acting.{IsActed}
+use Rattle.vr_event.specs.Putting.{IfAgain, IsReadyFor, MayLackRoom, MayWeigh}
+use Rattle.vr_event.specs.Store.{StoreNow}
+use Rattle.vr_event.specs.declared.act.Act.{Act}
+use Rattle.vr_event.specs.declared.act.Act.TheVariants.{Again, Done}
+use Rattle.vr_event.specs.declared.weighing.Weighed.TheVariants as weighed
+use Rattle.vr_event.proofs.ActedLater.{acted-earlier}
+use Rattle.vr_event.proofs.Recovering.{keeps-recovers}
+use Rattle.vr_event.proofs.Wholes.{may-changing}
+use Rattle.vr_event.proofs.volume.Volume.change.Goals as goal
+
+pub returns-in-Refused-clause-held : goal.returns-in-Refused-clause-held
+returns-in-Refused-clause-held g c told opening held asked =
+    let old = c.args.self.now.file in
+    let unit = c.args.unit in
+    let request = c.args.request in
+    let case = case_of old.geometry (state_now opening old) unit request in
+    let may : MayWeigh case (weighed.Refused c.in-Refused.refusal) =
+    subst (λ (r : Request). MayWeigh (case_of old.geometry (state_now opening old) unit r)
+    (weighed.Refused c.in-Refused.refusal)) c.get-2.ensures
+    (c.in-Refused.ensures.may told opening held) in
+    let both = may asked.unrefused in
+    c.enter_refused.ensures.held told opening (c.weigh_change.ensures.held told opening held)
+    (subst (λ (f : FileNow). MayBeAsked opening f unit request (Refused c.in-Refused.refusal))
+    (sym c.weigh_change.ensures.file)
+    (may-changing opening old unit request (Refused c.in-Refused.refusal) asked both.0)) both.1
+
+pub returns-in-Refused-clause-moments : goal.returns-in-Refused-clause-moments
+returns-in-Refused-clause-moments g c told opening held =
+    let seen = g.B.Blocks.seen in
+    let old = c.args.self.now in
+    subst (λ (b : g.row.B.Denot). Guards (seen old.blocks) (seen b)
+    (RecoversTo old.store.log.geometry old.number (state_now opening old.file) []))
+    (sym c.enter_refused.ensures.blocks)
+    (keeps-recovers g.B.Blocks.tells told old.number old.store (state_now opening old.file)
+    (seen old.blocks) (seen c.weigh_change.new.self.blocks) c.weigh_change.ensures.keeps
+    (held.stored c.requires.going))
+
+pub returns-in-Refused-clause-number : goal.returns-in-Refused-clause-number
+returns-in-Refused-clause-number g c =
+    c.enter_refused.ensures.volume ∙ c.weigh_change.ensures.number
+
+pub returns-in-Refused-clause-generation : goal.returns-in-Refused-clause-generation
+returns-in-Refused-clause-generation g c going =
+    ap (λ (s : StoreNow). s.log.generation) c.enter_refused.ensures.store
+    ∙ ap (λ (l : LogNow). l.generation) c.weigh_change.ensures.log
+
+pub returns-in-Stage-clause-acted : goal.returns-in-Stage-clause-acted
+returns-in-Stage-clause-acted g c =
+    let faults = g.B.Blocks.faults in
+    acted-earlier (faults c.args.self.now.blocks) (faults c.weigh_change.new.self.blocks)
+    (faults c.do_stage.new.self.blocks) c.weigh_change.ensures.cause.reads
+    c.weigh_change.ensures.cause.writes c.args.after c.args.unit c.args.line c.args.request
+    c.args.self.now.file c.do_stage.new.self.file c.do_stage.result
+    (subst (λ (f : FileNow). IsActed (faults c.weigh_change.new.self.blocks)
+    (faults c.do_stage.new.self.blocks) c.do_stage.result c.args.after c.args.unit c.args.line
+    c.args.request f c.do_stage.new.self.file) c.weigh_change.ensures.file
+    c.do_stage.ensures.acted)
+
+pub returns-in-Ready-clause-acted : goal.returns-in-Ready-clause-acted
+returns-in-Ready-clause-acted g c =
+    let faults = g.B.Blocks.faults in
+    acted-earlier (faults c.args.self.now.blocks) (faults c.weigh_change.new.self.blocks)
+    (faults c.put.new.self.blocks) c.weigh_change.ensures.cause.reads
+    c.weigh_change.ensures.cause.writes c.args.after c.args.unit c.args.line c.args.request
+    c.args.self.now.file c.put.new.self.file Done
+    (subst (λ (f : FileNow). IsActed (faults c.weigh_change.new.self.blocks)
+    (faults c.put.new.self.blocks) Done c.args.after c.args.unit c.args.line
+    c.args.request f c.put.new.self.file) c.weigh_change.ensures.file
+    c.put.ensures.acted)
+
+pub returns-in-Stage-clause-moments : goal.returns-in-Stage-clause-moments
+returns-in-Stage-clause-moments g c told opening held =
+    let seen = g.B.Blocks.seen in
+    let old = c.args.self.now in
+    let mid = c.weigh_change.new.self in
+    let P = RecoversTo old.store.log.geometry old.number (state_now opening old.file) [] in
+    let b = seen c.do_stage.new.self.blocks in
+    guards-then (seen old.blocks) (seen mid.blocks) b P
+    (keeps-recovers g.B.Blocks.tells told old.number old.store (state_now opening old.file)
+    (seen old.blocks) (seen mid.blocks) c.weigh_change.ensures.keeps (held.stored c.requires.going))
+    (subst (λ (l : LogNow). Guards (seen mid.blocks) b
+    (RecoversTo l.geometry old.number (state_now opening old.file) [])) c.weigh_change.ensures.log
+    (subst (λ (n : ℕ). Guards (seen mid.blocks) b
+    (RecoversTo mid.store.log.geometry n (state_now opening old.file) []))
+    c.weigh_change.ensures.number
+    (subst (λ (f : FileNow). Guards (seen mid.blocks) b
+    (RecoversTo mid.store.log.geometry mid.number (state_now opening f) []))
+    c.weigh_change.ensures.file
+    (c.do_stage.ensures.moments told opening (c.weigh_change.ensures.held told opening held)))))
+
+pub returns-in-Ready-clause-moments : goal.returns-in-Ready-clause-moments
+returns-in-Ready-clause-moments g c told opening held =
+    let seen = g.B.Blocks.seen in
+    let old = c.args.self.now in
+    let mid = c.weigh_change.new.self in
+    let b = seen c.put.new.self.blocks in
+    let is-ready = subst (λ (f : FileNow). IsReadyFor (case_of f.geometry (state_now opening f)
+    c.args.unit c.args.request) c.in-Ready.place c.in-Ready.old c.in-Ready.reply c.in-Ready.names)
+    (sym c.weigh_change.ensures.file)
+    (subst (λ (r : Request). IsReadyFor (case_of old.file.geometry (state_now opening old.file)
+    c.args.unit r) c.in-Ready.place c.in-Ready.old c.in-Ready.reply c.in-Ready.names)
+    c.get-2.ensures (c.in-Ready.ensures.may told opening held)) in
+    guards-then (seen old.blocks) (seen mid.blocks) b
+    (RecoversTo old.store.log.geometry old.number (state_now opening old.file) [])
+    (keeps-recovers g.B.Blocks.tells told old.number old.store (state_now opening old.file)
+    (seen old.blocks) (seen mid.blocks) c.weigh_change.ensures.keeps (held.stored c.requires.going))
+    (subst (λ (l : LogNow). Guards (seen mid.blocks) b
+    (RecoversTo l.geometry old.number (state_now opening old.file) [])) c.weigh_change.ensures.log
+    (subst (λ (n : ℕ). Guards (seen mid.blocks) b
+    (RecoversTo mid.store.log.geometry n (state_now opening old.file) []))
+    c.weigh_change.ensures.number
+    (subst (λ (f : FileNow). Guards (seen mid.blocks) b
+    (RecoversTo mid.store.log.geometry mid.number (state_now opening f) []))
+    c.weigh_change.ensures.file
+    (c.put.ensures.moments told opening (c.weigh_change.ensures.held told opening held)
+    (subst (λ (o : Option (List ℕ)). IsReadyFor (case_of mid.file.geometry (state_now opening mid.file)
+    c.args.unit c.args.request) c.in-Ready.place o c.in-Ready.reply c.in-Ready.names)
+    (sym c.slice_of-old.ensures) is-ready)))))
+
+again-by : (act : Act) (opening : State) (old new : FileNow) (unit : UnitOfRecovery) (request : Request)
+    → ((o : State) → IfAgain act ((new.geometry ≡ old.geometry)
+    × (state_now o new ≡ state_now o old))) → MayLackRoom opening old unit request
+    → IfAgain act (MayLackRoom opening new unit request)
+again-by Done opening old new unit request same may = tt
+again-by (Again given) opening old new unit request same may =
+    let both = same opening in
+    λ some. subst (λ (g : Geometry). (first_of
+    (before_room (case_of g (state_now opening new) unit request))
+    ≡ None)
+    × FillsKeyed (case_of g (state_now opening new) unit request))
+    (sym both.0)
+    (subst (λ (s : State). (first_of
+    (before_room (case_of old.geometry s unit request))
+    ≡ None)
+    × FillsKeyed (case_of old.geometry s unit request))
+    (sym both.1) (may some))
+
+pub returns-in-Stage-clause-again : goal.returns-in-Stage-clause-again
+returns-in-Stage-clause-again g c told opening held asked =
+    let old = c.args.self.now.file in
+    let may : MayWeigh (case_of old.geometry (state_now opening old) c.args.unit c.args.request)
+    (weighed.Stage c.in-Stage.place c.in-Stage.length) =
+    subst (λ (r : Request). MayWeigh (case_of old.geometry (state_now opening old) c.args.unit r)
+    (weighed.Stage c.in-Stage.place c.in-Stage.length)) c.get-2.ensures
+    (c.in-Stage.ensures.may told opening held) in
+    again-by c.do_stage.result opening old c.do_stage.new.self.file c.args.unit c.args.request
+    (λ o. subst (λ (f : FileNow). IfAgain c.do_stage.result
+    ((c.do_stage.new.self.file.geometry ≡ f.geometry)
+    × (state_now o c.do_stage.new.self.file ≡ state_now o f))) c.weigh_change.ensures.file
+    (c.do_stage.ensures.again o)) (may asked.unrefused)

@@ -1,0 +1,325 @@
+use Rattle.std.proofs.Common.{◌≡◌, ◌∙◌, [], Err, None, ap, inl, inr, refl, subst, sym}
+use Rattle.vr_types.specs.Moments.{Guards}
+use Rattle.vr_types.specs.declared.fault.DeviceFault.{DeviceFault}
+use Rattle.vr_types.specs.declared.fault.DeviceFault.TheVariants.{Read, Write}
+use Rattle.vr_types.specs.declared.reply.Refusal.TheVariants.{ReadFault, WriteFault}
+use Rattle.vr_types.specs.declared.reply.Reply.TheVariants.{Refused}
+use Rattle.vr_history.specs.Step.{case_of}
+use Rattle.vr_record_file.specs.Now.{FileNow, state_now}
+use Rattle.vr_volume.specs.Crashes.{RecoversTo}
+use Rattle.vr_event.specs.Acting.{IsActed}
+use Rattle.vr_event.specs.Putting.{IsChanging}
+use Rattle.vr_event.specs.Store.{StoreNow}
+use Rattle.vr_event.specs.Volume.{IsHeld, IsWhole, VolumeNow}
+use Rattle.vr_event.specs.declared.act.Act.TheVariants as acts
+use Rattle.vr_event.specs.declared.no.LookNo.TheVariants.{Fault}
+use Rattle.vr_event.proofs.Acted.{failed-for}
+use Rattle.vr_event.proofs.Causes.{entered-refused}
+use Rattle.vr_event.proofs.Entering.{held-refused}
+use Rattle.vr_event.proofs.Placing.{shapes-same}
+use Rattle.vr_event.proofs.Recovering.{stored-recovers}
+use Rattle.vr_event.proofs.UnitEnded.{held-stopped}
+use Rattle.vr_event.proofs.Weighs.{refuse-look}
+use Rattle.vr_event.proofs.Wholes.{held-moved, held-split, may-changing, state-split, whole-of}
+use Rattle.vr_event.proofs.volume.Volume.do_stage.Goals as goal
+
+pub returns-in-Ok-CiSwitch-clause-moments : goal.returns-in-Ok-CiSwitch-clause-moments
+returns-in-Ok-CiSwitch-clause-moments g c told opening held =
+    let seen = g.B.Blocks.seen in
+    let before : VolumeNow g.row.B.Denot = record {
+      blocks = c.self.inside.blocks;
+      number = c.self.inside.number;
+      store = c.self.inside.store;
+      file = c.self.inside.file;
+    } in
+    let goes : before.file.stopped ≡ None =
+    ap (λ (v : VolumeNow g.row.B.Denot). v.file.stopped) c.self.view_is ∙ c.requires.going in
+    let was : IsHeld seen opening before =
+    subst (IsHeld seen opening) (sym c.self.view_is) held in
+    let b = seen c.advance.new.blocks in
+    subst (λ (v : VolumeNow g.row.B.Denot). Guards (seen v.blocks) b
+    (RecoversTo v.store.log.geometry v.number (state_now opening v.file) [])) c.self.view_is
+    (stored-recovers before.number before.store (state_now opening before.file) (seen before.blocks)
+    b (was.stored goes) (c.advance.ensures.moments told before.number
+    (state_now opening before.file) (was.stored goes)))
+
+pub returns-in-Ok-clause-moments : goal.returns-in-Ok-clause-moments
+returns-in-Ok-clause-moments g c told opening held =
+    let seen = g.B.Blocks.seen in
+    let before : VolumeNow g.row.B.Denot = record {
+      blocks = c.self.inside.blocks;
+      number = c.self.inside.number;
+      store = c.self.inside.store;
+      file = c.self.inside.file;
+    } in
+    let goes : before.file.stopped ≡ None =
+    ap (λ (v : VolumeNow g.row.B.Denot). v.file.stopped) c.self.view_is ∙ c.requires.going in
+    let was : IsHeld seen opening before =
+    subst (IsHeld seen opening) (sym c.self.view_is) held in
+    let b = seen c.advance.new.blocks in
+    subst (λ (v : VolumeNow g.row.B.Denot). Guards (seen v.blocks) b
+    (RecoversTo v.store.log.geometry v.number (state_now opening v.file) [])) c.self.view_is
+    (stored-recovers before.number before.store (state_now opening before.file) (seen before.blocks)
+    b (was.stored goes) (c.advance.ensures.moments told before.number
+    (state_now opening before.file) (was.stored goes)))
+
+pub returns-in-Err-Read-clause-moments : goal.returns-in-Err-Read-clause-moments
+returns-in-Err-Read-clause-moments g c told opening held =
+    let seen = g.B.Blocks.seen in
+    let before : VolumeNow g.row.B.Denot = record {
+      blocks = c.self.inside.blocks;
+      number = c.self.inside.number;
+      store = c.self.inside.store;
+      file = c.self.inside.file;
+    } in
+    let goes : before.file.stopped ≡ None =
+    ap (λ (v : VolumeNow g.row.B.Denot). v.file.stopped) c.self.view_is ∙ c.requires.going in
+    let was : IsHeld seen opening before =
+    subst (IsHeld seen opening) (sym c.self.view_is) held in
+    let b = seen c.advance.new.blocks in
+    subst (λ (v : VolumeNow g.row.B.Denot). Guards (seen v.blocks) b
+    (RecoversTo v.store.log.geometry v.number (state_now opening v.file) [])) c.self.view_is
+    (stored-recovers before.number before.store (state_now opening before.file) (seen before.blocks)
+    b (was.stored goes) (c.advance.ensures.moments told before.number
+    (state_now opening before.file) (was.stored goes)))
+
+pub returns-in-Err-Write-clause-moments : goal.returns-in-Err-Write-clause-moments
+returns-in-Err-Write-clause-moments g c told opening held =
+    let seen = g.B.Blocks.seen in
+    let before : VolumeNow g.row.B.Denot = record {
+      blocks = c.self.inside.blocks;
+      number = c.self.inside.number;
+      store = c.self.inside.store;
+      file = c.self.inside.file;
+    } in
+    let goes : before.file.stopped ≡ None =
+    ap (λ (v : VolumeNow g.row.B.Denot). v.file.stopped) c.self.view_is ∙ c.requires.going in
+    let was : IsHeld seen opening before =
+    subst (IsHeld seen opening) (sym c.self.view_is) held in
+    let b = seen c.advance.new.blocks in
+    subst (λ (v : VolumeNow g.row.B.Denot). Guards (seen v.blocks) b
+    (RecoversTo v.store.log.geometry v.number (state_now opening v.file) [])) c.self.view_is
+    (stored-recovers before.number before.store (state_now opening before.file) (seen before.blocks)
+    b (was.stored goes) (c.advance.ensures.moments told before.number
+    (state_now opening before.file) (was.stored goes)))
+
+pub returns-in-Ok-CiSwitch-clause-whole : goal.returns-in-Ok-CiSwitch-clause-whole
+returns-in-Ok-CiSwitch-clause-whole g c =
+    let seen = g.B.Blocks.seen in
+    let before : VolumeNow g.row.B.Denot = record {
+      blocks = c.self.inside.blocks;
+      number = c.self.inside.number;
+      store = c.self.inside.store;
+      file = c.self.inside.file;
+    } in
+    let goes : before.file.stopped ≡ None =
+    ap (λ (v : VolumeNow g.row.B.Denot). v.file.stopped) c.self.view_is ∙ c.requires.going in
+    let whole : IsWhole seen before = subst (IsWhole seen) (sym c.self.view_is) c.requires.whole in
+    whole-of seen before c.advance.new.self c.advance.new.blocks c.split.new.self whole (λ going. goes)
+    (ap (λ (f : FileNow). f.geometry) c.split.ensures.leaves) (ap (λ (f : FileNow). f.catalog) c.split.ensures.leaves)
+    (λ going. ap (λ (s : StoreNow). s.log.geometry) c.advance.ensures.rest)
+    (λ going. shapes-same c.advance.new.self.parts before.store.parts
+    c.advance.ensures.parts.parts)
+    (λ going. c.advance.ensures.set)
+
+pub returns-in-Ok-clause-whole : goal.returns-in-Ok-clause-whole
+returns-in-Ok-clause-whole g c =
+    let seen = g.B.Blocks.seen in
+    let before : VolumeNow g.row.B.Denot = record {
+      blocks = c.self.inside.blocks;
+      number = c.self.inside.number;
+      store = c.self.inside.store;
+      file = c.self.inside.file;
+    } in
+    let goes : before.file.stopped ≡ None =
+    ap (λ (v : VolumeNow g.row.B.Denot). v.file.stopped) c.self.view_is ∙ c.requires.going in
+    let whole : IsWhole seen before = subst (IsWhole seen) (sym c.self.view_is) c.requires.whole in
+    whole-of seen before c.advance.new.self c.advance.new.blocks before.file whole (λ going. goes)
+    refl refl
+    (λ going. ap (λ (s : StoreNow). s.log.geometry) c.advance.ensures.rest)
+    (λ going. shapes-same c.advance.new.self.parts before.store.parts
+    c.advance.ensures.parts.parts)
+    (λ going. c.advance.ensures.set)
+
+pub returns-in-Err-Read-clause-whole : goal.returns-in-Err-Read-clause-whole
+returns-in-Err-Read-clause-whole g c =
+    let seen = g.B.Blocks.seen in
+    let before : VolumeNow g.row.B.Denot = record {
+      blocks = c.self.inside.blocks;
+      number = c.self.inside.number;
+      store = c.self.inside.store;
+      file = c.self.inside.file;
+    } in
+    let goes : before.file.stopped ≡ None =
+    ap (λ (v : VolumeNow g.row.B.Denot). v.file.stopped) c.self.view_is ∙ c.requires.going in
+    let whole : IsWhole seen before = subst (IsWhole seen) (sym c.self.view_is) c.requires.whole in
+    whole-of seen before c.advance.new.self c.advance.new.blocks c.refuse.new.self whole (λ going. goes)
+    (ap (λ (f : FileNow). f.geometry) c.refuse.ensures.leaves) (ap (λ (f : FileNow). f.catalog) c.refuse.ensures.leaves)
+    (λ going. ap (λ (s : StoreNow). s.log.geometry) c.advance.ensures.rest)
+    (λ going. shapes-same c.advance.new.self.parts before.store.parts
+    c.advance.ensures.parts.parts)
+    (λ going. c.advance.ensures.set)
+
+pub returns-in-Err-Write-clause-whole : goal.returns-in-Err-Write-clause-whole
+returns-in-Err-Write-clause-whole g c =
+    let seen = g.B.Blocks.seen in
+    let before : VolumeNow g.row.B.Denot = record {
+      blocks = c.self.inside.blocks;
+      number = c.self.inside.number;
+      store = c.self.inside.store;
+      file = c.self.inside.file;
+    } in
+    let goes : before.file.stopped ≡ None =
+    ap (λ (v : VolumeNow g.row.B.Denot). v.file.stopped) c.self.view_is ∙ c.requires.going in
+    let whole : IsWhole seen before = subst (IsWhole seen) (sym c.self.view_is) c.requires.whole in
+    whole-of seen before c.advance.new.self c.advance.new.blocks c.fail_write.new.self whole (λ going. goes)
+    (ap (λ (f : FileNow). f.geometry) c.fail_write.ensures.leaves) (ap (λ (f : FileNow). f.catalog) c.fail_write.ensures.leaves)
+    (λ going. ap (λ (s : StoreNow). s.log.geometry) c.advance.ensures.rest)
+    (λ going. shapes-same c.advance.new.self.parts before.store.parts
+    c.advance.ensures.parts.parts)
+    (λ going. c.advance.ensures.set)
+
+pub returns-in-Ok-CiSwitch-clause-held : goal.returns-in-Ok-CiSwitch-clause-held
+returns-in-Ok-CiSwitch-clause-held g c told opening held asked =
+    let seen = g.B.Blocks.seen in
+    let before : VolumeNow g.row.B.Denot = record {
+      blocks = c.self.inside.blocks;
+      number = c.self.inside.number;
+      store = c.self.inside.store;
+      file = c.self.inside.file;
+    } in
+    let was : IsHeld seen opening before =
+    subst (IsHeld seen opening) (sym c.self.view_is) held in
+    let moved = held-moved seen opening before c.advance.new.self c.advance.new.blocks
+    (c.advance.ensures.owners_same told)
+    (λ going. c.in-Ok-CiSwitch.ensures.stored told before.number (state_now opening before.file)
+    (was.stored going)) was in
+    held-split seen opening (record before {
+      blocks = c.advance.new.blocks;
+      store = c.advance.new.self;
+    }) c.split.new.self c.args.after c.args.unit c.args.part c.split.ensures.leaves moved
+    (c.split.ensures.state opening was.file)
+
+pub returns-in-Ok-clause-held : goal.returns-in-Ok-clause-held
+returns-in-Ok-clause-held g c told opening held asked =
+    let seen = g.B.Blocks.seen in
+    let before : VolumeNow g.row.B.Denot = record {
+      blocks = c.self.inside.blocks;
+      number = c.self.inside.number;
+      store = c.self.inside.store;
+      file = c.self.inside.file;
+    } in
+    let was : IsHeld seen opening before =
+    subst (IsHeld seen opening) (sym c.self.view_is) held in
+    let moved = held-moved seen opening before c.advance.new.self c.advance.new.blocks
+    (c.advance.ensures.owners_same told)
+    (λ going. c.in-Ok.ensures.stored told before.number (state_now opening before.file)
+    (was.stored going)) was in
+    moved
+
+pub returns-in-Ok-CiSwitch-clause-again : goal.returns-in-Ok-CiSwitch-clause-again
+returns-in-Ok-CiSwitch-clause-again g c opening =
+    let seen = g.B.Blocks.seen in
+    let before : VolumeNow g.row.B.Denot = record {
+      blocks = c.self.inside.blocks;
+      number = c.self.inside.number;
+      store = c.self.inside.store;
+      file = c.self.inside.file;
+    } in
+    let of-file : before.file ≡ c.args.self.now.file =
+    ap (λ (v : VolumeNow g.row.B.Denot). v.file) c.self.view_is in (
+      subst (λ (f : FileNow). c.split.new.self.geometry ≡ f.geometry) of-file
+          (ap (λ (f : FileNow). f.geometry) c.split.ensures.leaves),
+      subst (λ (f : FileNow). state_now opening c.split.new.self ≡ state_now opening f) of-file
+          (state-split opening before.file c.split.new.self c.args.after c.args.unit c.args.part
+          c.split.ensures.leaves),
+    )
+
+pub returns-in-Ok-clause-again : goal.returns-in-Ok-clause-again
+returns-in-Ok-clause-again g c opening =
+    let of-file = ap (λ (v : VolumeNow g.row.B.Denot). v.file) c.self.view_is in (
+      ap (λ (f : FileNow). f.geometry) of-file,
+      ap (λ (f : FileNow). state_now opening f) of-file,
+    )
+
+pub returns-in-Err-Read-clause-held : goal.returns-in-Err-Read-clause-held
+returns-in-Err-Read-clause-held g c told opening held asked =
+    let seen = g.B.Blocks.seen in
+    let before : VolumeNow g.row.B.Denot = record {
+      blocks = c.self.inside.blocks;
+      number = c.self.inside.number;
+      store = c.self.inside.store;
+      file = c.self.inside.file;
+    } in
+    let was : IsHeld seen opening before =
+    subst (IsHeld seen opening) (sym c.self.view_is) held in
+    let mine : IsChanging opening before.file c.args.unit c.args.request =
+    subst (λ (f : FileNow). IsChanging opening f c.args.unit c.args.request)
+    (sym (ap (λ (v : VolumeNow g.row.B.Denot). v.file) c.self.view_is)) asked in
+    let moved = held-moved seen opening before c.advance.new.self c.advance.new.blocks
+    (c.advance.ensures.owners_same told)
+    (λ going. (c.in-Err-Read.ensures.unread c.in-Err-Read.field-0-is).1 told before.number
+    (state_now opening before.file) (was.stored going)) was in
+    let may = may-changing opening before.file c.args.unit c.args.request (Refused ReadFault) mine
+    (refuse-look (case_of before.file.geometry (state_now opening before.file) c.args.unit
+    c.args.request) c.requires.change (Fault Read) mine.unrefused).0 in
+    held-refused seen opening (record before {
+      blocks = c.advance.new.blocks;
+      store = c.advance.new.self;
+    }) c.refuse.new.self c.args.after c.args.unit c.args.line c.args.request ReadFault
+    c.refuse.ensures.leaves refl moved (c.refuse.ensures.state opening was.file may refl refl)
+
+pub returns-in-Err-Read-clause-acted : goal.returns-in-Err-Read-clause-acted
+returns-in-Err-Read-clause-acted g c =
+    let faults = g.B.Blocks.faults in
+    let cause = c.in-Err-Read.ensures.cause in
+    subst (λ (v : VolumeNow g.row.B.Denot). IsActed (faults v.blocks)
+    (faults c.advance.new.blocks) acts.Done c.args.after c.args.unit c.args.line c.args.request
+    v.file c.refuse.new.self) c.self.view_is (record {
+      reads = cause.reads;
+      writes = cause.writes;
+      by = inl (entered-refused ReadFault c.refuse.ensures.leaves (record {
+        reads = cause.reads;
+        writes = cause.writes;
+        read = λ is. cause.read (ap (λ (f : DeviceFault). Err f) c.in-Err-Read.field-0-is);
+        write = λ is. absurd cc;
+      }));
+    })
+
+pub returns-in-Err-Write-clause-held : goal.returns-in-Err-Write-clause-held
+returns-in-Err-Write-clause-held g c told opening held asked =
+    let seen = g.B.Blocks.seen in
+    let before : VolumeNow g.row.B.Denot = record {
+      blocks = c.self.inside.blocks;
+      number = c.self.inside.number;
+      store = c.self.inside.store;
+      file = c.self.inside.file;
+    } in
+    let was : IsHeld seen opening before =
+    subst (IsHeld seen opening) (sym c.self.view_is) held in
+    let mine : IsChanging opening before.file c.args.unit c.args.request =
+    subst (λ (f : FileNow). IsChanging opening f c.args.unit c.args.request)
+    (sym (ap (λ (v : VolumeNow g.row.B.Denot). v.file) c.self.view_is)) asked in
+    let may = may-changing opening before.file c.args.unit c.args.request (Refused WriteFault) mine
+    (refuse-look (case_of before.file.geometry (state_now opening before.file) c.args.unit
+    c.args.request) c.requires.change (Fault Write) mine.unrefused).0 in
+    held-stopped seen opening before c.fail_write.new.self c.advance.new.self c.advance.new.blocks
+    c.args.after c.args.unit c.args.line c.args.request c.fail_write.ensures.leaves
+    (c.advance.ensures.owners_same told) was
+    (c.fail_write.ensures.state opening before.file.locks was.file may)
+
+pub returns-in-Err-Write-clause-acted : goal.returns-in-Err-Write-clause-acted
+returns-in-Err-Write-clause-acted g c =
+    let faults = g.B.Blocks.faults in
+    let cause = c.in-Err-Write.ensures.cause in
+    subst (λ (v : VolumeNow g.row.B.Denot). IsActed (faults v.blocks)
+    (faults c.advance.new.blocks) acts.Done c.args.after c.args.unit c.args.line c.args.request
+    v.file c.fail_write.new.self) c.self.view_is (record {
+      reads = cause.reads;
+      writes = cause.writes;
+      by = inr (inr (
+        failed-for c.args.after c.args.unit c.args.line c.args.request c.self.inside.file
+            c.fail_write.new.self c.fail_write.ensures.leaves,
+        cause.write (ap (λ (f : DeviceFault). Err f) c.in-Err-Write.field-0-is),
+      ));
+    })

@@ -1,0 +1,60 @@
+use Rattle.std.proofs.Common.{subst, sym}
+use Rattle.vr_types.specs.Moments.{Guards}
+use Rattle.vr_types.proofs.CallerLemmas.{keeps-none}
+use Rattle.vr_record_file.specs.Now.{state_now}
+use Rattle.vr_event.specs.Acting.{IsLeftIn}
+use Rattle.vr_event.specs.declared.acting.Event.TheVariants.{EndRequest}
+use Rattle.vr_event.proofs.Recovers.{recovers-keeps, recovers-with}
+use Rattle.vr_event.proofs.Serves.{ended-of, ending-of, event-at}
+use Rattle.vr_event.proofs.volume.Volume.serve.Goals as goal
+
+pub returns-in-Get-clause-moments : goal.returns-in-Get-clause-moments
+returns-in-Get-clause-moments g c told opening held may none =
+    let old = c.args.self.now in
+    let state = state_now opening old.file in
+    let a = g.B.Blocks.seen old.blocks in
+    recovers-with old.number old.store state a (g.B.Blocks.seen c.get-in-Get.new.self.blocks)
+    (held.stored c.requires.going) c.args.after c.args.unit c.args.line c.args.request old.file
+    c.get-in-Get.new.self.file (c.get-in-Get.ensures.moments told opening held)
+
+pub returns-in-EndRequest-clause-held : goal.returns-in-EndRequest-clause-held
+returns-in-EndRequest-clause-held g c told opening held may none =
+    let request = c.args.request in
+    let ends = event-at EndRequest c.event_of.result c.get.result.now request c.in-EndRequest.is
+    c.get.ensures c.requires.direct c.event_of.ensures in
+    c.end_request.ensures.held told opening ends.0 held
+    (ended-of opening c.args.self.now.file c.args.unit request may ends.0 ends.1 none) ends.1
+
+pub returns-in-EndRequest-clause-moments : goal.returns-in-EndRequest-clause-moments
+returns-in-EndRequest-clause-moments g c told opening held may none =
+    let old = c.args.self.now in
+    let state = state_now opening old.file in
+    let a = g.B.Blocks.seen old.blocks in
+    let tells = g.B.Blocks.tells in
+    let stored = held.stored c.requires.going in
+    subst (λ (b : g.row.B.Denot). Guards a (g.B.Blocks.seen b) (IsLeftIn old.store.log.geometry
+    old.number state c.args.after c.args.unit c.args.line c.args.request old.file
+    c.end_request.new.self.file)) (sym c.end_request.ensures.blocks)
+    (recovers-with old.number old.store state a a stored c.args.after c.args.unit c.args.line
+    c.args.request old.file c.end_request.new.self.file
+    (recovers-keeps old.number old.store state a a stored tells told
+    (keeps-none tells a (λ told image is. g.met.B.Blocks.images_may old.blocks image told is))))
+
+pub returns-in-Change-clause-moments : goal.returns-in-Change-clause-moments
+returns-in-Change-clause-moments g c told opening held may none =
+    let old = c.args.self.now in
+    let state = state_now opening old.file in
+    let a = g.B.Blocks.seen old.blocks in
+    recovers-with old.number old.store state a (g.B.Blocks.seen c.change.new.self.blocks)
+    (held.stored c.requires.going) c.args.after c.args.unit c.args.line c.args.request old.file
+    c.change.new.self.file (c.change.ensures.moments told opening held)
+
+pub returns-in-BackOut-clause-moments : goal.returns-in-BackOut-clause-moments
+returns-in-BackOut-clause-moments g c told opening held may none =
+    let old = c.args.self.now in
+    let state = state_now opening old.file in
+    let a = g.B.Blocks.seen old.blocks in
+    recovers-with old.number old.store state a (g.B.Blocks.seen c.back_out.new.self.blocks)
+    (held.stored c.requires.going) c.args.after c.args.unit c.args.line c.args.request old.file
+    c.back_out.new.self.file (c.back_out.ensures.moments told opening held
+    (ending-of opening old.file c.args.unit c.args.request may none))

@@ -1,0 +1,22 @@
+use Rattle.std.proofs.Common.{ap, subst, sym}
+use Rattle.vr_types.specs.declared.reply.Refusal.TheVariants.{WriteFault}
+use Rattle.vr_types.specs.declared.reply.Reply.TheVariants.{Refused}
+use Rattle.vr_record_file.specs.Now.{FileNow, MayBeAsked}
+use Rattle.vr_event.specs.Volume.{IsFileHeld, VolumeNow}
+use Rattle.vr_event.proofs.Entries.{held-known}
+use Rattle.vr_event.proofs.volume.Volume.stop.Goals as goal
+
+pub returns-clause-held : goal.returns-clause-held
+returns-clause-held g c told opening known asked =
+    let before : VolumeNow g.row.B.Denot = record {
+      blocks = c.self.inside.blocks;
+      number = c.self.inside.number;
+      store = c.self.inside.store;
+      file = c.self.inside.file;
+    } in
+    let then = subst (IsFileHeld opening) (sym c.self.view_is) known in
+    held-known g.B.Blocks.seen opening before c.fail_write.new.self c.args.after c.args.unit
+    c.args.line c.args.request c.fail_write.ensures.leaves then
+    (c.fail_write.ensures.state opening c.self.inside.file.locks then.file
+    (subst (λ (f : FileNow). MayBeAsked opening f c.args.unit c.args.request (Refused WriteFault))
+    (sym (ap (λ (v : VolumeNow g.row.B.Denot). v.file) c.self.view_is)) asked))

@@ -1,0 +1,120 @@
+//! Places and records that fit a part by the catalog, and what the log has of them.
+ghost use Rattle.std.specs.Prelude.{◌≡◌, ◌==◌, ◌<◌, ◌^◌, IfSome, IsTrue, List, false, is_some, length};
+ghost use Rattle.std.specs.List.{list_any};
+ghost use Rattle.std.specs.Option.{option_copied};
+ghost use Rattle.vr_types.specs.declared.geometry.Geometry.{Geometry};
+ghost use Rattle.vr_log.specs.Live.{is_in, live_in};
+ghost use Rattle.vr_undo.specs.Records.{is_logged_in, logged_of};
+ghost use Rattle.vr_event.specs.Putting.{AreLaidBy, FitsItem, FitsLength, FitsRecord, IsRecordBy};
+ghost use Rattle.vr_event.specs.Store.{PartNow, part_among};
+
+use crate::parts::Laid;
+use crate::store::Store;
+use vr_catalog::{Catalog, Definition};
+use vr_space::Part;
+use vr_types::{PartNo, Place, Unit};
+
+/// Whether one of the parts has this number.
+fn is_laid<P>(parts: &[Laid<P>], number: PartNo) -> bool
+    ensures { result ≡ list_any (λ laid. laid.number.0 == number.0) parts.now }
+{
+    parts.iter().any(|laid| laid.number.0 == number.0)
+}
+
+impl<P: Part> Store<P> {
+    /// Whether a part of this number is laid.
+    pub(crate) fn has_part(&self, number: PartNo) -> bool
+        ensures { result ≡ is_some (part_among self.now.parts number.0) }
+    {
+        is_laid(&self.parts, number)
+    }
+
+    /// Whether the log has a before-image of a place for a unit.
+    pub(crate) fn has_logged(&self, unit: Unit, part: PartNo, place: &Place) -> bool
+        ensures { result ≡ is_logged_in unit part.0 place.now (logged_of self.now.undo) }
+    {
+        self.undo.is_logged(unit, part, place)
+    }
+
+    /// Whether a unit is live in the log.
+    pub(crate) fn has_live(&self, unit: Unit) -> bool
+        requires { self.now.log.broken ≡ false }
+        ensures { result ≡ is_in unit (live_in self.now.log.records) }
+    {
+        self.log.is_live(unit)
+    }
+}
+
+/// The length of a record that a definition allows at a place; None of any other.
+fn length_by(definition: &Definition, place: &Place, bytes: &[u8]) -> Option<u32>
+    ensures length { IfSome result (λ n. n ≡ length bytes.now) }
+    ensures record { IfSome result (λ n. IsRecordBy definition.now place.now bytes.now) }
+{
+    let from = definition.key_offset as usize;
+    let to = from + definition.key_length as usize;
+    let length = bytes.len();
+    if to <= length
+        && length <= definition.maximum as usize
+        && &bytes[from..to] == place.as_slice()
+    {
+        Some(length as u32)
+    } else {
+        None
+    }
+}
+
+/// The length of a record that may stand at a place of a part of a catalog; None of any other.
+#[tactic(auto, using(crate::proofs::RecordShapes::fits_by))]
+fn record_length(catalog: &Catalog, part: PartNo, place: &Place, bytes: &[u8]) -> Option<u32>
+    ensures length { IfSome result (λ n. n ≡ length bytes.now) }
+    ensures short { IfSome result (λ n. n < 2 ^ 32) }
+    ensures record { IfSome result (λ n. (geometry : Geometry) (parts : List PartNow)
+        → AreLaidBy geometry catalog.now parts
+        → FitsRecord parts part.0 place.now bytes.now) }
+{
+    match catalog.definition_of(part) {
+        None => None,
+        Some(definition) => length_by(&definition, place, bytes),
+    }
+}
+
+/// Whether the record that stands at a place of a part of a catalog, if any, may stand there.
+pub(crate) fn fits_item(catalog: &Catalog, part: PartNo, place: &Place, item: Option<&[u8]>) -> bool
+    ensures { IsTrue result → (geometry : Geometry) (parts : List PartNow)
+        → AreLaidBy geometry catalog.now parts
+        → FitsItem parts part.0 place.now (option_copied item.entry) }
+{
+    match item {
+        None => true,
+        Some(bytes) => match record_length(catalog, part, place, bytes) {
+            None => false,
+            Some(n) => true,
+        },
+    }
+}
+
+/// The length for which a change asks room: that of the record that it gives its place, or else that
+/// of the one that stands there. None where there is none, or where it may not stand there.
+pub(crate) fn length_asked(
+    catalog: &Catalog,
+    part: PartNo,
+    place: &Place,
+    new: Option<&[u8]>,
+    old: Option<&[u8]>,
+) -> Option<u32>
+    ensures size { IfSome result (λ n. (geometry : Geometry) (parts : List PartNow)
+        → AreLaidBy geometry catalog.now parts → FitsLength parts part.0 n) }
+    ensures new_fits { IfSome result (λ n. (geometry : Geometry) (parts : List PartNow)
+        → AreLaidBy geometry catalog.now parts
+        → FitsItem parts part.0 place.now (option_copied new.entry)) }
+    ensures long { IfSome result (λ n. IfSome (option_copied new.entry)
+        (λ bytes. n ≡ length bytes)) }
+{
+    match new {
+        Some(bytes) => record_length(catalog, part, place, bytes),
+        None => match old {
+            Some(bytes) => record_length(catalog, part, place, bytes),
+            None => None,
+        },
+    }
+}

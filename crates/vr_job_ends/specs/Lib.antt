@@ -1,0 +1,4 @@
+pub mod Input
+pub mod Names
+pub mod Reading
+pub mod Ends

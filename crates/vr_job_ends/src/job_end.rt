@@ -1,0 +1,31 @@
+//! What a job leaves: how it ended, its text and the histories of its volumes.
+
+use vr_job_text::JobText;
+use vr_trace::{EndLine, Histories};
+
+/// How a job came to its end.
+#[derive(Clone, Copy, Debug, PartialEq, Eq)]
+pub enum End {
+    /// Its steps ran.
+    Ran,
+    /// Otherwise: one line says how.
+    Line(EndLine),
+}
+
+/// What a job did: the job that its text is, where it is one; how it ended; whether the lines of its
+/// history are printed too; and the histories of its volumes, with every reply.
+#[derive(Drop)]
+pub struct Trace {
+    pub job: Option<JobText>,
+    pub end: End,
+    pub lines: bool,
+    pub histories: Histories,
+}
+
+/// How a job ended: the status, the devices that it was handed, in their order, and what it did.
+#[derive(Drop)]
+pub struct JobEnd<D> {
+    pub status: u8,
+    pub shelf: Vec<D>,
+    pub trace: Trace,
+}

@@ -1,0 +1,5 @@
+mod Cards
+mod DeckNumbers
+mod LineLengths
+mod OrderCounts
+mod Outcomes

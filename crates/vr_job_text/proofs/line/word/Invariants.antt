@@ -1,0 +1,9 @@
+use Rattle.std.proofs.Common.{◌≡◌, ◌+◌, drop, not}
+use Rattle.std.specs.List.{prefix_len}
+use Rattle.vr_deck_text.specs.Words.{is_blank}
+use Rattle.vr_job_text.proofs.line.word.Given as goal
+
+abbrev pub invariant-loop-at : goal.invariant-loop-at
+invariant-loop-at l =
+    l.at + prefix_len (λ b. not (is_blank b)) (drop l.at l.line)
+    ≡ prefix_len (λ b. not (is_blank b)) l.line

@@ -1,0 +1,191 @@
+//! The catalogs of two volumes.
+
+use crate::answers::Stop;
+use std::alloc::Global;
+use vr_catalog::{CatEntry, Catalog, EntryKind, FreeSpace, ShareOptions, SpaceUnit};
+use vr_types::{Kind, NameFault, PartNo, dataset_name};
+
+/// Volume 0 has a key-sequenced cluster with an alternate index and paths over both, an
+/// entry-sequenced one and a relative one; volume 1 has another cluster of the first name, a
+/// relative cluster, a path over that, and a path over nothing.
+pub fn two_catalogs(alloc: Global) -> Result<Vec<Catalog>, Stop> {
+    let mut catalogs = Vec::new(alloc);
+    catalogs.push(first_catalog(alloc)?)?;
+    catalogs.push(second_catalog(alloc)?)?;
+    Ok(catalogs)
+}
+
+/// The catalog of volume 0.
+fn first_catalog(alloc: Global) -> Result<Catalog, Stop> {
+    let mut catalog = Catalog::new(alloc);
+    add(
+        alloc,
+        &mut catalog,
+        "A.KEYED",
+        EntryKind::Cluster,
+        Kind::Keyed,
+        1,
+        0,
+    )?;
+    add(
+        alloc,
+        &mut catalog,
+        "A.INDEX",
+        EntryKind::Alternate,
+        Kind::Keyed,
+        2,
+        1,
+    )?;
+    add(
+        alloc,
+        &mut catalog,
+        "A.PATH",
+        EntryKind::Path,
+        Kind::Keyed,
+        3,
+        2,
+    )?;
+    add(
+        alloc,
+        &mut catalog,
+        "A.OTHER",
+        EntryKind::Path,
+        Kind::Keyed,
+        4,
+        1,
+    )?;
+    add(
+        alloc,
+        &mut catalog,
+        "A.ENTRY",
+        EntryKind::Cluster,
+        Kind::Entry,
+        5,
+        0,
+    )?;
+    add(
+        alloc,
+        &mut catalog,
+        "A.SLOTS",
+        EntryKind::Cluster,
+        Kind::Relative,
+        6,
+        0,
+    )?;
+    add(
+        alloc,
+        &mut catalog,
+        "A.XENTRY",
+        EntryKind::Alternate,
+        Kind::Keyed,
+        7,
+        5,
+    )?;
+    Ok(catalog)
+}
+
+/// The catalog of volume 1.
+fn second_catalog(alloc: Global) -> Result<Catalog, Stop> {
+    let mut catalog = Catalog::new(alloc);
+    add(
+        alloc,
+        &mut catalog,
+        "A.KEYED",
+        EntryKind::Cluster,
+        Kind::Entry,
+        1,
+        0,
+    )?;
+    add(
+        alloc,
+        &mut catalog,
+        "B.SLOTS",
+        EntryKind::Cluster,
+        Kind::Relative,
+        2,
+        0,
+    )?;
+    add(
+        alloc,
+        &mut catalog,
+        "B.PATH",
+        EntryKind::Path,
+        Kind::Keyed,
+        3,
+        2,
+    )?;
+    add(
+        alloc,
+        &mut catalog,
+        "B.LOST",
+        EntryKind::Path,
+        Kind::Keyed,
+        4,
+        9,
+    )?;
+    Ok(catalog)
+}
+
+/// Adds an entry to a catalog: what it describes, its kind, its part and the part that it is over.
+fn add(
+    alloc: Global,
+    catalog: &mut Catalog,
+    name: &str,
+    entry_kind: EntryKind,
+    kind: Kind,
+    part: u32,
+    related: u32,
+) -> Result<(), Stop> {
+    let mut entry = plain_entry(alloc, name)?;
+    entry.entry_kind = entry_kind;
+    entry.kind = Some(kind);
+    entry.part = PartNo(part);
+    entry.related = if related == 0 {
+        None
+    } else {
+        Some(PartNo(related))
+    };
+    catalog.push(entry)?;
+    Ok(())
+}
+
+/// An entry with a name and what all have in common.
+fn plain_entry(alloc: Global, name: &str) -> Result<CatEntry, Stop> {
+    let name = match dataset_name(alloc, name) {
+        Ok(name) => name,
+        Err(NameFault::Memory) => return Err(Stop::Memory),
+        Err(_) => return Err(Stop::Line),
+    };
+    Ok(CatEntry {
+        name,
+        entry_kind: EntryKind::Cluster,
+        kind: None,
+        spanned: false,
+        unique: false,
+        built: false,
+        part: PartNo(1),
+        related: None,
+        key_length: 4,
+        key_offset: 0,
+        average: 80,
+        maximum: 80,
+        first_area: None,
+        free_space: FreeSpace {
+            interval: 0,
+            area: 0,
+        },
+        share_options: ShareOptions {
+            regions: 1,
+            systems: 3,
+        },
+        space: SpaceUnit::Unstated,
+        primary: 0,
+        secondary: 0,
+        interval_size: 0,
+        data_name: None,
+        index_name: None,
+        storage_class: None,
+        data_class: None,
+        management_class: None,
+    })
+}

@@ -1,0 +1,324 @@
+//! A reader of jobs, plain and slow: it looks at each line beside all lines before it, and reads a
+//! deck again after each of its lines.
+
+use crate::answers::{Answer, Stop, say_deck, say_fault, say_order, say_step};
+use crate::look::{Look, What, lines_of, look_at, name_of, number_of};
+use std::alloc::Global;
+use vr_deck_text::{Ask, At, DeckFault, DeckText, Seek, parse_deck};
+use vr_text::Lines;
+
+/// The first fault of a text.
+#[derive(Clone, Copy)]
+struct Fault {
+    kind: &'static str,
+    cause: u8,
+    line: usize,
+    column: usize,
+}
+
+/// A text: its lines, and what each is.
+#[derive(Drop)]
+struct Text<'a> {
+    lines: Vec<&'a [u8]>,
+    looks: Vec<Look>,
+}
+
+/// Writes the job of a text, or its first fault.
+pub fn write_outcome(alloc: Global, text: &[u8], out: &mut String) -> Answer {
+    let text = look_over(alloc, text)?;
+    match first_fault(alloc, &text)? {
+        None => write_steps(alloc, &text, out),
+        Some(fault) => say_fault(
+            out,
+            fault.kind,
+            fault.cause,
+            number(fault.line),
+            (fault.column % 4_294_967_296) as u32,
+        ),
+    }
+}
+
+/// What each line of a text is.
+fn look_over<'a>(alloc: Global, text: &'a [u8]) -> Result<Box<Text<'a>>, Stop> {
+    let lines = lines_of(alloc, text)?;
+    let mut looks = Vec::new(alloc);
+    for line in lines.as_slice() {
+        looks.push(look_at(alloc, line)?)?;
+    }
+    Ok(Box::new(alloc, Text { lines, looks })?)
+}
+
+/// The number of the line at a place.
+fn number(at: usize) -> u32 {
+    (at.saturating_add(1) % 4_294_967_296) as u32
+}
+
+/// What the line at a place is: the end of a step where there is none.
+fn what_at(text: &Text, at: usize) -> What {
+    match text.looks.get(at) {
+        Some(look) => look.what,
+        None => What::Decks,
+    }
+}
+
+/// The line at a place.
+fn line_at<'a>(text: &Text<'a>, at: usize) -> &'a [u8] {
+    match text.lines.get(at) {
+        Some(line) => line,
+        None => b"",
+    }
+}
+
+/// The first fault of a text.
+fn first_fault(alloc: Global, text: &Text) -> Result<Option<Fault>, Stop> {
+    for at in 0..text.lines.len().saturating_add(1) {
+        let fault = fault_at(alloc, text, at)?;
+        if fault.is_some() {
+            return Ok(fault);
+        }
+    }
+    Ok(None)
+}
+
+/// The fault that is told at a line, or at the end of a text, where no line before has one.
+fn fault_at(alloc: Global, text: &Text, at: usize) -> Result<Option<Fault>, Stop> {
+    if let Some(look) = text.looks.get(at) {
+        let wrong = card_fault(text, at, *look);
+        if wrong.cause != 0 {
+            return Ok(Some(Fault {
+                kind: "CARD",
+                cause: wrong.cause,
+                line: at,
+                column: wrong.column,
+            }));
+        }
+    }
+    let what = what_at(text, at);
+    if what != What::Decks && what != What::Utilities {
+        return Ok(None);
+    }
+    let fault = step_fault(alloc, text, at)?;
+    if fault.is_none() && what == What::Utilities {
+        return Ok(Some(form_at(at)));
+    }
+    Ok(fault)
+}
+
+/// The fault of a line that isn't run.
+fn form_at(at: usize) -> Fault {
+    Fault {
+        kind: "FORM",
+        cause: 0,
+        line: at,
+        column: 1,
+    }
+}
+
+/// The number of the fault that a line has after those before it, and its column.
+fn card_fault(text: &Text, at: usize, look: Look) -> Look {
+    let line = line_at(text, at);
+    let mut wrong = look;
+    if look.what == What::Data {
+        wrong.column = 3;
+        let decks = count_decks(text, at, None);
+        match number_of(line) {
+            None => wrong.cause = 1,
+            Some(deck) => {
+                if begin_of(text, at).is_none() {
+                    wrong.cause = 1;
+                } else if decks > 63 {
+                    wrong.cause = 7;
+                } else if deck == 0 || deck > 99 || count_decks(text, at, Some(deck)) > 0 {
+                    wrong.cause = 4;
+                    wrong.column = 7;
+                }
+            }
+        }
+    }
+    if look.cause == 0 && look.what == What::Text && !line.is_empty() && !is_open(text, at) {
+        wrong.cause = 3;
+        wrong.column = 1;
+        for byte in line {
+            if *byte != b' ' {
+                break;
+            }
+            wrong.column = wrong.column.saturating_add(1);
+        }
+    }
+    wrong
+}
+
+/// The card that began the step in which a line is.
+fn begin_of(text: &Text, at: usize) -> Option<usize> {
+    let mut begin = None;
+    for before in 0..at {
+        if what_at(text, before) == What::Decks {
+            begin = Some(before);
+        }
+    }
+    begin
+}
+
+/// How many decks are announced before a line, or how many of a number.
+fn count_decks(text: &Text, at: usize, wanted: Option<u32>) -> u64 {
+    let mut count = 0u64;
+    for before in 0..at {
+        let found = number_of(line_at(text, before));
+        if what_at(text, before) == What::Data && (wanted.is_none() || found == wanted) {
+            count = count.saturating_add(1);
+        }
+    }
+    count
+}
+
+/// Whether a deck goes on at a line.
+fn is_open(text: &Text, at: usize) -> bool {
+    let mut open = false;
+    for before in 0..at {
+        let what = what_at(text, before);
+        if what != What::Text {
+            open = what == What::Data;
+        }
+    }
+    open
+}
+
+/// The first fault of the decks of the step that a line ends.
+fn step_fault(alloc: Global, text: &Text, at: usize) -> Result<Option<Fault>, Stop> {
+    let Some(begin) = begin_of(text, at) else {
+        return Ok(None);
+    };
+    for card in begin..at {
+        if what_at(text, card) == What::Data {
+            let fault = deck_fault(alloc, text, card)?;
+            if fault.is_some() {
+                return Ok(fault);
+            }
+        }
+    }
+    Ok(None)
+}
+
+/// How many lines a deck has after its card.
+fn length_of(text: &Text, card: usize) -> usize {
+    let mut length = 0usize;
+    let mut open = true;
+    for at in card.saturating_add(1)..text.lines.len() {
+        open = open && what_at(text, at) == What::Text;
+        if open {
+            length = length.saturating_add(1);
+        }
+    }
+    length
+}
+
+/// The first lines of a deck.
+fn lines_from<'a>(
+    alloc: Global,
+    text: &Text<'a>,
+    card: usize,
+    count: usize,
+) -> Result<Lines<'a>, Stop> {
+    let mut lines = Lines::new(alloc);
+    for more in 0..count {
+        let at = card.saturating_add(1).saturating_add(more);
+        lines.push(number(at), line_at(text, at))?;
+    }
+    Ok(lines)
+}
+
+/// The first fault of a deck: the deck is read again after each of its lines.
+fn deck_fault(alloc: Global, text: &Text, card: usize) -> Result<Option<Fault>, Stop> {
+    for count in 1..length_of(text, card).saturating_add(1) {
+        let at = card.saturating_add(count);
+        let cause = cause_of(alloc, text, card, count)?;
+        if cause == Some(0) {
+            return Ok(Some(form_at(at)));
+        }
+        if let Some(cause) = cause {
+            return Ok(Some(Fault {
+                kind: "DECK",
+                cause,
+                line: at,
+                column: 1,
+            }));
+        }
+    }
+    Ok(None)
+}
+
+/// The number of the fault in the first lines of a deck: 0 where an order isn't run.
+fn cause_of(alloc: Global, text: &Text, card: usize, count: usize) -> Result<Option<u8>, Stop> {
+    let lines = lines_from(alloc, text, card, count)?;
+    match parse_deck(alloc, &lines) {
+        Ok(deck) => Ok(if is_all_run(&deck) { None } else { Some(0) }),
+        Err(DeckFault::Text(fault)) => Ok(Some(fault.cause.number())),
+        Err(DeckFault::Memory) => Err(Stop::Memory),
+    }
+}
+
+/// Whether each order of a deck is run.
+fn is_all_run(deck: &DeckText) -> bool {
+    for order in deck.orders.as_slice() {
+        let run = match &order.ask {
+            Ask::Point { .. } => false,
+            Ask::Add { at, .. } => at.is_none(),
+            Ask::Get { seek, .. } => is_keyed(seek),
+            _ => true,
+        };
+        if !run {
+            return false;
+        }
+    }
+    true
+}
+
+/// Whether the record of a key is asked for.
+fn is_keyed(seek: &Seek) -> bool {
+    if let Seek::Equal(At::Key(_)) = seek {
+        true
+    } else {
+        false
+    }
+}
+
+/// Writes the steps of a text that has no fault.
+fn write_steps(alloc: Global, text: &Text, out: &mut String) -> Answer {
+    for at in 0..text.lines.len() {
+        if what_at(text, at) == What::Decks {
+            say_step(alloc, out, name_of(line_at(text, at)), number(at))?;
+            for deck in 1..100 {
+                write_numbered(alloc, text, at, deck, out)?;
+            }
+        }
+    }
+    Ok(())
+}
+
+/// Writes the deck of a number in the step that a card begins, where it has one.
+fn write_numbered(alloc: Global, text: &Text, begin: usize, deck: u32, out: &mut String) -> Answer {
+    for card in begin..text.lines.len() {
+        let of_step = begin_of(text, card) == Some(begin);
+        let is_card = what_at(text, card) == What::Data;
+        if of_step && is_card && number_of(line_at(text, card)) == Some(deck) {
+            write_deck(alloc, text, card, deck, out)?;
+        }
+    }
+    Ok(())
+}
+
+/// Writes the deck after a card.
+fn write_deck(alloc: Global, text: &Text, card: usize, deck: u32, out: &mut String) -> Answer {
+    let lines = lines_from(alloc, text, card, length_of(text, card))?;
+    match parse_deck(alloc, &lines) {
+        Ok(read) => {
+            say_deck(out, deck, read.files.as_slice().len())?;
+            for order in read.orders.as_slice() {
+                say_order(out, order.line)?;
+            }
+            Ok(())
+        }
+        Err(DeckFault::Text(_)) => Err(Stop::Line),
+        Err(DeckFault::Memory) => Err(Stop::Memory),
+    }
+}

@@ -1,0 +1,4 @@
+mod Commands
+mod Lists
+mod Numerals
+pub mod CallerLemmas

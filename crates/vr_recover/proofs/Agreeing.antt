@@ -1,0 +1,235 @@
+-- What a volume that recovers has in common with what is found as it is opened, and why what is
+-- shown refuses it.
+use Rattle.std.proofs.Common.{◌≡◌, ◌≢◌, ◌⊎◌, ⊎_elim, inl, inr, ℕ, ◌+◌, ◌<◌, ◌≤◌, Bool, true, false}
+use Rattle.std.proofs.Common.{List, [], ◌∷◌, Option, Some, None, length, refl, sym, ap, subst, ◌∙◌}
+use Rattle.std.proofs.Common.{arith, cond, map, get_or}
+use Rattle.std.specs.Prelude.{All, IfSome, nat_eq, slice_get}
+use Rattle.std.specs.List.{IsDistinct}
+use Rattle.std.specs.Option.{option_and_then}
+use Rattle.std.proofs.lemmas.Bool.{ne_eqb, true≢false}
+use Rattle.std.proofs.lemmas.List.{length-map}
+use Rattle.std.proofs.lemmas.List.Elements.{All-head, All-tail}
+use Rattle.std.proofs.lemmas.Option.{get_or_from_slice_get, slice_get-get_or, slice_get-map}
+use Rattle.std.proofs.lemmas.Option.{slice_get_within}
+use Rattle.vr_types.specs.Content.{Content, record_of}
+use Rattle.vr_types.specs.Geometry.{IsAllowed, area_count, head_block}
+use Rattle.vr_types.specs.Image.{Image, block_at}
+use Rattle.vr_types.specs.Seen.{Seen}
+use Rattle.vr_types.specs.declared.geometry.Geometry.{Geometry}
+use Rattle.vr_catalog.specs.Catalog.{entries_in, parts_in}
+use Rattle.vr_catalog.specs.Definition.{catalog_definition}
+use Rattle.vr_catalog.specs.declared.entry.CatEntry.{CatEntry}
+use Rattle.vr_attach.specs.CatalogRules.{IsCatalog}
+use Rattle.vr_attach.specs.Header.{header_block}
+use Rattle.vr_attach.specs.Laid.{AreApart, catalog_shape, keyed_part, shape_by, shape_in, shape_of}
+use Rattle.vr_attach.proofs.Walks.{damaged_none as part_damaged}
+use Rattle.vr_keyed.specs.Attached.{IsRuleShown}
+use Rattle.vr_keyed.specs.Owned.{Owned}
+use Rattle.vr_history.specs.State.{BeforeImage}
+use Rattle.vr_log.specs.Content.{Content as LogContent}
+use Rattle.vr_log.specs.Damage.{IsDamagedAt}
+use Rattle.vr_log.specs.Spells.{Spells}
+use Rattle.vr_log.proofs.CallerLemmas.{damaged_none, one_log}
+use Rattle.vr_mount.specs.Areas.{AreOn, EndsBefore}
+use Rattle.vr_mount.proofs.Headers.{one_shape}
+use Rattle.vr_space.specs.Keyed.{Keyed}
+use Rattle.vr_space.specs.Part.{HasRoom, KeyedShape, Shape, Stands, StandsFor, part_no}
+use Rattle.vr_volume.specs.PutBack.{AreAlone, images_of, lengths_kept, put_back}
+use Rattle.vr_volume.specs.Volume.{CanPutBack, IsInside, Recovers, catalog_back, shapes_by}
+use Rattle.vr_recover.specs.Found.{AreEntries, AreEntriesOf, AreOff, HasRoomFor, IsAreaNo}
+use Rattle.vr_recover.specs.Found.{IsAreaOf, IsLaidShown, IsMountShown, MayGoBack}
+use Rattle.vr_recover.specs.Found.{AtAreas, AtCatalog, AtPart, Misspelled}
+use Rattle.vr_recover.specs.Opening.{IsCatalogShown, IsNoVolume, IsVolume, shapes_laid}
+use Rattle.vr_recover.specs.Undone.{FitsPart, IsCovered}
+use Rattle.vr_recover.proofs.Shapes.{entry-laid, laid-number, laid-there, layout-laid}
+
+some-shape : (x y : Shape) → Some x ≡ Some y → x ≡ y
+some-shape x y same = cc
+
+-- ---- the header
+
+-- A header is that of one shape: so there is no volume where none of this shape recovers.
+pub no-volume : (number : ℕ) (geometry : Geometry) (now : Seen) → IsAllowed geometry
+    → block_at now.cur 0 ≡ header_block geometry number
+    → ((recovered : ℕ → Content) → Recovers geometry number now.cur recovered → ⊥)
+    → IsNoVolume number now
+no-volume number geometry now allowed header none other recovered is =
+    let same : other ≡ geometry =
+    one_shape other geometry number number is.allowed allowed
+    (sym is.recovers.stands.header ∙ header) in
+    none recovered (subst (λ (g : Geometry). Recovers g number now.cur recovered) same is.recovers)
+
+-- and a volume is of this shape
+pub volume-here : (number : ℕ) (geometry : Geometry) (now : Seen) → IsAllowed geometry
+    → block_at now.cur 0 ≡ header_block geometry number → (other : Geometry)
+    → (recovered : ℕ → Content) → IsVolume number other recovered now
+    → other ≡ geometry
+volume-here number geometry now allowed header other recovered is =
+    one_shape other geometry number number is.allowed allowed
+    (sym is.recovers.stands.header ∙ header)
+
+-- ---- before-images that aren't the catalog's
+
+pub off-back : (images : List BeforeImage) (content : Content) → AreOff images
+    → put_back 0 images content ≡ content
+off-back [] content off = refl
+off-back (image ∷ images) content off =
+    by (nat_eq image.part 0)
+    (ne_eqb image.part 0 (All-head (λ (i : BeforeImage). i.part ≢ 0) image images off))
+    (off-back images content (All-tail (λ (i : BeforeImage). i.part ≢ 0) image images off))
+  where
+    by : (b : Bool) → b ≡ false → put_back 0 images content ≡ content
+        → cond b (Rattle.vr_altkey.specs.Placing.placed_in image.place image.old
+        (put_back 0 images content)) (put_back 0 images content) ≡ content
+    by true is rest = absurd (true≢false is)
+    by false is rest = rest
+
+-- ---- what recovers has the same log, the same catalog and the same parts
+
+module _ (geometry : Geometry) (number : ℕ) (image : Image) (recovered : ℕ → Content)
+    (is : Recovers geometry number image recovered) (content : LogContent)
+    (long : 8 ≤ length (block_at image 1)) (spelled : Spells geometry image content)
+    (off : AreOff (images_of content.records)) where
+  pub log-same : is.log ≡ content
+  log-same = one_log geometry image is.log content long is.stands.log_is spelled
+
+  images-same : images_of is.log.records ≡ images_of content.records
+  images-same = ap (λ (l : LogContent). images_of l.records) log-same
+
+  catalog-same : catalog_back is.log is.contents ≡ is.contents 0
+  catalog-same = ap (λ (images : List BeforeImage). put_back 0 images (is.contents 0)) images-same
+      ∙ off-back (images_of content.records) (is.contents 0) off
+
+  pub catalog-stands : StandsFor (catalog_shape geometry) image (is.contents 0)
+  catalog-stands = is.stands.laid 0 (catalog_shape geometry) refl
+
+  pub catalog-rules : IsCatalog geometry (is.contents 0)
+  catalog-rules = subst (IsCatalog geometry) catalog-same is.stands.catalog
+
+  pub misspelled-none : (IsCatalog geometry (is.contents 0) → ⊥) → ⊥
+  misspelled-none none = none catalog-rules
+
+  module _ (entries : List CatEntry) (are : AreEntriesOf geometry image entries) where
+    pub entries-same : entries ≡ entries_in (is.contents 0)
+    entries-same = (are (is.contents 0) catalog-stands).0
+
+    pub shapes-same : (part : ℕ) → shapes_by geometry is.log is.contents part
+        ≡ shape_in geometry entries part
+    shapes-same part = ap (λ (c : Content). shape_by geometry c part) catalog-same
+        ∙ ap (λ (es : List CatEntry). shape_in geometry es part) (sym entries-same)
+
+    pub is-laid : (part : ℕ) (shape : Shape) → shape_in geometry entries part ≡ Some shape
+        → shapes_by geometry is.log is.contents part ≡ Some shape
+    is-laid part shape laid = shapes-same part ∙ laid
+
+    pub are-on : AreOn geometry entries
+    are-on part shape laid = ends shape (is.inside part shape (is-laid part shape laid))
+      where
+        ends : (shape : Shape) → IsInside geometry shape → EndsBefore geometry.blocks shape
+        ends (KeyedShape part) inside = inside.0
+
+    pub are-apart : AreApart (shape_in geometry entries)
+    are-apart one other here there here-is there-is = is.stands.apart one other here there
+        (is-laid one here here-is) (is-laid other there there-is)
+
+    pub area-none : (block rule : ℕ) → IsAreaNo geometry entries block rule → ⊥
+    area-none block rule shown = ⊎_elim (λ past. past.1 are-on) (λ twice. twice.1 are-apart)
+        shown.1
+
+    pub part-stands : (part : ℕ) (shape : Shape) → shape_in geometry entries part ≡ Some shape
+        → Stands shape image
+    part-stands part shape laid =
+        (is.contents part, is.stands.laid part shape (is-laid part shape laid))
+
+    -- ---- its before-images may be put back
+
+    module _ (distinct : IsDistinct nat_eq (0 ∷ parts_in entries)) (layouts : List Keyed)
+        (shapes : map KeyedShape layouts ≡ shapes_laid geometry entries) where
+      covers : (image : BeforeImage)
+          → CanPutBack (shapes_by geometry is.log is.contents) image
+          → IsCovered (map KeyedShape layouts) image
+      covers one can =
+          let laid : shape_in geometry entries one.part ≡ Some can.shape =
+          sym (shapes-same one.part) ∙ can.laid in
+          let there = laid-there geometry entries distinct one.part can.shape laid in (
+            there.0,
+            can.shape,
+            ap (λ (s : List Shape). slice_get s there.0) shapes ∙ there.1,
+            sym (laid-number geometry entries distinct one.part can.shape laid),
+          )
+
+      fits : (part : Keyed) → shape_in geometry entries part.part ≡ Some (KeyedShape part)
+          → (image : BeforeImage) → CanPutBack (shapes_by geometry is.log is.contents) image
+          → FitsPart (KeyedShape part) image
+      fits part laid one can mine =
+          let same : can.shape ≡ KeyedShape part =
+          some-shape can.shape (KeyedShape part) (sym can.laid ∙ shapes-same one.part
+          ∙ ap (shape_in geometry entries) mine ∙ laid) in
+          record {
+            place = subst (λ (s : Shape). Rattle.vr_space.specs.Part.IsPlaceOf s one.place) same
+                can.place;
+            old = subst (λ (s : Shape). IfSome (option_and_then record_of one.old)
+                (Rattle.vr_space.specs.Part.IsRecordOf s one.place)) same can.old;
+          }
+
+      images-are : All (CanPutBack (shapes_by geometry is.log is.contents))
+          (images_of content.records)
+      images-are = subst (All (CanPutBack (shapes_by geometry is.log is.contents))) images-same
+          is.images
+
+      pub goes-back : MayGoBack (images_of content.records) layouts
+      goes-back = record {
+        alone = subst AreAlone images-same is.alone;
+        covered = λ k d below. covers (get_or (images_of content.records) k d)
+            (images-are k d below);
+        fits = λ j e within k d below.
+            let part = get_or layouts j e in
+            fits part (layout-laid geometry entries distinct layouts shapes j part
+            (slice_get-get_or layouts j e within))
+            (get_or (images_of content.records) k d) (images-are k d below);
+      }
+
+      -- and there is room for them
+      pub has-rooms : (parts : List Owned) → map (λ (keyed : Owned). keyed.part) parts ≡ layouts
+          → All (HasRoomFor (images_of content.records) image) parts
+      has-rooms parts same j e within =
+          let keyed = get_or parts j e in
+          let there : slice_get layouts j ≡ Some keyed.part =
+          ap (λ (ls : List Keyed). slice_get ls j) (sym same)
+          ∙ slice_get-map (λ (k : Owned). k.part) parts j
+          ∙ ap (Rattle.std.specs.Option.option_map (λ (k : Owned). k.part))
+          (slice_get-get_or parts j e within) in
+          subst (λ (images : List BeforeImage). HasRoom (KeyedShape keyed.part)
+          (lengths_kept images keyed.part.part) image) images-same
+          (is.room keyed.part.part (KeyedShape keyed.part)
+          (is-laid keyed.part.part (KeyedShape keyed.part)
+          (layout-laid geometry entries distinct layouts shapes j keyed.part there)))
+
+  -- ---- what is shown of the parts
+
+  pub mount-none : (block rule : ℕ) (now : Seen) → now.cur ≡ image
+      → IsMountShown geometry now block rule → ⊥
+  mount-none block rule now same (AtCatalog shown) =
+      part_damaged (keyed_part geometry 0 0 catalog_definition) 0 (area_count geometry) image block
+      shown.rule (subst (λ (i : Image). Rattle.vr_attach.specs.Damage.IsDamagedAt
+      (keyed_part geometry 0 0 catalog_definition) 0 (area_count geometry) i block shown.rule) same
+      shown.damaged) (is.contents 0, catalog-stands)
+  mount-none block rule now same (Misspelled shown) =
+      shown.damaged (is.contents 0)
+      (subst (λ (i : Image). StandsFor (catalog_shape geometry) i (is.contents 0)) (sym same)
+      catalog-stands) catalog-rules
+  mount-none block rule now same (AtAreas shown) =
+      area-none shown.entries
+      (subst (λ (i : Image). AreEntriesOf geometry i shown.entries) same shown.are.entries_are)
+      block rule shown.shown
+  mount-none block rule now same (AtPart shown) =
+      let are = subst (λ (i : Image). AreEntriesOf geometry i shown.entries) same
+      shown.are.entries_are in
+      let one = shown.shown in
+      let of = one.shown in
+      part_damaged of.part of.area (area_count geometry) image block of.shown.rule
+      (subst (λ (i : Image). Rattle.vr_attach.specs.Damage.IsDamagedAt of.part of.area
+      (area_count geometry) i block of.shown.rule) same of.shown.damaged)
+      (part-stands shown.entries are one.entry.part.0 (KeyedShape of.part)
+      (entry-laid geometry shown.entries shown.are.distinct one.at one.entry
+      (KeyedShape of.part) one.there of.laid))

@@ -1,0 +1,213 @@
+-- The parts of a volume, attached one after another.
+use Rattle.std.proofs.Common.{◌-◌}
+use Rattle.std.proofs.Common.{◌≡◌, ℕ, ◌+◌, ◌<◌, ◌≤◌, List, [], ◌∷◌, ◌++◌, Option, Some, None, length}
+use Rattle.std.proofs.Common.{refl, sym, ap, subst, ◌∙◌, arith, map, take, append_assoc}
+use Rattle.std.specs.Prelude.{All, Bool, nat_eq, IfSome, IsTrue, true, false, slice_get, ◌↔◌}
+use Rattle.std.proofs.lemmas.Bool.{true≢false}
+use Rattle.std.specs.List.{IsDistinct, cons_option, filter_map}
+use Rattle.std.proofs.lemmas.List.{take_all, take_more}
+use Rattle.std.proofs.lemmas.List.Elements.{All-nil, All-push, filter_map-append}
+use Rattle.vr_types.specs.Geometry.{IsAllowed, area_count}
+use Rattle.vr_types.specs.Image.{Image}
+use Rattle.vr_types.specs.Seen.{Seen}
+use Rattle.vr_types.specs.declared.geometry.Geometry.{Geometry}
+use Rattle.vr_types.proofs.CallerLemmas.{block_size_least}
+use Rattle.vr_catalog.specs.Catalog.{parts_in}
+use Rattle.vr_catalog.specs.declared.definition.Definition.{Definition}
+use Rattle.vr_catalog.specs.declared.entry.CatEntry.{CatEntry}
+use Rattle.vr_attach.specs.Laid.{keyed_part, keyed_shape, shape_of}
+use Rattle.vr_keyed.specs.Attached.{IsRuleShown}
+use Rattle.vr_log.specs.LogNow.{IsOf}
+use Rattle.vr_mount.specs.Areas.{IsBelow}
+use Rattle.vr_space.specs.Keyed.{Keyed}
+use Rattle.vr_space.specs.Part.{IsOn, KeyedShape, Shape, Stands}
+use Rattle.vr_recover.specs.Found.{AllStand, AreEntries, AreEntriesOf, AtAreas, AtPart, IsAreaNo}
+use Rattle.vr_recover.specs.Found.{IsEntryShown, IsMountShown, IsOneShown, LaysIn, ShowsOnly}
+use Rattle.vr_recover.specs.declared.open_no.OpenNo.{OpenNo}
+use Rattle.vr_recover.specs.declared.open_no.OpenNo.TheVariants.{Damaged, Version, Read, Write, Memory}
+use Rattle.vr_recover.proofs.Areas.{area-on}
+
+-- ---- answers
+
+pub shows-more : (P Q : ℕ → ℕ → Type 0) → ((block rule : ℕ) → P block rule → Q block rule)
+    → (answer : OpenNo) → ShowsOnly P answer → ShowsOnly Q answer
+shows-more P Q more (Damaged block rule) shown = more block rule shown
+shows-more P Q more (Version found) shown = shown
+shows-more P Q more Read shown = tt
+shows-more P Q more Write shown = tt
+shows-more P Q more Memory shown = tt
+
+-- ---- one part more
+
+pub stand-more : (layouts : List Keyed) (part : Keyed) (image : Image) → AllStand layouts image
+    → Stands (KeyedShape part) image → AllStand (layouts ++ part ∷ []) image
+stand-more layouts part image all here =
+    All-push (λ (p : Keyed). Stands (KeyedShape p) image) layouts part all here
+
+pub map-more : (layouts : List Keyed) (part : Keyed)
+    → map KeyedShape (layouts ++ part ∷ []) ≡ map KeyedShape layouts ++ KeyedShape part ∷ []
+map-more [] part = refl
+map-more (first ∷ layouts) part = ap (λ (s : List Shape). KeyedShape first ∷ s) (map-more layouts part)
+
+-- an entry that lays no part adds none
+pub none-laid : (shapes : List Shape) (found : Option Shape) → found ≡ None
+    → shapes ≡ shapes ++ cons_option found []
+none-laid shapes found is =
+    sym (append-none shapes) ∙ ap (λ (o : Option Shape). shapes ++ cons_option o []) (sym is)
+  where
+    append-none : (xs : List Shape) → xs ++ [] ≡ xs
+    append-none [] = refl
+    append-none (x ∷ xs) = ap (λ (ys : List Shape). x ∷ ys) (append-none xs)
+
+-- and one that lays one adds it
+pub one-laid : (layouts new : List Keyed) (part : Keyed) (found : Option Shape)
+    → new ≡ layouts ++ part ∷ [] → found ≡ Some (KeyedShape part)
+    → map KeyedShape new ≡ map KeyedShape layouts ++ cons_option found []
+one-laid layouts new part found added is =
+    ap (map KeyedShape) added ∙ map-more layouts part
+    ∙ ap (λ (o : Option Shape). map KeyedShape layouts ++ cons_option o []) (sym is)
+
+module _ (geometry : Geometry) (entry : CatEntry) (area : ℕ) (definition : Definition)
+    (lays : LaysIn entry area definition) (below : IsBelow (area_count geometry) entry) where
+  pub area-below : area < area_count geometry
+  area-below = subst (λ (o : Option ℕ). IfSome o (λ a. a < area_count geometry)) lays.area_is below
+
+  pub entry-on : (layout : Keyed) (now : Seen) → IsOf geometry now
+      → layout ≡ keyed_part geometry entry.part.0 area definition → IsOn (KeyedShape layout) now
+  entry-on layout now of is = subst (λ (p : Keyed). IsOn (KeyedShape p) now) (sym is)
+      (omega (arith, area-on geometry area area-below, of.count), of.size)
+
+  pub entry-shown : (layout : Keyed) (now : Seen) (areas : ℕ) (answer : OpenNo)
+      → layout ≡ keyed_part geometry entry.part.0 area definition → areas ≡ area_count geometry
+      → ShowsOnly (IsRuleShown layout area areas now.cur) answer
+      → ShowsOnly (IsEntryShown geometry entry now) answer
+  entry-shown layout now areas answer is count = shows-more (IsRuleShown layout area areas now.cur)
+      (IsEntryShown geometry entry now)
+      (λ block rule shown. record {
+        part = layout;
+        area = area;
+        laid = lays.shape geometry ∙ ap (λ (p : Keyed). Some (KeyedShape p)) (sym is);
+        shown = subst (λ (n : ℕ). IsRuleShown layout area n now.cur block rule) count shown;
+      }) answer
+
+-- ---- one entry more
+
+pub entries-more : (geometry : Geometry) (entries : List CatEntry) (i : ℕ) (entry : CatEntry)
+    (shapes before after : List Shape) → i < length entries
+    → Rattle.std.proofs.Common.get_or entries i entry ≡ entry
+    → before ≡ shapes ++ filter_map (shape_of geometry) (take i entries)
+    → after ≡ before ++ filter_map (shape_of geometry) (entry ∷ [])
+    → after ≡ shapes ++ filter_map (shape_of geometry) (take (i + 1) entries)
+entries-more geometry entries i entry shapes before after below here so_far added =
+    added
+    ∙ ap (λ (s : List Shape). s ++ filter_map (shape_of geometry) (entry ∷ [])) so_far
+    ∙ append_assoc shapes (filter_map (shape_of geometry) (take i entries))
+    (filter_map (shape_of geometry) (entry ∷ []))
+    ∙ ap (λ (s : List Shape). shapes ++ s)
+    (sym (filter_map-append (shape_of geometry) (take i entries) (entry ∷ [])))
+    ∙ ap (λ (es : List CatEntry). shapes ++ filter_map (shape_of geometry) es)
+    (ap (λ (e : CatEntry). take i entries ++ e ∷ []) (sym here)
+    ∙ sym (take_more entries i entry below))
+
+pub one-shown : (geometry : Geometry) (entries : List CatEntry) (i : ℕ) (entry : CatEntry)
+    (now old : Seen) (answer : OpenNo) → slice_get entries i ≡ Some entry → now.cur ≡ old.cur
+    → ShowsOnly (IsEntryShown geometry entry now) answer
+    → ShowsOnly (IsOneShown geometry entries old) answer
+one-shown geometry entries i entry now old answer there same =
+    shows-more (IsEntryShown geometry entry now) (IsOneShown geometry entries old)
+    (λ block rule shown. record {
+      at = i;
+      entry = entry;
+      there = there;
+      shown = record {
+        part = shown.part;
+        area = shown.area;
+        laid = shown.laid;
+        shown = subst (λ (image : Image). IsRuleShown shown.part shown.area (area_count geometry)
+            image block rule) same shown.shown;
+      };
+    }) answer
+
+pub of-still : (tells : Bool) (geometry : Geometry) (a b : Seen)
+    → Rattle.vr_types.specs.Blocks.Keeps tells a b → IsOf geometry a → IsOf geometry b
+of-still tells geometry a b call of = record {
+  count = call.count_same ∙ of.count;
+  size = call.size_same ∙ of.size;
+}
+
+-- a record of the longest length has room in an interval of its own
+pub longest-fits : (geometry : Geometry) (most limit : ℕ) → IsAllowed geometry
+    → limit ≡ geometry.size - 7 → most ≤ limit → most + 7 ≤ geometry.size
+longest-fits geometry most limit allowed is within =
+    omega (arith, is, within, block_size_least geometry.size allowed.size)
+
+-- ---- tests
+
+pub holds-if : (b : Bool) (P : Type 0) → IsTrue b ↔ P → b ≡ true → P
+holds-if b P both is = both.0 (subst IsTrue (sym is) refl)
+
+pub not-if : (b : Bool) (P : Type 0) → IsTrue b ↔ P → b ≡ false → P → ⊥
+not-if b P both is holds = true≢false (sym (both.1 holds) ∙ is)
+
+-- ---- the whole
+
+pub none-stand : (layouts : List Keyed) (image : Image) → layouts ≡ [] → AllStand layouts image
+none-stand layouts image none = subst (λ (ls : List Keyed). AllStand ls image) (sym none)
+    (All-nil (λ (part : Keyed). Stands (KeyedShape part) image))
+
+module _ (geometry : Geometry) (old now : Seen) (entries : List CatEntry)
+    (same : now.cur ≡ old.cur) (are : AreEntriesOf geometry now.cur entries)
+    (distinct : IsDistinct nat_eq (0 ∷ parts_in entries)) where
+  entries-then : AreEntries geometry old entries
+  entries-then = record {
+    entries_are = subst (λ (image : Image). AreEntriesOf geometry image entries) same are;
+    distinct = distinct;
+  }
+
+  areas-then : (answer : OpenNo) → ShowsOnly (IsAreaNo geometry entries) answer
+      → ShowsOnly (IsMountShown geometry old) answer
+  areas-then answer = shows-more (IsAreaNo geometry entries) (IsMountShown geometry old)
+      (λ block rule shown. AtAreas (record {
+        entries = entries;
+        are = entries-then;
+        shown = shown;
+      })) answer
+
+  parts-then : (later : Seen) (answer : OpenNo) → later.cur ≡ now.cur
+      → ShowsOnly (IsOneShown geometry entries later) answer
+      → ShowsOnly (IsMountShown geometry old) answer
+  parts-then later answer still = shows-more (IsOneShown geometry entries later)
+      (IsMountShown geometry old)
+      (λ block rule shown. AtPart (record {
+        entries = entries;
+        are = entries-then;
+        shown = record {
+          at = shown.at;
+          entry = shown.entry;
+          there = shown.there;
+          shown = record {
+            part = shown.shown.part;
+            area = shown.shown.area;
+            laid = shown.shown.laid;
+            shown = subst (λ (image : Image). IsRuleShown shown.shown.part shown.shown.area
+                (area_count geometry) image block rule) (still ∙ same) shown.shown.shown;
+          };
+        };
+      })) answer
+
+pub areas-shown : (geometry : Geometry) (old now : Seen) (entries asked : List CatEntry)
+    (answer : OpenNo) → asked ≡ entries → now.cur ≡ old.cur
+    → AreEntriesOf geometry now.cur entries → IsDistinct nat_eq (0 ∷ parts_in entries)
+    → ShowsOnly (IsAreaNo geometry asked) answer → ShowsOnly (IsMountShown geometry old) answer
+areas-shown geometry old now entries asked answer is same are distinct shown =
+    areas-then geometry old now entries same are distinct answer
+    (subst (λ (es : List CatEntry). ShowsOnly (IsAreaNo geometry es) answer) is shown)
+
+pub parts-shown : (geometry : Geometry) (old now later : Seen) (entries asked : List CatEntry)
+    (answer : OpenNo) → asked ≡ entries → now.cur ≡ old.cur → later.cur ≡ now.cur
+    → AreEntriesOf geometry now.cur entries → IsDistinct nat_eq (0 ∷ parts_in entries)
+    → ShowsOnly (IsOneShown geometry asked later) answer
+    → ShowsOnly (IsMountShown geometry old) answer
+parts-shown geometry old now later entries asked answer is same still are distinct shown =
+    parts-then geometry old now entries same are distinct later answer still
+    (subst (λ (es : List CatEntry). ShowsOnly (IsOneShown geometry es later) answer) is shown)

@@ -1,0 +1,254 @@
+-- What is shown as a volume is opened refuses it.
+use Rattle.std.proofs.Common.{◌≡◌, ◌≢◌, ◌⊎◌, ⊎_elim, inl, inr, ℕ, ◌+◌, ◌<◌, ◌≤◌, Bool, true, false}
+use Rattle.std.proofs.Common.{List, [], ◌∷◌, Option, Some, None, length, refl, sym, ap, subst, ◌∙◌}
+use Rattle.std.proofs.Common.{arith, cond, map, get_or}
+use Rattle.std.specs.Prelude.{All, IfSome, nat_eq, slice_get}
+use Rattle.std.specs.List.{IsDistinct, cons_option, filter_map}
+use Rattle.std.specs.Option.{option_and_then}
+use Rattle.std.proofs.lemmas.Bool.{eqb-true}
+use Rattle.std.proofs.lemmas.List.Elements.{All-cons, All-head, All-nil, All-tail}
+use Rattle.std.proofs.lemmas.Option.{slice_get-get_or}
+use Rattle.vr_types.specs.Content.{Content, record_of}
+use Rattle.vr_types.specs.Geometry.{IsAllowed, area_count, head_block}
+use Rattle.vr_types.specs.Image.{Image, block_at}
+use Rattle.vr_types.specs.Seen.{Left, Seen}
+use Rattle.vr_types.specs.declared.geometry.Geometry.{Geometry}
+use Rattle.vr_types.proofs.CallerLemmas.{block_size_least}
+use Rattle.vr_catalog.specs.Catalog.{entries_in, parts_in}
+use Rattle.vr_catalog.specs.Definition.{catalog_definition}
+use Rattle.vr_catalog.specs.declared.entry.CatEntry.{CatEntry}
+use Rattle.vr_attach.specs.Header.{header_block}
+use Rattle.vr_attach.specs.Laid.{AreApart, keyed_part, shape_in}
+use Rattle.vr_history.specs.State.{BeforeImage}
+use Rattle.vr_keyed.specs.Lent.{ArePlaces}
+use Rattle.vr_keyed.specs.Owned.{Owned}
+use Rattle.vr_log.specs.Content.{Content as LogContent}
+use Rattle.vr_log.specs.Damage.{IsDamagedAt}
+use Rattle.vr_log.specs.Live.{live_in}
+use Rattle.vr_log.specs.LogNow.{IsOf}
+use Rattle.vr_log.specs.Spells.{Spells}
+use Rattle.vr_log.specs.declared.record.LogRecord.{LogRecord}
+use Rattle.vr_log.specs.declared.record.LogRecord.TheVariants.{Before, End}
+use Rattle.vr_log.proofs.CallerLemmas.{damaged_none}
+use Rattle.vr_mount.specs.Areas.{AreOn}
+use Rattle.vr_mount.specs.Header.{IsHeaderOf}
+use Rattle.vr_mount.proofs.CallerLemmas.{on_blocks}
+use Rattle.vr_mount.proofs.Telling.{all_mapped, mapped_all}
+use Rattle.vr_space.specs.Keyed.{Keyed}
+use Rattle.vr_space.specs.Part.{IsOn, KeyedShape, Shape, StandsFor}
+use Rattle.vr_space.specs.Room.{Lengths}
+use Rattle.vr_volume.specs.PutBack.{image_in, images_of, length_in, length_of, lengths_kept}
+use Rattle.vr_volume.specs.Volume.{Recovers}
+use Rattle.vr_recover.specs.Found.{AreEntriesOf, AreOff, AtAreas, AtCatalog, AtPart, HasRoomFor}
+use Rattle.vr_recover.specs.Found.{IsBackNo, IsMountShown, Misspelled, ShowsOnly}
+use Rattle.vr_recover.specs.Opening.{InArea, InCatalog, InImages, InLog, InPart, IsDamaged, IsLogShown}
+use Rattle.vr_recover.specs.Opening.{IsNoVolume, IsRefused, IsShownOf, Twice, shapes_laid}
+use Rattle.vr_recover.specs.Undone.{FitsPart}
+use Rattle.vr_recover.specs.declared.open_no.OpenNo.{OpenNo}
+use Rattle.vr_recover.specs.declared.open_no.OpenNo.TheVariants.{Damaged, Version, Read, Write, Memory}
+use Rattle.vr_recover.proofs.Agreeing.{goes-back, has-rooms, mount-none, no-volume}
+use Rattle.vr_recover.proofs.Shapes.{layout-laid}
+use Rattle.vr_recover.proofs.Settled.{with-all}
+
+-- ---- a shape with its header
+
+module _ (number : ℕ) (geometry : Geometry) (now : Seen) (allowed : IsAllowed geometry)
+    (of : IsOf geometry now) (header : block_at now.cur 0 ≡ header_block geometry number) where
+  header-of : IsHeaderOf now.count now.size number (block_at now.cur 0) geometry
+  header-of = record {
+    allowed = allowed;
+    blocks_are = sym of.count;
+    size_is = sym of.size;
+    bytes = header;
+  }
+
+  -- what is shown of a volume of this shape, where none recovers
+  damaged-of : (block rule : ℕ)
+      → ((recovered : ℕ → Content) → Recovers geometry number now.cur recovered → ⊥)
+      → IsShownOf geometry now block rule → IsDamaged number now block rule
+  damaged-of block rule none shown = record {
+    none = no-volume number geometry now allowed header none;
+    shown = inr (record { geometry = geometry; header = header-of; shown = shown });
+  }
+
+  -- ---- by its log
+
+  pub log-refused : 8 ≤ length (block_at now.cur 1) → (answer : OpenNo)
+      → ShowsOnly (IsLogShown geometry now) answer → IsRefused number now answer
+  log-refused long (Damaged block rule) shown = damaged-of block rule
+      (λ recovered is. damaged_none geometry now.cur is.log block long is.stands.log_is
+      shown.damaged) (InLog shown)
+  log-refused long (Version found) shown = absurd shown
+  log-refused long Read shown = tt
+  log-refused long Write shown = tt
+  log-refused long Memory shown = tt
+
+  module _ (content : LogContent) (long : 8 ≤ length (block_at now.cur 1))
+      (spelled : Spells geometry now.cur content) (off : AreOff (images_of content.records)) where
+    -- ---- by its parts
+
+    none-of : (block rule : ℕ) → IsMountShown geometry now block rule
+        → (recovered : ℕ → Content) → Recovers geometry number now.cur recovered → ⊥
+    none-of block rule shown recovered is =
+        mount-none geometry number now.cur recovered is content long spelled off block rule now
+        refl shown
+
+    entries-as : (entries : List CatEntry) → AreEntriesOf geometry now.cur entries
+        → (one : Content) → StandsFor (Rattle.vr_attach.specs.Laid.catalog_shape geometry) now.cur
+        one → entries_in one ≡ entries
+    entries-as entries are one stands = sym (are one stands).0
+
+    shown-as : (block rule : ℕ) → IsMountShown geometry now block rule
+        → IsShownOf geometry now block rule
+    shown-as block rule (AtCatalog shown) = InPart (record {
+      part = keyed_part geometry 0 0 catalog_definition;
+      area = 0;
+      shown = shown;
+    })
+    shown-as block rule (Misspelled shown) = InCatalog shown
+    shown-as block rule (AtAreas shown) = ⊎_elim
+        (λ past. InArea (record {
+          block_is = shown.shown.0;
+          rule_is = past.0;
+          damaged = λ one stands on. past.1 (subst (AreOn geometry)
+              (entries-as shown.entries shown.are.entries_are one stands) on);
+        }))
+        (λ twice. Twice (record {
+          block_is = shown.shown.0;
+          rule_is = twice.0;
+          damaged = λ one stands apart. twice.1
+              (subst (λ (es : List CatEntry). AreApart (shape_in geometry es))
+              (entries-as shown.entries shown.are.entries_are one stands) apart);
+        }))
+        shown.shown.1
+    shown-as block rule (AtPart shown) = InPart (record {
+      part = shown.shown.shown.part;
+      area = shown.shown.shown.area;
+      shown = shown.shown.shown.shown;
+    })
+
+    pub mount-refused : (answer : OpenNo) → ShowsOnly (IsMountShown geometry now) answer
+        → IsRefused number now answer
+    mount-refused (Damaged block rule) shown =
+        damaged-of block rule (none-of block rule shown) (shown-as block rule shown)
+    mount-refused (Version found) shown = absurd shown
+    mount-refused Read shown = tt
+    mount-refused Write shown = tt
+    mount-refused Memory shown = tt
+
+    -- ---- by its before-images
+
+    module _ (entries : List CatEntry) (are : AreEntriesOf geometry now.cur entries)
+        (distinct : IsDistinct nat_eq (0 ∷ parts_in entries)) (layouts : List Keyed)
+        (shapes : map KeyedShape layouts ≡ shapes_laid geometry entries) (parts : List Owned)
+        (row : map (λ (keyed : Owned). keyed.part) parts ≡ layouts) where
+      back-none : (block rule : ℕ)
+          → IsBackNo (images_of content.records) layouts parts now.cur block rule
+          → (recovered : ℕ → Content) → Recovers geometry number now.cur recovered → ⊥
+      back-none block rule shown recovered is = ⊎_elim
+          (λ back. back (goes-back geometry number now.cur recovered is content long spelled off
+          entries are distinct layouts shapes))
+          (λ room. room (has-rooms geometry number now.cur recovered is content long spelled off
+          entries are distinct layouts shapes parts row))
+          shown.2
+
+      pub back-refused : (answer : OpenNo)
+          → ShowsOnly (IsBackNo (images_of content.records) layouts parts now.cur) answer
+          → IsRefused number now answer
+      back-refused (Damaged block rule) shown =
+          damaged-of block rule (back-none block rule shown)
+          (InImages (record { block_is = shown.0; rule_is = shown.1 }))
+      back-refused (Version found) shown = absurd shown
+      back-refused Read shown = tt
+      back-refused Write shown = tt
+      back-refused Memory shown = tt
+
+-- ---- the parts
+
+pub all-parts : (P : Keyed → Type 0) (parts : List Owned) (layouts : List Keyed)
+    → map (λ (keyed : Owned). keyed.part) parts ≡ layouts → All P layouts
+    → All (λ (keyed : Owned). P keyed.part) parts
+all-parts P parts layouts row all = mapped_all (λ (keyed : Owned). keyed.part) P parts
+    (subst (All P) (sym row) all)
+
+pub layouts-on : (geometry : Geometry) (entries : List CatEntry) (layouts : List Keyed) (now : Seen)
+    → IsOf geometry now → map KeyedShape layouts ≡ shapes_laid geometry entries
+    → IsDistinct nat_eq (0 ∷ parts_in entries) → AreOn geometry entries
+    → All (λ (part : Keyed). IsOn (KeyedShape part) now) layouts
+layouts-on geometry entries layouts now of shapes distinct on k d below =
+    let part = get_or layouts k d in
+    on_blocks geometry entries now of on part.part (KeyedShape part)
+    (layout-laid geometry entries distinct layouts shapes k part
+    (slice_get-get_or layouts k d below))
+
+-- ---- what is kept
+
+module _ (part : Keyed) where
+  abbrev IsPlace : List ℕ × ℕ → Type 0
+  IsPlace entry = length entry.0 ≡ part.key
+
+  fit-places : (images : List BeforeImage) → All (FitsPart (KeyedShape part)) images
+      → All IsPlace (filter_map (length_in part.part) images)
+  fit-places [] all = All-nil IsPlace
+  fit-places (image ∷ images) all = by (nat_eq image.part part.part) refl
+      (option_and_then record_of image.old)
+      (fit-places images (All-tail (FitsPart (KeyedShape part)) image images all))
+    where
+      by : (mine : Bool) → nat_eq image.part part.part ≡ mine → (old : Option (List ℕ))
+          → All IsPlace (filter_map (length_in part.part) images)
+          → All IsPlace (cons_option (cond mine (length_of image.place old) None)
+          (filter_map (length_in part.part) images))
+      by false is old rest = rest
+      by true is None rest = rest
+      by true is (Some bytes) rest = All-cons IsPlace (image.place, length bytes)
+          (filter_map (length_in part.part) images)
+          (All-head (FitsPart (KeyedShape part)) image images all
+          (eqb-true image.part part.part is)).place rest
+
+  -- before-images that may be put back are at places of their part
+  pub kept-places : (images : List BeforeImage) → All (FitsPart (KeyedShape part)) images
+      → ArePlaces part.key (lengths_kept images part.part)
+  kept-places images all = with-all (λ (place : List ℕ). length place ≡ part.key) []
+      (filter_map (length_in part.part) images) (All-nil IsPlace) (fit-places images all)
+
+-- where no unit is live there are none
+no-image : (records : List LogRecord) → filter_map (image_in []) records ≡ []
+no-image [] = refl
+no-image (Before unit place part old ∷ records) = no-image records
+no-image (End unit kind ∷ records) = no-image records
+
+pub none-live : (records : List LogRecord) → length (live_in records) ≡ 0
+    → images_of records ≡ []
+none-live records none =
+    ap (λ (units : List Rattle.vr_types.specs.declared.unit.Unit.Unit).
+    filter_map (image_in units) records) (empty (live_in records) none) ∙ no-image records
+  where
+    empty : (units : List Rattle.vr_types.specs.declared.unit.Unit.Unit) → length units ≡ 0
+        → units ≡ []
+    empty [] none = refl
+    empty (unit ∷ units) none = absurd (omega (arith, none))
+
+-- the first block of a log has room for its generation. The premise is the law `sized`
+pub log-long : (geometry : Geometry) (now : Seen) → IsAllowed geometry → IsOf geometry now
+    → Left now now.cur
+    → ((n : ℕ) (block : List ℕ) → n < now.count → now.may n block → length block ≡ now.size)
+    → 8 ≤ length (block_at now.cur 1)
+log-long geometry now allowed of left sized =
+    let below : 1 < now.count = omega (arith, allowed.two_areas, of.count) in
+    omega (
+      arith,
+      sized 1 (block_at now.cur 1) below (left.each 1 below),
+      of.size,
+      block_size_least geometry.size allowed.size,
+    )
+
+pub off-live : (records all : List LogRecord) → records ≡ all → AreOff (images_of all)
+    → AreOff (images_of records)
+off-live records all same off =
+    subst (λ (rs : List LogRecord). AreOff (images_of rs)) (sym same) off
+
+pub all-layouts : (P : Keyed → Type 0) (parts : List Owned) (layouts : List Keyed)
+    → map (λ (keyed : Owned). keyed.part) parts ≡ layouts
+    → All (λ (keyed : Owned). P keyed.part) parts → All P layouts
+all-layouts P parts layouts row all = subst (All P) row
+    (all_mapped (λ (keyed : Owned). keyed.part) P parts all)

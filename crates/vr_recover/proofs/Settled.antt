@@ -1,0 +1,384 @@
+-- Where a crash leaves what is read alone, a volume that recovers is safe.
+use Rattle.std.proofs.Common.{◌≡◌, ◌<◌, ℕ, Bool, true, false, List, [], ◌∷◌}
+use Rattle.std.proofs.Common.{length, refl, sym, ap, subst, ◌∙◌, arith, Option, Some, None, All}
+use Rattle.std.proofs.Common.{⊎_elim}
+use Rattle.std.specs.Prelude.{IfSome, cond, nat_eq, max}
+use Rattle.std.specs.List.{cons_option, filter_map}
+use Rattle.std.specs.Option.{option_and_then}
+use Rattle.std.specs.declared.cmp.Ordering.{Ordering}
+use Rattle.std.specs.declared.cmp.Ordering.TheVariants.{Less, Equal, Greater}
+use Rattle.std.proofs.lemmas.Bool.{eqb-true}
+use Rattle.std.proofs.lemmas.List.{take_all}
+use Rattle.std.proofs.lemmas.List.Elements.{All-cons, All-head, All-nil, All-tail, All-weaker}
+use Rattle.vr_types.specs.Blocks.{AllForced}
+use Rattle.vr_types.specs.Content.{Content, item_at, place_cmp, record_at, record_of}
+use Rattle.vr_types.specs.Geometry.{IsAllowed}
+use Rattle.vr_types.specs.Image.{Block, block_at}
+use Rattle.vr_types.specs.Seen.{Seen}
+use Rattle.vr_types.specs.declared.geometry.Geometry.{Geometry}
+use Rattle.vr_seqset.specs.Entry.{Entry}
+use Rattle.vr_space.specs.Room.{HaveRoom, Lengths, lengthen_by, with_length, with_lengths}
+use Rattle.vr_space.specs.Way.{Found, IsWithin, MayFind, Reads, Way, found_on}
+use Rattle.vr_space.specs.Keyed.{EachMayLeave, HaveRooms, HoldRanges, HoldsRange, IsHead, Keyed}
+use Rattle.vr_space.specs.Keyed.{IsKeyedSound, entries_of, entry_block, keyed_way, lengths_of}
+use Rattle.vr_space.specs.Keyed.{range_of}
+use Rattle.vr_space.specs.Part.{HasKeptRoom, HasRoom, IsOn, IsPlaceOf, IsSound, KeyedShape, MayHold}
+use Rattle.vr_space.specs.Met.{IsMet}
+use Rattle.vr_space.specs.Part.{IsRecordOf, Shape, StandsFor, part_no}
+use Rattle.vr_space.proofs.CallerLemmas.{AreIn, content_item, head-in, keyed-within}
+use Rattle.vr_space.proofs.CallerLemmas.{stands_content}
+use Rattle.vr_history.specs.Committed.{kept_or}
+use Rattle.vr_history.specs.State.{BeforeImage}
+use Rattle.vr_log.specs.Content.{Content as LogContent}
+use Rattle.vr_log.specs.LogNow.{IsLogOf, IsOf, IsPrefixOf, made}
+use Rattle.vr_log.specs.Standing.{LogStands}
+use Rattle.vr_log.specs.declared.record.LogRecord.{LogRecord}
+use Rattle.vr_log.proofs.CallerLemmas.{stands_has}
+use Rattle.vr_volume.specs.CatalogRules.{IsCatalog}
+use Rattle.vr_volume.specs.Laid.{shape_by}
+use Rattle.vr_volume.specs.PutBack.{images_of, length_in, length_of, lengths_kept, oldest, put_back}
+use Rattle.vr_volume.specs.Safe.{AreCommitted, IsItemOf, IsPartSafe, IsSafe, IsSafeBy, item_held}
+use Rattle.vr_volume.specs.Volume.{AreApart, CanPutBack, IsInside, Recovers, catalog_back}
+use Rattle.vr_volume.specs.Volume.{shapes_by}
+use Rattle.vr_volume.proofs.Apart.{part-past}
+use Rattle.vr_volume.proofs.PuttingBack.{back-ascends, back-item}
+use Rattle.vr_volume.proofs.Standings.{item-read}
+use Rattle.vr_recover.specs.Undone.{FitsPart, IsAllFirm, IsCovered, IsOpenedPart, IsSettled}
+use Rattle.vr_recover.proofs.Safe.{none-ascend}
+
+-- ---- a part
+
+module _ (part : Keyed) (now : Seen) (on : IsOn (KeyedShape part) now)
+    (forced : AllForced now.count now.cur now.may) where
+  here : (n : ℕ) (block : Block) → n < now.count → now.may n block → block ≡ block_at now.cur n
+  here n block below may = forced n block below may
+
+  hold-left : (low : Option (List ℕ)) (entries : List Entry) → AreIn part.area entries
+      → HoldRanges part now.cur low entries → EachMayLeave part now low entries (HoldsRange part)
+  hold-left low [] inside hold = tt
+  hold-left low (entry ∷ entries) inside hold = (
+    λ block may. subst (HoldsRange part (range_of low entry))
+        (sym (here (entry_block part entry) block (omega (arith, on.0, inside.0)) may)) hold.0,
+    hold-left (Some entry.high) entries inside.1 hold.1,
+  )
+
+  rooms-left : (kept : Lengths) (low : Option (List ℕ)) (entries : List Entry)
+      → AreIn part.area entries → HaveRooms part kept now.cur low entries
+      → EachMayLeave part now low entries
+      (λ range block. HaveRoom part.size (lengths_of part kept range block))
+  rooms-left kept low [] inside rooms = tt
+  rooms-left kept low (entry ∷ entries) inside rooms = (
+    λ block may. subst
+        (λ (b : Block). HaveRoom part.size (lengths_of part kept (range_of low entry) b))
+        (sym (here (entry_block part entry) block (omega (arith, on.0, inside.0)) may)) rooms.0,
+    rooms-left kept (Some entry.high) entries inside.1 rooms.1,
+  )
+
+  module _ (content : Content) (stands : StandsFor (KeyedShape part) now.cur content) where
+    top-in : AreIn part.area (entries_of (block_at now.cur part.head))
+    top-in = head-in part (block_at now.cur part.head) stands.head
+
+    top-is : (top : Block) → now.may part.head top → top ≡ block_at now.cur part.head
+    top-is top may = here part.head top (omega (arith, on.0)) may
+
+    pub part-sound : IsKeyedSound part now
+    part-sound = record {
+      area = on.0;
+      size = on.1;
+      heads = λ top may. subst (IsHead part) (sym (top-is top may)) stands.head;
+      intervals = λ top may.
+          subst (λ (t : Block). EachMayLeave part now None (entries_of t) (HoldsRange part))
+          (sym (top-is top may))
+          (hold-left None (entries_of (block_at now.cur part.head)) top-in stands.intervals);
+    }
+
+    pub part-room : (kept : Lengths) → All (λ (entry : List ℕ × ℕ). length entry.0 ≡ part.key) kept
+        → HasRoom (KeyedShape part) kept now.cur → HasKeptRoom (KeyedShape part) kept now
+    part-room kept places rooms = record {
+      places = places;
+      each = λ top may. subst (λ (t : Block). EachMayLeave part now None (entries_of t)
+          (λ range block. HaveRoom part.size (lengths_of part kept range block)))
+          (sym (top-is top may))
+          (rooms-left kept None (entries_of (block_at now.cur part.head)) top-in rooms);
+    }
+
+-- what may be found is what is read
+found-here : (now : Seen) (region : ℕ → Type 0) → ((n : ℕ) → region n → n < now.count)
+    → AllForced now.count now.cur now.may → (found : Option (List ℕ)) (way : Way)
+    → IsWithin region now.may way → MayFind now.may found way → found ≡ found_on now.cur way
+found-here now region there forced found (Found item) within is = is
+found-here now region there forced found (Reads n next) within is =
+    found-here now region there forced found (next is.0) (within.1 is.0 is.1) is.2
+    ∙ ap (λ (b : Block). found_on now.cur (next b)) (forced n is.0 (there n within.0) is.1)
+
+-- ---- what is kept
+
+module _ (P : List ℕ → Type 0) where
+  abbrev AtEach : Lengths → Type 0
+  AtEach lengths = All (λ (entry : List ℕ × ℕ). P entry.0) lengths
+
+  with-one : (lengths : Lengths) (place : List ℕ) (n : ℕ) → P place → AtEach lengths
+      → AtEach (with_length lengths place n)
+  with-one [] place n holds all =
+      All-cons (λ (entry : List ℕ × ℕ). P entry.0) (place, n) [] holds
+      (All-nil (λ (entry : List ℕ × ℕ). P entry.0))
+  with-one (entry ∷ lengths) place n holds all = by (place_cmp place entry.0)
+      (All-head (λ (e : List ℕ × ℕ). P e.0) entry lengths all)
+      (with-one lengths place n holds (All-tail (λ (e : List ℕ × ℕ). P e.0) entry lengths all))
+    where
+      by : (o : Ordering) → P entry.0 → AtEach (with_length lengths place n)
+          → AtEach (lengthen_by o place n entry lengths (with_length lengths place n))
+      by Less first rest = All-cons (λ (e : List ℕ × ℕ). P e.0) (place, n) (entry ∷ lengths) holds
+          all
+      by Equal first rest = All-cons (λ (e : List ℕ × ℕ). P e.0) (entry.0, max n entry.1) lengths
+          first (All-tail (λ (e : List ℕ × ℕ). P e.0) entry lengths all)
+      by Greater first rest = All-cons (λ (e : List ℕ × ℕ). P e.0) entry
+          (with_length lengths place n) first rest
+
+  pub with-all : (lengths more : Lengths) → AtEach lengths → AtEach more
+      → AtEach (with_lengths lengths more)
+  with-all lengths [] all others = all
+  with-all lengths (entry ∷ more) all others =
+      with-all (with_length lengths entry.0 entry.1) more
+      (with-one lengths entry.0 entry.1
+      (All-head (λ (e : List ℕ × ℕ). P e.0) entry more others) all)
+      (All-tail (λ (e : List ℕ × ℕ). P e.0) entry more others)
+
+shape-is : (x y : Shape) → Some x ≡ Some y → x ≡ y
+shape-is x y same = cc
+
+no-shape : (x : Shape) → Some x ≡ None → ⊥
+no-shape x same = cc
+
+module _ (shapes : ℕ → Option Shape) (part : ℕ) where
+  -- before-images of a part are at its places
+  kept-places : (shape : Shape) → shapes part ≡ Some shape → (images : List BeforeImage)
+      → All (CanPutBack shapes) images
+      → All (λ (entry : List ℕ × ℕ). IsPlaceOf shape entry.0) (filter_map (length_in part) images)
+  kept-places shape laid [] all = All-nil (λ (entry : List ℕ × ℕ). IsPlaceOf shape entry.0)
+  kept-places shape laid (image ∷ images) all =
+      by (nat_eq image.part part) refl (option_and_then record_of image.old)
+      (kept-places shape laid images (All-tail (CanPutBack shapes) image images all))
+    where
+      first : CanPutBack shapes image
+      first = All-head (CanPutBack shapes) image images all
+
+      by : (mine : Bool) → nat_eq image.part part ≡ mine → (old : Option (List ℕ))
+          → All (λ (entry : List ℕ × ℕ). IsPlaceOf shape entry.0)
+          (filter_map (length_in part) images)
+          → All (λ (entry : List ℕ × ℕ). IsPlaceOf shape entry.0)
+          (cons_option (cond mine (length_of image.place old) None)
+          (filter_map (length_in part) images))
+      by false is old rest = rest
+      by true is None rest = rest
+      by true is (Some bytes) rest = All-cons (λ (entry : List ℕ × ℕ). IsPlaceOf shape entry.0)
+          (image.place, length bytes) (filter_map (length_in part) images)
+          (subst (λ (s : Shape). IsPlaceOf s image.place)
+          (shape-is first.shape shape (sym first.laid
+          ∙ ap shapes (eqb-true image.part part is) ∙ laid)) first.place)
+          rest
+
+  -- a part that isn't laid has none
+  none-back : shapes part ≡ None → (images : List BeforeImage) → All (CanPutBack shapes) images
+      → put_back part images [] ≡ []
+  none-back none [] all = refl
+  none-back none (image ∷ images) all = by (nat_eq image.part part) refl
+      (none-back none images (All-tail (CanPutBack shapes) image images all))
+    where
+      first : CanPutBack shapes image
+      first = All-head (CanPutBack shapes) image images all
+
+      by : (mine : Bool) → nat_eq image.part part ≡ mine → put_back part images [] ≡ []
+          → cond mine (Rattle.vr_altkey.specs.Placing.placed_in image.place image.old
+          (put_back part images [])) (put_back part images []) ≡ []
+      by false is rest = rest
+      by true is rest = absurd (no-shape first.shape (sym first.laid
+          ∙ ap shapes (eqb-true image.part part is) ∙ none))
+
+-- ---- the volume
+
+-- a part is on the blocks of a device of the volume's shape
+pub on-by : (geometry : Geometry) (now : Seen) → IsOf geometry now → (shape : Shape)
+    → IsInside geometry shape → IsOn shape now
+on-by geometry now of (KeyedShape part) inside =
+    (omega (arith, inside.0, of.count), of.size ∙ sym inside.1)
+
+module _ (geometry : Geometry) (number : ℕ) (now : Seen) (recovered : ℕ → Content)
+    (is : Recovers geometry number now.cur recovered) (of : IsOf geometry now)
+    (forced : AllForced now.count now.cur now.may) where
+  abbrev images : List BeforeImage
+  images = images_of is.log.records
+
+  laid-same : (part : ℕ) → shape_by geometry (recovered 0) part
+      ≡ shapes_by geometry is.log is.contents part
+  laid-same part = ap (λ (c : Content). shape_by geometry c part) (is.back 0)
+
+  held-by : (part : ℕ) (found : Option Shape)
+      → shapes_by geometry is.log is.contents part ≡ found
+      → Rattle.vr_types.specs.Content.Ascends (is.contents part)
+  held-by part (Some shape) laid =
+      (stands_content shape now.cur (is.contents part) (is.stands.laid part shape laid)).ascends
+  held-by part None none = subst Rattle.vr_types.specs.Content.Ascends
+      (sym (is.stands.others part none)) none-ascend
+
+  item-back : (part : ℕ) (place : List ℕ) → item_at (recovered part) place
+      ≡ kept_or (oldest images part place) (item_at (is.contents part) place)
+  item-back part place = ap (λ (c : Content). item_at c place) (is.back part)
+      ∙ back-item part images (is.contents part) place
+
+  pub committed-by : AreCommitted geometry is.log.records recovered
+  committed-by = record {
+    each = λ part. subst Rattle.vr_types.specs.Content.Ascends (sym (is.back part))
+        (back-ascends part images (is.contents part)
+        (held-by part (shapes_by geometry is.log is.contents part) refl));
+    catalog = subst (IsCatalog geometry) (sym (is.back 0)) is.stands.catalog;
+    apart = subst (λ (c : Content). AreApart (shape_by geometry c)) (sym (is.back 0))
+        is.stands.apart;
+    inside = λ part shape laid. is.inside part shape (sym (laid-same part) ∙ laid);
+    images = subst (λ (c : Content). All (CanPutBack (shape_by geometry c)) images)
+        (sym (is.back 0)) is.images;
+    alone = is.alone;
+    others = λ part none. let laid = sym (laid-same part) ∙ none in
+        is.back part
+        ∙ ap (put_back part images) (is.stands.others part laid)
+        ∙ none-back (shapes_by geometry is.log is.contents) part laid images is.images;
+    olds = λ part place image there. sym (item-back part place
+        ∙ ap (λ (o : Option BeforeImage). kept_or o (item_at (is.contents part) place)) there);
+  }
+
+  item-of : (shape : Shape) (part : ℕ) (place : List ℕ) (found : Option (List ℕ))
+      → StandsFor shape now.cur (is.contents part)
+      → found ≡ record_at (is.contents part) place
+      → IsItemOf shape part images (recovered part) place found
+  item-of shape part place found on same none =
+      ap (item_held shape) same ∙ item-read shape now.cur (is.contents part) on place
+      ∙ sym (item-back part place
+      ∙ ap (λ (o : Option BeforeImage). kept_or o (item_at (is.contents part) place)) none)
+
+  part-by : (part : ℕ) (shape : Shape) → IsOn shape now
+      → shapes_by geometry is.log is.contents part ≡ Some shape
+      → IsPartSafe shape part images (recovered part) now
+  part-by part (KeyedShape keyed) on laid =
+      let there = is.stands.laid part (KeyedShape keyed) laid in
+      let sound = part-sound keyed now on forced (is.contents part) there in
+      record {
+        sound = sound;
+        items = λ place found may. item-of (KeyedShape keyed) part place found there
+            (found-here now (λ n. (n < now.count)
+            × Rattle.vr_space.specs.Part.InPart (KeyedShape keyed) n)
+            (λ n inside. inside.0) forced found (keyed_way keyed place)
+            (keyed-within keyed now sound place) may
+            ∙ sym (content_item (KeyedShape keyed) now.cur (is.contents part) there place));
+        room = part-room keyed now on forced (is.contents part) there (lengths_kept images part)
+            (with-all (IsPlaceOf (KeyedShape keyed)) [] (filter_map (length_in part) images)
+            (All-nil (λ (entry : List ℕ × ℕ). length entry.0 ≡ keyed.key))
+            (kept-places (shapes_by geometry is.log is.contents) part (KeyedShape keyed) laid images
+            is.images))
+            (is.room part (KeyedShape keyed) laid);
+      }
+
+  safe-by : IsSafeBy geometry is.log.records recovered now
+  safe-by = record {
+    committed = committed-by;
+    parts = λ part shape laid. let found = sym (laid-same part) ∙ laid in
+        part-by part shape (on-by geometry now of shape (is.inside part shape found)) found;
+  }
+
+  -- each log that an image may have has the same records
+  same-records : (content : LogContent) → IsLogOf (made geometry is.log) content
+      → content.records ≡ is.log.records
+  same-records content log = ⊎_elim
+      (λ (prefix : IsPrefixOf (made geometry is.log) content).
+      ap (λ (c : LogContent). c.records) prefix.is
+      ∙ take_all prefix.count is.log.records prefix.forced)
+      (λ (behind : (made geometry is.log).behind ≡ Some content).
+      ap (λ (c : LogContent). c.records) (sym (log-is is.log content behind)))
+      log
+    where
+      log-is : (x y : LogContent) → Some x ≡ Some y → x ≡ y
+      log-is x y same = cc
+
+  -- ---- its parts
+
+  -- a part as it is opened
+  opened-by : (shape : Shape) → IsOn shape now
+      → shapes_by geometry is.log is.contents (part_no shape).0 ≡ Some shape
+      → IsPartSafe shape (part_no shape).0 images (recovered (part_no shape).0) now
+      → IsOpenedPart geometry images shape now
+  opened-by (KeyedShape part) on laid safe = record {
+    on = on;
+    past = λ n inside. omega (
+      arith,
+      part-past geometry (catalog_back is.log is.contents) part.part (KeyedShape part) laid n
+          inside,
+    );
+    ready = record {
+      rests = record {
+        sound = safe.sound;
+        one_head = λ top may. forced part.head top (omega (arith, on.0)) may;
+      };
+      room = safe.room;
+      knows = record { way = tt; blocks = All-nil (IsMet part now.cur) };
+    };
+    firm = λ place found held. found-here now (λ n. (n < now.count)
+        × Rattle.vr_space.specs.Part.InPart (KeyedShape part) n)
+        (λ n inside. inside.0) forced found (keyed_way part place)
+        (keyed-within part now safe.sound place) held;
+    fits = All-weaker (CanPutBack (shapes_by geometry is.log is.contents))
+        (FitsPart (KeyedShape part))
+        (λ image can mine.
+        let same : can.shape ≡ KeyedShape part = shape-is can.shape (KeyedShape part)
+        (sym can.laid ∙ ap (shapes_by geometry is.log is.contents) mine ∙ laid) in
+        record {
+          place = subst (λ (s : Shape). IsPlaceOf s image.place) same can.place;
+          old = subst (λ (s : Shape). IfSome (option_and_then record_of image.old)
+              (IsRecordOf s image.place)) same can.old;
+        })
+        images is.images;
+  }
+
+  pub part-opened : (shape : Shape)
+      → shapes_by geometry is.log is.contents (part_no shape).0 ≡ Some shape
+      → IsOpenedPart geometry images shape now
+  part-opened shape laid =
+      let on : IsOn shape now =
+      on-by geometry now of shape (is.inside (part_no shape).0 shape laid) in
+      opened-by shape on laid (part-by (part_no shape).0 shape on laid)
+
+  -- ---- its log
+
+  module _ (allowed : IsAllowed geometry) (stands : LogStands (made geometry is.log) now) where
+    pub settled-safe : IsSafe geometry number (made geometry is.log) (λ records. recovered) now
+    settled-safe = record {
+      allowed = allowed;
+      blocks = of;
+      shape = refl;
+      header = λ block may. forced 0 block (omega (arith, of.count, allowed.two_areas)) may
+          ∙ is.stands.header;
+      logs = λ image left. stands_has (made geometry is.log) now image allowed stands.fits stands
+          left;
+      by_log = λ content log. subst (λ (rs : List LogRecord). IsSafeBy geometry rs recovered now)
+          (sym (same-records content log)) safe-by;
+    }
+
+    -- Its units of recovery may be undone, by these parts.
+    pub settled-undone : (shapes : List Shape)
+        → All (λ (shape : Shape). shapes_by geometry is.log is.contents (part_no shape).0
+        ≡ Some shape) shapes → All (IsCovered shapes) images
+        → IsSettled number (made geometry is.log) recovered shapes now
+    settled-undone shapes laid covered = record {
+      safe = settled-safe;
+      opened = record {
+        laid = All-weaker
+            (λ (shape : Shape). shapes_by geometry is.log is.contents (part_no shape).0
+            ≡ Some shape)
+            (λ (shape : Shape). shape_by geometry (recovered 0) (part_no shape).0 ≡ Some shape)
+            (λ shape there. laid-same (part_no shape).0 ∙ there) shapes laid;
+        records = same-records;
+      };
+      firm = All-weaker
+          (λ (shape : Shape). shapes_by geometry is.log is.contents (part_no shape).0 ≡ Some shape)
+          (λ (shape : Shape). IsAllFirm shape now)
+          (λ shape there. (part-opened shape there).firm) shapes laid;
+      covered = covered;
+    }

@@ -1,0 +1,79 @@
+use Rattle.std.proofs.Common.{sym, subst}
+use Rattle.vr_types.specs.Image.{Image}
+use Rattle.vr_types.proofs.CallerLemmas.{guards-then}
+use Rattle.vr_volume.specs.Volume.{Recovers}
+use Rattle.vr_undo.specs.Records.{images_in}
+use Rattle.vr_recover.specs.Found.{IsFound}
+use Rattle.vr_recover.proofs.OpenLemmas.{forced-guards, handed-out, opened-by}
+use Rattle.vr_recover.proofs.open.open_log.Goals as goal
+
+pub returns-in_err-found-clause-any_moment : goal.returns-in_err-found-clause-any_moment
+returns-in_err-found-clause-any_moment g c told number contents is =
+    forced-guards g.B.Blocks.tells c.args.geometry.now number contents
+    (g.B.Blocks.seen c.args.blocks.now) (g.B.Blocks.seen c.find.new.blocks) told
+    (λ image there. g.met.B.Blocks.images_may c.args.blocks.now image told there)
+    (g.met.B.Blocks.cur_may c.args.blocks.now told) (c.requires.forced told) is
+    c.find.ensures.keeps
+
+pub restore-requires-clause-found : goal.restore-requires-clause-found
+restore-requires-clause-found g c told =
+    let header = c.requires.header told in (
+      header.0,
+      subst (IsFound c.args.geometry.now header.0 c.args.begun.now.content
+          c.in_ok-found.found.catalog.value c.find.new.laid.layouts.items)
+          (sym (c.find.ensures.keeps.content told))
+          (c.in_ok-found.ensures.found told header.0 header.1 (c.requires.spelled told)),
+    )
+
+pub returns-in_err-restore-clause-any_moment : goal.returns-in_err-restore-clause-any_moment
+returns-in_err-restore-clause-any_moment g c told number contents is =
+    let a = g.B.Blocks.seen c.args.blocks.now in
+    let b = g.B.Blocks.seen c.find.new.blocks in
+    guards-then a b (g.B.Blocks.seen c.restore.new.blocks)
+    (λ image. Recovers c.args.geometry.now number image contents)
+    (forced-guards g.B.Blocks.tells c.args.geometry.now number contents a b told
+    (λ image there. g.met.B.Blocks.images_may c.args.blocks.now image told there)
+    (g.met.B.Blocks.cur_may c.args.blocks.now told) (c.requires.forced told) is
+    c.find.ensures.keeps)
+    (c.restore.ensures.any_moment told number contents
+    (subst (λ (i : Image). Recovers c.args.geometry.now number i contents)
+    (sym (c.find.ensures.keeps.content told)) is))
+
+pub returns-clause-handed : goal.returns-clause-handed
+returns-clause-handed g c =
+    let did = c.in_ok-restore.ensures in
+    handed-out c.args.geometry.now c.args.begun.now.content c.in_ok-found.found.catalog.value
+    c.find.new.laid.layouts.items c.in_ok-found.ensures.planned c.find.new.laid.parts.items
+    c.restore.new.laid.parts.items c.find.new.laid.numbers.items c.in_ok-found.ensures.row
+    did.shapes c.restore.new.begun.log c.in_ok-found.found.space
+    (g.B.Blocks.seen c.restore.new.blocks) c.requires.allowed did.shape did.geometry did.sound
+    did.forced did.records did.generation did.split c.in_ok-found.ensures.owners
+
+pub returns-clause-opened : goal.returns-clause-opened
+returns-clause-opened g c told number header =
+    let did = c.in_ok-restore.ensures in
+    let a = g.B.Blocks.seen c.args.blocks.now in
+    opened-by c.args.geometry.now c.args.begun.now.content c.in_ok-found.found.catalog.value
+    c.find.new.laid.layouts.items c.in_ok-found.ensures.planned c.find.new.laid.parts.items
+    c.restore.new.laid.parts.items c.find.new.laid.numbers.items c.in_ok-found.ensures.row
+    did.shapes number c.restore.new.begun.log (images_in c.in_ok-found.found.undo.value) a
+    (g.B.Blocks.seen c.restore.new.blocks) c.requires.allowed c.requires.shape
+    (c.requires.forced told)
+    (c.in_ok-found.ensures.found told number header (c.requires.spelled told))
+    (λ contents is. did.undone told number contents
+    (subst (λ (i : Image). Recovers c.args.geometry.now number i contents)
+    (sym (c.find.ensures.keeps.content told)) is)) (did.stands told) (did.ready told)
+
+pub returns-clause-any_moment : goal.returns-clause-any_moment
+returns-clause-any_moment g c told number contents is =
+    let a = g.B.Blocks.seen c.args.blocks.now in
+    let b = g.B.Blocks.seen c.find.new.blocks in
+    guards-then a b (g.B.Blocks.seen c.restore.new.blocks)
+    (λ image. Recovers c.args.geometry.now number image contents)
+    (forced-guards g.B.Blocks.tells c.args.geometry.now number contents a b told
+    (λ image there. g.met.B.Blocks.images_may c.args.blocks.now image told there)
+    (g.met.B.Blocks.cur_may c.args.blocks.now told) (c.requires.forced told) is
+    c.find.ensures.keeps)
+    (c.restore.ensures.any_moment told number contents
+    (subst (λ (i : Image). Recovers c.args.geometry.now number i contents)
+    (sym (c.find.ensures.keeps.content told)) is))

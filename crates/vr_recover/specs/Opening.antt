@@ -1,0 +1,183 @@
+-- What is found on the blocks of a volume as it is opened, and why one is not opened. The rules are
+-- this project's own.
+use Rattle.std.specs.Prelude.{◌≡◌, ◌≢◌, ◌⊎◌, ◌<◌, ◌+◌, ◌^◌, ℕ, false, List, [], ◌∷◌, All, None, Some}
+use Rattle.std.specs.Prelude.{Option, map, nat_eq, slice_get}
+use Rattle.std.specs.List.{IsDistinct, filter_map}
+use Rattle.vr_types.specs.Content.{Ascends, Content}
+use Rattle.vr_types.specs.Geometry.{IsAllowed, area_count, head_block}
+use Rattle.vr_types.specs.Image.{Image, block_at}
+use Rattle.vr_types.specs.Seen.{Seen}
+use Rattle.vr_types.specs.declared.geometry.Geometry.{Geometry}
+use Rattle.vr_types.specs.declared.unit.PartNo.{PartNo}
+use Rattle.vr_space.specs.Keyed.{Keyed}
+use Rattle.vr_space.specs.Part.{IsOn, KeyedShape, Shape, StandsFor, part_no}
+use Rattle.vr_catalog.specs.Catalog.{entries_in, parts_in}
+use Rattle.vr_catalog.specs.declared.entry.CatEntry.{CatEntry}
+use Rattle.vr_attach.specs.CatalogRules.{IsCatalog}
+use Rattle.vr_attach.specs.Laid.{AreApart, catalog_shape, shape_by, shape_in, shape_of}
+use Rattle.vr_keyed.specs.Attached.{IsRuleShown}
+use Rattle.vr_keyed.specs.Owned.{Owned}
+use Rattle.vr_log.specs.Damage.{IsDamagedAt}
+use Rattle.vr_log.specs.LogNow.{IsForced, IsOf, LogNow}
+use Rattle.vr_log.specs.Standing.{LogStands}
+use Rattle.vr_mount.specs.Areas.{AreOn, AreOwners}
+use Rattle.vr_mount.specs.Header.{IsDamagedHeader, IsHeaderOf, version_in}
+use Rattle.vr_volume.specs.Volume.{Recovers}
+use Rattle.vr_recover.specs.Undone.{IsPastLog, IsReady, IsUndone}
+use Rattle.vr_recover.specs.declared.open_no.OpenNo.{OpenNo}
+use Rattle.vr_recover.specs.declared.open_no.OpenNo.TheVariants.{Damaged, Version, Read, Write, Memory}
+
+-- ---- what is found
+
+-- The blocks are those of a volume of this number and shape, and recover to these contents.
+pub record IsVolume (number : ℕ) (geometry : Geometry) (contents : ℕ → Content) (now : Seen) : Type 0
+  where
+    pub allowed : IsAllowed geometry
+    pub shape : IsOf geometry now
+    pub recovers : Recovers geometry number now.cur contents
+
+-- they are those of no volume of this number
+abbrev pub IsNoVolume : ℕ → Seen → Type 0
+IsNoVolume number now = (geometry : Geometry) (contents : ℕ → Content)
+    → IsVolume number geometry contents now → ⊥
+
+-- ---- which block and which rule are shown
+
+-- rule 1: block 0 is no header of a volume of this number, of any shape
+pub record IsHeaderShown (number : ℕ) (now : Seen) (block rule : ℕ) : Type 0 where
+  pub block_is : block ≡ 0
+  pub rule_is : rule ≡ 1
+  pub damaged : IsDamagedHeader now.count now.size number (block_at now.cur 0)
+
+-- rule 2: the first block of the log that is misspelled
+pub record IsLogShown (geometry : Geometry) (now : Seen) (block rule : ℕ) : Type 0 where
+  pub rule_is : rule ≡ 2
+  pub damaged : IsDamagedAt geometry now.cur block
+
+-- rules 3 to 11: the first block of a part that breaks a rule, and the least that it breaks
+pub record IsPartShown (geometry : Geometry) (now : Seen) (block rule : ℕ) : Type 0 where
+  pub part : Keyed
+  pub area : ℕ
+  pub shown : IsRuleShown part area (area_count geometry) now.cur block rule
+
+-- a content of the catalog breaks a rule that all contents keep
+abbrev pub IsNoneOf : Geometry → Seen → (Content → Type 0) → Type 0
+IsNoneOf geometry now Keeps = (content : Content)
+    → StandsFor (catalog_shape geometry) now.cur content → Keeps content → ⊥
+
+-- rules 17 and 18 are shown as 17, at the head of the catalog: what it has isn't a catalog
+pub record IsCatalogShown (geometry : Geometry) (now : Seen) (block rule : ℕ) : Type 0 where
+  pub block_is : block ≡ head_block geometry 0
+  pub rule_is : rule ≡ 17
+  pub damaged : IsNoneOf geometry now (IsCatalog geometry)
+
+-- rule 3 at the head of the catalog, which names an area that the volume hasn't
+pub record IsAreaShown (geometry : Geometry) (now : Seen) (block rule : ℕ) : Type 0 where
+  pub block_is : block ≡ head_block geometry 0
+  pub rule_is : rule ≡ 3
+  pub damaged : IsNoneOf geometry now (λ content. AreOn geometry (entries_in content))
+
+-- rule 4 at the head of the catalog, which names an area twice
+pub record IsTwiceShown (geometry : Geometry) (now : Seen) (block rule : ℕ) : Type 0 where
+  pub block_is : block ≡ head_block geometry 0
+  pub rule_is : rule ≡ 4
+  pub damaged : IsNoneOf geometry now (λ content. AreApart (shape_by geometry content))
+
+-- rule 19 at the first block of the log: a before-image can't be put back
+pub record IsImageShown (block rule : ℕ) : Type 0 where
+  pub block_is : block ≡ 1
+  pub rule_is : rule ≡ 19
+
+-- what is shown of a volume whose header is in order
+pub data IsShownOf (geometry : Geometry) (now : Seen) (block rule : ℕ) : Type 0 where
+  InLog : IsLogShown geometry now block rule → IsShownOf geometry now block rule
+  InPart : IsPartShown geometry now block rule → IsShownOf geometry now block rule
+  InCatalog : IsCatalogShown geometry now block rule → IsShownOf geometry now block rule
+  InArea : IsAreaShown geometry now block rule → IsShownOf geometry now block rule
+  Twice : IsTwiceShown geometry now block rule → IsShownOf geometry now block rule
+  InImages : IsImageShown block rule → IsShownOf geometry now block rule
+
+-- ---- why a volume is not opened
+
+-- a block that breaks a rule, where block 0 is the header of this shape
+pub record IsShownIn (number : ℕ) (now : Seen) (block rule : ℕ) : Type 0 where
+  pub geometry : Geometry
+  pub header : IsHeaderOf now.count now.size number (block_at now.cur 0) geometry
+  pub shown : IsShownOf geometry now block rule
+
+-- The blocks are those of no volume of this number, and this block breaks this rule.
+pub record IsDamaged (number : ℕ) (now : Seen) (block rule : ℕ) : Type 0 where
+  pub none : IsNoVolume number now
+  pub shown : IsHeaderShown number now block rule ⊎ IsShownIn number now block rule
+
+-- They are those of no volume of this number, and block 0 states this other version.
+pub record IsOfVersion (number : ℕ) (now : Seen) (found : ℕ) : Type 0 where
+  pub none : IsNoVolume number now
+  pub stated : version_in (block_at now.cur 0) ≡ Some found
+  pub other : found ≢ 1
+
+abbrev pub IsRefused : ℕ → Seen → OpenNo → Type 0
+IsRefused number now (Damaged block rule) = IsDamaged number now block rule
+IsRefused number now (Version found) = IsOfVersion number now found
+IsRefused number now Read = Unit {0}
+IsRefused number now Write = Unit {0}
+IsRefused number now Memory = Unit {0}
+
+-- ---- what is handed out
+
+-- the shapes of the parts that a catalog lays, its own first
+abbrev pub shapes_laid : Geometry → List CatEntry → List Shape
+shapes_laid geometry entries = catalog_shape geometry ∷ filter_map (shape_of geometry) entries
+
+abbrev pub shape_owned : Owned → Shape
+shape_owned keyed = KeyedShape keyed.part
+
+-- Each of these shapes is laid by the entries as its part, and each part that they lay is one of
+-- them.
+pub record AreLaid (geometry : Geometry) (entries : List CatEntry) (shapes : List Shape) : Type 0
+  where
+    pub each : All (λ (shape : Shape). shape_in geometry entries (part_no shape).0 ≡ Some shape)
+        shapes
+    pub all : (part : ℕ) (shape : Shape) → shape_in geometry entries part ≡ Some shape
+        → (part_no shape).0 ≡ part
+    pub there : (part : ℕ) (shape : Shape) → shape_in geometry entries part ≡ Some shape
+        → (at : ℕ) × (slice_get shapes at ≡ Some shape)
+
+-- What is handed out, whatever the blocks have: the parts are those that the catalog lays, its own
+-- first, each on blocks of the volume past the log, and the log has no record.
+pub record IsHandedOut (geometry : Geometry) (entries : List CatEntry) (parts : List Owned)
+    (log : LogNow) (owners : List (Option PartNo)) (now : Seen) : Type 0 where
+  pub allowed : IsAllowed geometry
+  pub shape : IsOf geometry now
+  pub log_is : log.geometry ≡ geometry
+  pub sound : log.broken ≡ false
+  pub forced : IsForced log
+  pub records : log.records ≡ []
+  pub generation : log.generation < 2 ^ 63 + 1
+  pub distinct : IsDistinct nat_eq (0 ∷ parts_in entries)
+  pub shapes : map shape_owned parts ≡ shapes_laid geometry entries
+  pub laid : AreLaid geometry entries (shapes_laid geometry entries)
+  pub on : All (λ (shape : Shape). IsOn shape now) (map shape_owned parts)
+  pub past : All (IsPastLog geometry) (map shape_owned parts)
+  pub split : All (λ (keyed : Owned). keyed.split ≡ None) parts
+  pub owners_are : AreOwners geometry entries owners
+
+-- And by what the blocks had and have: they were a volume's, which recovered to these contents, and
+-- are now a safe one's, with these contents committed and without units of recovery. Each part is
+-- ready.
+pub record IsOpenedBy (number : ℕ) (geometry : Geometry) (entries : List CatEntry)
+    (parts : List Owned) (log : LogNow) (contents : ℕ → Content) (old new : Seen) : Type 0 where
+  pub volume : IsVolume number geometry contents old
+  pub undone : IsUndone number log contents new
+  pub stands : LogStands log new
+  pub ready : All (λ (keyed : Owned). IsReady (shape_owned keyed) keyed.met [] new) parts
+  pub catalog : entries ≡ entries_in (contents 0)
+  pub rules : IsCatalog geometry (contents 0)
+  pub apart : AreApart (shape_by geometry (contents 0))
+  pub ascends : (part : ℕ) → Ascends (contents part)
+  pub others : (part : ℕ) → shape_by geometry (contents 0) part ≡ None → contents part ≡ []
+
+-- some contents
+abbrev pub IsOpened : ℕ → Geometry → List CatEntry → List Owned → LogNow → Seen → Seen → Type 0
+IsOpened number geometry entries parts log old new =
+    (contents : ℕ → Content) × IsOpenedBy number geometry entries parts log contents old new

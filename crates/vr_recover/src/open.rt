@@ -1,0 +1,207 @@
+//! Opening a volume.
+ghost use Rattle.std.specs.Prelude.{◌≡◌, ◌⊎◌, [], ℕ, IsTrue, IfErr, IfOk, OnOk};
+ghost use Rattle.vr_types.specs.Blocks.{AllForced, Keeps};
+ghost use Rattle.vr_types.specs.Content.{Content};
+ghost use Rattle.vr_types.specs.Geometry.{IsAllowed};
+ghost use Rattle.vr_types.specs.Image.{Image, block_at};
+ghost use Rattle.vr_types.specs.Moments.{Guards};
+ghost use Rattle.vr_types.specs.Seen.{Left};
+ghost use Rattle.vr_types.specs.declared.geometry.Geometry.{Geometry as VolumeShape};
+ghost use Rattle.vr_attach.specs.Header.{header_block};
+ghost use Rattle.vr_log.specs.LogNow.{IsOf, made};
+ghost use Rattle.vr_log.specs.Spells.{Spells};
+ghost use Rattle.vr_volume.specs.Volume.{Recovers};
+ghost use Rattle.vr_recover.specs.Found.{IsLogFound};
+ghost use Rattle.vr_recover.specs.OpenNo.{HasOpenCause, IsToldNo};
+ghost use Rattle.vr_recover.specs.Opening.{IsHandedOut, IsOpened, IsRefused, IsVolume};
+
+use crate::begun::{Begun, begin_log, read_shape};
+use crate::finding::{Found, find};
+use crate::laid::Laid;
+use crate::open_no::OpenNo;
+use crate::restoring::restore;
+use crate::syncing::sync_all;
+use std::alloc::Global;
+use vr_catalog::Catalog;
+use vr_keyed::Keyed;
+use vr_log::UndoLog;
+use vr_types::{Blocks, Geometry, Space};
+
+/// A volume that was opened: its shape, its catalog, its parts in the order of the catalog's entries
+/// that lay one, the catalog's own part first, its log, which has no record, and who owns each area.
+#[derive(Drop)]
+pub struct Opened {
+    pub geometry: Geometry,
+    pub catalog: Box<Catalog>,
+    pub parts: Vec<Keyed>,
+    pub log: UndoLog,
+    pub space: Space,
+}
+
+/// No part yet, in a box.
+fn new_laid(alloc: Global) -> Result<Box<Laid>, OpenNo>
+    ensures parts { IfOk result (λ laid. laid.value.parts.items ≡ []) }
+    ensures layouts { IfOk result (λ laid. laid.value.layouts.items ≡ []) }
+    ensures numbers { IfOk result (λ laid. laid.value.numbers.items ≡ []) }
+    ensures memory { IfErr result (λ no. no ≡ OpenNo.Memory) }
+{
+    match Box::new(alloc, Laid::new(alloc)) {
+        Ok(laid) => Ok(laid),
+        Err(_) => Err(OpenNo::Memory),
+    }
+}
+
+/// Finds what a volume of this shape has, whose log was read, and makes it one without units of
+/// recovery. `laid` has no part yet. A crash leaves what is read.
+fn open_log<B: Blocks>(
+    alloc: Global,
+    blocks: &mut B,
+    geometry: &Geometry,
+    begun: &mut Begun,
+    laid: &mut Laid,
+) -> Result<Found, OpenNo>
+    requires allowed { IsAllowed geometry.now }
+    requires shape { IsOf geometry.now (B.seen blocks.old) }
+    requires log { begun.old.log ≡ made geometry.now begun.old.content }
+    requires young { IsLogFound geometry.now begun.old.content }
+    requires parts { laid.old.parts.items ≡ [] }
+    requires layouts { laid.old.layouts.items ≡ [] }
+    requires numbers { laid.old.numbers.items ≡ [] }
+    requires forced { IsTrue B.tells → AllForced (B.seen blocks.old).count
+        (B.seen blocks.old).cur (B.seen blocks.old).may }
+    requires header { IsTrue B.tells → (number : ℕ)
+        × (block_at (B.seen blocks.old).cur 0 ≡ header_block geometry.now number) }
+    requires spelled { IsTrue B.tells
+        → Spells geometry.now (B.seen blocks.old).cur begun.old.content }
+    ensures handed { IfOk result (λ found. IsHandedOut geometry.now found.catalog.value
+        laid.new.parts.items begun.new.log found.space (B.seen blocks.new)) }
+    ensures opened { IsTrue B.tells → (number : ℕ)
+        → block_at (B.seen blocks.old).cur 0 ≡ header_block geometry.now number
+        → IfOk result (λ found. IsOpened number geometry.now found.catalog.value
+        laid.new.parts.items begun.new.log (B.seen blocks.old) (B.seen blocks.new)) }
+    ensures any_moment { IsTrue B.tells → (number : ℕ) (contents : ℕ → Content)
+        → Recovers geometry.now number (B.seen blocks.old).cur contents
+        → Guards (B.seen blocks.old) (B.seen blocks.new)
+        (λ image. Recovers geometry.now number image contents) }
+    ensures refused { IsTrue B.tells → (number : ℕ)
+        → block_at (B.seen blocks.old).cur 0 ≡ header_block geometry.now number
+        → IfErr result (IsRefused number (B.seen blocks.old)) }
+    ensures kept { IfErr result (λ no. IsToldNo no
+        → Keeps B.tells (B.seen blocks.old) (B.seen blocks.new)) }
+    ensures cause { HasOpenCause (B.faults blocks.old) (B.faults blocks.new) result }
+{
+    let found = find(alloc, blocks, geometry, begun, laid)?;
+    restore(alloc, blocks, geometry, begun, laid, &found)?;
+    Ok(found)
+}
+
+/// Reads the header and the log of the volume of this number, on so many blocks, all of which it
+/// forces.
+fn start<B: Blocks>(
+    alloc: Global,
+    blocks: &mut B,
+    count: u32,
+    number: u32,
+) -> Result<Box<Begun>, OpenNo>
+    requires { (B.seen blocks.old).count ≡ count }
+    ensures header { IsTrue B.tells → IfOk result (λ begun.
+        block_at (B.seen blocks.old).cur 0 ≡ header_block begun.value.geometry number) }
+    ensures allowed { IfOk result (λ begun. IsAllowed begun.value.geometry) }
+    ensures shape { IfOk result (λ begun. IsOf begun.value.geometry (B.seen blocks.old)) }
+    ensures log { IfOk result (λ begun. begun.value.log
+        ≡ made begun.value.geometry begun.value.content) }
+    ensures young { IfOk result (λ begun.
+        IsLogFound begun.value.geometry begun.value.content) }
+    ensures spelled { IsTrue B.tells → IfOk result (λ begun.
+        Spells begun.value.geometry (B.seen blocks.old).cur begun.value.content) }
+    ensures forced { IsTrue B.tells → OnOk result (AllForced (B.seen blocks.new).count
+        (B.seen blocks.new).cur (B.seen blocks.new).may) }
+    ensures refused { IsTrue B.tells → IfErr result (IsRefused number (B.seen blocks.old)) }
+    ensures keeps { Keeps B.tells (B.seen blocks.old) (B.seen blocks.new) }
+    ensures cause { HasOpenCause (B.faults blocks.old) (B.faults blocks.new) result }
+{
+    let geometry = read_shape(blocks, count, number)?;
+    sync_all(alloc, blocks, count)?;
+    begin_log(alloc, blocks, &geometry)
+}
+
+/// Opens the volume of this number, on so many blocks.
+fn open_numbered<B: Blocks>(
+    alloc: Global,
+    blocks: &mut B,
+    count: u32,
+    number: u32,
+) -> Result<Opened, OpenNo>
+    requires { (B.seen blocks.old).count ≡ count }
+    ensures handed { IfOk result (λ opened. IsHandedOut opened.geometry opened.catalog.value
+        opened.parts.items opened.log opened.space (B.seen blocks.new)) }
+    ensures opened { IsTrue B.tells → IfOk result (λ opened. IsOpened number opened.geometry
+        opened.catalog.value opened.parts.items opened.log (B.seen blocks.old)
+        (B.seen blocks.new)) }
+    ensures any_moment { IsTrue B.tells → (geometry : VolumeShape) (contents : ℕ → Content)
+        → IsVolume number geometry contents (B.seen blocks.old)
+        → Guards (B.seen blocks.old) (B.seen blocks.new) (λ image.
+        Left (B.seen blocks.old) image ⊎ Recovers geometry number image contents) }
+    ensures refused { IsTrue B.tells → IfErr result (IsRefused number (B.seen blocks.old)) }
+    ensures kept { IfErr result (λ no. IsToldNo no
+        → Keeps B.tells (B.seen blocks.old) (B.seen blocks.new)) }
+    ensures cause { HasOpenCause (B.faults blocks.old) (B.faults blocks.new) result }
+{
+    let mut begun = start(alloc, blocks, count, number)?;
+    let mut laid = new_laid(alloc)?;
+    let geometry = begun.geometry;
+    let found = open_log(alloc, blocks, &geometry, &mut begun, &mut laid)?;
+    let parts = Box::into_inner(laid).parts;
+    let log = Box::into_inner(begun).log;
+    Ok(Opened {
+        geometry,
+        catalog: found.catalog,
+        parts,
+        log,
+        space: found.space,
+    })
+}
+
+/// Opens the volume of this number, on so many blocks. It forces all blocks, reads the header, the
+/// log, the catalog and each part that the catalog lays, puts the before-images of units of recovery
+/// back that have no end, ends these units as backed out, and begins the next generation of the log
+/// (backout after a failure, DFSMStvs Planning and Operating Guide). Nothing is put before all of it
+/// is found to be in order.
+///
+/// `Damaged`: the blocks are those of no volume of that number: a block that breaks a rule, and the
+/// rule. `Version`: block 0 states another version, and so they are none. Nothing was put then.
+/// `Read` and `Write` are the device's, each where it counted that fault in this call. `Memory`:
+/// there is no memory; or the log has reached generation 2^63, so that there is no room for the
+/// generations of later runs, or it has no room for the ends of its units; or it has a before-image
+/// of the catalog's own part, or the catalog lays a part whose longest record has no room in an
+/// interval of its own, neither of which is handled yet.
+pub fn open_volume<B: Blocks>(
+    alloc: Global,
+    blocks: &mut B,
+    count: u32,
+    number: u32,
+) -> Result<Opened, OpenNo>
+    requires { (B.seen blocks.old).count ≡ count }
+    ensures handed { IfOk result (λ opened. IsHandedOut opened.geometry opened.catalog.value
+        opened.parts.items opened.log opened.space (B.seen blocks.new)) }
+    ensures opened { IsTrue B.tells → IfOk result (λ opened. IsOpened number opened.geometry
+        opened.catalog.value opened.parts.items opened.log (B.seen blocks.old)
+        (B.seen blocks.new)) }
+    // In every image of every moment, whether it fails or not.
+    ensures any_moment { IsTrue B.tells → (geometry : VolumeShape) (contents : ℕ → Content)
+        → IsVolume number geometry contents (B.seen blocks.old)
+        → Guards (B.seen blocks.old) (B.seen blocks.new) (λ image.
+        Left (B.seen blocks.old) image ⊎ Recovers geometry number image contents) }
+    ensures recovers { IsTrue B.tells → (geometry : VolumeShape) (contents : ℕ → Content)
+        → IsAllowed geometry → IsOf geometry (B.seen blocks.old)
+        → ((image : Image) → Left (B.seen blocks.old) image
+        → Recovers geometry number image contents)
+        → Guards (B.seen blocks.old) (B.seen blocks.new)
+        (λ image. Recovers geometry number image contents) }
+    ensures refused { IsTrue B.tells → IfErr result (IsRefused number (B.seen blocks.old)) }
+    ensures kept { IfErr result (λ no. IsToldNo no
+        → Keeps B.tells (B.seen blocks.old) (B.seen blocks.new)) }
+    ensures cause { HasOpenCause (B.faults blocks.old) (B.faults blocks.new) result }
+{
+    open_numbered(alloc, blocks, count, number)
+}

@@ -1,0 +1,174 @@
+//! Making a volume that was found one without units of recovery.
+ghost use Rattle.std.specs.Prelude.{◌≡◌, ◌<◌, ◌≤◌, ◌+◌, ◌^◌, [], ℕ, All, IsTrue, IfErr, OnOk, None};
+ghost use Rattle.std.specs.Prelude.{false, length, map};
+ghost use Rattle.vr_types.specs.Blocks.{AllForced};
+ghost use Rattle.vr_types.specs.Content.{Content};
+ghost use Rattle.vr_types.specs.Geometry.{IsAllowed};
+ghost use Rattle.vr_types.specs.LogSpace.{log_size};
+ghost use Rattle.vr_types.specs.Moments.{Guards};
+ghost use Rattle.vr_types.specs.Regions.{Touches};
+ghost use Rattle.vr_keyed.specs.Owned.{Owned};
+ghost use Rattle.vr_log.specs.LogNow.{IsForced, IsOf, made, next_generation};
+ghost use Rattle.vr_log.specs.Records.{HasFields, bytes_of};
+ghost use Rattle.vr_log.specs.Spells.{Spells};
+ghost use Rattle.vr_log.specs.Standing.{InLog, IsSettled, LogStands};
+ghost use Rattle.vr_undo.specs.Records.{images_in};
+ghost use Rattle.vr_volume.specs.PutBack.{images_of};
+ghost use Rattle.vr_volume.specs.Volume.{Recovers};
+ghost use Rattle.vr_recover.specs.Found.{AreAttached, IsFound, IsLogFound, IsPartReady};
+ghost use Rattle.vr_recover.specs.Found.{IsPlanned, IsUndoable};
+ghost use Rattle.vr_recover.specs.OpenNo.{HasOpenCause, IsSilentNo};
+ghost use Rattle.vr_recover.specs.Opening.{shape_owned};
+ghost use Rattle.vr_recover.specs.Undone.{IsUndone};
+ghost use Rattle.vr_recover.specs.Undone.{IsSettled as IsSettledBy};
+
+use crate::begun::Begun;
+use crate::finding::Found;
+use crate::laid::Laid;
+use crate::open_no::OpenNo;
+use crate::undoing::undo_units;
+use std::alloc::Global;
+use vr_log::{LogContent, LogReadNo, clear_past};
+use vr_types::{Blocks, DeviceFault, Geometry};
+use vr_undo::Undo;
+
+/// Makes zeros of what an earlier log left past the end of this one, and forces that.
+fn clear<B: Blocks>(
+    alloc: Global,
+    blocks: &mut B,
+    geometry: &Geometry,
+    content: &LogContent,
+) -> Result<(), OpenNo>
+    requires allowed { IsAllowed geometry.now }
+    requires shape { IsOf geometry.now (B.seen blocks.old) }
+    requires fields { All HasFields content.now.records }
+    requires size { length (bytes_of content.now.records) ≤ log_size geometry.now }
+    requires settled { IsTrue B.tells → IsSettled geometry.now (B.seen blocks.old) }
+    requires spelled { IsTrue B.tells
+        → Spells geometry.now (B.seen blocks.old).cur content.now }
+    ensures moments { IsTrue B.tells → Touches (InLog geometry.now)
+        (λ image. Spells geometry.now image content.now) (B.seen blocks.old) (B.seen blocks.new) }
+    ensures spelled { IsTrue B.tells → Spells geometry.now (B.seen blocks.new).cur content.now }
+    ensures stands { IsTrue B.tells → OnOk result
+        (LogStands (made geometry.now content.now) (B.seen blocks.new)) }
+    ensures forced { IsTrue B.tells
+        → AllForced (B.seen blocks.old).count (B.seen blocks.old).cur (B.seen blocks.old).may
+        → OnOk result
+        (AllForced (B.seen blocks.new).count (B.seen blocks.new).cur (B.seen blocks.new).may) }
+    ensures shape { IsOf geometry.now (B.seen blocks.new) }
+    ensures silent { IfErr result IsSilentNo }
+    ensures cause { HasOpenCause (B.faults blocks.old) (B.faults blocks.new) result }
+{
+    match clear_past(alloc, blocks, geometry, content) {
+        Ok(()) => Ok(()),
+        Err(LogReadNo::Damaged { .. }) => Err(OpenNo::Memory),
+        Err(LogReadNo::Fault(DeviceFault::Read)) => Err(OpenNo::Read),
+        Err(LogReadNo::Fault(DeviceFault::Write)) => Err(OpenNo::Write),
+        Err(LogReadNo::Memory) => Err(OpenNo::Memory),
+    }
+}
+
+/// Puts the before-images of live units back, ends these units, and begins the next generation of
+/// the log. The log is that of the content.
+fn undo<B: Blocks>(
+    blocks: &mut B,
+    begun: &mut Begun,
+    laid: &mut Laid,
+    undo: &Undo,
+) -> Result<(), OpenNo>
+    requires undoable { IsUndoable begun.old.log begun.old.content.records laid.old.parts.items
+        laid.old.numbers.items (images_in undo.now) (B.seen blocks.old) }
+    requires stands { IsTrue B.tells → LogStands begun.old.log (B.seen blocks.old) }
+    requires ready { IsTrue B.tells
+        → All (IsPartReady (images_in undo.now) (B.seen blocks.old)) laid.old.parts.items }
+    ensures any_moment { IsTrue B.tells → (number : ℕ) (contents : ℕ → Content)
+        → IsSettledBy number begun.old.log contents (map shape_owned laid.old.parts.items)
+        (B.seen blocks.old)
+        → Guards (B.seen blocks.old) (B.seen blocks.new)
+        (λ image. Recovers begun.old.log.geometry number image contents) }
+    ensures undone { IsTrue B.tells → begun.old.log.generation + 1 < 2 ^ 64
+        → OnOk result ((number : ℕ) (contents : ℕ → Content)
+        → IsSettledBy number begun.old.log contents (map shape_owned laid.old.parts.items)
+        (B.seen blocks.old)
+        → IsUndone number begun.new.log contents (B.seen blocks.new)) }
+    ensures ready { IsTrue B.tells → OnOk result
+        (All (IsPartReady (images_in undo.now) (B.seen blocks.new)) laid.new.parts.items) }
+    ensures shapes { map shape_owned laid.new.parts.items
+        ≡ map shape_owned laid.old.parts.items }
+    ensures split { All (λ (keyed : Owned). keyed.split ≡ None) laid.new.parts.items }
+    ensures records { OnOk result (begun.new.log.records ≡ []) }
+    ensures generation { OnOk result
+        (begun.new.log.generation ≡ next_generation begun.old.log.generation) }
+    ensures geometry { OnOk result (begun.new.log.geometry ≡ begun.old.log.geometry) }
+    ensures sound { OnOk result (begun.new.log.broken ≡ false) }
+    ensures forced { OnOk result (IsForced begun.new.log) }
+    ensures shape { OnOk result (IsOf begun.new.log.geometry (B.seen blocks.new)) }
+    ensures stands { IsTrue B.tells → begun.old.log.generation + 1 < 2 ^ 64
+        → OnOk result (LogStands begun.new.log (B.seen blocks.new)) }
+    ensures silent { IfErr result IsSilentNo }
+    ensures cause { HasOpenCause (B.faults blocks.old) (B.faults blocks.new) result }
+{
+    undo_units(
+        blocks,
+        laid.parts.as_mut_slice(),
+        laid.numbers.as_slice(),
+        undo,
+        &mut begun.log,
+        begun.content.records(),
+    )?;
+    Ok(())
+}
+
+/// Makes a volume that was found one without units of recovery: what an earlier log left past the
+/// end of this one becomes zeros, the before-images of live units are put back, these units are
+/// ended, and the next generation of the log begins. In every image of every moment, whether it
+/// fails or not, the blocks recover to what they recovered to.
+pub(crate) fn restore<B: Blocks>(
+    alloc: Global,
+    blocks: &mut B,
+    geometry: &Geometry,
+    begun: &mut Begun,
+    laid: &mut Laid,
+    found: &Found,
+) -> Result<(), OpenNo>
+    requires allowed { IsAllowed geometry.now }
+    requires shape { IsOf geometry.now (B.seen blocks.old) }
+    requires log { begun.old.log ≡ made geometry.now begun.old.content }
+    requires young { IsLogFound geometry.now begun.old.content }
+    requires row { AreAttached laid.old.parts.items laid.old.layouts.items
+        laid.old.numbers.items }
+    requires planned { IsPlanned geometry.now begun.old.content found.now.catalog.value
+        laid.old.layouts.items }
+    requires kept { images_in found.now.undo.value ≡ images_of begun.old.content.records }
+    requires forced { IsTrue B.tells → AllForced (B.seen blocks.old).count
+        (B.seen blocks.old).cur (B.seen blocks.old).may }
+    requires found { IsTrue B.tells → (number : ℕ)
+        × IsFound geometry.now number begun.old.content found.now.catalog.value
+        laid.old.layouts.items (B.seen blocks.old).cur }
+    ensures any_moment { IsTrue B.tells → (number : ℕ) (contents : ℕ → Content)
+        → Recovers geometry.now number (B.seen blocks.old).cur contents
+        → Guards (B.seen blocks.old) (B.seen blocks.new)
+        (λ image. Recovers geometry.now number image contents) }
+    ensures undone { IsTrue B.tells → OnOk result ((number : ℕ) (contents : ℕ → Content)
+        → Recovers geometry.now number (B.seen blocks.old).cur contents
+        → IsUndone number begun.new.log contents (B.seen blocks.new)) }
+    ensures ready { IsTrue B.tells → OnOk result
+        (All (IsPartReady (images_in found.now.undo.value) (B.seen blocks.new))
+        laid.new.parts.items) }
+    ensures shapes { OnOk result (map shape_owned laid.new.parts.items
+        ≡ map shape_owned laid.old.parts.items) }
+    ensures split { OnOk result (All (λ (keyed : Owned). keyed.split ≡ None)
+        laid.new.parts.items) }
+    ensures records { OnOk result (begun.new.log.records ≡ []) }
+    ensures generation { OnOk result (begun.new.log.generation < 2 ^ 63 + 1) }
+    ensures geometry { OnOk result (begun.new.log.geometry ≡ geometry.now) }
+    ensures sound { OnOk result (begun.new.log.broken ≡ false) }
+    ensures forced { OnOk result (IsForced begun.new.log) }
+    ensures shape { OnOk result (IsOf geometry.now (B.seen blocks.new)) }
+    ensures stands { IsTrue B.tells → OnOk result (LogStands begun.new.log (B.seen blocks.new)) }
+    ensures silent { IfErr result IsSilentNo }
+    ensures cause { HasOpenCause (B.faults blocks.old) (B.faults blocks.new) result }
+{
+    clear(alloc, blocks, geometry, &begun.content)?;
+    undo(blocks, begun, laid, &found.undo)
+}

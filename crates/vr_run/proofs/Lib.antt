@@ -1,0 +1,6 @@
+pub mod VolumeRuns
+pub mod Readying
+pub mod Crashing
+pub mod GoingOn
+pub mod Events
+pub mod DeckRuns

@@ -1,0 +1,37 @@
+-- What a crash leaves of a volume while a job runs on it: an image recovers to what is committed by
+-- some first entries of the volume's history, of which the entry after them may be a commit that
+-- counts already. The rules are this project's own.
+use Rattle.std.specs.Prelude.{◌≡◌, ◌⊎◌, ℕ, List, [], ◌∷◌, ◌++◌, None}
+use Rattle.vr_types.specs.Image.{Image}
+use Rattle.vr_types.specs.declared.geometry.Geometry.{Geometry}
+use Rattle.vr_types.specs.declared.reply.Refusal.TheVariants.{WriteFault}
+use Rattle.vr_types.specs.declared.reply.Reply.TheVariants.{Done, Refused}
+use Rattle.vr_types.specs.declared.request.Request.TheVariants.{Commit}
+use Rattle.vr_types.specs.declared.unit.Unit.{Unit as UnitOfRecovery}
+use Rattle.vr_history.specs.Legal.{state_of}
+use Rattle.vr_history.specs.State.{State}
+use Rattle.vr_history.specs.declared.entry.Entry.{Entry}
+use Rattle.vr_history.specs.declared.entry.What.{What}
+use Rattle.vr_history.specs.declared.entry.What.TheVariants.{Asked}
+use Rattle.vr_volume.specs.Crashes.{RecoversTo}
+
+-- a COMMIT that was done, or that a fault of a write refused
+abbrev pub IsCommit : What → Type 0
+IsCommit what = (what ≡ Asked Commit (Done 0 None None)) ⊎ (what ≡ Asked Commit (Refused WriteFault))
+
+-- The units that are in their commit before these entries: none, or that of the first of them.
+abbrev pub AreInCommit : List UnitOfRecovery → List Entry → Type 0
+AreInCommit counted entries = (counted ≡ [])
+    ⊎ ((entry : Entry) × (rest : List Entry) × (entries ≡ entry ∷ rest) × IsCommit entry.what
+    × (counted ≡ entry.unit ∷ []))
+
+-- The image recovers to what is committed by the first entries of a history, perhaps with the unit
+-- that is in its commit then.
+pub record IsLeftBy (geometry : Geometry) (number : ℕ) (opening : State) (entries : List Entry)
+    (image : Image) : Type 0 where
+  pub before : List Entry
+  pub after : List Entry
+  pub is : entries ≡ before ++ after
+  pub counted : List UnitOfRecovery
+  pub commits : AreInCommit counted after
+  pub recovers : RecoversTo geometry number (state_of geometry opening before) counted image

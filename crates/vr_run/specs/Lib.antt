@@ -1,0 +1,6 @@
+pub mod Parts
+pub mod Crash
+pub mod Asking
+pub mod Opened
+pub mod OpenEnds
+pub mod VolumeRun

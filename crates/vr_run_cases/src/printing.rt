@@ -1,0 +1,47 @@
+//! What a job prints.
+
+use crate::answers::{Answer, Stop, say_lines};
+use std::alloc::Global;
+use vr_history::History;
+use vr_job_ends::{End, Trace, print_end};
+use vr_job_text::JobText;
+use vr_outside::MemorySink;
+use vr_trace::{EndLine, Histories};
+
+/// Writes what a job prints that left this history, or that ended otherwise.
+pub fn say_end(
+    alloc: Global,
+    job: JobText,
+    history: History,
+    answer: Result<(), EndLine>,
+    out: &mut String,
+) -> Answer {
+    let mut histories = Histories::new(alloc);
+    histories.push(history)?;
+    let trace = Trace {
+        job: Some(job),
+        end: end_of(answer),
+        lines: false,
+        histories,
+    };
+    say_trace(alloc, trace, out)
+}
+
+/// How a job came to its end.
+fn end_of(answer: Result<(), EndLine>) -> End {
+    match answer {
+        Ok(()) => End::Ran,
+        Err(line) => End::Line(line),
+    }
+}
+
+/// Writes what a trace prints.
+fn say_trace(alloc: Global, trace: Trace, out: &mut String) -> Answer {
+    let mut sink = MemorySink::new(alloc, Vec::new(alloc));
+    let shelf: Vec<u8> = Vec::new(alloc);
+    let end = print_end(alloc, trace, shelf, &mut sink);
+    if end.status == 36 {
+        return Err(Stop::Memory);
+    }
+    say_lines(out, sink.taken())
+}

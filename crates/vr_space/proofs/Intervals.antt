@@ -1,0 +1,96 @@
+-- The stages that come before a record are those of a split of one interval, and take no area.
+use Rattle.std.proofs.Common.{◌≡◌, ◌⊎◌, inl, inr, ⊎_elim, ℕ, Bool, true, false, List, Option, Some}
+use Rattle.std.proofs.Common.{None, subst, if◌then◌else◌, ◌||◌, nat_eq}
+use Rattle.std.specs.Prelude.{slice_index}
+use Rattle.vr_types.specs.Image.{Image, block_at}
+use Rattle.vr_types.specs.Seen.{Seen}
+use Rattle.vr_types.specs.declared.unit.PartNo.{PartNo}
+use Rattle.vr_types.specs.declared.unit.StageKind.{StageKind}
+use Rattle.vr_types.specs.declared.unit.StageKind.TheVariants.{CiCopy, CiSwitch, CiClean}
+use Rattle.vr_types.specs.declared.unit.StageKind.TheVariants.{CaClaim, CaCopy, CaLink, CaSwitch}
+use Rattle.vr_types.specs.declared.unit.StageKind.TheVariants.{Post, Extend, Undo, Force}
+use Rattle.vr_seqset.specs.Entry.{Entry}
+use Rattle.vr_space.specs.Keyed.{Keyed, entries_of, entry_for}
+use Rattle.vr_space.specs.Part.{IsUnderWay, KeyedShape, OwnersAfter, Shape, room_of}
+use Rattle.vr_space.specs.Room.{Lengths, Range}
+use Rattle.vr_space.specs.Split.{IsIntervalStage, SplitNow, free_interval, keyed_fits, room_after}
+use Rattle.vr_space.specs.Split.{room_by, room_by_split, stage_at, stage_in}
+use Rattle.vr_space.specs.UnderWay.{IsReadyFor, KeyedUnderWay}
+use Rattle.vr_space.specs.declared.room.Room.{Room}
+use Rattle.vr_space.specs.declared.room.Room.TheVariants.{Ready, Stage}
+
+-- a split under way is at one of them
+stage-ready : (part : Keyed) (split : SplitNow) (now : Seen) (stage : StageKind)
+    → IsReadyFor stage part split now → IsIntervalStage stage
+stage-ready part split now CiCopy ready = tt
+stage-ready part split now CiSwitch ready = tt
+stage-ready part split now CiClean ready = tt
+stage-ready part split now CaClaim ready = absurd ready
+stage-ready part split now CaCopy ready = absurd ready
+stage-ready part split now CaLink ready = absurd ready
+stage-ready part split now CaSwitch ready = absurd ready
+stage-ready part split now Post ready = absurd ready
+stage-ready part split now Extend ready = absurd ready
+stage-ready part split now Undo ready = absurd ready
+stage-ready part split now Force ready = absurd ready
+
+-- the stage that is next is that of the split
+stage-in : (part : Keyed) (split : Option SplitNow) (now : Seen) (found : Option (Range × Entry))
+    (kind : StageKind) → KeyedUnderWay part split now → stage_in split found ≡ Some kind
+    → IsIntervalStage kind
+stage-in part split now None kind way is = absurd cc
+stage-in part None now (Some found) kind way is = absurd cc
+stage-in part (Some split) now (Some found) kind way is =
+    by_test (nat_eq (slice_index found.1.intervals 0) split.old
+    || nat_eq (slice_index found.1.intervals 0) split.into) is
+  where
+    by_test : (test : Bool) → (if test then Some split.stage else None) ≡ Some kind
+        → IsIntervalStage kind
+    by_test true same = let it : split.stage ≡ kind = cc in
+        subst IsIntervalStage it (stage-ready part split now split.stage way)
+    by_test false same = absurd cc
+
+by-split : (part : Keyed) (split : Option SplitNow) (now : Seen) (free : Option ℕ)
+    (kind : StageKind) → KeyedUnderWay part split now → room_by_split split free ≡ Stage kind
+    → IsIntervalStage kind
+by-split part (Some split) now free kind way is = let it : split.stage ≡ kind = cc in
+    subst IsIntervalStage it (stage-ready part split now split.stage way)
+by-split part None now (Some free) kind way is = let it : CiCopy ≡ kind = cc in
+    subst IsIntervalStage it tt
+by-split part None now None kind way is = absurd cc
+
+by-room : (stage : Option StageKind) (fits : Bool) (other : Room) (kind : StageKind)
+    → room_after stage (room_by fits other) ≡ Stage kind
+    → (stage ≡ Some kind) ⊎ (other ≡ Stage kind)
+by-room (Some stage) fits other kind is = let it : stage ≡ kind = cc in inl cc
+by-room None true other kind is = absurd cc
+by-room None false other kind is = inr is
+
+-- What room answers is Ready, that there is no space, or one of the stages of a split of an interval.
+pub interval-stage : (shape : Shape) (split : Option SplitNow) (now : Seen) (image : Image)
+    (free : ℕ) (kept : Lengths) (place : List ℕ) (n : ℕ) (kind : StageKind)
+    → IsUnderWay shape split now → room_of shape split image free kept place n ≡ Stage kind
+    → IsIntervalStage kind
+interval-stage (KeyedShape part) split now image free kept place n kind way is = ⊎_elim
+    (λ staged. stage-in part split now
+    (entry_for None (entries_of (block_at image part.head)) place) kind way staged)
+    (λ splits. by-split part split now (free_interval part (block_at image part.head)) kind way
+    splits)
+    (by-room (stage_in split (entry_for None (entries_of (block_at image part.head)) place))
+    (keyed_fits part image kept place n)
+    (room_by_split split (free_interval part (block_at image part.head))) kind is)
+
+-- Such a stage takes no area.
+pub interval-owners : (part : PartNo) (kind : StageKind) (old new : List (Option PartNo))
+    → IsIntervalStage kind → OwnersAfter part kind old new → new ≡ old
+interval-owners part CiCopy old new stage after = after
+interval-owners part CiSwitch old new stage after = after
+interval-owners part CiClean old new stage after = after
+interval-owners part CaClaim old new stage after = absurd stage
+interval-owners part CaCopy old new stage after = absurd stage
+interval-owners part CaLink old new stage after = absurd stage
+interval-owners part CaSwitch old new stage after = absurd stage
+interval-owners part Post old new stage after = absurd stage
+interval-owners part Extend old new stage after = absurd stage
+interval-owners part Undo old new stage after = absurd stage
+interval-owners part Force old new stage after = absurd stage

@@ -1,0 +1,12 @@
+-- Laws of the merged history, for those who run decks over several volumes.
+
+-- a volume's part is its history
+pub use Rattle.vr_trace.proofs.Merges.{volume_part}
+-- a deck's part is the merge of its parts
+pub use Rattle.vr_trace.proofs.Merges.{deck_part}
+-- a deck's part is what the deck asked, in its order
+pub use Rattle.vr_trace.proofs.Merges.{deck_asked}
+-- it grows where a volume's history does, as do its requests, and stays where it has no entry there
+pub use Rattle.vr_trace.proofs.Merges.{deck_grows, requests_grow, deck_stays}
+-- the code of a step is what one of the entries of its decks makes
+pub use Rattle.vr_trace.proofs.Worst.{worst}

@@ -1,0 +1,11 @@
+pub mod CallerLemmas
+pub mod Codes
+pub mod DeckOrders
+pub mod Filters
+pub mod Insertions
+pub mod Merges
+pub mod Numbers
+pub mod Orders
+pub mod Sorting
+pub mod Volumes
+pub mod Worst

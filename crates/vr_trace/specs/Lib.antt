@@ -1,0 +1,9 @@
+pub mod Code
+pub mod Ends
+pub mod Laws
+pub mod Lines
+pub mod Listing
+pub mod Names
+pub mod Numbering
+pub mod TraceLines
+pub mod Volumes
