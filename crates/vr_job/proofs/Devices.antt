@@ -1,10 +1,12 @@
 -- Devices that are formatted one after another.
 use Rattle.std.proofs.Common.{◌≡◌, ◌≢◌, ◌<◌, ◌≤◌, ◌+◌, ◌∙◌, ◌⊎◌, ⊎_elim, ℕ, Bool, List, Option}
-use Rattle.std.proofs.Common.{Some, refl, sym, ap, subst, arith, length, set, get_or}
+use Rattle.std.proofs.Common.{Some, refl, sym, ap, subst, arith, length, set, get_or, zero, suc}
+use Rattle.std.proofs.Common.{[], ◌∷◌, ◌++◌}
 use Rattle.std.proofs.Common.{get_or-set_other, get_or-set_same, length-set}
 use Rattle.std.specs.Prelude.{slice_get, unwrap_or}
 use Rattle.std.proofs.Math.Nat.{eq-or-lt_of_le}
 use Rattle.std.proofs.lemmas.Option.{get_or_from_slice_get, slice_get-get_or, slice_get_cases}
+use Rattle.std.proofs.lemmas.List.{length-append}
 use Rattle.std.proofs.lemmas.Option.{slice_get_past, slice_get_read, slice_get_within}
 use Rattle.vr_types.specs.Geometry.{IsAllowed}
 use Rattle.vr_types.specs.Image.{Image}
@@ -105,3 +107,10 @@ module _ {D : Type 0} (tells : Bool) (seen : D → Seen) (log area : ℕ) where
         below is) ∙ subst (λ n. slice_get devices n ≡ Some other) same there)) allowed)
       (λ (lower : at < number). before at other lower there)
       (eq-or-lt_of_le (omega (arith, less)))
+
+-- the one element that was taken out
+pub one-taken : {X : Type 0} (xs rest : List X) (x : X) → length xs ≡ 1 → xs ≡ rest ++ x ∷ []
+    → (rest ≡ []) × (xs ≡ x ∷ [])
+one-taken xs [] x one is = (refl, is)
+one-taken xs (y ∷ rest) x one is =
+    absurd (omega (arith, sym one ∙ ap length is ∙ ap suc (length-append rest (x ∷ []))))

@@ -6,3 +6,4 @@ pub mod Events
 pub mod DeckRuns
 pub mod Numbers
 pub mod Devices
+pub mod Shown

@@ -25,7 +25,8 @@ deck-counts steps i j step deck inside within =
     let all : count_by (λ (d : Deck). d.number == number) decks ≤ decks_numbered steps number =
     get_or-le-sum_by (λ (s : Step). count_by (λ (d : Deck). d.number == number) s.decks) steps i
     step inside in
-    let counted : cond (number == number) 1 0 ≡ 1 = ap (λ (b : Bool). cond b 1 0) same in
+    let counted : ◌≡◌ {A = ℕ} (cond (number == number) 1 0) 1 =
+    ap (λ (b : Bool). cond b 1 0) same in
     omega (arith, one, all, counted)
 
 pub have-numbers : (steps : List Step) → AreNumbered steps → All HasNumbers steps

@@ -2,13 +2,14 @@
 ghost use Rattle.std.specs.Prelude.{◌≡◌, ◌≤◌, ◌⊎◌, IfErr, OnOk, length};
 ghost use Rattle.vr_job_text.specs.Numbers.{AreNumbered};
 ghost use Rattle.vr_job.specs.Done as dones;
+ghost use Rattle.vr_job.specs.Formats.{AreAllowed, AreFormatted, IsFormatEnd};
 ghost use Rattle.vr_job.specs.Done.{HasBegun, HasNotBegun, HasRunOn, IsFormatDone, IsNothing};
-ghost use Rattle.vr_job.specs.Done.{IsRunDone, narrowed};
+ghost use Rattle.vr_job.specs.Done.{IsRunDone, IsVolumeRun, narrowed};
 ghost use Rattle.vr_job_ends.specs.declared.job_end.End.TheVariants.{Line};
 ghost use Rattle.vr_trace.specs.declared.ending.EndLine.TheVariants.{NoMemory};
 
 use crate::formatting::{format_devices, narrow};
-use crate::volume_run::run_volume;
+use crate::volume_run::{VolumeEnd, run_volume};
 use std::alloc::Global;
 use vr_device::BlockDevice;
 use vr_job_ends::{End, Trace, read_job};
@@ -46,7 +47,27 @@ pub(crate) fn not_run<D: BlockDevice>(alloc: Global, line: EndLine, shelf: Vec<D
     }
 }
 
-/// Formats the devices as so many volumes.
+/// Formats the devices as so many volumes, with numbers as the command states them.
+fn format_all<D: BlockDevice>(
+    alloc: Global,
+    shelf: &mut Vec<D>,
+    count: u32,
+    log: u64,
+    area: u64,
+) -> Result<(), EndLine>
+    requires { count ≤ 16 }
+    ensures count { OnOk result (length shelf.old.items ≡ count) }
+    ensures allowed { OnOk result
+        (AreAllowed D.seen (narrowed log) (narrowed area) shelf.old.items) }
+    ensures formatted { OnOk result (AreFormatted D.tells D.seen (narrowed log) (narrowed area)
+        shelf.old.items shelf.new.items) }
+    ensures end { IfErr result (IsFormatEnd D.tells D.seen D.faults count (narrowed log)
+        (narrowed area) shelf.old.items shelf.new.items) }
+{
+    format_devices(alloc, shelf.as_mut_slice(), count, narrow(log), narrow(area))
+}
+
+/// Formats the devices as so many volumes, and tells how that came to its end.
 pub(crate) fn format_shelf<D: BlockDevice>(
     alloc: Global,
     mut shelf: Vec<D>,
@@ -59,18 +80,10 @@ pub(crate) fn format_shelf<D: BlockDevice>(
     ensures done { IsFormatDone D.tells D.seen D.faults count (narrowed log) (narrowed area)
         shelf.items result.shelf.items result.trace.end }
 {
-    let formatted = format_devices(
-        alloc,
-        shelf.as_mut_slice(),
-        count,
-        narrow(log),
-        narrow(area),
-    );
-    let line = match formatted {
-        Ok(()) => EndLine::Formatted { volumes: count },
-        Err(line) => line,
-    };
-    not_run(alloc, line, shelf)
+    match format_all(alloc, &mut shelf, count, log, area) {
+        Ok(()) => not_run(alloc, EndLine::Formatted { volumes: count }, shelf),
+        Err(line) => not_run(alloc, line, shelf),
+    }
 }
 
 /// Sees that there is one device, and formats it where it is a volume in memory.
@@ -105,6 +118,15 @@ fn end_of(answer: Result<(), EndLine>) -> End
     }
 }
 
+/// Runs the decks of a job on the volume of a device.
+fn run_one<D: BlockDevice>(alloc: Global, device: D, job: &JobText) -> VolumeEnd<D>
+    requires { AreNumbered job.now.steps }
+    ensures { IsVolumeRun D.tells D.seen D.faults 0 job.now.steps result.result
+        result.history.entries device result.device }
+{
+    run_volume(alloc, device, 0, job.steps.as_slice())
+}
+
 /// Runs a job on the one device of the shelf. The room for its history is made before the device is
 /// touched; where there is none, nothing is run.
 fn run_on<D: BlockDevice>(alloc: Global, mut shelf: Vec<D>, job: JobText, lines: bool) -> Done<D>
@@ -124,7 +146,7 @@ fn run_on<D: BlockDevice>(alloc: Global, mut shelf: Vec<D>, job: JobText, lines:
     let Some(device) = shelf.pop() else {
         return not_run(alloc, EndLine::NoMemory, shelf);
     };
-    let end = run_volume(alloc, device, 0, job.steps.as_slice());
+    let end = run_one(alloc, device, &job);
     shelf.push_reserved(end.device);
     histories.push_reserved(end.history);
     Done {

@@ -1,0 +1,27 @@
+use Rattle.std.proofs.Common.{List, codes, subst, sym}
+use Rattle.std.specs.Prelude.{bytes_eq}
+use Rattle.vr_job.specs.Done.{IsRunDone}
+use Rattle.vr_job.proofs.Shown.{run-shown}
+use Rattle.vr_job.proofs.job.run_job.Goals as goal
+
+pub returns-clause-runs : goal.returns-clause-runs
+returns-clause-runs g c = λ job dir lines asked.
+    let B = g.D.BlockDevice in
+    let S = g.S.Source in
+    let end = c.run_words-done.result.trace.end in
+    let shown = c.print_end.result in
+    record {
+      end = end;
+      shown = c.print_end.ensures.end;
+      done = run-shown c.run_words-done.result.trace shown.trace shown.trace.end
+          c.print_end.ensures.trace B.tells B.seen B.faults (bytes_eq dir (codes "-")) lines
+          (S.left c.args.input.now) (S.left c.run_words-done.new.input)
+          (S.faults c.args.input.now) (S.faults c.run_words-done.new.input) c.args.shelf.items
+          shown.shelf.items end
+          (subst (λ (items : List g.row.D.Denot). IsRunDone B.tells B.seen B.faults
+          (bytes_eq dir (codes "-")) lines (S.left c.args.input.now)
+          (S.left c.run_words-done.new.input) (S.faults c.args.input.now)
+          (S.faults c.run_words-done.new.input) c.args.shelf.items items
+          c.run_words-done.result.trace end) (sym c.print_end.ensures.shelf)
+          (c.run_words-done.ensures.runs job dir lines asked));
+    }
