@@ -1,27 +1,28 @@
-//! The top call: it reads a job from a source, runs its deck over VRM.FIRST, keeps the history of
-//! every reply, and prints the listing to a sink. It stands on the shared words (vr_types),
-//! literals (vr_text), sources and sinks (vr_outside), job texts (vr_deck), positions of files
-//! (vr_browse), and the record file with its catalog and alternate indexes (vr_history, vr_catalog,
-//! vr_altkey). It promises, on the call `run_job`: what was printed is the listing of one history,
-//! legal by vr_history from the opening of each volume that has an empty VRM.FIRST, in which each
-//! reply is the record file's answer or out of memory; it holds the requests of the job's deck in
-//! order, each once, and those of no other deck; what the trace keeps is the text's job or its
-//! fault; and 16, 20, 24, 26 and 28 come only where their causes are. Out of memory (36) may come
-//! in place of each status but 20 and 24.
+//! The run of a job's decks on the volume of a device: the volume is opened, each request is asked
+//! event by event until it is answered, the requests of a deck in order, the decks of a step one
+//! after another, and the steps in order; and the device and the history are handed back. It stands
+//! on the volume (vr_event), on opening one (vr_recover), on what decks request (vr_bind), on job
+//! texts (vr_job_text) and on how jobs end (vr_trace). It promises that the volume's history grows
+//! by what each deck requests, each request once and in order, or by the first of them where stamps
+//! or memory run out; that it stays legal from its opening; and that each image that a crash may
+//! leave at each moment is one that might be left before, or recovers to what is committed by the
+//! first entries of the history, perhaps with the unit that is in its commit.
 #![tactic(auto)]
 
-mod answer;
-mod code;
-mod command_words;
-mod input;
+mod asking;
+mod decks;
+mod done;
+mod formatting;
 mod job;
-mod job_end;
-mod laws;
-mod listing;
-mod record_file;
-mod run;
+mod numbering;
+mod opening;
+mod run_no;
+mod volume_run;
 
-pub use command_words::plan;
+pub use asking::ask;
+pub use decks::run_steps;
 pub use job::run_job;
-pub use job_end::{JobEnd, KeptJob, Plan, Trace};
-pub use laws::a_volume_has_first;
+pub use opening::open;
+pub use run_no::RunNo;
+pub use volume_run::{VolumeEnd, run_volume};
+pub use vr_job_ends::{End, JobEnd, Trace};

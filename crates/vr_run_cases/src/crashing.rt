@@ -5,7 +5,7 @@ use crate::desk::Desk;
 use crate::running::{DECK, job_of, run_on};
 use std::alloc::Global;
 use vr_device::{BlockDevice, ImageNo, MemoryDevice};
-use vr_run::run_volume;
+use vr_job::run_volume;
 
 /// The most contents of a block that are looked for.
 const MOST: u32 = 64;

@@ -1,6 +1,6 @@
 //! Cases of the run of a job on a volume from a text table: jobs on small volumes in memory with what
 //! they print, one after another on the same volume, and after a crash at each call of the device.
-//! It stands on `vr_run`, and on what reads and prints jobs (`vr_job_text`, `vr_job_ends`). Each line
+//! It stands on `vr_job`, and on what reads and prints jobs (`vr_job_text`, `vr_job_ends`). Each line
 //! of its input has a question, ` -> ` and the answer that is wanted. It prints each line whose answer
 //! differs, and at the end how many lines there were and how many differ; the status is 1 where one
 //! differs. What it promises is that it is safe and ends: what the answers show is tested, and its

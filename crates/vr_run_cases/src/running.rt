@@ -1,6 +1,6 @@
 //! Jobs on a volume in memory.
 ghost use Rattle.std.specs.Prelude.{All, IfOk, IsTrue};
-ghost use Rattle.vr_run.specs.Asking.{HasNumbers, IsNumbered};
+ghost use Rattle.vr_job.specs.Asking.{HasNumbers, IsNumbered};
 
 use crate::answers::{Answer, Stop, say, text_of};
 use crate::desk::Desk;
@@ -10,7 +10,7 @@ use std::alloc::Global;
 use vr_device::{MemoryDevice, memory_device};
 use vr_job_text::{Deck, JobText, Step, parse_job};
 use vr_recover::{FormatNo, format_volume};
-use vr_run::run_volume;
+use vr_job::run_volume;
 use vr_trace::EndLine;
 
 /// The largest block, in bytes, and the most blocks.

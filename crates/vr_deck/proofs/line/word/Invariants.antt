@@ -1,9 +1,0 @@
-use Rattle.std.proofs.Common.{◌≡◌, ◌+◌, drop, not}
-use Rattle.std.specs.List.{prefix_len}
-use Rattle.vr_deck.specs.Line.{is_blank}
-use Rattle.vr_deck.proofs.line.word.Given as goal
-
-abbrev pub invariant-loop-at : goal.invariant-loop-at
-invariant-loop-at l =
-    l.at + prefix_len (λ b. not (is_blank b)) (drop l.at l.line)
-    ≡ prefix_len (λ b. not (is_blank b)) l.line

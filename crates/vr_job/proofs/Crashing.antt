@@ -1,0 +1,56 @@
+-- An image that a shorter history allows, a longer one allows.
+use Rattle.std.proofs.Common.{◌≡◌, ◌⊎◌, inl, inr, ⊎_elim, ◌∙◌, ℕ, List, [], ◌∷◌, ◌++◌, refl, sym, ap}
+use Rattle.std.proofs.Common.{append_assoc}
+use Rattle.std.proofs.lemmas.List.{append-nil}
+use Rattle.vr_types.specs.Image.{Image}
+use Rattle.vr_types.specs.Seen.{Seen}
+use Rattle.vr_types.specs.Moments.{Guards}
+use Rattle.vr_types.proofs.CallerLemmas.{guards-then, guards-weaken}
+use Rattle.vr_types.specs.declared.geometry.Geometry.{Geometry}
+use Rattle.vr_types.specs.declared.unit.Unit.{Unit as UnitOfRecovery}
+use Rattle.vr_history.specs.State.{State}
+use Rattle.vr_history.specs.declared.entry.Entry.{Entry}
+use Rattle.vr_volume.specs.Crashes.{RecoversTo}
+use Rattle.vr_job.specs.Crash.{AreInCommit, IsLeftBy}
+
+commit-more : (counted : List UnitOfRecovery) (entries more : List Entry)
+    → AreInCommit counted entries → AreInCommit counted (entries ++ more)
+commit-more counted entries more is = ⊎_elim (λ none. inl none)
+    (λ one. inr (one.0, one.1 ++ more, ap (λ (es : List Entry). es ++ more) one.2, one.3, one.4)) is
+
+pub left-more : (geometry : Geometry) (number : ℕ) (opening : State) (entries more : List Entry)
+    (image : Image) → IsLeftBy geometry number opening entries image
+    → IsLeftBy geometry number opening (entries ++ more) image
+left-more geometry number opening entries more image is = record {
+  before = is.before;
+  after = is.after ++ more;
+  is = ap (λ (es : List Entry). es ++ more) is.is ∙ append_assoc is.before is.after more;
+  counted = is.counted;
+  commits = commit-more is.counted is.after more is.commits;
+  recovers = is.recovers;
+}
+
+-- an image that recovers to what is committed by the history so far
+pub left-now : (geometry : Geometry) (number : ℕ) (opening : State) (entries made : List Entry)
+    (image : Image)
+    → RecoversTo geometry number (Rattle.vr_history.specs.Legal.state_of geometry opening entries) []
+    image → IsLeftBy geometry number opening (entries ++ made) image
+left-now geometry number opening entries made image is = record {
+  before = entries;
+  after = made;
+  is = refl;
+  counted = [];
+  commits = inl refl;
+  recovers = is;
+}
+
+-- calls, one after another
+pub guards-on : (geometry : Geometry) (number : ℕ) (opening : State) (entries more : List Entry)
+    (a b c : Seen) → Guards a b (IsLeftBy geometry number opening entries)
+    → Guards b c (IsLeftBy geometry number opening (entries ++ more))
+    → Guards a c (IsLeftBy geometry number opening (entries ++ more))
+guards-on geometry number opening entries more a b c first second =
+    guards-then a b c (IsLeftBy geometry number opening (entries ++ more))
+    (guards-weaken a b (IsLeftBy geometry number opening entries)
+    (IsLeftBy geometry number opening (entries ++ more)) first
+    (λ image is. left-more geometry number opening entries more image is)) second

@@ -1,0 +1,178 @@
+-- What the run of a job on a volume comes to, from its opening to the end.
+use Rattle.std.proofs.Common.{◌≡◌, ◌∙◌, ◌⊎◌, inl, inr, ⊎_elim, ℕ, ◌<◌, ◌≤◌, Bool, List, [], ◌++◌, Result}
+use Rattle.std.proofs.Common.{Ok, Err, None, arith, refl, sym, ap, subst}
+use Rattle.std.specs.Prelude.{IfErr, IsTrue, OnOk}
+use Rattle.vr_types.specs.Content.{Content}
+use Rattle.vr_types.specs.Faults.{Faults}
+use Rattle.vr_types.specs.Image.{Image}
+use Rattle.vr_types.specs.Moments.{Guards}
+use Rattle.vr_types.specs.Seen.{Left, Seen}
+use Rattle.vr_types.proofs.CallerLemmas.{guards-then, guards-weaken}
+use Rattle.vr_types.specs.declared.geometry.Geometry.{Geometry}
+use Rattle.vr_catalog.specs.Catalog.{entries_in}
+use Rattle.vr_catalog.specs.declared.entry.CatEntry.{CatEntry}
+use Rattle.vr_history.specs.State.{State, opening_state}
+use Rattle.vr_history.specs.declared.entry.Entry.{Entry}
+use Rattle.vr_job_text.specs.declared.text.Step.{Step}
+use Rattle.vr_record_file.specs.Now.{state_now}
+use Rattle.vr_event.specs.Volume.{VolumeNow}
+use Rattle.vr_event.proofs.CallerLemmas.{stored-left}
+use Rattle.vr_recover.specs.Opening.{IsVolume}
+use Rattle.vr_trace.specs.declared.ending.EndLine.{EndLine}
+use Rattle.vr_volume.specs.Crashes.{RecoversTo}
+use Rattle.vr_volume.specs.Volume.{Recovers}
+use Rattle.vr_job.specs.Asking.{HasRun, asked_of, job_asks}
+use Rattle.vr_job.specs.Crash.{IsLeftBy}
+use Rattle.vr_job.specs.OpenEnds.{HasEndCause, NeverFall}
+use Rattle.vr_job.specs.Opened.{IsOpenHeld}
+use Rattle.vr_job.specs.VolumeRun.{Answer, HasAsked, HasEnded, IsRun, run_result}
+use Rattle.vr_job.specs.declared.run_no.RunNo.{RunNo}
+use Rattle.vr_job.specs.declared.run_no.RunNo.TheVariants as nos
+
+ok-run : (by : Result (Unit {0}) RunNo) (P : Type 0) → OnOk by P → OnOk (run_result by) P
+ok-run (Ok value) P is = is
+ok-run (Err fault) P is = tt
+
+cause-by : (number : ℕ) (before now : Faults) (by : Result (Unit {0}) RunNo)
+    → IfErr (run_result by) (HasEndCause number before now)
+cause-by number before now (Ok value) = tt
+cause-by number before now (Err nos.Stamps) = λ same. absurd cc
+cause-by number before now (Err nos.Memory) = λ same. absurd cc
+
+-- a run that is through, or out of stamps or memory, has no fault of a device
+pub run-cause : (number : ℕ) (before now : Faults) (by : Result (Unit {0}) RunNo) (answer : Answer)
+    → answer ≡ run_result by → IfErr answer (HasEndCause number before now)
+run-cause number before now by answer is =
+    subst (λ (a : Answer). IfErr a (HasEndCause number before now)) (sym is)
+    (cause-by number before now by)
+
+-- where nothing was asked
+pub asked-none : (steps : List Step) (entries : List Entry) (end : EndLine) (answer : Answer)
+    → entries ≡ [] → answer ≡ Err end
+    → (catalog : List CatEntry) × HasAsked catalog steps answer entries
+asked-none steps entries end answer none is = (
+  [],
+  record {
+    first = λ deck. [];
+    asked = λ deck. ap (asked_of deck) none;
+    prefixes = λ deck. (job_asks [] steps deck, refl);
+    whole = subst (λ (a : Answer). OnOk a ((deck : ℕ) → [] ≡ job_asks [] steps deck)) (sym is) tt;
+  },
+)
+
+-- an image that recovers to the contents of an opening
+left-first : (geometry : Geometry) (number : ℕ) (contents : ℕ → Content)
+    (owned : List Rattle.vr_history.specs.State.Owned) (entries : List Entry) (image : Image)
+    → Recovers geometry number image contents
+    → IsLeftBy geometry number (opening_state contents owned) entries image
+left-first geometry number contents owned entries image is = record {
+  before = [];
+  after = entries;
+  is = refl;
+  counted = [];
+  commits = inl refl;
+  recovers = is;
+}
+
+module _ {D : Type 0} (tells : Bool) (seen : D → Seen) (faults : D → Faults) (steps : List Step)
+    (volume : VolumeNow D) (device : D) (entries : List Entry) (answer : Answer)
+    (ended : HasEnded tells seen faults steps volume device entries answer) where
+  pub ended-faults : (before : Faults) → NeverFall before (faults volume.blocks)
+      → NeverFall before (faults device)
+  ended-faults before is = subst (λ (d : D). NeverFall before (faults d)) (sym ended.device_is)
+      (record {
+        reads = omega (arith, is.reads, ended.ran.ran.on.reads);
+        writes = omega (arith, is.writes, ended.ran.ran.on.writes);
+      })
+
+  pub ended-asked : volume.file.entries ≡ []
+      → HasAsked volume.file.catalog steps answer ended.end.file.entries
+  ended-asked none = record {
+    first = ended.ran.first;
+    asked = λ deck. ended.ran.ran.asked deck
+        ∙ ap (λ (es : List Entry). asked_of deck es ++ ended.ran.first deck) none;
+    prefixes = ended.ran.prefixes;
+    whole = subst (λ (a : Answer). OnOk a ((deck : ℕ) → ended.ran.first deck
+        ≡ job_asks volume.file.catalog steps deck)) (sym ended.answer_is)
+        (ok-run ended.by ((deck : ℕ) → ended.ran.first deck
+        ≡ job_asks volume.file.catalog steps deck) ended.ran.whole);
+  }
+
+  pub ended-asks : volume.file.entries ≡ []
+      → (catalog : List CatEntry) × HasAsked catalog steps answer entries
+  ended-asks none = (
+    volume.file.catalog,
+    subst (HasAsked volume.file.catalog steps answer) (sym ended.entries_are) (ended-asked none),
+  )
+
+  module _ (told : IsTrue tells) (number : ℕ) (old : Seen) (none : volume.file.entries ≡ [])
+      (numbered : volume.number ≡ number) (held : IsOpenHeld seen number old volume)
+      (first : Guards old (seen volume.blocks) (λ image. Left old image
+      ⊎ Recovers volume.file.geometry number image held.contents)) where
+    abbrev end : VolumeNow D
+    end = ended.end
+
+    abbrev opening : State
+    opening = opening_state held.contents held.owned
+
+    run : HasRun seen opening volume.blocks end
+    run = ended.ran.ran.run told opening volume.blocks held.run
+
+    same-geometry : end.file.geometry ≡ volume.file.geometry
+    same-geometry = ended.ran.ran.on.geometry
+
+    same-number : end.number ≡ number
+    same-number = ended.ran.ran.on.number ∙ numbered
+
+    abbrev MayLeave : Image → Type 0
+    MayLeave image = Left old image
+        ⊎ IsLeftBy end.file.geometry end.number opening end.file.entries image
+
+    as-end : (image : Image) → Recovers volume.file.geometry number image held.contents
+        → Recovers end.file.geometry end.number image held.contents
+    as-end image is =
+        subst (λ (g : Geometry). Recovers g end.number image held.contents) (sym same-geometry)
+        (subst (λ (n : ℕ). Recovers volume.file.geometry n image held.contents) (sym same-number)
+        is)
+
+    each-moment : Guards old (seen end.blocks) MayLeave
+    each-moment = guards-then old (seen volume.blocks) (seen end.blocks) MayLeave
+        (guards-weaken old (seen volume.blocks) (λ (image : Image). Left old image
+        ⊎ Recovers volume.file.geometry number image held.contents) MayLeave first
+        (λ image is. ⊎_elim (λ before. inl before)
+        (λ opened. inr (left-first end.file.geometry end.number held.contents held.owned
+        end.file.entries image (as-end image opened))) is))
+        (guards-weaken (seen volume.blocks) (seen end.blocks)
+        (IsLeftBy end.file.geometry end.number opening end.file.entries) MayLeave run.left
+        (λ image is. inr is))
+
+    at-end : IsRun end.number steps answer end.file.entries old (seen end.blocks)
+    at-end = record {
+      geometry = end.file.geometry;
+      contents = held.contents;
+      owned = held.owned;
+      volume = subst (λ (g : Geometry). IsVolume end.number g held.contents old)
+          (sym same-geometry)
+          (subst (λ (n : ℕ). IsVolume n volume.file.geometry held.contents old) (sym same-number)
+          held.volume_is);
+      by = ended.by;
+      answer_is = ended.answer_is;
+      asked = subst (λ (c : List CatEntry). HasAsked c steps answer end.file.entries)
+          held.catalog_is (ended-asked none);
+      legal = run.held.file.legal;
+      moments = each-moment;
+      kept = λ going image left.
+          let stops = run.held.file.now.stopped ∙ going in
+          subst (λ (g : Geometry). RecoversTo g end.number (state_now opening end.file) [] image)
+          (ended.ran.ran.on.whole.geometry stops)
+          (stored-left end.number end.store (state_now opening end.file) (seen end.blocks)
+          (run.held.stored stops) image left);
+    }
+
+    pub ended-run : IsRun number steps answer entries old (seen device)
+    ended-run = subst (λ (d : D). IsRun number steps answer entries old (seen d))
+        (sym ended.device_is)
+        (subst (λ (es : List Entry). IsRun number steps answer es old (seen end.blocks))
+        (sym ended.entries_are)
+        (subst (λ (n : ℕ). IsRun n steps answer end.file.entries old (seen end.blocks))
+        same-number at-end))

@@ -1,0 +1,33 @@
+use Rattle.std.proofs.Common.{◌∙◌, ◌⊎◌, subst, sym}
+use Rattle.vr_types.specs.Image.{Image}
+use Rattle.vr_types.specs.Moments.{Guards}
+use Rattle.vr_types.specs.Seen.{Left}
+use Rattle.vr_types.specs.declared.geometry.Geometry.{Geometry}
+use Rattle.vr_event.specs.Opening.{owned_in}
+use Rattle.vr_history.specs.State.{opening_state}
+use Rattle.vr_recover.specs.Opening.{IsVolume}
+use Rattle.vr_volume.specs.Volume.{Recovers}
+use Rattle.vr_job.specs.Asking.{HasRun}
+use Rattle.vr_job.proofs.opening.open.Goals as goal
+
+pub returns-in-Ok-clause-held : goal.returns-in-Ok-clause-held
+returns-in-Ok-clause-held g c told =
+    let from = c.in-Ok.ensures.from told in
+    record {
+      contents = from.0;
+      owned = owned_in c.in-Ok.found.value.space;
+      volume_is = subst (λ (geometry : Geometry). IsVolume c.args.number geometry from.0
+          (g.B.Blocks.seen c.args.blocks)) (sym c.made.ensures.geometry) from.1.volume;
+      catalog_is = c.made.ensures.catalog ∙ from.1.catalog_is;
+      run = subst (λ (blocks : g.row.B.Denot). HasRun g.B.Blocks.seen
+          (opening_state from.0 (owned_in c.in-Ok.found.value.space)) blocks c.made.result)
+          (sym c.made.ensures.blocks)
+          (c.made.ensures.run told from.0 from.1.catalog_is from.1.opened);
+    }
+
+pub returns-in-Ok-clause-any_moment : goal.returns-in-Ok-clause-any_moment
+returns-in-Ok-clause-any_moment g c told geometry contents is =
+    subst (λ (blocks : g.row.B.Denot). Guards (g.B.Blocks.seen c.args.blocks)
+    (g.B.Blocks.seen blocks) (λ (image : Image). Left (g.B.Blocks.seen c.args.blocks) image
+    ⊎ Recovers geometry c.args.number image contents)) (sym c.made.ensures.blocks)
+    (c.in-Ok.ensures.any_moment told geometry contents is)

@@ -1,0 +1,47 @@
+use Rattle.std.proofs.Common.{◌∙◌, ◌⊎◌, inl, inr, subst, sym}
+use Rattle.vr_types.specs.Image.{Image}
+use Rattle.vr_types.specs.Moments.{Guards}
+use Rattle.vr_types.specs.Seen.{Left}
+use Rattle.vr_volume.specs.Volume.{Recovers}
+use Rattle.vr_job.proofs.VolumeRuns.{asked-none, ended-asks, ended-run}
+use Rattle.vr_job.proofs.volume_run.run_blocks.Goals as goal
+
+pub returns-in-Ok-clause-asked : goal.returns-in-Ok-clause-asked
+returns-in-Ok-clause-asked g c =
+    let D = g.D.BlockDevice in
+    let end = c.run_opened.result in
+    ended-asks D.tells D.seen D.faults c.args.steps.now c.in-Ok.volume end.device
+    end.history.entries end.result c.run_opened.ensures c.in-Ok.ensures.begins
+
+pub returns-in-Ok-clause-run : goal.returns-in-Ok-clause-run
+returns-in-Ok-clause-run g c told =
+    let D = g.D.BlockDevice in
+    let end = c.run_opened.result in
+    let volume = c.in-Ok.volume in
+    let held = c.in-Ok.ensures.held told in
+    inl (ended-run D.tells D.seen D.faults c.args.steps.now volume end.device
+    end.history.entries end.result c.run_opened.ensures told c.args.number (D.seen c.args.blocks)
+    c.in-Ok.ensures.begins c.in-Ok.ensures.number held
+    (c.in-Ok.ensures.any_moment told volume.file.geometry held.contents held.volume_is))
+
+pub returns-in-Err-clause-asked : goal.returns-in-Err-clause-asked
+returns-in-Err-clause-asked g c =
+    let end = c.not_opened.result in
+    asked-none c.args.steps.now end.history.entries c.in-Err.end end.result
+    c.not_opened.ensures.entries c.not_opened.ensures.answer
+
+pub returns-in-Err-clause-run : goal.returns-in-Err-clause-run
+returns-in-Err-clause-run g c told =
+    let D = g.D.BlockDevice in
+    inr (record {
+      none = c.not_opened.ensures.entries;
+      end = c.in-Err.end;
+      answer_is = c.not_opened.ensures.answer;
+      shown = c.in-Err.ensures.refused told;
+      moments = λ geometry contents is.
+          subst (λ (device : g.row.D.Denot). Guards (D.seen c.args.blocks) (D.seen device)
+          (λ (image : Image). Left (D.seen c.args.blocks) image
+          ⊎ Recovers geometry c.args.number image contents))
+          (sym (c.not_opened.ensures.device ∙ c.into_inner.ensures))
+          (c.in-Err.ensures.any_moment_back told geometry contents is);
+    })

@@ -1,0 +1,12 @@
+use Rattle.std.proofs.Common.{◌∙◌}
+use Rattle.vr_job.proofs.volume_run.run_opened.Goals as goal
+
+pub returns : goal.returns
+returns g c = record {
+  end = c.run_steps.new.volume;
+  by = c.run_steps.result;
+  ran = c.run_steps.ensures.ran;
+  device_is = c.ended.ensures.device;
+  entries_are = c.ended.ensures.entries;
+  answer_is = c.ended.ensures.answer ∙ c.run_result-answer.ensures;
+}

@@ -1,0 +1,92 @@
+-- The run of a job's decks on the volume of a device, from its opening to the end. The rules are this
+-- project's own.
+use Rattle.std.specs.Prelude.{◌≡◌, ◌⊎◌, ℕ, Bool, List, [], None, OnOk, Result, Ok, Err, IfErr}
+use Rattle.vr_types.specs.Content.{Content}
+use Rattle.vr_types.specs.Faults.{Faults}
+use Rattle.vr_types.specs.Image.{Image}
+use Rattle.vr_types.specs.Moments.{Guards}
+use Rattle.vr_types.specs.Seen.{Left, Seen}
+use Rattle.vr_types.specs.declared.bound.Bound.{Bound}
+use Rattle.vr_types.specs.declared.geometry.Geometry.{Geometry}
+use Rattle.vr_catalog.specs.Catalog.{entries_in}
+use Rattle.vr_catalog.specs.declared.entry.CatEntry.{CatEntry}
+use Rattle.vr_history.specs.Legal.{IsLegal, state_of}
+use Rattle.vr_history.specs.State.{Owned, opening_state}
+use Rattle.vr_history.specs.declared.entry.Entry.{Entry}
+use Rattle.vr_job_text.specs.declared.text.Step.{Step}
+use Rattle.vr_event.specs.Volume.{VolumeNow}
+use Rattle.vr_recover.specs.Opening.{IsVolume}
+use Rattle.vr_trace.specs.declared.ending.EndLine.{EndLine}
+use Rattle.vr_trace.specs.declared.ending.EndLine.TheVariants.{NoMemory, StampsUsedUp}
+use Rattle.vr_volume.specs.Crashes.{RecoversTo}
+use Rattle.vr_volume.specs.Volume.{Recovers}
+use Rattle.vr_job.specs.Asking.{RanSome, asked_of, job_asks}
+use Rattle.vr_job.specs.Crash.{IsLeftBy}
+use Rattle.vr_job.specs.OpenEnds.{IsOpenEnd}
+use Rattle.vr_job.specs.Parts.{IsPrefixOf}
+use Rattle.vr_job.specs.declared.run_no.RunNo.{RunNo}
+use Rattle.vr_job.specs.declared.run_no.RunNo.TheVariants as nos
+
+abbrev pub Answer : Type 0
+Answer = Result (Unit {0}) EndLine
+
+-- how a job ends whose requests weren't all answered
+abbrev pub run_line : RunNo → EndLine
+run_line nos.Stamps = StampsUsedUp
+run_line nos.Memory = NoMemory
+
+abbrev pub run_result : Result (Unit {0}) RunNo → Answer
+run_result (Ok value) = Ok value
+run_result (Err fault) = Err (run_line fault)
+
+-- Each deck asked the first of what it requests by this catalog, each request once and in order: all
+-- of it, where the job came through.
+pub record HasAsked (catalog : List CatEntry) (steps : List Step) (answer : Answer)
+    (entries : List Entry) : Type 0 where
+  pub first : ℕ → List Bound
+  pub asked : (deck : ℕ) → asked_of deck entries ≡ first deck
+  pub prefixes : (deck : ℕ) → IsPrefixOf (first deck) (job_asks catalog steps deck)
+  pub whole : OnOk answer ((deck : ℕ) → first deck ≡ job_asks catalog steps deck)
+
+-- What a run on a volume that was opened comes to, with what is seen of the volume at its end.
+pub record HasEnded {D : Type 0} (tells : Bool) (seen : D → Seen) (faults : D → Faults)
+    (steps : List Step) (volume : VolumeNow D) (device : D) (entries : List Entry) (answer : Answer)
+    : Type 0 where
+  pub end : VolumeNow D
+  pub by : Result (Unit {0}) RunNo
+  pub ran : RanSome tells seen faults (job_asks volume.file.catalog steps) by volume end
+  pub device_is : device ≡ end.blocks
+  pub entries_are : entries ≡ end.file.entries
+  pub answer_is : answer ≡ run_result by
+
+-- The volume was opened: the blocks were one's of this number, which recovered to these contents; its
+-- decks asked what they request by its catalog; the history is legal from its opening; and each image
+-- of each moment is one that a crash left before, or is left by the history. As long as no write
+-- failed, each image that a crash may leave at the end recovers to what is committed by all of it.
+pub record IsRun (number : ℕ) (steps : List Step) (answer : Answer) (entries : List Entry)
+    (old new : Seen) : Type 0 where
+  pub geometry : Geometry
+  pub contents : ℕ → Content
+  pub owned : List Owned
+  pub volume : IsVolume number geometry contents old
+  pub by : Result (Unit {0}) RunNo
+  pub answer_is : answer ≡ run_result by
+  pub asked : HasAsked (entries_in (contents 0)) steps answer entries
+  pub legal : IsLegal geometry (opening_state contents owned) entries
+  pub moments : Guards old new (λ image. Left old image
+      ⊎ IsLeftBy geometry number (opening_state contents owned) entries image)
+  pub kept : (state_of geometry (opening_state contents owned) entries).stopped ≡ None
+      → (image : Image) → Left new image → RecoversTo geometry number
+      (state_of geometry (opening_state contents owned) entries) [] image
+
+-- It was not opened: nothing was asked, and each image of each moment is one that a crash left before,
+-- or recovers to what the blocks recovered to.
+pub record IsUnopened (number : ℕ) (answer : Answer) (entries : List Entry) (old new : Seen) : Type 0
+  where
+    pub none : entries ≡ []
+    pub end : EndLine
+    pub answer_is : answer ≡ Err end
+    pub shown : IsOpenEnd number old end
+    pub moments : (geometry : Geometry) (contents : ℕ → Content)
+        → IsVolume number geometry contents old
+        → Guards old new (λ image. Left old image ⊎ Recovers geometry number image contents)

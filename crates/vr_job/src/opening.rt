@@ -1,0 +1,189 @@
+//! The opening of a volume for a run.
+ghost use Rattle.std.specs.Prelude.{◌≡◌, ◌⊎◌, [], ℕ, IfErr, IfOk, IsTrue, None, OnOk, map};
+ghost use Rattle.vr_types.specs.Content.{Content};
+ghost use Rattle.vr_types.specs.Moments.{Guards};
+ghost use Rattle.vr_types.specs.Seen.{Left};
+ghost use Rattle.vr_types.specs.declared.geometry.Geometry.{Geometry as VolumeShape};
+ghost use Rattle.vr_answer.specs.Scope.{AreKeyedClusters};
+ghost use Rattle.vr_catalog.specs.Catalog.{entries_in};
+ghost use Rattle.vr_event.specs.Opening.{IsOpened as IsOpenedWith, owned_in};
+ghost use Rattle.vr_event.specs.Volume.{IsWhole};
+ghost use Rattle.vr_history.specs.State.{opening_state};
+ghost use Rattle.vr_volume.specs.Volume.{Recovers};
+ghost use Rattle.vr_recover.specs.Opening.{IsHandedOut, IsOpened, IsVolume};
+ghost use Rattle.vr_job.specs.Asking.{HasRun};
+ghost use Rattle.vr_job.specs.OpenEnds as ends;
+ghost use Rattle.vr_job.specs.OpenEnds.{HasEndCause, IsOpenEnd, NeverFall};
+ghost use Rattle.vr_job.specs.Opened.{IsOpenHeld, IsReady, IsReadyFrom, laid_now, opened_now};
+
+use crate::numbering::{Ready, number_parts};
+use std::alloc::Global;
+use vr_answer::has_clusters_alone;
+use vr_event::Volume;
+use vr_keyed::Keyed;
+use vr_recover::{OpenNo, Opened, open_volume};
+use vr_trace::EndLine;
+use vr_types::Blocks;
+
+/// How a job ends whose volume of this number is not opened.
+fn open_line(number: u32, no: OpenNo) -> EndLine
+    ensures { result ≡ ends.open_line number no }
+{
+    match no {
+        OpenNo::Damaged { block, rule } => EndLine::Damaged {
+            volume: number,
+            block,
+            rule,
+        },
+        OpenNo::Version { found } => EndLine::Version {
+            volume: number,
+            version: found,
+        },
+        OpenNo::Read | OpenNo::Write => EndLine::DeviceFault { volume: number },
+        OpenNo::Memory => EndLine::NoMemory,
+    }
+}
+
+/// What was opened, each part with its number, where its catalog has key-sequenced clusters alone.
+fn served(alloc: Global, opened: Opened) -> Result<Box<Ready>, EndLine>
+    ensures geometry { IfOk result (λ made. made.value.geometry ≡ opened.geometry) }
+    ensures catalog { IfOk result (λ made. made.value.catalog.value ≡ opened.catalog.value) }
+    ensures parts { IfOk result (λ made. map laid_now made.value.parts.items
+        ≡ map opened_now opened.parts.items) }
+    ensures log { IfOk result (λ made. made.value.log ≡ opened.log) }
+    ensures space { IfOk result (λ made. made.value.space ≡ opened.space) }
+    ensures clusters { OnOk result (AreKeyedClusters opened.catalog.value) }
+    ensures memory { IfErr result (λ end. end ≡ EndLine.NoMemory) }
+{
+    if !has_clusters_alone(&opened.catalog) {
+        return Err(EndLine::NoMemory);
+    }
+    number_parts(alloc, opened)
+}
+
+/// Opens the volume of this number, on so many blocks.
+fn open_whole<B: Blocks>(
+    alloc: Global,
+    blocks: &mut B,
+    count: u32,
+    number: u32,
+) -> Result<Opened, EndLine>
+    requires { (B.seen blocks.old).count ≡ count }
+    ensures handed { IfOk result (λ opened. IsHandedOut opened.geometry opened.catalog.value
+        opened.parts.items opened.log opened.space (B.seen blocks.new)) }
+    ensures opened { IsTrue B.tells → IfOk result (λ opened. IsOpened number opened.geometry
+        opened.catalog.value opened.parts.items opened.log (B.seen blocks.old)
+        (B.seen blocks.new)) }
+    ensures any_moment { IsTrue B.tells → (geometry : VolumeShape) (contents : ℕ → Content)
+        → IsVolume number geometry contents (B.seen blocks.old)
+        → Guards (B.seen blocks.old) (B.seen blocks.new) (λ image.
+        Left (B.seen blocks.old) image ⊎ Recovers geometry number image contents) }
+    ensures refused { IsTrue B.tells → IfErr result (IsOpenEnd number (B.seen blocks.old)) }
+    ensures faults { NeverFall (B.faults blocks.old) (B.faults blocks.new) }
+    ensures cause { IfErr result
+        (HasEndCause number (B.faults blocks.old) (B.faults blocks.new)) }
+{
+    match open_volume(alloc, blocks, count, number) {
+        Ok(opened) => Ok(opened),
+        Err(no) => Err(open_line(number, no)),
+    }
+}
+
+/// Opens the volume of this number, on so many blocks, and numbers its parts.
+fn open_parts<B: Blocks>(
+    alloc: Global,
+    blocks: &mut B,
+    count: u32,
+    number: u32,
+) -> Result<Box<Ready>, EndLine>
+    requires { (B.seen blocks.old).count ≡ count }
+    ensures ready { IfOk result (λ made. IsReady made.value.geometry made.value.catalog.value
+        (map laid_now made.value.parts.items) made.value.log made.value.space
+        (B.seen blocks.new)) }
+    ensures from { IsTrue B.tells → IfOk result (λ made. (contents : ℕ → Content)
+        × IsReadyFrom number made.value.geometry made.value.catalog.value
+        (map laid_now made.value.parts.items) made.value.log contents (B.seen blocks.old)
+        (B.seen blocks.new)) }
+    ensures any_moment { IsTrue B.tells → (geometry : VolumeShape) (contents : ℕ → Content)
+        → IsVolume number geometry contents (B.seen blocks.old)
+        → Guards (B.seen blocks.old) (B.seen blocks.new) (λ image.
+        Left (B.seen blocks.old) image ⊎ Recovers geometry number image contents) }
+    ensures refused { IsTrue B.tells → IfErr result (IsOpenEnd number (B.seen blocks.old)) }
+    ensures faults { NeverFall (B.faults blocks.old) (B.faults blocks.new) }
+    ensures cause { IfErr result
+        (HasEndCause number (B.faults blocks.old) (B.faults blocks.new)) }
+{
+    let opened = open_whole(alloc, blocks, count, number)?;
+    let found = served(alloc, opened)?;
+    Ok(found)
+}
+
+/// The volume of these blocks, of what was opened on them.
+fn made<B: Blocks>(alloc: Global, blocks: B, number: u32, found: Box<Ready>) -> Volume<B, Keyed>
+    requires ready { IsReady found.value.geometry found.value.catalog.value
+        (map laid_now found.value.parts.items) found.value.log found.value.space (B.seen blocks) }
+    ensures whole { IsWhole B.seen result }
+    ensures run { IsTrue B.tells → (contents : ℕ → Content)
+        → found.value.catalog.value ≡ entries_in (contents 0)
+        → IsOpenedWith number found.value.log (map laid_now found.value.parts.items) contents
+        (B.seen blocks)
+        → HasRun B.seen (opening_state contents (owned_in found.value.space)) blocks result }
+    ensures blocks { result.blocks ≡ blocks }
+    ensures number { result.number ≡ number }
+    ensures geometry { result.file.geometry ≡ found.value.geometry }
+    ensures catalog { result.file.catalog ≡ found.value.catalog.value }
+    ensures entries { result.file.entries ≡ [] }
+    ensures stopped { result.file.stopped ≡ None }
+{
+    let Ready {
+        geometry,
+        catalog,
+        parts,
+        log,
+        space,
+    } = Box::into_inner(found);
+    let catalog = Box::into_inner(catalog);
+    Volume::new(alloc, blocks, number, geometry, catalog, parts, log, space)
+}
+
+/// Opens the volume of this number, on so many blocks, for a run of the decks of a job. `Err` says
+/// how the job ends and hands the blocks back: `Damaged` or `Version` where they are those of no
+/// volume of that number (the block that breaks a rule and the rule, or the version that block 0
+/// states); `DeviceFault` where the device failed; `NoMemory` where memory ran out, where the volume
+/// is one that `open_volume` of `vr_recover` answers so, or where its catalog has other data sets
+/// than key-sequenced clusters, which aren't served yet.
+pub fn open<B: Blocks + Drop>(
+    alloc: Global,
+    mut blocks: B,
+    count: u32,
+    number: u32,
+) -> Result<Volume<B, Keyed>, (B, EndLine)>
+    requires { (B.seen blocks).count ≡ count }
+    ensures whole { IfOk result (IsWhole B.seen) }
+    ensures begins { IfOk result (λ volume. volume.file.entries ≡ []) }
+    ensures number { IfOk result (λ volume. volume.number ≡ number) }
+    ensures going { IfOk result (λ volume. volume.file.stopped ≡ None) }
+    // It is held from its opening, and each image that a crash may leave of it recovers to that.
+    ensures held { IsTrue B.tells → IfOk result (IsOpenHeld B.seen number (B.seen blocks)) }
+    // In every image of every moment, whether it is opened or not.
+    ensures any_moment { IsTrue B.tells → (geometry : VolumeShape) (contents : ℕ → Content)
+        → IsVolume number geometry contents (B.seen blocks)
+        → IfOk result (λ volume. Guards (B.seen blocks) (B.seen volume.blocks) (λ image.
+        Left (B.seen blocks) image ⊎ Recovers geometry number image contents)) }
+    ensures any_moment_back { IsTrue B.tells → (geometry : VolumeShape) (contents : ℕ → Content)
+        → IsVolume number geometry contents (B.seen blocks)
+        → IfErr result (λ back. Guards (B.seen blocks) (B.seen back.0) (λ image.
+        Left (B.seen blocks) image ⊎ Recovers geometry number image contents)) }
+    ensures refused { IsTrue B.tells → IfErr result (λ back.
+        IsOpenEnd number (B.seen blocks) back.1) }
+    ensures faults { IfOk result (λ volume.
+        NeverFall (B.faults blocks) (B.faults volume.blocks)) }
+    ensures faults_back { IfErr result (λ back. NeverFall (B.faults blocks) (B.faults back.0)) }
+    ensures cause { IfErr result (λ back.
+        HasEndCause number (B.faults blocks) (B.faults back.0) back.1) }
+{
+    match open_parts(alloc, &mut blocks, count, number) {
+        Ok(found) => Ok(made(alloc, blocks, number, found)),
+        Err(end) => Err((blocks, end)),
+    }
+}

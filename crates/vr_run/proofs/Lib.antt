@@ -1,6 +1,0 @@
-pub mod VolumeRuns
-pub mod Readying
-pub mod Crashing
-pub mod GoingOn
-pub mod Events
-pub mod DeckRuns

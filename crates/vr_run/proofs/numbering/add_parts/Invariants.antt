@@ -1,7 +1,0 @@
-use Rattle.std.proofs.Common.{◌≡◌, map}
-use Rattle.vr_run.specs.Opened.{laid_now, opened_now}
-use Rattle.vr_run.proofs.numbering.add_parts.Given as goal
-
--- the parts so far have their numbers
-abbrev pub invariant-loop-part : goal.invariant-loop-part
-invariant-loop-part l = map laid_now l.into.items ≡ map opened_now l.yielded

@@ -1,7 +1,0 @@
-use Rattle.vr_run.proofs.Readying.{end-shown}
-use Rattle.vr_run.proofs.opening.open_whole.Goals as goal
-
-pub returns-in-Err-clause-refused : goal.returns-in-Err-clause-refused
-returns-in-Err-clause-refused g c told =
-    end-shown c.args.number (g.B.Blocks.seen c.args.blocks.now) c.in-Err.no c.open_line.result
-    c.open_line.ensures (c.in-Err.ensures.refused told)

@@ -1,6 +1,0 @@
-pub mod Parts
-pub mod Crash
-pub mod Asking
-pub mod Opened
-pub mod OpenEnds
-pub mod VolumeRun
