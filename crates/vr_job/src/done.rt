@@ -1,5 +1,5 @@
 //! What is done for the words of the program, before anything is printed.
-ghost use Rattle.std.specs.Prelude.{◌≡◌, ◌≤◌, IfErr, OnOk, length};
+ghost use Rattle.std.specs.Prelude.{◌≡◌, ◌≤◌, ◌⊎◌, IfErr, OnOk, length};
 ghost use Rattle.vr_job_text.specs.Numbers.{AreNumbered};
 ghost use Rattle.vr_job.specs.Done as dones;
 ghost use Rattle.vr_job.specs.Done.{HasBegun, HasNotBegun, HasRunOn, IsFormatDone, IsNothing};

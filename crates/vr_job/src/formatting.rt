@@ -1,6 +1,6 @@
 //! The formatting of the devices of a job as volumes 0, 1 and on.
 ghost use Rattle.std.specs.Prelude.{◌≡◌, ◌≤◌, ◌^◌, ◌-◌, min, length, IfErr, IfNone, IfSome, OnOk};
-ghost use Rattle.std.specs.Prelude.{IsTrue};
+ghost use Rattle.std.specs.Prelude.{IsTrue, false};
 ghost use Rattle.vr_types.specs.Geometry.{IsAllowed};
 ghost use Rattle.vr_recover.specs.Formatted.{geometry_of};
 ghost use Rattle.vr_job.specs.Formats as formats;
