@@ -44,26 +44,26 @@ abbrev pub AreFormatted : {D : Type 0} → Bool → (D → Seen) → ℕ → ℕ
 AreFormatted tells seen log area old new =
     AreFormattedTo tells seen log area (length old) old new
 
--- A write or the sync of the device of this number failed. Those before it are formatted, and those
--- after it are as they were.
-pub record HasFailed {D : Type 0} (tells : Bool) (seen : D → Seen) (faults : D → Faults)
-    (log area number : ℕ) (old new : List D) : Type 0 where
+-- How a job ends whose device of this number was not formatted: a write or its sync failed, or memory
+-- ran out before anything was written.
+pub data IsDeviceNo {D : Type 0} (faults : D → Faults) (number : ℕ) (old new : D) (end : EndLine)
+    : Type 0 where
+  WriteFailed : end ≡ DeviceFault number → (faults old).writes < (faults new).writes
+      → IsDeviceNo faults number old new end
+  LacksMemory : end ≡ NoMemory → new ≡ old → IsDeviceNo faults number old new end
+
+-- How a job ends whose devices may all be formatted and aren't: those before one are, it isn't, and
+-- those after it are as they were.
+pub record IsFormatNo {D : Type 0} (tells : Bool) (seen : D → Seen) (faults : D → Faults)
+    (log area : ℕ) (old new : List D) (end : EndLine) : Type 0 where
+  pub number : ℕ
   pub formatted : List D
   pub before : AreFormattedTo tells seen log area number old formatted
   pub device : D
   pub there : slice_get old number ≡ Some device
-  pub failed : D
-  pub new_is : new ≡ slice_set formatted number failed
-  pub writes : (faults device).writes < (faults failed).writes
-
--- How a job ends whose devices may all be formatted and aren't.
-pub data IsFormatNo {D : Type 0} (tells : Bool) (seen : D → Seen) (faults : D → Faults)
-    (log area : ℕ) (old new : List D) (end : EndLine) : Type 0 where
-  Failed : (number : ℕ) → end ≡ DeviceFault number
-      → HasFailed tells seen faults log area number old new
-      → IsFormatNo tells seen faults log area old new end
-  NoRoom : (number : ℕ) → end ≡ NoMemory → AreFormattedTo tells seen log area number old new
-      → IsFormatNo tells seen faults log area old new end
+  pub left : D
+  pub new_is : new ≡ slice_set formatted number left
+  pub no : IsDeviceNo faults number device left end
 
 -- How a job ends whose devices are not all formatted: where there are more or fewer than it asks for,
 -- or one of them may not have that shape, nothing is written.

@@ -4,7 +4,8 @@ ghost use Rattle.std.specs.Prelude.{IsTrue, false};
 ghost use Rattle.vr_types.specs.Geometry.{IsAllowed};
 ghost use Rattle.vr_recover.specs.Formatted.{geometry_of};
 ghost use Rattle.vr_job.specs.Formats as formats;
-ghost use Rattle.vr_job.specs.Formats.{AreAllowed, AreFormatted, IsForbidden, IsFormatEnd, IsFormatNo};
+ghost use Rattle.vr_job.specs.Formats.{AreAllowed, AreFormatted, IsDeviceNo, IsForbidden, IsFormatEnd};
+ghost use Rattle.vr_job.specs.Formats.{IsFormatNo, IsFresh};
 
 use std::alloc::Global;
 use vr_device::BlockDevice;
@@ -60,6 +61,25 @@ fn format_line(number: u32, no: FormatNo) -> EndLine
     }
 }
 
+/// Formats a device as the volume of this number, with a shape that is allowed on it.
+fn format_one<D: BlockDevice>(
+    alloc: Global,
+    device: &mut D,
+    number: u32,
+    log: u32,
+    area: u32,
+) -> Result<(), EndLine>
+    requires few { number ≤ 99 }
+    requires allowed { IsAllowed (geometry_of (D.seen device.old) log area) }
+    ensures fresh { OnOk result (IsFresh D.tells D.seen log area number device.new) }
+    ensures no { IfErr result (IsDeviceNo D.faults number device.old device.new) }
+{
+    match format_volume(alloc, device, number, log, area) {
+        Ok(()) => Ok(()),
+        Err(no) => Err(format_line(number, no)),
+    }
+}
+
 /// Formats each device, with a shape that is allowed on it.
 fn format_each<D: BlockDevice>(
     alloc: Global,
@@ -70,14 +90,11 @@ fn format_each<D: BlockDevice>(
     requires few { length devices.old ≤ 16 }
     requires allowed { AreAllowed D.seen log area devices.old }
     ensures formatted { OnOk result (AreFormatted D.tells D.seen log area devices.old devices.new) }
-    ensures no { IfErr result (IsFormatNo D.tells D.seen D.faults log area devices.old devices.new) }
+    ensures no { IfErr result
+        (IsFormatNo D.tells D.seen D.faults log area devices.old devices.new) }
 {
     for at in 0..devices.len() {
-        let number = at as u32;
-        match format_volume(alloc, &mut devices[at], number, log, area) {
-            Ok(()) => {}
-            Err(no) => return Err(format_line(number, no)),
-        }
+        format_one(alloc, &mut devices[at], at as u32, log, area)?;
     }
     Ok(())
 }
