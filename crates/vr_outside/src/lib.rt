@@ -3,10 +3,11 @@
 //! faults. The layer stands on the words of vr_types and on std. It promises that no byte is handed
 //! out twice or lost where bytes are reported, that a call fails only where the count of faults
 //! rose, and that a sink which takes nothing of some bytes counts that as a fault. Sources and
-//! sinks in memory fail exactly where their scripts say so; those over a std reader or writer don't
-//! report their bytes.
+//! sinks in memory fail exactly where their scripts say so; those over a std reader or writer, and a
+//! source over a file of the host, don't report their bytes.
 #![tactic(auto)]
 
+mod file_source;
 mod laws;
 mod memory_sink;
 mod memory_source;
@@ -17,6 +18,7 @@ mod std_source;
 mod steady;
 mod whole;
 
+pub use file_source::FileSource;
 pub use laws::{reads_end, reads_join, takes_join};
 pub use memory_sink::MemorySink;
 pub use memory_source::MemorySource;

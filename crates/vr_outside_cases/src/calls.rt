@@ -4,10 +4,13 @@ use crate::question::{Stop, TEXT};
 use vr_outside::{Sink, Source, write_whole};
 use vr_types::Failed;
 
-/// Reads with a buffer of four bytes, at most 40 times, through failures, until the end, and
+/// The most reads of a source that comes to its end.
+pub const READ_LIMIT: usize = 40;
+
+/// Reads with a buffer of four bytes, at most so many times, through failures, until the end, and
 /// writes what each read answered.
-pub fn read_all<S: Source>(source: &mut S, out: &mut String) -> Result<(), Stop> {
-    for _ in 0..40 {
+pub fn read_all<S: Source>(source: &mut S, most: usize, out: &mut String) -> Result<(), Stop> {
+    for _ in 0..most {
         let mut buffer = [0u8; 4];
         match source.read(&mut buffer) {
             Ok(0) => return Ok(()),

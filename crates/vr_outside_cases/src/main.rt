@@ -11,7 +11,8 @@ mod question;
 mod streams;
 
 use crate::question::{Stop, answer};
-use std::alloc::{AllocError, Global};
+use std::alloc::AllocError;
+use std::fs::{File, Files};
 use std::io;
 use std::process::ExitCode;
 
@@ -31,7 +32,7 @@ fn main(rt: HostRuntime) -> io::Result<ExitCode> {
 }
 
 /// Asks each line of the input. Empty lines and those that begin with `#` are skipped.
-fn run<R: Input + Print + AllocGlobal>(rt: &R) -> io::Result<Tally> {
+fn run<R: Input + Print + AllocGlobal + Files<File = File>>(rt: &R) -> io::Result<Tally> {
     let mut tally = Tally {
         lines: 0,
         differ: 0,
@@ -43,7 +44,7 @@ fn run<R: Input + Print + AllocGlobal>(rt: &R) -> io::Result<Tally> {
             continue;
         }
         let (asked, wanted) = line.split_once(" -> ").unwrap_or((line, "ok"));
-        let got = got(rt.alloc(), asked)?;
+        let got = got(rt, asked)?;
         tally.lines = tally.lines.saturating_add(1);
         if got.as_str() != wanted {
             tally.differ = tally.differ.saturating_add(1);
@@ -55,9 +56,10 @@ fn run<R: Input + Print + AllocGlobal>(rt: &R) -> io::Result<Tally> {
 }
 
 /// The answer to a question. A line that is not a question has an answer that says so.
-fn got(alloc: Global, asked: &str) -> Result<String, AllocError> {
+fn got<R: AllocGlobal + Files<File = File>>(rt: &R, asked: &str) -> Result<String, AllocError> {
+    let alloc = rt.alloc();
     let mut out = String::new(alloc);
-    match answer(alloc, asked, &mut out) {
+    match answer(rt, asked, &mut out) {
         Ok(()) => Ok(out),
         Err(Stop::Memory) => Err(AllocError),
         Err(Stop::Line) => String::from_str(alloc, "no question"),

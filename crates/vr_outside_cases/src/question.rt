@@ -1,10 +1,13 @@
 //! Which source or sink a question asks.
 
-use crate::calls::{read_all, say_count, say_text, write_all};
+use crate::calls::{READ_LIMIT, read_all, say_count, say_text, write_all};
 use crate::streams::{Reader, Writer};
 use std::alloc::{AllocError, AllocFailed, Global};
+use std::fs::{File, Files};
 use std::str::SplitWhitespace;
-use vr_outside::{MemorySink, MemorySource, StdSink, StdSource, SteadySink, SteadySource};
+use vr_outside::{
+    FileSource, MemorySink, MemorySource, StdSink, StdSource, SteadySink, SteadySource,
+};
 
 /// The bytes of each source, and those that each sink is handed.
 pub const TEXT: &str = "GET F KEY=C'1'";
@@ -31,7 +34,12 @@ impl<T: Drop> From<AllocFailed<T>> for Stop {
 }
 
 /// Writes the answer to a line.
-pub fn answer(alloc: Global, line: &str, out: &mut String) -> Result<(), Stop> {
+pub fn answer<R: AllocGlobal + Files<File = File>>(
+    rt: &R,
+    line: &str,
+    out: &mut String,
+) -> Result<(), Stop> {
+    let alloc = rt.alloc();
     let mut words = line.split_whitespace();
     match words.next().ok_or(Stop::Line)? {
         "source" => source(alloc, &mut words, out),
@@ -39,6 +47,7 @@ pub fn answer(alloc: Global, line: &str, out: &mut String) -> Result<(), Stop> {
         "steady" => steady(alloc, out),
         "reader" => reader(alloc, &mut words, out),
         "writer" => writer(alloc, &mut words, out),
+        "file" => file(rt, &mut words, out),
         _ => Err(Stop::Line),
     }
 }
@@ -52,7 +61,7 @@ fn source(alloc: Global, words: &mut SplitWhitespace<'_>, out: &mut String) -> R
     }
     let bytes = Vec::from_slice(alloc, TEXT.as_bytes())?;
     let mut source = MemorySource::new(bytes, failing).in_pieces(most);
-    read_all(&mut source, out)?;
+    read_all(&mut source, READ_LIMIT, out)?;
     say_count(out, " left ", source.left().len() as u64)?;
     say_count(out, " faults ", source.fault_count())
 }
@@ -74,7 +83,7 @@ fn sink(alloc: Global, words: &mut SplitWhitespace<'_>, out: &mut String) -> Res
 /// The source and the sink that never fail.
 fn steady(alloc: Global, out: &mut String) -> Result<(), Stop> {
     let mut source = SteadySource::new(Vec::from_slice(alloc, TEXT.as_bytes())?);
-    read_all(&mut source, out)?;
+    read_all(&mut source, READ_LIMIT, out)?;
     say_count(out, " left ", source.left().len() as u64)?;
     out.push(' ')?;
     write_all(&mut SteadySink, out)
@@ -84,7 +93,7 @@ fn steady(alloc: Global, out: &mut String) -> Result<(), Stop> {
 fn reader(alloc: Global, words: &mut SplitWhitespace<'_>, out: &mut String) -> Result<(), Stop> {
     let failing = numbers_of(alloc, words)?;
     let mut source = StdSource::new(Reader::new(alloc, failing)?);
-    read_all(&mut source, out)?;
+    read_all(&mut source, READ_LIMIT, out)?;
     say_count(out, " faults ", source.fault_count())?;
     say_count(out, " calls ", source.into_inner().calls())
 }
@@ -101,6 +110,19 @@ fn writer(alloc: Global, words: &mut SplitWhitespace<'_>, out: &mut String) -> R
     let writer = sink.into_inner();
     say_count(out, " calls ", writer.calls())?;
     say_text(out, writer.taken())
+}
+
+/// A source over a file of the host: `PATH MOST`, the most reads.
+fn file<R: Files<File = File>>(
+    rt: &R,
+    words: &mut SplitWhitespace<'_>,
+    out: &mut String,
+) -> Result<(), Stop> {
+    let path = words.next().ok_or(Stop::Line)?;
+    let most = most_of(words)?;
+    let mut source = FileSource::open(rt, path);
+    read_all(&mut source, most, out)?;
+    say_count(out, " faults ", source.fault_count())
 }
 
 /// How many bytes a call handles at most.
