@@ -2,7 +2,7 @@
 # program prints: for each phase a line with its name, how many records, nanoseconds, and how many requests were done, how
 # many were refused and how many intervals were split; and a line of calls.
 
-# A sequence of calls without its reads: `log`, `data` and `sync`. The last block of the log is 64.
+# What a call is. The last block of the log is 64.
 function kind(call) {
     return call == "s" ? "sync" : substr(call, 1, 1) == "r" ? "read" : substr(call, 2) + 0 <= 64 ? "log" : "data"
 }
@@ -33,7 +33,7 @@ FILENAME == ARGV[1] { in_c[$1] = $2; next }
 FILENAME == ARGV[2] { in_sqlite[$1] = $2; next }
 $1 != "calls" {
     if (NF != 6) { print "the program says: " $0; bad = 1 }
-    name = $1; records = $2; took = $3; refused = $5; splits = $6
+    name = $1; records = $2; took = $3; finished = $4; refused = $5; splits = $6
     next
 }
 name == "format" { next }
@@ -52,7 +52,7 @@ name == "format" { next }
         units[unit]++
         unit = ""
     }
-    printf "%s: %d records, %d COMMITs, %d splits", name, records, commits, splits
+    printf "%s: records %d, COMMITs %d, splits %d", name, records, commits, splits
     if (name in in_sqlite) {
         printf "; %.2f ms each, C %.2f ms, ratio %.2f, sqlite3 %.2f ms, ratio %.2f", took / records / 1e6, \
             in_c[name] / records / 1e6, in_c[name] / took, in_sqlite[name] / records / 1e6, in_sqlite[name] / took
@@ -63,7 +63,9 @@ name == "format" { next }
     if (commits > 0) printf "    for each COMMIT: %s, %s\n", count("writes of the log", ends["log"] / commits), \
         count("syncs", ends["sync"] / commits)
     if (commits > 1) for (unit in units) printf "    %d units:%s, and the COMMIT\n", units[unit], unit
-    if (refused != 0 || name !~ /many/ && name != "get" && commits != records) bad = 1
+    # A GET, and a PUT or an ERASE, a COMMIT of each unit, and that which the deck ends with.
+    if (refused != 0 || finished != records * (name ~ /^(update|erase)/ ? 2 : 1) + commits + 1) bad = 1
+    if (commits != (name == "get" ? 0 : name ~ /many/ ? 1 : records)) bad = 1
     if (name == "get" && calls["log"] + calls["data"] + calls["sync"] != 0) bad = 1
     seen++
 }
