@@ -74,9 +74,10 @@ fn ask<R: Print + Files + AllocGlobal>(rt: &R, desk: &mut Desk, line: &str) -> i
 /// The answer to a question. A line that is not a question has an answer that says so.
 fn got<R: Files + AllocGlobal>(rt: &R, desk: &mut Desk, asked: &str) -> io::Result<String> {
     let mut out = String::new(rt.alloc());
-    let answered = match asked.strip_prefix("example ") {
-        Some(name) => examples::example(rt, name, &mut out)?,
-        None => answer(rt.alloc(), desk, asked, &mut out),
+    let answered = match asked.split_once(' ') {
+        Some(("example", name)) => examples::example(rt, desk, name, &mut out)?,
+        Some(("again", names)) => examples::again(rt, desk, names, &mut out)?,
+        _ => answer(rt.alloc(), desk, asked, &mut out),
     };
     match answered {
         Ok(()) => Ok(out),
