@@ -4,3 +4,4 @@ pub mod Crashing
 pub mod GoingOn
 pub mod Events
 pub mod DeckRuns
+pub mod Numbers

@@ -3,6 +3,7 @@ ghost use Rattle.std.specs.Prelude.{◌≡◌, ◌⊎◌, [], All, Err, IfErr, I
 ghost use Rattle.vr_catalog.specs.declared.entry.CatEntry.{CatEntry};
 ghost use Rattle.vr_event.specs.Volume.{Holds, IsWhole};
 ghost use Rattle.vr_history.specs.Merged.{IsStamped};
+ghost use Rattle.vr_job_text.specs.Numbers.{AreNumbered};
 ghost use Rattle.vr_run.specs.Asking.{HasNumbers};
 ghost use Rattle.vr_run.specs.OpenEnds.{HasEndCause, NeverFall};
 ghost use Rattle.vr_run.specs.VolumeRun as runs;
@@ -131,7 +132,7 @@ pub fn run_volume<D: BlockDevice>(
     number: u32,
     steps: &[Step],
 ) -> VolumeEnd<D>
-    requires numbered { All HasNumbers steps.now }
+    requires numbered { AreNumbered steps.now }
     ensures stamped { IsStamped 0 result.history.entries }
     // Whether or not the device reports its contents.
     ensures asked { (catalog : List CatEntry)

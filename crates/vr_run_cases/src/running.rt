@@ -1,6 +1,6 @@
 //! Jobs on a volume in memory.
-ghost use Rattle.std.specs.Prelude.{All, IfOk, IsTrue};
-ghost use Rattle.vr_run.specs.Asking.{HasNumbers, IsNumbered};
+ghost use Rattle.std.specs.Prelude.{IfOk};
+ghost use Rattle.vr_job_text.specs.Numbers.{AreNumbered};
 
 use crate::answers::{Answer, Stop, say, text_of};
 use crate::desk::Desk;
@@ -8,7 +8,7 @@ use crate::printing::say_end;
 use crate::words::{long_number, numbers};
 use std::alloc::Global;
 use vr_device::{MemoryDevice, memory_device};
-use vr_job_text::{Deck, JobText, Step, parse_job};
+use vr_job_text::{JobText, parse_job};
 use vr_recover::{FormatNo, format_volume};
 use vr_run::run_volume;
 use vr_trace::EndLine;
@@ -42,32 +42,16 @@ pub fn volume(alloc: Global, desk: &mut Desk, rest: &str, out: &mut String) -> A
     }
 }
 
-/// Whether each deck has a number of its own, as those of a job that is read do.
-fn are_numbered(decks: &[Deck]) -> bool
-    ensures { IsTrue result → All IsNumbered decks.now }
-{
-    decks.iter().all(|deck| deck.number != 0)
-}
-
-/// The same of the decks of each step.
-fn have_numbers(steps: &[Step]) -> bool
-    ensures { IsTrue result → All HasNumbers steps.now }
-{
-    steps.iter().all(|step| are_numbered(step.decks.as_slice()))
-}
-
 /// The job of a text.
 pub fn job_of(alloc: Global, text: &[u8]) -> Result<JobText, Stop>
-    ensures { IfOk result (λ job. All HasNumbers job.steps) }
+    ensures { IfOk result (λ job. AreNumbered job.steps) }
 {
     if text.len() > LONGEST {
         return Err(Stop::Line);
     }
-    let job = parse_job(alloc, text).ok().ok_or(Stop::Line)?;
-    if have_numbers(job.steps.as_slice()) {
-        Ok(job)
-    } else {
-        Err(Stop::Line)
+    match parse_job(alloc, text) {
+        Ok(job) => Ok(job),
+        Err(_) => Err(Stop::Line),
     }
 }
 

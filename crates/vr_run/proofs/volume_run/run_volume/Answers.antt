@@ -6,8 +6,12 @@ use Rattle.vr_types.proofs.CallerLemmas.{guards-start}
 use Rattle.vr_trace.specs.declared.ending.EndLine.TheVariants.{NoMemory}
 use Rattle.vr_volume.specs.Volume.{Recovers}
 use Rattle.vr_run.specs.OpenEnds.{IsMemory}
+use Rattle.vr_run.proofs.Numbers.{have-numbers}
 use Rattle.vr_run.proofs.VolumeRuns.{asked-none}
 use Rattle.vr_run.proofs.volume_run.run_volume.Goals as goal
+
+pub run_blocks-requires-clause-numbered : goal.run_blocks-requires-clause-numbered
+run_blocks-requires-clause-numbered g c = have-numbers c.args.steps.now c.requires.numbered
 
 pub returns-in-Err-clause-asked : goal.returns-in-Err-clause-asked
 returns-in-Err-clause-asked g c =
