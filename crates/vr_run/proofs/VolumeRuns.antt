@@ -1,6 +1,6 @@
 -- What the run of a job on a volume comes to, from its opening to the end.
-use Rattle.std.proofs.Common.{◌≡◌, ◌∙◌, ◌⊎◌, inl, inr, ⊎_elim, ℕ, ◌<◌, ◌≤◌, Bool, List, [], ◌++◌, Result}
-use Rattle.std.proofs.Common.{Ok, Err, None, arith, refl, sym, ap, subst}
+use Rattle.std.proofs.Common.{◌≡◌, ◌∙◌, ◌⊎◌, inl, inr, ⊎_elim, ℕ, ◌^◌, ◌<◌, ◌≤◌, Bool, List, [], ◌++◌}
+use Rattle.std.proofs.Common.{Result, Ok, Err, None, arith, refl, sym, ap, subst}
 use Rattle.std.specs.Prelude.{IfErr, IsTrue, OnOk}
 use Rattle.vr_types.specs.Content.{Content}
 use Rattle.vr_types.specs.Faults.{Faults}
@@ -11,6 +11,7 @@ use Rattle.vr_types.proofs.CallerLemmas.{guards-then, guards-weaken}
 use Rattle.vr_types.specs.declared.geometry.Geometry.{Geometry}
 use Rattle.vr_catalog.specs.Catalog.{entries_in}
 use Rattle.vr_catalog.specs.declared.entry.CatEntry.{CatEntry}
+use Rattle.vr_history.specs.Merged.{last_stamp}
 use Rattle.vr_history.specs.State.{State, opening_state}
 use Rattle.vr_history.specs.declared.entry.Entry.{Entry}
 use Rattle.vr_job_text.specs.declared.text.Step.{Step}
@@ -18,12 +19,15 @@ use Rattle.vr_record_file.specs.Now.{state_now}
 use Rattle.vr_event.specs.Volume.{VolumeNow}
 use Rattle.vr_event.proofs.CallerLemmas.{stored-left}
 use Rattle.vr_recover.specs.Opening.{IsVolume}
+use Rattle.vr_recover.specs.declared.open_no.OpenNo.{OpenNo}
+use Rattle.vr_recover.specs.declared.open_no.OpenNo.TheVariants as opens
 use Rattle.vr_trace.specs.declared.ending.EndLine.{EndLine}
+use Rattle.vr_trace.specs.declared.ending.EndLine.TheVariants.{StampsUsedUp}
 use Rattle.vr_volume.specs.Crashes.{RecoversTo}
 use Rattle.vr_volume.specs.Volume.{Recovers}
 use Rattle.vr_run.specs.Asking.{HasRun, asked_of, job_asks}
 use Rattle.vr_run.specs.Crash.{IsLeftBy}
-use Rattle.vr_run.specs.OpenEnds.{HasEndCause, NeverFall}
+use Rattle.vr_run.specs.OpenEnds.{HasEndCause, IsOpenLine, NeverFall, open_line}
 use Rattle.vr_run.specs.Opened.{IsOpenHeld}
 use Rattle.vr_run.specs.VolumeRun.{Answer, HasAsked, HasEnded, IsRun, run_result}
 use Rattle.vr_run.specs.declared.run_no.RunNo.{RunNo}
@@ -45,6 +49,28 @@ pub run-cause : (number : ℕ) (before now : Faults) (by : Result (Unit {0}) Run
 run-cause number before now by answer is =
     subst (λ (a : Answer). IfErr a (HasEndCause number before now)) (sym is)
     (cause-by number before now by)
+
+stamps-by : (by : Result (Unit {0}) RunNo) → run_result by ≡ Err StampsUsedUp → by ≡ Err nos.Stamps
+stamps-by (Ok value) is = absurd cc
+stamps-by (Err nos.Stamps) is = refl
+stamps-by (Err nos.Memory) is = absurd cc
+
+-- a volume that is not opened has used up no stamps
+line-other : (number : ℕ) (no : OpenNo) → open_line number no ≡ StampsUsedUp → ⊥
+line-other number (opens.Damaged block rule) is = cc
+line-other number (opens.Version found) is = cc
+line-other number opens.Read is = cc
+line-other number opens.Write is = cc
+line-other number opens.Memory is = cc
+
+pub line-stamps : (number : ℕ) (end : EndLine) (answer : Answer) (P : Type 0) → answer ≡ Err end
+    → IsOpenLine number end → answer ≡ Err StampsUsedUp → P
+line-stamps number end answer P is line used =
+    let same : end ≡ StampsUsedUp = err-is end StampsUsedUp (sym is ∙ used) in
+    absurd (line-other number line.0 (sym line.1 ∙ same))
+  where
+    err-is : (x y : EndLine) → ◌≡◌ {A = Answer} (Err x) (Err y) → x ≡ y
+    err-is x y same = cc
 
 -- where nothing was asked
 pub asked-none : (steps : List Step) (entries : List Entry) (end : EndLine) (answer : Answer)
@@ -84,6 +110,10 @@ module _ {D : Type 0} (tells : Bool) (seen : D → Seen) (faults : D → Faults)
         reads = omega (arith, is.reads, ended.ran.ran.on.reads);
         writes = omega (arith, is.writes, ended.ran.ran.on.writes);
       })
+
+  pub ended-stamps : answer ≡ Err StampsUsedUp → 2 ^ 62 ≤ last_stamp 0 entries
+  ended-stamps used = subst (λ (es : List Entry). 2 ^ 62 ≤ last_stamp 0 es) (sym ended.entries_are)
+      (ended.stamps (stamps-by ended.by (sym ended.answer_is ∙ used)))
 
   pub ended-asked : volume.file.entries ≡ []
       → HasAsked volume.file.catalog steps answer ended.end.file.entries

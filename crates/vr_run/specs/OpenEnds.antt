@@ -16,6 +16,10 @@ open_line number nos.Read = DeviceFault number
 open_line number nos.Write = DeviceFault number
 open_line number nos.Memory = NoMemory
 
+-- the line is that of such an answer
+abbrev pub IsOpenLine : ℕ → EndLine → Type 0
+IsOpenLine number end = (no : OpenNo) × (end ≡ open_line number no)
+
 -- A line by which a volume of this number is refused, by the blocks as they were: it is damaged, or
 -- of another version, or there is no memory, or its device failed.
 pub data IsOpenEnd (number : ℕ) (old : Seen) (end : EndLine) : Type 0 where

@@ -1,6 +1,7 @@
 -- The run of a job's decks on the volume of a device, from its opening to the end. The rules are this
 -- project's own.
-use Rattle.std.specs.Prelude.{◌≡◌, ◌⊎◌, ℕ, Bool, List, [], None, OnOk, Result, Ok, Err, IfErr}
+use Rattle.std.specs.Prelude.{◌≡◌, ◌≤◌, ◌^◌, ◌⊎◌, ℕ, Bool, List, [], None, OnOk, Result, Ok, Err}
+use Rattle.std.specs.Prelude.{IsErrOf}
 use Rattle.vr_types.specs.Content.{Content}
 use Rattle.vr_types.specs.Faults.{Faults}
 use Rattle.vr_types.specs.Image.{Image}
@@ -11,6 +12,7 @@ use Rattle.vr_types.specs.declared.geometry.Geometry.{Geometry}
 use Rattle.vr_catalog.specs.Catalog.{entries_in}
 use Rattle.vr_catalog.specs.declared.entry.CatEntry.{CatEntry}
 use Rattle.vr_history.specs.Legal.{IsLegal, state_of}
+use Rattle.vr_history.specs.Merged.{last_stamp}
 use Rattle.vr_history.specs.State.{Owned, opening_state}
 use Rattle.vr_history.specs.declared.entry.Entry.{Entry}
 use Rattle.vr_job_text.specs.declared.text.Step.{Step}
@@ -55,6 +57,7 @@ pub record HasEnded {D : Type 0} (tells : Bool) (seen : D → Seen) (faults : D 
   pub end : VolumeNow D
   pub by : Result (Unit {0}) RunNo
   pub ran : RanSome tells seen faults (job_asks volume.file.catalog steps) by volume end
+  pub stamps : IsErrOf by nos.Stamps → 2 ^ 62 ≤ last_stamp 0 end.file.entries
   pub device_is : device ≡ end.blocks
   pub entries_are : entries ≡ end.file.entries
   pub answer_is : answer ≡ run_result by

@@ -1,6 +1,6 @@
 //! One request of a deck, asked on a volume event by event until it is answered.
 ghost use Rattle.std.specs.Prelude.{◌≡◌, ◌<◌, ◌≤◌, ◌==◌, ◌+◌, ◌-◌, ◌^◌, ◌∷◌, ℕ, [], IfOk, IsTrue};
-ghost use Rattle.std.specs.Prelude.{OnErr, OnOk, cond, false, true};
+ghost use Rattle.std.specs.Prelude.{IsErrOf, OnOk, cond, false, true};
 ghost use Rattle.vr_answer.specs.Scope.{IsDirect};
 ghost use Rattle.vr_event.specs.Made.{IsCalm, IsCalmBut};
 ghost use Rattle.vr_event.specs.Volume.{Holds, IsHeld, IsWhole};
@@ -26,6 +26,7 @@ fn make_ready<B: Blocks, P: Part>(volume: &mut Volume<B, P>, deck: u32) -> Resul
     ensures last { OnOk result (last_stamp 0 volume.new.file.entries < 2 ^ 62) }
     ensures generation { OnOk result (volume.new.store.log.generation + 1 < 2 ^ 64) }
     ensures number { OnOk result (number_of volume.new.file.numbers deck < 2 ^ 32 - 1) }
+    ensures stamps { IsErrOf result RunNo.Stamps → 2 ^ 62 ≤ last_stamp 0 volume.new.file.entries }
     ensures same { volume.new ≡ record volume.old {
       file = record volume.old.file {
         room = volume.new.file.room;
@@ -99,6 +100,7 @@ fn step<B: Blocks, P: Part>(
     ensures ran { Ran B.tells B.seen B.faults deck (if_done result (bound_to line request.now ∷ []))
         volume.old volume.new }
     ensures calm { IfOk result (λ done. CalmOnce done deck request.now volume.new.file) }
+    ensures stamps { IsErrOf result RunNo.Stamps → 2 ^ 62 ≤ last_stamp 0 volume.new.file.entries }
 {
     make_ready(volume, deck)?;
     let shared = request.share()?;
@@ -108,7 +110,7 @@ fn step<B: Blocks, P: Part>(
 }
 
 /// Asks a request of a deck until it is answered. It is a request on volume 0, which this is. Where
-/// it isn't answered, no stamps or no memory are left.
+/// it isn't answered, no stamps are left, the last of the history being 2^62 or more, or no memory.
 pub fn ask<B: Blocks, P: Part>(
     alloc: Global,
     volume: &mut Volume<B, P>,
@@ -125,6 +127,7 @@ pub fn ask<B: Blocks, P: Part>(
     ensures ran { Ran B.tells B.seen B.faults deck (if_ok result (bound_to line request.now ∷ []))
         volume.old volume.new }
     ensures calm { OnOk result (IsCalm volume.new.file.entries) }
+    ensures stamps { IsErrOf result RunNo.Stamps → 2 ^ 62 ≤ last_stamp 0 volume.new.file.entries }
 {
     for _ in 0..u32::MAX {
         if step(alloc, volume, deck, line, request)? {

@@ -1,5 +1,7 @@
 //! The decks of a job, one after another on one volume.
-ghost use Rattle.std.specs.Prelude.{◌≡◌, ◌==◌, ◌∷◌, [], ℕ, All, IfOk, IsTrue, OnOk, false, true};
+ghost use Rattle.std.specs.Prelude.{◌≡◌, ◌≤◌, ◌==◌, ◌^◌, ◌∷◌, [], ℕ, All, IfErr, IfOk, IsErrOf};
+ghost use Rattle.std.specs.Prelude.{IsTrue, OnOk, false, true};
+ghost use Rattle.vr_history.specs.Merged.{last_stamp};
 ghost use Rattle.vr_event.specs.Made.{IsCalm};
 ghost use Rattle.vr_event.specs.Volume.{Holds, IsWhole};
 ghost use Rattle.vr_record_file.specs.Now.{has_deck};
@@ -35,6 +37,7 @@ fn ask_each<B: Blocks, P: Part>(
     ensures ran { RanFirst B.tells B.seen B.faults deck requests.now result volume.old
         volume.new }
     ensures calm { OnOk result (IsCalm volume.new.file.entries) }
+    ensures stamps { IsErrOf result RunNo.Stamps → 2 ^ 62 ≤ last_stamp 0 volume.new.file.entries }
 {
     for bound in requests {
         ask(alloc, volume, deck, bound.line, &bound.request)?;
@@ -58,6 +61,7 @@ fn bound_on<B: Blocks, P: Part>(
     ensures requests { IfOk result (λ requests. requests
         ≡ bound_requests text.now (volume.now.file.catalog ∷ [])) }
     ensures here { IfOk result (All IsHere) }
+    ensures memory { IfErr result (λ no. no ≡ RunNo.Memory) }
 {
     let requests = bind(alloc, text, from_ref(volume.catalog()))?;
     if !are_here(requests.as_slice()) {
@@ -79,6 +83,7 @@ fn run_deck<B: Blocks, P: Part>(
     ensures ran { RanSome B.tells B.seen B.faults (requests_of volume.old.file.catalog deck.now)
         result volume.old volume.new }
     ensures calm { OnOk result (IsCalm volume.new.file.entries) }
+    ensures stamps { IsErrOf result RunNo.Stamps → 2 ^ 62 ≤ last_stamp 0 volume.new.file.entries }
 {
     volume.enter_deck(deck.number)?;
     let requests = bound_on(alloc, volume, &deck.text)?;
@@ -98,6 +103,7 @@ fn run_step<B: Blocks, P: Part>(
     ensures ran { RanSome B.tells B.seen B.faults
         (all_ask (requests_of volume.old.file.catalog) decks.now) result volume.old volume.new }
     ensures calm { OnOk result (IsCalm volume.new.file.entries) }
+    ensures stamps { IsErrOf result RunNo.Stamps → 2 ^ 62 ≤ last_stamp 0 volume.new.file.entries }
 {
     for deck in decks {
         run_deck(alloc, volume, deck)?;
@@ -118,6 +124,7 @@ pub fn run_steps<B: Blocks, P: Part>(
     ensures ran { RanSome B.tells B.seen B.faults (job_asks volume.old.file.catalog steps.now) result
         volume.old volume.new }
     ensures calm { OnOk result (IsCalm volume.new.file.entries) }
+    ensures stamps { IsErrOf result RunNo.Stamps → 2 ^ 62 ≤ last_stamp 0 volume.new.file.entries }
 {
     for step in steps {
         run_step(alloc, volume, step.decks.as_slice())?;

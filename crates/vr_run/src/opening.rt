@@ -13,7 +13,7 @@ ghost use Rattle.vr_volume.specs.Volume.{Recovers};
 ghost use Rattle.vr_recover.specs.Opening.{IsHandedOut, IsOpened, IsVolume};
 ghost use Rattle.vr_run.specs.Asking.{HasRun};
 ghost use Rattle.vr_run.specs.OpenEnds as ends;
-ghost use Rattle.vr_run.specs.OpenEnds.{HasEndCause, IsOpenEnd, NeverFall};
+ghost use Rattle.vr_run.specs.OpenEnds.{HasEndCause, IsOpenEnd, IsOpenLine, NeverFall};
 ghost use Rattle.vr_run.specs.Opened.{IsOpenHeld, IsReady, IsReadyFrom, laid_now, opened_now};
 
 use crate::numbering::{Ready, number_parts};
@@ -78,6 +78,7 @@ fn open_whole<B: Blocks>(
         → IsVolume number geometry contents (B.seen blocks.old)
         → Guards (B.seen blocks.old) (B.seen blocks.new) (λ image.
         Left (B.seen blocks.old) image ⊎ Recovers geometry number image contents) }
+    ensures line { IfErr result (IsOpenLine number) }
     ensures refused { IsTrue B.tells → IfErr result (IsOpenEnd number (B.seen blocks.old)) }
     ensures faults { NeverFall (B.faults blocks.old) (B.faults blocks.new) }
     ensures cause { IfErr result
@@ -108,6 +109,7 @@ fn open_parts<B: Blocks>(
         → IsVolume number geometry contents (B.seen blocks.old)
         → Guards (B.seen blocks.old) (B.seen blocks.new) (λ image.
         Left (B.seen blocks.old) image ⊎ Recovers geometry number image contents) }
+    ensures line { IfErr result (IsOpenLine number) }
     ensures refused { IsTrue B.tells → IfErr result (IsOpenEnd number (B.seen blocks.old)) }
     ensures faults { NeverFall (B.faults blocks.old) (B.faults blocks.new) }
     ensures cause { IfErr result
@@ -174,6 +176,7 @@ pub fn open<B: Blocks + Drop>(
         → IsVolume number geometry contents (B.seen blocks)
         → IfErr result (λ back. Guards (B.seen blocks) (B.seen back.0) (λ image.
         Left (B.seen blocks) image ⊎ Recovers geometry number image contents)) }
+    ensures line { IfErr result (λ back. IsOpenLine number back.1) }
     ensures refused { IsTrue B.tells → IfErr result (λ back.
         IsOpenEnd number (B.seen blocks) back.1) }
     ensures faults { IfOk result (λ volume.

@@ -1,8 +1,8 @@
 //! The run of a job's decks on the volume of a device, from its opening to the end.
-ghost use Rattle.std.specs.Prelude.{◌≡◌, ◌⊎◌, [], All, Err, IfErr, IsTrue, List};
+ghost use Rattle.std.specs.Prelude.{◌≡◌, ◌≤◌, ◌⊎◌, ◌^◌, [], All, Err, IfErr, IsErrOf, IsTrue, List};
 ghost use Rattle.vr_catalog.specs.declared.entry.CatEntry.{CatEntry};
 ghost use Rattle.vr_event.specs.Volume.{Holds, IsWhole};
-ghost use Rattle.vr_history.specs.Merged.{IsStamped};
+ghost use Rattle.vr_history.specs.Merged.{IsStamped, last_stamp};
 ghost use Rattle.vr_job_text.specs.Numbers.{AreNumbered};
 ghost use Rattle.vr_run.specs.Asking.{HasNumbers};
 ghost use Rattle.vr_run.specs.OpenEnds.{HasEndCause, NeverFall};
@@ -111,6 +111,8 @@ fn run_blocks<D: BlockDevice>(
     ensures faults { NeverFall (D.faults blocks) (D.faults result.device) }
     ensures cause { IfErr result.result
         (HasEndCause number (D.faults blocks) (D.faults result.device)) }
+    ensures stamps { IsErrOf result.result EndLine.StampsUsedUp
+        → 2 ^ 62 ≤ last_stamp 0 result.history.entries }
     ensures run { IsTrue D.tells
         → IsRun number steps.now result.result result.history.entries (D.seen blocks)
         (D.seen result.device)
@@ -140,6 +142,8 @@ pub fn run_volume<D: BlockDevice>(
     ensures faults { NeverFall (D.faults device) (D.faults result.device) }
     ensures cause { IfErr result.result
         (HasEndCause number (D.faults device) (D.faults result.device)) }
+    ensures stamps { IsErrOf result.result EndLine.StampsUsedUp
+        → 2 ^ 62 ≤ last_stamp 0 result.history.entries }
     // Where it does.
     ensures run { IsTrue D.tells
         → IsRun number steps.now result.result result.history.entries (D.seen device)

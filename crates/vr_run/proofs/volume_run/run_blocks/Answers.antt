@@ -3,7 +3,7 @@ use Rattle.vr_types.specs.Image.{Image}
 use Rattle.vr_types.specs.Moments.{Guards}
 use Rattle.vr_types.specs.Seen.{Left}
 use Rattle.vr_volume.specs.Volume.{Recovers}
-use Rattle.vr_run.proofs.VolumeRuns.{asked-none, ended-asks, ended-run}
+use Rattle.vr_run.proofs.VolumeRuns.{asked-none, ended-asks, ended-run, ended-stamps, line-stamps}
 use Rattle.vr_run.proofs.volume_run.run_blocks.Goals as goal
 
 pub returns-in-Ok-clause-asked : goal.returns-in-Ok-clause-asked
@@ -12,6 +12,13 @@ returns-in-Ok-clause-asked g c =
     let end = c.run_opened.result in
     ended-asks D.tells D.seen D.faults c.args.steps.now c.in-Ok.volume end.device
     end.history.entries end.result c.run_opened.ensures c.in-Ok.ensures.begins
+
+pub returns-in-Ok-clause-stamps : goal.returns-in-Ok-clause-stamps
+returns-in-Ok-clause-stamps g c =
+    let D = g.D.BlockDevice in
+    let end = c.run_opened.result in
+    ended-stamps D.tells D.seen D.faults c.args.steps.now c.in-Ok.volume end.device
+    end.history.entries end.result c.run_opened.ensures
 
 pub returns-in-Ok-clause-run : goal.returns-in-Ok-clause-run
 returns-in-Ok-clause-run g c told =
@@ -29,6 +36,12 @@ returns-in-Err-clause-asked g c =
     let end = c.not_opened.result in
     asked-none c.args.steps.now end.history.entries c.in-Err.end end.result
     c.not_opened.ensures.entries c.not_opened.ensures.answer
+
+pub returns-in-Err-clause-stamps : goal.returns-in-Err-clause-stamps
+returns-in-Err-clause-stamps g c =
+    let end = c.not_opened.result in
+    line-stamps c.args.number c.in-Err.end end.result _ c.not_opened.ensures.answer
+    c.in-Err.ensures.line
 
 pub returns-in-Err-clause-run : goal.returns-in-Err-clause-run
 returns-in-Err-clause-run g c told =
