@@ -5,3 +5,4 @@ pub mod GoingOn
 pub mod Events
 pub mod DeckRuns
 pub mod Numbers
+pub mod Faultless

@@ -4,3 +4,4 @@ pub mod Asking
 pub mod Opened
 pub mod OpenEnds
 pub mod VolumeRun
+pub mod Faultless
