@@ -1,5 +1,6 @@
 //! What a volume reports of itself, and what it makes room for.
-ghost use Rattle.std.specs.Prelude.{◌≡◌, ◌<◌, ◌≤◌, ◌+◌, ◌-◌, ◌^◌, ℕ, IsTrue, OnOk, true};
+ghost use Rattle.std.specs.Prelude.{◌≡◌, ◌<◌, ◌≤◌, ◌+◌, ◌-◌, ◌^◌, ℕ, IsSome, IsTrue, None, OnOk};
+ghost use Rattle.std.specs.Prelude.{false, true};
 ghost use Rattle.vr_history.specs.Merged.{last_stamp};
 ghost use Rattle.vr_history.specs.State.{State};
 ghost use Rattle.vr_record_file.specs.Now.{has_deck, number_of, state_now};
@@ -34,6 +35,14 @@ impl<B: Blocks, P: Part> Volume<B, P> {
         ensures { result ≡ last_stamp 0 self.now.file.entries }
     {
         self.file.last()
+    }
+
+    /// Whether a write that failed stopped the volume.
+    pub fn is_stopped(&self) -> bool
+        ensures yes { IsTrue result → IsSome self.now.file.stopped }
+        ensures no { result ≡ false → self.now.file.stopped ≡ None }
+    {
+        self.file.stopped().is_some()
     }
 
     /// The catalog.

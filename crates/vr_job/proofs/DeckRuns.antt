@@ -17,6 +17,7 @@ use Rattle.vr_record_file.specs.declared.numbers.DeckNumber.{DeckNumber}
 use Rattle.vr_event.specs.Volume.{IsHeld, IsWhole, VolumeNow}
 use Rattle.vr_job.specs.Asking.{Ran, RanEach, RanFirst, RanSome, all_ask, asked_of}
 use Rattle.vr_job.specs.Crash.{IsLeftBy}
+use Rattle.vr_job.specs.Faultless.{AreFaultless}
 use Rattle.vr_job.specs.Parts.{IsPrefixOf, of_deck}
 use Rattle.vr_job.specs.declared.run_no.RunNo.{RunNo}
 use Rattle.vr_job.proofs.Events.{err-vacuous, goes-then, of-both}
@@ -112,6 +113,8 @@ module _ {B : Type 0} (tells : Bool) (seen : B → Seen)
       stamped = λ before. subst (IsStamped 0) (sym entries) before;
       reads = omega (arith, ap (λ (v : VolumeNow B). (faults v.blocks).reads) same);
       writes = omega (arith, ap (λ (v : VolumeNow B). (faults v.blocks).writes) same);
+      stops = λ as_before. ap (λ (v : VolumeNow B). v.file.stopped) same;
+      faultless = λ as_before before. subst AreFaultless (sym entries) before;
     };
     asked = λ deck. ap (asked_of deck) entries
         ∙ sym (append-nil (asked_of deck old.file.entries));

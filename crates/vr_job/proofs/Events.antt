@@ -11,7 +11,8 @@ use Rattle.vr_types.specs.Seen.{Seen}
 use Rattle.vr_types.specs.declared.bound.Bound.{Bound}
 use Rattle.vr_history.specs.declared.entry.Entry.{Entry}
 use Rattle.vr_event.specs.Volume.{IsWhole, VolumeNow}
-use Rattle.vr_job.specs.Asking.{Asks, GoesOn, IsHere, Ran, asked_of, bound_to, if_ok}
+use Rattle.vr_job.specs.Asking.{Asks, GoesOn, IsHere, Ran, asked_of, bound_to, if_done}
+use Rattle.vr_job.specs.Asking.{if_ok}
 use Rattle.vr_job.specs.declared.run_no.RunNo.{RunNo}
 use Rattle.vr_job.specs.Parts.{of_deck}
 
@@ -68,6 +69,8 @@ module _ {B : Type 0} (seen : B → Seen) (faults : B → Faults) where
     stamped = λ before. before;
     reads = omega arith;
     writes = omega arith;
+    stops = λ same. refl;
+    faultless = λ same before. before;
   }
 
   pub goes-then : (a b c : VolumeNow B) → GoesOn seen faults a b → GoesOn seen faults b c
@@ -85,7 +88,18 @@ module _ {B : Type 0} (seen : B → Seen) (faults : B → Faults) where
     stamped = λ before. second.stamped (first.stamped before);
     reads = omega (arith, first.reads, second.reads);
     writes = omega (arith, first.writes, second.writes);
+    stops = λ same. second.stops (second-same same) ∙ first.stops (first-same same);
+    faultless = λ same before. second.faultless (second-same same)
+        (first.faultless (first-same same) before);
   }
+    where
+      first-same : (faults c.blocks).writes ≡ (faults a.blocks).writes
+          → (faults b.blocks).writes ≡ (faults a.blocks).writes
+      first-same same = omega (arith, same, first.writes, second.writes)
+
+      second-same : (faults c.blocks).writes ≡ (faults a.blocks).writes
+          → (faults c.blocks).writes ≡ (faults b.blocks).writes
+      second-same same = omega (arith, same, first.writes, second.writes)
 
   -- nothing was asked yet
   pub ran-start : (tells : Bool) (deck : ℕ) (volume : VolumeNow B) → IsWhole seen volume
@@ -114,6 +128,11 @@ pub err-none : (result : Result (Unit {0}) RunNo) (fault : RunNo) (requests : Li
     → IsErrAnd result (λ (given : RunNo). given ≡ fault) → if_ok result requests ≡ []
 err-none (Ok value) fault requests is = absurd is
 err-none (Err given) fault requests is = refl
+
+pub err-done : (result : Result Bool RunNo) (fault : RunNo) (requests : List Bound)
+    → IsErrAnd result (λ (given : RunNo). given ≡ fault) → if_done result requests ≡ []
+err-done (Ok value) fault requests is = absurd is
+err-done (Err given) fault requests is = refl
 
 -- ---- requests of a deck, one after another
 

@@ -1,7 +1,7 @@
 -- What one event leaves of a volume, and what goes on from it.
 use Rattle.std.proofs.Common.{◌≡◌, ◌≢◌, ◌⊎◌, inl, inr, ⊎_elim, ◌∙◌, ℕ, ◌<◌, ◌≤◌, ◌==◌, Bool, true, false, cond}
 use Rattle.std.proofs.Common.{IsTrue, List, [], ◌∷◌, ◌++◌, Option, Some, None, refl, sym, ap, subst}
-use Rattle.std.proofs.Common.{append_assoc, flat_map, if◌then◌else◌}
+use Rattle.std.proofs.Common.{append_assoc, arith, flat_map, if◌then◌else◌}
 use Rattle.std.proofs.lemmas.Grind.{flat_map-append}
 use Rattle.std.proofs.lemmas.List.{append-nil, map-append}
 use Rattle.vr_types.specs.declared.bound.Bound.{Bound}
@@ -22,7 +22,8 @@ use Rattle.vr_history.specs.State.{State}
 use Rattle.vr_history.specs.declared.entry.Entry.{Entry}
 use Rattle.vr_history.specs.declared.entry.What.{What}
 use Rattle.vr_history.specs.declared.entry.What.TheVariants.{Asked, Faulted}
-use Rattle.vr_record_file.specs.Now.{FileNow, asked_failing, entry_next, number_of, state_now}
+use Rattle.vr_record_file.specs.Now.{FileNow, asked_failing, entry_next, has_deck, number_of}
+use Rattle.vr_record_file.specs.Now.{state_now}
 use Rattle.vr_record_file.specs.declared.numbers.DeckNumber.{DeckNumber}
 use Rattle.vr_event.specs.Acting.{IsActed, IsLeftIn, MayAct}
 use Rattle.vr_event.specs.EndedFile.{HasEnded}
@@ -31,12 +32,14 @@ use Rattle.vr_event.specs.Volume.{IsHeld, IsWhole, VolumeNow}
 use Rattle.vr_event.specs.declared.act.Act.{Act}
 use Rattle.vr_event.specs.declared.act.Act.TheVariants.{Again, Done}
 use Rattle.vr_event.proofs.CallerLemmas.{acted_made, event_calms}
-use Rattle.vr_job.specs.Asking.{Asks, CalmOnce, GoesOn, HasRun, bound_to, is_done}
+use Rattle.vr_job.specs.Asking.{Asks, CalmOnce, GoesOn, HasRun, Ran, bound_to, is_done}
 use Rattle.vr_job.specs.Asking.{asked_of, unit_of}
 use Rattle.vr_job.specs.Crash.{IsCommit, IsLeftBy}
+use Rattle.vr_job.specs.Faultless.{AreFaultless}
 use Rattle.vr_job.specs.Parts.{of_deck, on_volume_0}
 use Rattle.vr_job.proofs.Crashing.{left-more}
-use Rattle.vr_job.proofs.Events.{of-none}
+use Rattle.vr_job.proofs.Events.{asks-same, of-none}
+use Rattle.vr_job.proofs.Faultless.{NoFault, acted-faultless}
 
 -- stamps rise on
 pub stamped-more : (before : ℕ) (entries more : List Entry) → IsStamped before entries
@@ -119,7 +122,13 @@ module _ {B : Type 0} (seen : B → Seen) (faults : B → Faults) (old new : Vol
         (stamped-more 0 old.file.entries made-in.made before made-in.stamped);
     reads = acted.reads;
     writes = acted.writes;
+    stops = λ same. (no-fault same).stopped;
+    faultless = λ same. (no-fault same).faultless;
   }
+    where
+      no-fault : (faults new.blocks).writes ≡ (faults old.blocks).writes → NoFault old.file new.file
+      no-fault same = acted-faultless (faults old.blocks) (faults new.blocks) act after unit line
+          request old.file new.file same acted
 
   -- the request is asked once, where it is done
   pub event-asks : Asks unit.deck (cond (is_done act) (bound_to line request ∷ []) [])
@@ -261,6 +270,37 @@ ready-run {B} seen opening first old mid room files_room same held run = record 
   left = subst (λ (v : VolumeNow B). Guards (seen first) (seen v.blocks)
       (IsLeftBy v.file.geometry v.number opening v.file.entries)) (sym same) run.left;
 }
+
+-- nor does it ask or enter anything
+pub ready-ran : {B : Type 0} (tells : Bool) (seen : B → Seen) (faults : B → Faults) (deck : ℕ)
+    (old mid : VolumeNow B) (room files_room : ℕ) → mid ≡ record old {
+      file = record old.file { room = room; files_room = files_room };
+    } → IsWhole seen mid → ((opening : State) → IsHeld seen opening old → IsHeld seen opening mid)
+    → Ran tells seen faults deck [] old mid
+ready-ran {B} tells seen faults deck old mid room files_room same whole held = record {
+  on = record {
+    whole = whole;
+    number = ap (λ (v : VolumeNow B). v.number) same;
+    geometry = ap (λ (v : VolumeNow B). v.file.geometry) same;
+    catalog = ap (λ (v : VolumeNow B). v.file.catalog) same;
+    decks = λ other has. subst (λ (v : VolumeNow B). has_deck other v.file.numbers ≡ true)
+        (sym same) has;
+    made = [];
+    entries = entries ∙ sym (append-nil old.file.entries);
+    stamped = λ before. subst (IsStamped 0) (sym entries) before;
+    reads = omega (arith, ap (λ (v : VolumeNow B). (faults v.blocks).reads) same);
+    writes = omega (arith, ap (λ (v : VolumeNow B). (faults v.blocks).writes) same);
+    stops = λ as_before. ap (λ (v : VolumeNow B). v.file.stopped) same;
+    faultless = λ as_before before. subst AreFaultless (sym entries) before;
+  };
+  asked = asks-same deck old.file.entries mid.file.entries entries;
+  held = λ told opening is. held opening is;
+  run = λ told opening first run. ready-run seen opening first old mid room files_room same
+      (held opening run.held) run;
+}
+  where
+    entries : mid.file.entries ≡ old.file.entries
+    entries = ap (λ (v : VolumeNow B). v.file.entries) same
 
 -- nor does it begin to undo anything
 pub ready-calm : (deck number : ℕ) (request given : Request) (old mid : FileNow)

@@ -5,5 +5,6 @@ pub mod GoingOn
 pub mod Events
 pub mod DeckRuns
 pub mod Numbers
+pub mod Faultless
 pub mod Devices
 pub mod Shown

@@ -23,6 +23,7 @@ use Rattle.vr_event.specs.Made.{IsCalm, IsCalmBut}
 use Rattle.vr_event.specs.Volume.{IsHeld, IsWhole, VolumeNow}
 use Rattle.vr_job.specs.declared.run_no.RunNo.{RunNo}
 use Rattle.vr_job.specs.Crash.{IsLeftBy}
+use Rattle.vr_job.specs.Faultless.{AreFaultless}
 use Rattle.vr_job.specs.Parts.{IsPrefixOf, of_deck, on_volume_0}
 
 -- what a deck asked of volume 0
@@ -40,7 +41,8 @@ bound_to line request = record { volume = 0; line = line; request = request }
 
 -- What goes on from event to event whether or not the device reports its contents: the volume is
 -- whole, its shape and catalog stay, each deck stays entered, entries are added alone, at stamps that
--- rise, and no count of faults falls.
+-- rise, and no count of faults falls. Where no write failed, the volume isn't stopped, and no fault is
+-- entered.
 pub record GoesOn {B : Type 0} (seen : B → Seen) (faults : B → Faults) (old new : VolumeNow B)
     : Type 0 where
   pub whole : IsWhole seen new
@@ -54,6 +56,10 @@ pub record GoesOn {B : Type 0} (seen : B → Seen) (faults : B → Faults) (old 
   pub stamped : IsStamped 0 old.file.entries → IsStamped 0 new.file.entries
   pub reads : (faults old.blocks).reads ≤ (faults new.blocks).reads
   pub writes : (faults old.blocks).writes ≤ (faults new.blocks).writes
+  pub stops : (faults new.blocks).writes ≡ (faults old.blocks).writes
+      → new.file.stopped ≡ old.file.stopped
+  pub faultless : (faults new.blocks).writes ≡ (faults old.blocks).writes
+      → AreFaultless old.file.entries → AreFaultless new.file.entries
 
 -- What goes on where it does, from an opening and the blocks as they were then: the history is legal
 -- and gives what the volume has, and each image at each moment since is left by the history.

@@ -1,20 +1,24 @@
 -- What is done for the words of the program. The rules are this project's own.
-use Rattle.std.specs.Prelude.{◌≡◌, ◌≢◌, ◌≤◌, ◌<◌, ◌⊎◌, ℕ, Bool, true, false, IsTrue, List, [], ◌∷◌}
-use Rattle.std.specs.Prelude.{Option, Some, None, Result, Ok, Err, IfErr, length, min, ◌^◌, ◌-◌}
+use Rattle.std.specs.Prelude.{◌≡◌, ◌≢◌, ◌≤◌, ◌⊎◌, ℕ, Bool, true, false, IsTrue, List, [], ◌∷◌}
+use Rattle.std.specs.Prelude.{Option, Some, None, Ok, Err, IfErr, IsErrOf, OnOk, length, min, ◌^◌}
+use Rattle.std.specs.Prelude.{◌-◌}
+use Rattle.vr_types.specs.Blocks.{AllForced}
 use Rattle.vr_types.specs.Faults.{Faults}
 use Rattle.vr_types.specs.Seen.{Seen}
 use Rattle.vr_catalog.specs.declared.entry.CatEntry.{CatEntry}
-use Rattle.vr_history.specs.Merged.{IsStamped}
+use Rattle.vr_history.specs.Merged.{IsStamped, last_stamp}
 use Rattle.vr_history.specs.declared.entry.Entry.{Entry}
 use Rattle.vr_job_text.specs.declared.text.JobText.{JobText}
 use Rattle.vr_job_text.specs.declared.text.Step.{Step}
 use Rattle.vr_trace.specs.declared.ending.EndLine.{EndLine}
 use Rattle.vr_trace.specs.declared.ending.EndLine.TheVariants.{Formatted, NoCommand, NoMemory, Shelf}
+use Rattle.vr_trace.specs.declared.ending.EndLine.TheVariants.{StampsUsedUp}
 use Rattle.vr_job_ends.specs.Ends.{TakesMemory}
 use Rattle.vr_job_ends.specs.Reading.{IsInputEnd, IsJobRead}
 use Rattle.vr_job_ends.specs.declared.job_end.End.{End}
 use Rattle.vr_job_ends.specs.declared.job_end.End.TheVariants.{Line, Ran}
 use Rattle.vr_job_ends.specs.declared.job_end.Trace.{Trace}
+use Rattle.vr_job.specs.Faultless.{AreFaultless}
 use Rattle.vr_job.specs.Formats.{AreAllowed, AreFormatted, IsFormatEnd}
 use Rattle.vr_job.specs.OpenEnds.{HasEndCause, NeverFall}
 use Rattle.vr_job.specs.VolumeRun.{Answer, HasAsked, IsRun, IsUnopened}
@@ -57,7 +61,8 @@ abbrev pub end_of : Answer → End
 end_of (Ok value) = Ran
 end_of (Err line) = Line line
 
--- What the run of a job's decks comes to on the device of the volume of this number.
+-- What the run of a job's decks comes to on the device of the volume of this number, whether or not it
+-- reports its contents; and where it does. Clauses of `run_volume` say the same.
 pub record IsVolumeRun {D : Type 0} (tells : Bool) (seen : D → Seen) (faults : D → Faults)
     (number : ℕ) (steps : List Step) (answer : Answer) (entries : List Entry) (old new : D)
     : Type 0 where
@@ -65,7 +70,12 @@ pub record IsVolumeRun {D : Type 0} (tells : Bool) (seen : D → Seen) (faults :
   pub asked : (catalog : List CatEntry) × HasAsked catalog steps answer entries
   pub never_fall : NeverFall (faults old) (faults new)
   pub cause : IfErr answer (HasEndCause number (faults old) (faults new))
-  pub run : IsTrue tells → IsRun number steps answer entries (seen old) (seen new)
+  pub stamps : IsErrOf answer StampsUsedUp → 2 ^ 62 ≤ last_stamp 0 entries
+  pub faulted : (faults new).writes ≡ (faults old).writes → AreFaultless entries
+  pub closed : IsTrue tells → (faults new).writes ≡ (faults old).writes
+      → OnOk answer (AllForced (seen new).count (seen new).cur (seen new).may)
+  pub run : IsTrue tells
+      → IsRun number steps answer entries (seen old) (seen new) (faults old) (faults new)
       ⊎ IsUnopened number answer entries (seen old) (seen new)
 
 -- The job was read, and its decks were run on the one device, from where the run began.

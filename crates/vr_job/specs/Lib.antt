@@ -4,5 +4,6 @@ pub mod Asking
 pub mod Opened
 pub mod OpenEnds
 pub mod VolumeRun
+pub mod Faultless
 pub mod Formats
 pub mod Done

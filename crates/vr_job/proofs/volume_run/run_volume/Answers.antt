@@ -1,4 +1,4 @@
-use Rattle.std.proofs.Common.{◌∙◌, ◌⊎◌, inl, inr, refl, subst, sym}
+use Rattle.std.proofs.Common.{◌∙◌, ◌⊎◌, ap, inl, inr, refl, subst, sym}
 use Rattle.vr_types.specs.Image.{Image}
 use Rattle.vr_types.specs.Moments.{Guards}
 use Rattle.vr_types.specs.Seen.{Left}
@@ -12,6 +12,16 @@ use Rattle.vr_job.proofs.volume_run.run_volume.Goals as goal
 
 pub run_blocks-requires-clause-numbered : goal.run_blocks-requires-clause-numbered
 run_blocks-requires-clause-numbered g c = have-numbers c.args.steps.now c.requires.numbered
+
+pub returns-in-Ok-clause-faulted : goal.returns-in-Ok-clause-faulted
+returns-in-Ok-clause-faulted g c same = c.run_blocks.ensures.faulted
+    (same ∙ sym (ap (λ (device : g.row.D.Denot). (g.D.BlockDevice.faults device).writes)
+    c.in-Ok.ensures.ok))
+
+pub returns-in-Ok-clause-closed : goal.returns-in-Ok-clause-closed
+returns-in-Ok-clause-closed g c told same = c.run_blocks.ensures.closed told
+    (same ∙ sym (ap (λ (device : g.row.D.Denot). (g.D.BlockDevice.faults device).writes)
+    c.in-Ok.ensures.ok))
 
 pub returns-in-Err-clause-asked : goal.returns-in-Err-clause-asked
 returns-in-Err-clause-asked g c =
