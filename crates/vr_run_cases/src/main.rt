@@ -1,5 +1,6 @@
 //! Cases of the run of a job on a volume from a text table: jobs on small volumes in memory with what
-//! they print, one after another on the same volume, and after a crash at each call of the device.
+//! they print, one after another on the same volume; and tables of crashes and faults at each call of
+//! the device, with a plain, slow file beside them that says what is committed.
 //! It stands on `vr_job`, and on what reads and prints jobs (`vr_job_text`, `vr_job_ends`). Each line
 //! of its input has a question, ` -> ` and the answer that is wanted. It prints each line whose answer
 //! differs, and at the end how many lines there were and how many differ; the status is 1 where one
@@ -8,10 +9,17 @@
 #![tactic(auto)]
 
 mod answers;
+mod blocks;
+mod contents;
 mod crashing;
 mod desk;
+mod images;
+mod judging;
+mod numbered;
+mod plain;
 mod printing;
 mod running;
+mod tables;
 mod words;
 
 use crate::answers::{Answer, Stop};
@@ -84,8 +92,12 @@ fn answer(alloc: Global, desk: &mut Desk, line: &str, out: &mut String) -> Answe
         "job" => running::job(alloc, desk, rest, out),
         "deck" => running::deck(alloc, desk, rest, out),
         "stop" => running::stop(desk, rest, out),
-        "crash" => crashing::crash(alloc, desk, rest, out),
+        "put" => blocks::put(alloc, desk, rest, out),
+        "crash" => images::crash(alloc, desk, rest, out),
         "stops" => crashing::stops(alloc, desk, rest, out),
+        "crashes" => tables::crashes(alloc, desk, rest, out),
+        "again" => tables::again(alloc, desk, rest, out),
+        "faults" => tables::faults(alloc, desk, rest, out),
         _ => Err(Stop::Line),
     }
 }

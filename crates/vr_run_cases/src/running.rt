@@ -1,16 +1,14 @@
 //! Jobs on a volume in memory.
-ghost use Rattle.std.specs.Prelude.{IfOk};
-ghost use Rattle.vr_job_text.specs.Numbers.{AreNumbered};
-
 use crate::answers::{Answer, Stop, say, text_of};
-use crate::desk::Desk;
+use crate::desk::{Desk, Shape};
+use crate::numbered::Job;
 use crate::printing::say_end;
 use crate::words::{long_number, numbers};
 use std::alloc::Global;
 use vr_device::{MemoryDevice, memory_device};
-use vr_job_text::{JobText, parse_job};
+use vr_job_text::parse_job;
 use vr_recover::{FormatNo, format_volume};
-use vr_job::run_volume;
+use vr_job::{VolumeEnd, run_volume};
 use vr_trace::EndLine;
 
 /// The largest block, in bytes, and the most blocks.
@@ -22,18 +20,24 @@ const LONGEST: usize = 1 << 20;
 /// What precedes the lines of a deck.
 pub const DECK: &str = "//S EXEC PGM=VRMDECK\n//DECK1 DD *\nFILE F VRM.FIRST\n";
 
-/// Makes a device and formats it as volume 0: `SIZE BLOCKS LOG AREA`.
+/// Makes a device and formats it as volume 0: `SIZE BLOCKS LOG AREA FAILS..`. Its calls of the last
+/// numbers fail, counted from the first one of formatting, which is 0.
 pub fn volume(alloc: Global, desk: &mut Desk, rest: &str, out: &mut String) -> Answer {
-    let shape = numbers(alloc, rest)?;
-    let [size, blocks, log, area] = shape.as_slice() else {
+    let words = numbers(alloc, rest)?;
+    let [size, blocks, log, area, fails @ ..] = words.as_slice() else {
         return Err(Stop::Line);
     };
-    if *size > LIMIT || *blocks > LIMIT {
-        return Err(Stop::Line);
-    }
-    let mut device = memory_device(alloc, *size, *blocks, &[])?;
+    let fails = calls_of(alloc, fails)?;
+    let shape = Shape {
+        size: *size,
+        blocks: *blocks,
+        log: *log,
+        area: *area,
+    };
+    let mut device = new_device(alloc, shape, fails.as_slice())?;
     let formatted = format_volume(alloc, &mut device, 0, *log, *area);
     desk.set(device);
+    desk.set_shape(shape);
     match formatted {
         Ok(()) => say(out, "ok"),
         Err(FormatNo::Geometry) => say(out, "geometry"),
@@ -42,17 +46,56 @@ pub fn volume(alloc: Global, desk: &mut Desk, rest: &str, out: &mut String) -> A
     }
 }
 
+/// The same numbers, as numbers of calls.
+fn calls_of(alloc: Global, numbers: &[u32]) -> Result<Vec<u64>, Stop> {
+    let mut calls = Vec::new(alloc);
+    match add_calls(&mut calls, numbers) {
+        Ok(()) => Ok(calls),
+        Err(stop) => Err(stop),
+    }
+}
+
+fn add_calls(calls: &mut Vec<u64>, numbers: &[u32]) -> Answer {
+    for number in numbers {
+        calls.push(u64::from(*number))?;
+    }
+    Ok(())
+}
+
+/// A device of zeros whose calls of these numbers fail.
+fn new_device(alloc: Global, shape: Shape, fails: &[u64]) -> Result<MemoryDevice, Stop> {
+    if shape.size > LIMIT || shape.blocks > LIMIT {
+        return Err(Stop::Line);
+    }
+    memory_device(alloc, shape.size, shape.blocks, fails)
+        .ok()
+        .ok_or(Stop::Memory)
+}
+
+/// A device that is formatted as volume 0 and whose calls of these numbers fail.
+pub fn formatted(alloc: Global, shape: Shape, fails: &[u64]) -> Result<MemoryDevice, Stop> {
+    let mut device = new_device(alloc, shape, fails)?;
+    match format_volume(alloc, &mut device, 0, shape.log, shape.area) {
+        Ok(()) => Ok(device),
+        Err(FormatNo::Memory) => Err(Stop::Memory),
+        Err(_) => Err(Stop::Line),
+    }
+}
+
 /// The job of a text.
-pub fn job_of(alloc: Global, text: &[u8]) -> Result<JobText, Stop>
-    ensures { IfOk result (λ job. AreNumbered job.steps) }
-{
+pub fn job_of(alloc: Global, text: &[u8]) -> Result<Job, Stop> {
     if text.len() > LONGEST {
         return Err(Stop::Line);
     }
     match parse_job(alloc, text) {
-        Ok(job) => Ok(job),
+        Ok(job) => Ok(Job::of(job)),
         Err(_) => Err(Stop::Line),
     }
+}
+
+/// Runs a job on a device.
+pub fn run_job(alloc: Global, device: MemoryDevice, job: &Job) -> VolumeEnd<MemoryDevice> {
+    run_volume(alloc, device, 0, job.steps())
 }
 
 /// Runs a job on a device, writes what it prints, and answers what it leaves of the device.
@@ -63,8 +106,8 @@ pub fn run_on(
     out: &mut String,
 ) -> Result<MemoryDevice, Stop> {
     let job = job_of(alloc, text)?;
-    let end = run_volume(alloc, device, 0, job.steps.as_slice());
-    say_end(alloc, job, end.history, end.result, out)?;
+    let end = run_job(alloc, device, &job);
+    say_end(alloc, job.into_text(), end.history, end.result, out)?;
     Ok(end.device)
 }
 

@@ -33,3 +33,12 @@ fn add_numbers(numbers: &mut Vec<u32>, text: &str) -> Result<(), Stop> {
     }
     Ok(())
 }
+
+/// The bytes that hexadecimal digits spell.
+pub fn bytes_in(alloc: Global, digits: &str) -> Result<Vec<u8>, Stop> {
+    match hex::decode(alloc, digits) {
+        Ok(bytes) => Ok(bytes),
+        Err(hex::FromHexError::OutOfMemory) => Err(Stop::Memory),
+        Err(_) => Err(Stop::Line),
+    }
+}

@@ -1,0 +1,271 @@
+//! What a run leaves, beside what a plain, slow file says of it.
+
+use crate::answers::{Answer, Stop, text_of};
+use crate::contents::Contents;
+use crate::plain::{PlainFile, key_in, quoted};
+use crate::numbered::Job;
+use crate::running::{DECK, job_of, run_job};
+use std::alloc::Global;
+use vr_device::MemoryDevice;
+use vr_history::{Entry, What};
+use vr_job::VolumeEnd;
+use vr_trace::EndLine;
+use vr_types::{Bytes, Refusal, Reply};
+
+/// The line of the job text at which a deck's further lines begin.
+const FIRST: u32 = 4;
+
+/// A deck whose runs are judged: its lines, the bytes of a key, the job that runs it, the job that
+/// reads each record of which it has the key, and what it commits.
+#[derive(Drop)]
+pub struct Case {
+    text: String,
+    keys: usize,
+    pub job: Job,
+    pub reader: Job,
+    commits: Vec<Contents>,
+}
+
+/// The deck of a question: `KEYS LINES`.
+pub fn case_of(alloc: Global, rest: &str) -> Result<Case, Stop> {
+    let (keys, text) = rest.split_once(' ').ok_or(Stop::Line)?;
+    case_with(alloc, keys, text, text)
+}
+
+/// The two decks of a question, one after the other: `KEYS LINES => LINES`. Both read each record of
+/// which one of them has the key.
+pub fn cases_of(alloc: Global, rest: &str) -> Result<(Case, Case), Stop> {
+    let (keys, both) = rest.split_once(' ').ok_or(Stop::Line)?;
+    let (first, then) = both.split_once(" => ").ok_or(Stop::Line)?;
+    let mut all = String::from_str(alloc, first)?;
+    all.push('|')?;
+    all.push_str(then)?;
+    let first = case_with(alloc, keys, first, all.as_str())?;
+    let then = case_with(alloc, keys, then, all.as_str())?;
+    Ok((first, then))
+}
+
+/// A deck with keys of so many bytes, beside the lines that add the records that are read.
+fn case_with(alloc: Global, keys: &str, text: &str, added: &str) -> Result<Case, Stop> {
+    let keys = keys.parse().ok().ok_or(Stop::Line)?;
+    let lines = text_of(alloc, DECK, text)?;
+    let reads = reads_of(alloc, added, keys)?;
+    let commits = commits_of(alloc, text, keys)?;
+    Ok(Case {
+        text: String::from_str(alloc, text)?,
+        keys,
+        job: job_of(alloc, lines.as_slice())?,
+        reader: job_of(alloc, reads.as_slice())?,
+        commits,
+    })
+}
+
+/// The text of a job that asks for each record of which a deck adds one with its key.
+fn reads_of(alloc: Global, deck: &str, keys: usize) -> Result<Vec<u8>, Stop> {
+    let mut seen = Contents::new(alloc);
+    let mut text = String::from_str(alloc, DECK)?;
+    match add_reads(alloc, deck, keys, &mut seen, &mut text) {
+        Ok(()) => Ok(text.as_bytes().to_vec(alloc)?),
+        Err(stop) => Err(stop),
+    }
+}
+
+fn add_reads(
+    alloc: Global,
+    deck: &str,
+    keys: usize,
+    seen: &mut Contents,
+    text: &mut String,
+) -> Answer {
+    for line in deck.split('|') {
+        if line.starts_with("PUT F DATA=") {
+            add_read(alloc, quoted(line), keys, seen, text)?;
+        }
+    }
+    Ok(())
+}
+
+fn add_read(
+    alloc: Global,
+    record: &str,
+    keys: usize,
+    seen: &mut Contents,
+    text: &mut String,
+) -> Answer {
+    let key = key_in(record.as_bytes(), keys);
+    if !seen.has(key) {
+        seen.add(alloc, key, key)?;
+        text.push_str("GET F KEY=C'")?;
+        text.push_str(record.get(..keys).unwrap_or(record))?;
+        text.push_str("'\n")?;
+    }
+    Ok(())
+}
+
+/// What is committed before a deck and after each of its COMMITs, of which one is at its end.
+fn commits_of(alloc: Global, deck: &str, keys: usize) -> Result<Vec<Contents>, Stop> {
+    let mut file = PlainFile::new(alloc, keys);
+    let mut commits = Vec::new(alloc);
+    match add_commits(alloc, deck, &mut file, &mut commits) {
+        Ok(()) => Ok(commits),
+        Err(stop) => Err(stop),
+    }
+}
+
+fn add_commits(
+    alloc: Global,
+    deck: &str,
+    file: &mut PlainFile,
+    commits: &mut Vec<Contents>,
+) -> Answer {
+    for line in deck.split('|') {
+        commits.push(file.committed().copy(alloc)?)?;
+        file.serve(alloc, line)?;
+    }
+    commits.push(file.committed().copy(alloc)?)?;
+    file.serve(alloc, "COMMIT")?;
+    commits.push(file.committed().copy(alloc)?)?;
+    Ok(())
+}
+
+impl Case {
+    /// Whether these contents are committed once a first part of the deck is done.
+    pub fn commits(&self, found: &Contents) -> bool {
+        self.commits.iter().any(|one| one.is(found))
+    }
+
+    /// Whether these contents are committed once the deck is done.
+    pub fn ends_with(&self, found: &Contents) -> bool {
+        match self.commits.last() {
+            Some(last) => last.is(found),
+            None => false,
+        }
+    }
+
+    /// The line of the deck at a line of its job. Line 0 is the COMMIT at its end.
+    fn line_at(&self, line: u32) -> &str {
+        if line < FIRST {
+            return "COMMIT";
+        }
+        let at = line - FIRST;
+        for (number, text) in self.text.as_str().split('|').enumerate() {
+            if number == at as usize {
+                return text;
+            }
+        }
+        ""
+    }
+
+    /// What a run of the deck leaves of a plain file, by what its lines were answered.
+    pub fn left(&self, alloc: Global, end: &VolumeEnd<MemoryDevice>) -> Result<PlainFile, Stop> {
+        self.left_over(alloc, Contents::new(alloc), end)
+    }
+
+    /// The same of a plain file that has these records before.
+    pub fn left_over(
+        &self,
+        alloc: Global,
+        before: Contents,
+        end: &VolumeEnd<MemoryDevice>,
+    ) -> Result<PlainFile, Stop> {
+        let mut file = PlainFile::over(alloc, self.keys, before)?;
+        match self.take_in(alloc, end.history.entries(), &mut file) {
+            Ok(()) => Ok(file),
+            Err(stop) => Err(stop),
+        }
+    }
+
+    fn take_in(&self, alloc: Global, entries: &[Entry], file: &mut PlainFile) -> Answer {
+        for entry in entries {
+            match &entry.what {
+                What::Asked { reply, .. } => {
+                    let line = self.line_at(entry.line);
+                    file.answer(alloc, line, code_of(reply), bytes_of(reply))?;
+                }
+                What::Undone { place, .. } => file.undo(alloc, place.as_slice())?,
+                _ => {}
+            }
+        }
+        Ok(())
+    }
+
+    /// Reads the records of the volume on a device, which is opened first. None where it isn't, or
+    /// where a record could not be read.
+    pub fn read(&self, alloc: Global, device: MemoryDevice) -> Result<Option<Contents>, Stop> {
+        let end = run_job(alloc, device, &self.reader);
+        self.found(alloc, &end)
+    }
+
+    fn found(
+        &self,
+        alloc: Global,
+        end: &VolumeEnd<MemoryDevice>,
+    ) -> Result<Option<Contents>, Stop> {
+        if end.result.is_err() {
+            return Ok(None);
+        }
+        let mut found = Contents::new(alloc);
+        match add_found(alloc, self.keys, end.history.entries(), &mut found) {
+            Ok(true) => Ok(Some(found)),
+            Ok(false) => Ok(None),
+            Err(stop) => Err(stop),
+        }
+    }
+}
+
+/// Adds the records that requests were answered with. False where one was refused otherwise than for
+/// want of its record.
+fn add_found(
+    alloc: Global,
+    keys: usize,
+    entries: &[Entry],
+    found: &mut Contents,
+) -> Result<bool, Stop> {
+    for entry in entries {
+        let What::Asked { reply, .. } = &entry.what else {
+            return Ok(false);
+        };
+        match reply {
+            Reply::Done { bytes, .. } => add_record(alloc, keys, bytes, found)?,
+            Reply::Refused(Refusal::NotFound) => {}
+            Reply::Refused(_) => return Ok(false),
+        }
+    }
+    Ok(true)
+}
+
+fn add_record(alloc: Global, keys: usize, bytes: &Option<Bytes>, found: &mut Contents) -> Answer {
+    if let Some(bytes) = bytes {
+        let bytes = bytes.as_slice();
+        found.add(alloc, key_in(bytes, keys), bytes)?;
+    }
+    Ok(())
+}
+
+/// What a reply shows: 0, or why the request was refused.
+fn code_of(reply: &Reply) -> u16 {
+    match reply {
+        Reply::Done { .. } => 0,
+        Reply::Refused(refusal) => refusal.code(),
+    }
+}
+
+/// The record that a reply has.
+fn bytes_of(reply: &Reply) -> Option<&[u8]> {
+    match reply {
+        Reply::Done {
+            bytes: Some(bytes),
+            ..
+        } => Some(bytes.as_slice()),
+        _ => None,
+    }
+}
+
+/// Whether a run came through, or ended with a fault of its device before its first request.
+pub fn ended_well(end: &VolumeEnd<MemoryDevice>) -> bool {
+    match end.result {
+        Ok(()) => true,
+        Err(EndLine::DeviceFault { .. }) => end.history.entries().is_empty(),
+        Err(_) => false,
+    }
+}
