@@ -1,7 +1,7 @@
 -- What decks ask, one after another.
-use Rattle.std.proofs.Common.{◌≡◌, ◌∙◌, ℕ, ◌+◌, ◌<◌, ◌≤◌, true, List, [], ◌∷◌, ◌++◌, Result, Ok, Err}
+use Rattle.std.proofs.Common.{◌≡◌, ◌∙◌, ℕ, ◌+◌, ◌<◌, true, List, [], ◌∷◌, ◌++◌, Result, Ok, Err}
 use Rattle.std.proofs.Common.{Bool, refl, sym, ap, subst, arith, append_assoc, drop, get_or, length, take}
-use Rattle.std.specs.Prelude.{OnOk, flat_map}
+use Rattle.std.specs.Prelude.{OnOk}
 use Rattle.std.specs.Result.{IsErrAnd}
 use Rattle.std.proofs.lemmas.Grind.{flat_map-append}
 use Rattle.std.proofs.lemmas.List.{append-nil, take-append-drop, take_more}
@@ -11,14 +11,13 @@ use Rattle.vr_types.specs.Seen.{Seen}
 use Rattle.vr_types.specs.declared.bound.Bound.{Bound}
 use Rattle.vr_history.specs.Merged.{IsStamped}
 use Rattle.vr_history.specs.State.{State}
-use Rattle.vr_history.specs.declared.entry.Entry.{Entry}
 use Rattle.vr_record_file.specs.Now.{has_deck}
 use Rattle.vr_record_file.specs.declared.numbers.DeckNumber.{DeckNumber}
 use Rattle.vr_event.specs.Volume.{IsHeld, IsWhole, VolumeNow}
-use Rattle.vr_job.specs.Asking.{Ran, RanEach, RanFirst, RanSome, all_ask, asked_of}
+use Rattle.vr_job.specs.Asking.{RanEach, RanFirst, RanSome, all_ask, asked_of}
 use Rattle.vr_job.specs.Crash.{IsLeftBy}
 use Rattle.vr_job.specs.Faultless.{AreFaultless}
-use Rattle.vr_job.specs.Parts.{IsPrefixOf, of_deck}
+use Rattle.vr_job.specs.Parts.{of_deck}
 use Rattle.vr_job.specs.declared.run_no.RunNo.{RunNo}
 use Rattle.vr_job.proofs.Events.{err-vacuous, goes-then, of-both}
 

@@ -1,18 +1,18 @@
 -- Devices that are formatted one after another.
-use Rattle.std.proofs.Common.{◌≡◌, ◌≢◌, ◌<◌, ◌≤◌, ◌+◌, ◌∙◌, ◌⊎◌, ⊎_elim, ℕ, Bool, List, Option}
-use Rattle.std.proofs.Common.{Some, refl, sym, ap, subst, arith, length, set, get_or, zero, suc}
+use Rattle.std.proofs.Common.{◌≡◌, ◌≢◌, ◌<◌, ◌≤◌, ◌+◌, ◌∙◌, ⊎_elim, ℕ, Bool, List}
+use Rattle.std.proofs.Common.{Some, refl, sym, ap, subst, arith, length, set, get_or, suc}
 use Rattle.std.proofs.Common.{[], ◌∷◌, ◌++◌}
 use Rattle.std.proofs.Common.{get_or-set_other, get_or-set_same, length-set}
 use Rattle.std.specs.Prelude.{slice_get, unwrap_or}
 use Rattle.std.proofs.Math.Nat.{eq-or-lt_of_le}
-use Rattle.std.proofs.lemmas.Option.{get_or_from_slice_get, slice_get-get_or, slice_get_cases}
+use Rattle.std.proofs.lemmas.Option.{slice_get-get_or, slice_get_cases}
 use Rattle.std.proofs.lemmas.List.{length-append}
-use Rattle.std.proofs.lemmas.Option.{slice_get_past, slice_get_read, slice_get_within}
+use Rattle.std.proofs.lemmas.Option.{slice_get_past, slice_get_read}
 use Rattle.vr_types.specs.Geometry.{IsAllowed}
 use Rattle.vr_types.specs.Image.{Image}
 use Rattle.vr_types.specs.Seen.{Left, Seen}
 use Rattle.vr_recover.specs.Formatted.{IsFormatted, first_entries, geometry_of}
-use Rattle.vr_job.specs.Formats.{AreAllowed, AreFormattedTo, IsFresh}
+use Rattle.vr_job.specs.Formats.{AreFormattedTo, IsFresh}
 
 -- an element that was set, and another one
 pub get-set-same : {X : Type 0} (xs : List X) (at : ℕ) (x : X) → at < length xs
@@ -26,10 +26,10 @@ pub get-set-other : {X : Type 0} (xs : List X) (at other : ℕ) (x : X) → othe
 get-set-other xs at other x apart =
     ⊎_elim (λ (found : (y : _) × (other < length xs) × (slice_get xs other ≡ Some y)
     × (get_or xs other y ≡ y)).
-      slice_get-get_or (set xs at x) other found.0
-      (subst (λ n. other < n) (sym (length-set xs at x)) found.1)
-      ∙ ap Some (get_or-set_other xs at other x found.0 apart ∙ found.3)
-      ∙ sym found.2)
+    slice_get-get_or (set xs at x) other found.0
+    (subst (λ n. other < n) (sym (length-set xs at x)) found.1)
+    ∙ ap Some (get_or-set_other xs at other x found.0 apart ∙ found.3)
+    ∙ sym found.2)
     (λ past. slice_get_past (set xs at x) other
     (subst (λ n. n ≤ other) (sym (length-set xs at x)) past.0) ∙ sym past.1)
     (slice_get_cases xs other).1
@@ -61,14 +61,14 @@ module _ {D : Type 0} (tells : Bool) (seen : D → Seen) (log area : ℕ) where
   one-more-formatted number old new device so below fresh = record {
     count = length-set new number device ∙ so.count;
     before = λ at other less there.
-      ⊎_elim (λ (same : at ≡ number).
+        ⊎_elim (λ (same : at ≡ number).
         subst (λ (at : ℕ). IsFresh tells seen log area at other) (sym same)
         (subst (λ (one : D). IsFresh tells seen log area number one)
         (same-some device other (sym (get-set-same new number device below)
         ∙ subst (λ n. slice_get (set new number device) n ≡ Some other) same there)) fresh))
-      (λ (lower : at < number). so.before at other lower
-      (sym (get-set-other new number at device (λ same. omega (arith, same, lower))) ∙ there))
-      (eq-or-lt_of_le (omega (arith, less)));
+        (λ (lower : at < number). so.before at other lower
+        (sym (get-set-other new number at device (λ same. omega (arith, same, lower))) ∙ there))
+        (eq-or-lt_of_le (omega (arith, less)));
     after = λ at past. get-set-other new number at device (λ same. omega (arith, same, past))
         ∙ so.after at (omega (arith, past));
   }
@@ -102,9 +102,9 @@ module _ {D : Type 0} (tells : Bool) (seen : D → Seen) (log area : ℕ) where
       → slice_get devices at ≡ Some other → IsAllowed (geometry_of (seen other) log area)
   one-more-allowed number devices device below is allowed before at other less there =
       ⊎_elim (λ (same : at ≡ number).
-        subst (λ (one : D). IsAllowed (geometry_of (seen one) log area))
-        (same-some device other (sym (slice_get_read devices (length devices) number device refl
-        below is) ∙ subst (λ n. slice_get devices n ≡ Some other) same there)) allowed)
+      subst (λ (one : D). IsAllowed (geometry_of (seen one) log area))
+      (same-some device other (sym (slice_get_read devices (length devices) number device refl
+      below is) ∙ subst (λ n. slice_get devices n ≡ Some other) same there)) allowed)
       (λ (lower : at < number). before at other lower there)
       (eq-or-lt_of_le (omega (arith, less)))
 

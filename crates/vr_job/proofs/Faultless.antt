@@ -1,5 +1,5 @@
 -- Where no write failed, an event neither stops its volume nor enters a fault.
-use Rattle.std.proofs.Common.{◌≡◌, ⊎_elim, ◌∙◌, ℕ, ◌<◌, List, [], None, refl, sym, ap, subst, arith}
+use Rattle.std.proofs.Common.{◌≡◌, ⊎_elim, ◌∙◌, ℕ, List, [], None, refl, sym, ap, subst, arith}
 use Rattle.std.proofs.lemmas.List.Elements.{All-nil, All-push}
 use Rattle.vr_types.specs.Faults.{Faults}
 use Rattle.vr_types.specs.declared.reply.Reply.{Reply}

@@ -1,6 +1,6 @@
 -- What one event leaves of a volume, and what goes on from it.
-use Rattle.std.proofs.Common.{◌≡◌, ◌≢◌, ◌⊎◌, inl, inr, ⊎_elim, ◌∙◌, ℕ, ◌<◌, ◌≤◌, ◌==◌, Bool, true, false, cond}
-use Rattle.std.proofs.Common.{IsTrue, List, [], ◌∷◌, ◌++◌, Option, Some, None, refl, sym, ap, subst}
+use Rattle.std.proofs.Common.{◌≡◌, ◌≢◌, inl, inr, ⊎_elim, ◌∙◌, ℕ, ◌==◌, Bool, true, false, cond}
+use Rattle.std.proofs.Common.{List, [], ◌∷◌, ◌++◌, Option, Some, None, refl, sym, ap, subst}
 use Rattle.std.proofs.Common.{append_assoc, arith, flat_map, if◌then◌else◌}
 use Rattle.std.proofs.lemmas.Grind.{flat_map-append}
 use Rattle.std.proofs.lemmas.List.{append-nil, map-append}
@@ -25,8 +25,7 @@ use Rattle.vr_history.specs.declared.entry.What.TheVariants.{Asked, Faulted}
 use Rattle.vr_record_file.specs.Now.{FileNow, asked_failing, entry_next, has_deck, number_of}
 use Rattle.vr_record_file.specs.Now.{state_now}
 use Rattle.vr_record_file.specs.declared.numbers.DeckNumber.{DeckNumber}
-use Rattle.vr_event.specs.Acting.{IsActed, IsLeftIn, MayAct}
-use Rattle.vr_event.specs.EndedFile.{HasEnded}
+use Rattle.vr_event.specs.Acting.{IsActed, IsLeftIn}
 use Rattle.vr_event.specs.Made.{HasMade, IsCalmBut, IsStepFor, MadeBy}
 use Rattle.vr_event.specs.Volume.{IsHeld, IsWhole, VolumeNow}
 use Rattle.vr_event.specs.declared.act.Act.{Act}

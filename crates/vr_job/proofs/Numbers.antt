@@ -1,6 +1,6 @@
 -- Decks whose numbers are those of a job that was read have numbers of their own.
 use Rattle.std.proofs.Common.{◌≡◌, ⊎_elim, ℕ, ◌<◌, ◌≤◌, ◌==◌, Bool, true, false, cond, List, arith}
-use Rattle.std.proofs.Common.{get_or, length, refl, ap, subst, sym}
+use Rattle.std.proofs.Common.{get_or, length, refl, ap}
 use Rattle.std.specs.Prelude.{All, count_by}
 use Rattle.std.proofs.lemmas.Bool.Decides.{Decides-eqb, eqb_tells}
 use Rattle.std.proofs.lemmas.List.Sums.{get_or-le-sum_by}

@@ -1,32 +1,30 @@
 -- What opening a volume hands out is that of a set volume, held from its opening.
-use Rattle.std.proofs.Common.{◌≡◌, ◌∙◌, ◌==◌, ◌||◌, ◌⊎◌, inl, inr, ⊎_elim, ℕ, zero, suc, ◌+◌, ◌<◌, Bool, true}
+use Rattle.std.proofs.Common.{◌≡◌, ◌∙◌, ◌==◌, ◌||◌, inl, ⊎_elim, ℕ, zero, suc, ◌+◌, ◌<◌, Bool, true}
 use Rattle.std.proofs.Common.{false, List, [], ◌∷◌, Option, Some, None, refl, sym, ap, subst, map, cond}
-use Rattle.std.proofs.Common.{length, get_or}
-use Rattle.std.specs.Prelude.{All, nat_eq, slice_get, slice_index_or, option_map, find, filter}
+use Rattle.std.specs.Prelude.{All, nat_eq, slice_get, slice_index_or}
 use Rattle.std.specs.List.{AllByRecursion, IsDistinct, cons_option, filter_map, list_any}
 use Rattle.std.specs.Option.{option_and_then}
 use Rattle.std.proofs.lemmas.Bool.Decides.{Decides-eqb}
 use Rattle.std.proofs.lemmas.List.Elements.{All-cons, All-head, All-map, All-nil, All-tail}
 use Rattle.std.proofs.lemmas.Option.{get_or_from_slice_get, slice_get_within}
 use Rattle.vr_types.specs.Content.{Content}
-use Rattle.vr_types.specs.Geometry.{IsAllowed, area_count}
+use Rattle.vr_types.specs.Geometry.{IsAllowed}
 use Rattle.vr_types.specs.Seen.{Seen}
 use Rattle.vr_types.specs.declared.geometry.Geometry.{Geometry}
 use Rattle.vr_types.specs.declared.unit.PartNo.{PartNo}
-use Rattle.vr_space.specs.Part.{InPart, IsOn, Knows, Shape, part_no}
+use Rattle.vr_space.specs.Part.{IsOn, Knows, Shape, part_no}
 use Rattle.vr_space.specs.Split.{SplitNow}
 use Rattle.vr_answer.specs.Scope.{AreKeyedClusters}
 use Rattle.vr_catalog.specs.Catalog.{cluster_definition, entries_in, entry_with_part, parts_in}
-use Rattle.vr_catalog.specs.declared.definition.Definition.{Definition}
 use Rattle.vr_catalog.specs.declared.entry.CatEntry.{CatEntry}
 use Rattle.vr_catalog.specs.declared.entry.EntryKind.{EntryKind}
 use Rattle.vr_catalog.specs.declared.entry.EntryKind.TheVariants.{Cluster, Alternate, Path}
 use Rattle.vr_history.specs.Effects.{has_areas, has_part, parts_laid}
-use Rattle.vr_history.specs.State.{BeforeImage, Owned as OwnedArea}
+use Rattle.vr_history.specs.State.{Owned as OwnedArea}
 use Rattle.vr_keyed.specs.Owned.{Owned}
 use Rattle.vr_log.specs.LogNow.{IsOf, LogNow}
 use Rattle.vr_attach.specs.CatalogRules.{IsCatalog}
-use Rattle.vr_attach.specs.Laid.{AreApart, catalog_shape, shape_by, shape_from, shape_in, shape_of}
+use Rattle.vr_attach.specs.Laid.{AreApart, shape_by, shape_from, shape_in, shape_of}
 use Rattle.vr_event.specs.Opening.{IsOpened as IsOpenedBy, IsPartOpened, opened_store, owned_from}
 use Rattle.vr_event.specs.Opening.{owned_in}
 use Rattle.vr_event.specs.Store.{ChangedBy, IsFitImage, IsPartSet, IsSet, PartNow, shape_among}

@@ -1,5 +1,5 @@
 -- What the run of a job on a volume comes to, from its opening to the end.
-use Rattle.std.proofs.Common.{◌≡◌, ◌∙◌, ◌⊎◌, inl, inr, ⊎_elim, ℕ, ◌^◌, ◌<◌, ◌≤◌, Bool, true, false, List, [], ◌++◌}
+use Rattle.std.proofs.Common.{◌≡◌, ◌∙◌, ◌⊎◌, inl, inr, ⊎_elim, ℕ, ◌^◌, ◌≤◌, Bool, true, false, List, [], ◌++◌}
 use Rattle.std.proofs.Common.{Result, Ok, Err, None, Option, arith, refl, sym, ap, subst}
 use Rattle.std.specs.Prelude.{IfErr, IsSome, IsTrue, OnOk}
 use Rattle.std.proofs.lemmas.Bool.{true≢false}
@@ -11,7 +11,6 @@ use Rattle.vr_types.specs.Seen.{Left, Seen}
 use Rattle.vr_types.specs.Blocks.{AllForced, Keeps}
 use Rattle.vr_types.proofs.CallerLemmas.{guards-keeps, guards-then, guards-weaken}
 use Rattle.vr_types.specs.declared.geometry.Geometry.{Geometry}
-use Rattle.vr_catalog.specs.Catalog.{entries_in}
 use Rattle.vr_catalog.specs.declared.entry.CatEntry.{CatEntry}
 use Rattle.vr_history.specs.Merged.{last_stamp}
 use Rattle.vr_history.specs.State.{State, opening_state}

@@ -64,7 +64,13 @@ fn format_all<D: BlockDevice>(
     ensures end { IfErr result (IsFormatEnd D.tells D.seen D.faults count (narrowed log)
         (narrowed area) shelf.old.items shelf.new.items) }
 {
-    format_devices(alloc, shelf.as_mut_slice(), count, narrow(log), narrow(area))
+    format_devices(
+        alloc,
+        shelf.as_mut_slice(),
+        count,
+        narrow(log),
+        narrow(area),
+    )
 }
 
 /// Formats the devices as so many volumes, and tells how that came to its end.
@@ -87,11 +93,7 @@ pub(crate) fn format_shelf<D: BlockDevice>(
 }
 
 /// Sees that there is one device, and formats it where it is a volume in memory.
-fn begin<D: BlockDevice>(
-    alloc: Global,
-    shelf: &mut Vec<D>,
-    in_memory: bool,
-) -> Result<(), EndLine>
+fn begin<D: BlockDevice>(alloc: Global, shelf: &mut Vec<D>, in_memory: bool) -> Result<(), EndLine>
     ensures begun { OnOk result (HasBegun D.tells D.seen in_memory shelf.old.items
         shelf.new.items) }
     ensures not_begun { IfErr result (HasNotBegun D.tells D.seen D.faults in_memory
@@ -132,12 +134,10 @@ fn run_one<D: BlockDevice>(alloc: Global, device: D, job: &JobText) -> VolumeEnd
 fn run_on<D: BlockDevice>(alloc: Global, mut shelf: Vec<D>, job: JobText, lines: bool) -> Done<D>
     requires one { length shelf.items ≡ 1 }
     requires numbered { AreNumbered job.steps }
-    ensures {
-        ((result.trace.end ≡ Line NoMemory) × IsNothing result.trace
+    ensures { ((result.trace.end ≡ Line NoMemory) × IsNothing result.trace
         × (result.shelf.items ≡ shelf.items))
         ⊎ HasRunOn D.tells D.seen D.faults job lines shelf.items result.shelf.items
-        result.trace result.trace.end
-    }
+        result.trace result.trace.end }
 {
     let mut histories = Vec::new(alloc);
     if histories.reserve(1).is_err() {

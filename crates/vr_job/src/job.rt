@@ -38,9 +38,14 @@ fn run_words<S: Source, D: BlockDevice>(
 {
     match plan(words) {
         None => not_run(alloc, EndLine::NoCommand, shelf),
-        Some(Plan::Format {
-            count, log, area, ..
-        }) => format_shelf(alloc, shelf, count, log, area),
+        Some(
+            Plan::Format {
+                count,
+                log,
+                area,
+                ..
+            },
+        ) => format_shelf(alloc, shelf, count, log, area),
         Some(Plan::Run { dir, trace, .. }) => run_shelf(alloc, input, shelf, dir == "-", trace),
     }
 }

@@ -2,8 +2,8 @@
 
 use crate::answers::{Answer, Stop, text_of};
 use crate::contents::Contents;
-use crate::plain::{PlainFile, key_in, quoted};
 use crate::numbered::Job;
+use crate::plain::{PlainFile, key_in, quoted};
 use crate::running::{DECK, job_of, run_job};
 use std::alloc::Global;
 use vr_device::MemoryDevice;
@@ -261,11 +261,17 @@ fn bytes_of(reply: &Reply) -> Option<&[u8]> {
     }
 }
 
-/// Whether a run came through, or ended with a fault of its device before its first request.
+/// Whether a run came through, or ended with a fault of its device before its first request or after
+/// its last one.
 pub fn ended_well(end: &VolumeEnd<MemoryDevice>) -> bool {
     match end.result {
         Ok(()) => true,
-        Err(EndLine::DeviceFault { .. }) => end.history.entries().is_empty(),
+        Err(EndLine::DeviceFault { .. }) => end.history.entries().last().is_none_or(is_last),
         Err(_) => false,
     }
+}
+
+/// Whether an entry is that of the COMMIT at the end of a deck.
+fn is_last(entry: &Entry) -> bool {
+    entry.line == 0 && matches!(entry.what, What::Asked { .. })
 }

@@ -6,9 +6,9 @@ use crate::printing::say_end;
 use crate::words::{long_number, numbers};
 use std::alloc::Global;
 use vr_device::{MemoryDevice, memory_device};
+use vr_job::{VolumeEnd, run_volume};
 use vr_job_text::parse_job;
 use vr_recover::{FormatNo, format_volume};
-use vr_job::{VolumeEnd, run_volume};
 use vr_trace::EndLine;
 
 /// The largest block, in bytes, and the most blocks.

@@ -1,4 +1,4 @@
-use Rattle.std.proofs.Common.{◌≡◌, ◌∙◌, ap, List, [], ◌∷◌}
+use Rattle.std.proofs.Common.{◌∙◌, ap, List, [], ◌∷◌}
 use Rattle.vr_catalog.specs.declared.entry.CatEntry.{CatEntry}
 use Rattle.vr_bind.specs.Bound.{bound_requests}
 use Rattle.vr_job.proofs.decks.bound_on.Goals as goal

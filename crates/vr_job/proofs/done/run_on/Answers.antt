@@ -1,4 +1,4 @@
-use Rattle.std.proofs.Common.{◌≡◌, ◌∷◌, [], ◌++◌, ◌∙◌, ap, inr, refl, sym, subst}
+use Rattle.std.proofs.Common.{◌≡◌, ◌∷◌, [], ◌++◌, ◌∙◌, ap, inr, refl, subst}
 use Rattle.std.specs.Option.{option_to_list}
 use Rattle.vr_trace.specs.Volumes.{entries_of}
 use Rattle.vr_job.proofs.Devices.{one-taken}
@@ -8,8 +8,8 @@ pub returns : goal.returns
 returns g c =
     let end = c.run_one-end.result in
     let taken = one-taken c.args.shelf.items c.pop.new.self.items c.in-Some.device c.requires.one
-        (subst (λ found. c.args.shelf.items ≡ c.pop.new.self.items ++ option_to_list found) c.in-Some.is
-        c.pop.ensures.items) in
+    (subst (λ found. c.args.shelf.items ≡ c.pop.new.self.items ++ option_to_list found) c.in-Some.is
+    c.pop.ensures.items) in
     inr (record {
       kept = refl;
       lines_are = refl;

@@ -20,10 +20,10 @@ returns-in-Ok g c =
     let begun = c.in_default.ensures.begun in
     record {
       done = ⊎_elim (λ none.
-            NotRun NoMemory none.0 none.1
-            (subst (λ (items : List g.row.D.Denot). HasBegun B.tells B.seen c.args.in_memory
-            c.args.shelf.items items) (sym none.2) begun)
-            c.in-Ok.ensures.job.steady)
+          NotRun NoMemory none.0 none.1
+          (subst (λ (items : List g.row.D.Denot). HasBegun B.tells B.seen c.args.in_memory
+          c.args.shelf.items items) (sym none.2) begun)
+          c.in-Ok.ensures.job.steady)
           (λ run. HasRun c.in-Ok.job c.begin.new.shelf.items begun c.in-Ok.ensures.job run)
           c.run_on.ensures;
     }

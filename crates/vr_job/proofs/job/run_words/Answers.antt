@@ -23,9 +23,9 @@ returns-in-Some-Run-clause-runs g c = λ job dir lines asked.
     let dirs : plan.dir.now ≡ dir = cc in
     let traces : plan.trace ≡ lines = cc in
     let Done : Bool → Bool → Type 0 = λ in_memory lines. IsRunDone B.tells B.seen B.faults in_memory
-        lines (S.left c.args.input.now) (S.left c.run_shelf.new.input) (S.faults c.args.input.now)
-        (S.faults c.run_shelf.new.input) c.args.shelf.items c.run_shelf.result.shelf.items
-        c.run_shelf.result.trace c.run_shelf.result.trace.end in
+    lines (S.left c.args.input.now) (S.left c.run_shelf.new.input) (S.faults c.args.input.now)
+    (S.faults c.run_shelf.new.input) c.args.shelf.items c.run_shelf.result.shelf.items
+    c.run_shelf.result.trace c.run_shelf.result.trace.end in
     subst (λ (name : List ℕ). Done (bytes_eq name (codes "-")) lines) dirs
     (subst (λ (traced : Bool). Done (bytes_eq plan.dir.now (codes "-")) traced) traces
     (subst (λ (in_memory : Bool). Done in_memory plan.trace) c.eq.ensures c.run_shelf.ensures.done))

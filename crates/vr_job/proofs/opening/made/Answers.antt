@@ -1,6 +1,4 @@
 use Rattle.std.proofs.Common.{◌≡◌, ◌∙◌, List, ap, map, subst, sym}
-use Rattle.vr_types.specs.declared.unit.PartNo.{PartNo}
-use Rattle.vr_catalog.specs.declared.entry.CatEntry.{CatEntry}
 use Rattle.vr_event.specs.Opening.{IsOpened, owned_in}
 use Rattle.vr_event.specs.Store.{PartNow}
 use Rattle.vr_history.specs.State.{opening_state}
