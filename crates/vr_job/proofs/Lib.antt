@@ -8,3 +8,4 @@ pub mod Numbers
 pub mod Faultless
 pub mod Devices
 pub mod Shown
+pub mod Codes

@@ -1,9 +1,11 @@
 //! The top call.
-ghost use Rattle.std.specs.Prelude.{◌≡◌, ◌≢◌, ℕ, Bool, List, None, Some, bytes_eq, codes};
+ghost use Rattle.std.specs.Prelude.{◌≡◌, ◌≢◌, ◌≤◌, ◌⊎◌, ℕ, Bool, List, None, Some, bytes_eq};
+ghost use Rattle.std.specs.Prelude.{codes};
 ghost use Rattle.vr_outside.specs.Told.{Takes};
 ghost use Rattle.vr_plan.specs.Asked.{Format, Run};
 ghost use Rattle.vr_plan.specs.Command.{plan_of};
 ghost use Rattle.vr_job_ends.specs.Ends.{IsPrinted, IsStatus, IsThrough, printed_of};
+ghost use Rattle.vr_job_ends.specs.declared.job_end.End.TheVariants.{Ran};
 ghost use Rattle.vr_job.specs.Done.{IsFormatDone, IsFormatJob, IsNoCommand, IsNothing, IsRunDone};
 ghost use Rattle.vr_job.specs.Done.{IsRunJob, narrowed};
 
@@ -62,6 +64,8 @@ pub fn run_job<S: Source, K: Sink, D: BlockDevice>(
     // What was printed, and the status, are those of the trace.
     ensures status { IsStatus (K.faults output.old) (K.faults output.new) result.trace
         result.status }
+    // Of a job whose steps ran it is 8 at most, or 28, so it tells how each other job ended.
+    ensures ran { result.trace.end ≡ Ran → (result.status ≤ 8) ⊎ (result.status ≡ 28) }
     ensures printed { IsPrinted (K.taken output.old) (K.taken output.new) (K.faults output.old)
         (K.faults output.new) (printed_of result.trace) }
     // Of a job that came through, no failure of the sink is hidden.
