@@ -12,7 +12,9 @@ use crate::names::names_of;
 use std::alloc::Global;
 use vr_job_text::JobText;
 use vr_outside::{Sink, write_whole};
-use vr_trace::{EndLine, Histories, KeptSteps, end_line, fixed_line, job_code, listing, trace_lines};
+use vr_trace::{
+    EndLine, Histories, KeptSteps, end_line, fixed_line, job_code, listing, trace_lines,
+};
 use vr_types::{Bytes, OutOfMemory};
 
 /// The status of a job that ends with a line.
@@ -46,11 +48,7 @@ fn steps_shown(alloc: Global, job: &Option<JobText>) -> Result<KeptSteps, OutOfM
 }
 
 /// The lines of the history, where they are asked for.
-fn lines_shown(
-    alloc: Global,
-    lines: bool,
-    histories: &Histories,
-) -> Result<Bytes, OutOfMemory>
+fn lines_shown(alloc: Global, lines: bool, histories: &Histories) -> Result<Bytes, OutOfMemory>
     ensures { IfOk result (λ text. text ≡ ends.lines_shown lines histories.now) }
 {
     if lines {
@@ -108,13 +106,7 @@ fn write_text<K: Sink>(text: &[u8], status: u8, through: bool, output: &mut K) -
 {
     match write_whole(output, text) {
         Ok(()) => status,
-        Err(_) => {
-            if through {
-                28
-            } else {
-                status
-            }
-        }
+        Err(_) => { if through { 28 } else { status } }
     }
 }
 
