@@ -21,3 +21,7 @@ pub mod Recovery
 pub mod Refusals
 pub mod Clearing
 pub mod OpenLemmas
+pub mod Taking
+pub mod Ordering
+pub mod Members
+pub mod Planning

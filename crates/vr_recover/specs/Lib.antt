@@ -1,4 +1,6 @@
 pub mod Formatted
+pub mod Fit
+pub mod InOrder
 pub mod Planned
 pub mod FormatCause
 pub mod Undone

@@ -20,6 +20,7 @@ use Rattle.vr_catalog.specs.declared.entry.CatEntry.{CatEntry}
 use Rattle.vr_volume.specs.CatalogRules.{IsCatalog}
 use Rattle.vr_volume.specs.Laid.{shape_by}
 use Rattle.vr_volume.specs.Volume.{AreApart}
+use Rattle.vr_recover.specs.Fit.{AreTaken}
 use Rattle.vr_recover.specs.Formatted.{catalog_of}
 
 -- ---- a part with one interval in use
@@ -125,3 +126,11 @@ pub record ArePlanned (geometry : Geometry) (entries clusters : List CatEntry) :
   pub areas : length clusters < area_count geometry
   pub laid : (part : ℕ) (shape : Shape) → part ≢ 0
       → shape_by geometry (catalog_of entries) part ≡ Some shape → IsOneOf geometry clusters shape
+
+-- A volume may be formatted with these clusters, which the entries are taken as, and with this order
+-- of them in its catalog.
+pub record ArePlannedFor (geometry : Geometry) (entries clusters ordered : List CatEntry) : Type 0
+  where
+    pub taken : AreTaken geometry entries clusters
+    pub same : catalog_of ordered ≡ catalog_of clusters
+    pub planned : ArePlanned geometry ordered clusters

@@ -21,22 +21,23 @@ use vr_catalog::CatEntry;
 use vr_device::BlockDevice;
 use vr_types::Geometry;
 
-/// Writes a volume with these entries, which are all clusters.
+/// Writes a volume whose catalog has these entries, which are those of the clusters.
 pub(crate) fn write_entries<D: BlockDevice>(
     alloc: Global,
     device: &mut D,
     geometry: &Geometry,
     number: u32,
     entries: &[CatEntry],
+    clusters: &[CatEntry],
 ) -> Result<(), FormatNo>
     requires allowed { IsAllowed geometry.now }
     requires shape { IsOf geometry.now (D.seen device.old) }
-    requires planned { ArePlanned geometry.now entries.now entries.now }
+    requires planned { ArePlanned geometry.now entries.now clusters.now }
     ensures formatted { IsTrue D.tells → OnOk result
         (IsFormatted geometry.now number entries.now (D.seen device.new).cur) }
     ensures stable { IsTrue D.tells → OnOk result (AllForced (D.seen device.old).count
         (D.seen device.new).cur (D.seen device.new).may) }
-    ensures after { IsTrue D.tells → Touches (IsWritten geometry.now (length entries.now))
+    ensures after { IsTrue D.tells → Touches (IsWritten geometry.now (length clusters.now))
         Anything (D.seen device.old) (D.seen device.new) }
     ensures shape { IsOf geometry.now (D.seen device.new) }
     ensures untouched { IsErrOf result answers.Memory → device.new ≡ device.old }
@@ -47,7 +48,7 @@ pub(crate) fn write_entries<D: BlockDevice>(
     let fillers = Fillers::new(alloc, size)?;
     let mut block = vec![in alloc; 0; size]?;
     write_volume(
-        device, geometry, number, entries, entries, &fillers, &mut block,
+        device, geometry, number, entries, clusters, &fillers, &mut block,
     )?;
     Ok(())
 }
@@ -97,5 +98,6 @@ pub fn format_volume<D: BlockDevice>(
         return Err(FormatNo::Geometry);
     }
     let catalog = first_entries(alloc, number)?;
-    write_entries(alloc, device, &geometry, number, catalog.as_slice())
+    let entries = catalog.as_slice();
+    write_entries(alloc, device, &geometry, number, entries, entries)
 }

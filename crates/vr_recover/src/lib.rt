@@ -12,14 +12,17 @@
 mod backing_out;
 mod begun;
 mod clusters;
+mod entries;
 mod fillers;
 mod finding;
 mod first;
+mod fit;
 mod fitting;
 mod format;
 mod head;
 mod header;
 mod imaging;
+mod in_order;
 mod interval;
 mod laid;
 mod laws;
@@ -37,6 +40,7 @@ mod undone;
 mod undone_parts;
 mod volume;
 
+pub use entries::format_entries;
 pub use format::format_volume;
 pub use laws::{
     cleared_log_stays, formatted_is_safe, formatted_recovers, settled_is_safe,

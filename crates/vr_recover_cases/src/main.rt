@@ -8,6 +8,7 @@
 
 mod answers;
 mod desk;
+mod entries;
 mod formatting;
 mod opening;
 mod plain;

@@ -33,7 +33,7 @@ write_entries-requires-clause-planned g c =
       area = c.args.area;
     } in
     subst (λ (entries : List CatEntry). ArePlanned geometry entries entries)
-    (sym (c.as_slice.ensures ∙ c.in_ok-catalog.ensures))
+    (sym (c.as_slice-entries.ensures ∙ c.in_ok-catalog.ensures))
     (new-planned geometry (c.is_allowed.ensures.0 c.if-not-is_allowed.false) c.args.number)
 
 pub returns-clause-formatted : goal.returns-clause-formatted
@@ -50,9 +50,9 @@ returns-clause-formatted g c told =
     let geometry : Geometry = geometry_of old c.args.log c.args.area in
     let number : ℕ = c.args.number in
     let same : made ≡ geometry = cc (c.size.ensures, c.blocks-2.ensures) in
-    let entries : c.as_slice.result.now ≡ first_entries number =
-    c.as_slice.ensures ∙ c.in_ok-catalog.ensures in
-    on-both c.write_entries.result (IsFormatted made number c.as_slice.result.now new.cur)
+    let entries : c.as_slice-entries.result.now ≡ first_entries number =
+    c.as_slice-entries.ensures ∙ c.in_ok-catalog.ensures in
+    on-both c.write_entries.result (IsFormatted made number c.as_slice-entries.result.now new.cur)
     (AllForced old.count new.cur new.may)
     ((image : Image) → Left new image → IsFormatted geometry number (first_entries number) image)
     (λ formatted forced image left. subst (IsFormatted geometry number (first_entries number))
@@ -60,5 +60,5 @@ returns-clause-formatted g c told =
     (c.write_entries.ensures.shape.count ∙ c.blocks-2.ensures) forced
     (g.met.D.BlockDevice.cur_may c.write_entries.new.device told) left))
     (subst (λ (es : List CatEntry). IsFormatted geometry number es new.cur) entries
-    (subst (λ (k : Geometry). IsFormatted k number c.as_slice.result.now new.cur) same formatted)))
+    (subst (λ (k : Geometry). IsFormatted k number c.as_slice-entries.result.now new.cur) same formatted)))
     (c.write_entries.ensures.formatted told) (c.write_entries.ensures.stable told)

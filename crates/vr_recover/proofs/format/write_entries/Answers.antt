@@ -5,12 +5,12 @@ use Rattle.vr_recover.proofs.format.write_entries.Goals as goal
 
 pub returns-in_err-fillers-clause-after : goal.returns-in_err-fillers-clause-after
 returns-in_err-fillers-clause-after g c told =
-    touches-none (IsWritten c.args.geometry.now (length c.args.entries.now))
+    touches-none (IsWritten c.args.geometry.now (length c.args.clusters.now))
     (g.D.BlockDevice.seen c.args.device.now)
     (λ image left. g.met.D.BlockDevice.images_may c.args.device.now image told left)
 
 pub returns-in_err-block-clause-after : goal.returns-in_err-block-clause-after
 returns-in_err-block-clause-after g c told =
-    touches-none (IsWritten c.args.geometry.now (length c.args.entries.now))
+    touches-none (IsWritten c.args.geometry.now (length c.args.clusters.now))
     (g.D.BlockDevice.seen c.args.device.now)
     (λ image left. g.met.D.BlockDevice.images_may c.args.device.now image told left)
