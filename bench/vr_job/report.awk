@@ -38,6 +38,9 @@ $1 != "calls" {
 }
 name == "format" { next }
 {
+    # The sync that closes the device at the end of a job.
+    if ($NF != "s") bad = 1
+    NF--
     split("", calls); split("", ends); split("", units); commits = 0; unit = ""
     for (at = opened() + 1; at <= NF; at++) {
         to = commit_end(at)
