@@ -1,7 +1,7 @@
 -- What one event leaves of a volume, and what goes on from it.
 use Rattle.std.proofs.Common.{◌≡◌, ◌≢◌, inl, inr, ⊎_elim, ◌∙◌, ℕ, ◌==◌, Bool, true, false, cond}
 use Rattle.std.proofs.Common.{List, [], ◌∷◌, ◌++◌, Option, Some, None, refl, sym, ap, subst}
-use Rattle.std.proofs.Common.{◌≤◌, append_assoc, arith, flat_map, if◌then◌else◌, length}
+use Rattle.std.proofs.Common.{◌≤◌, ◌⊎◌, append_assoc, arith, flat_map, if◌then◌else◌, length}
 use Rattle.std.proofs.lemmas.Grind.{flat_map-append}
 use Rattle.std.proofs.lemmas.List.{append-nil, append_cancel_left, map-append}
 use Rattle.vr_types.specs.declared.bound.Bound.{Bound}
