@@ -1,0 +1,4 @@
+pub mod Asked
+pub mod Latched
+pub mod Deck
+pub mod Decks
