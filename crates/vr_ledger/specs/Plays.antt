@@ -1,17 +1,16 @@
 -- What each step shows the thread that makes it: of the step, the seat before, the number found,
 -- and the seat after. They are this project's own.
-use Rattle.std.specs.Prelude.{◌≡◌, ℕ, List, [], Option, Some}
+use Rattle.std.specs.Prelude.{◌≡◌, ℕ, List, []}
 use mathlib.Core.Option as maybe
 use mathlib.Core.Option.{some, none}
 use Rattle.atomic_table.specs.Table.{Me, Step}
 use Rattle.vr_history.specs.declared.entry.Entry.{Entry}
 use Rattle.vr_ledger.specs.declared.view.Said.{Said}
 use Rattle.vr_ledger.specs.declared.view.Said.TheVariants.{Enters, Grows as GrowsTo}
-use Rattle.vr_ledger.specs.declared.view.Part.{Part}
 use Rattle.vr_ledger.specs.declared.view.Whole.{Whole}
 use Rattle.vr_ledger.specs.declared.view.View.{View}
 use Rattle.vr_ledger.specs.declared.view.View.TheVariants.{OfLedger}
-use Rattle.vr_ledger.specs.Views.{IsAllOf, whole_in, admitted, grown, settled}
+use Rattle.vr_ledger.specs.Views.{IsAllOf, HasTurnIn, part_joined, whole_in, admitted, grown, settled}
 
 -- the deck and the history that a step announces
 abbrev pub deck_in : Said → ℕ
@@ -32,7 +31,7 @@ history_said (some said) = history_in said
 
 -- the turn that is in knows all that the history has of its deck
 abbrev pub TellsAll : Whole → Type 0
-TellsAll now = (known : Part) → now.joined ≡ Some known → IsAllOf now.history known
+TellsAll now = HasTurnIn now → IsAllOf now.history (part_joined now)
 
 -- the deck's turn begins, with all that the history has of the deck
 abbrev pub Admits : Step Said → Me Said View → ℕ → Me Said View → Type 0

@@ -3,10 +3,9 @@ use Rattle.std.specs.Prelude.{◌≡◌, ℕ, List, [], ◌∷◌}
 use Rattle.atomic_table.specs.Seated.{TableId}
 use Rattle.atomic_table.specs.declared.badge.Badge.{Badge}
 use Rattle.vr_history.specs.declared.entry.Entry.{Entry}
-use Rattle.vr_ledger.specs.declared.view.Part.{Part}
 use Rattle.vr_ledger.specs.declared.view.View.{View}
 use Rattle.vr_ledger.specs.declared.view.View.TheVariants.{OfTurn}
-use Rattle.vr_ledger.specs.Views.{part, part_in}
+use Rattle.vr_ledger.specs.Views.{part, known_in}
 
 pub record TurnNow : Type 0 where
   pub deck : ℕ
@@ -14,10 +13,6 @@ pub record TurnNow : Type 0 where
   pub ledger : TableId
   -- what the deck knows of its own entries, in order
   pub entries : List Entry
-
-abbrev pub known_in : List View → Part
-known_in [] = part 0 []
-known_in (view ∷ views) = part_in view
 
 abbrev pub turn_now : ℕ → Badge View → TurnNow
 turn_now deck badge =

@@ -37,6 +37,14 @@ part_in (OfLedger now) = part 0 []
 part_in (OfTurn known) = known
 part_in Spent = part 0 []
 
+-- what a badge has, where it is of a turn's seat
+abbrev pub known_in : List View → Part
+known_in [] = part 0 []
+known_in (view ∷ views) = part_in view
+
+abbrev pub IsOfTurn : List View → Type 0
+IsOfTurn views = views ≡ OfTurn (known_in views) ∷ []
+
 -- what the turn knows that is in, where one is
 abbrev pub part_within : Option Part → Part
 part_within None = part 0 []
@@ -44,6 +52,9 @@ part_within (Some known) = known
 
 abbrev pub part_joined : Whole → Part
 part_joined now = part_within now.joined
+
+abbrev pub HasTurnIn : Whole → Type 0
+HasTurnIn now = now.joined ≡ Some (part_joined now)
 
 -- the deck's turn begins, and is in
 abbrev pub admitted : ℕ → Whole → Whole

@@ -50,9 +50,9 @@ impl Ledger {
         requires free { times deck self.old.out ≡ 0 }
         ensures turn { result
             ≡ record {
-                deck = deck;
-                ledger = self.old.table;
-                entries = entries_of deck self.old.history;
+              deck = deck;
+              ledger = self.old.table;
+              entries = entries_of deck self.old.history;
             } }
         ensures ledger { self.new ≡ record self.old { out = deck ∷ self.old.out } }
     {

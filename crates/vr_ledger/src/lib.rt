@@ -13,6 +13,8 @@
 mod crossing;
 mod ledger;
 mod seat;
+#[cfg(test)]
+mod tests;
 mod turn;
 mod view;
 

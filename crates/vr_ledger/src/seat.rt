@@ -24,14 +24,13 @@ pub(crate) struct LedgerSeat {
 }
 
 impl LedgerSeat {
-    ghost use Rattle.std.specs.Prelude.{ℕ, List, ◌∷◌, ◌++◌, IfOk, Some, None, All};
+    ghost use Rattle.std.specs.Prelude.{ℕ, List, ◌∷◌, ◌++◌, IfOk, None, All};
     ghost use Rattle.vr_history.specs.declared.entry.Entry.{Entry};
     ghost use Rattle.vr_ledger.specs.declared.view.View.TheVariants.{OfTurn};
-    ghost use Rattle.vr_ledger.specs.declared.view.Part.{Part};
     ghost use Rattle.vr_ledger.specs.Decks.{times};
     ghost use Rattle.vr_ledger.specs.Entries.{IsOf};
     ghost use Rattle.vr_ledger.specs.Views.{whole, admitted, taken_in, grown, settled, handed_out};
-    ghost use Rattle.vr_ledger.specs.Views.{IsAllOf};
+    ghost use Rattle.vr_ledger.specs.Views.{IsAllOf, IsOfTurn, known_in, HasTurnIn, part_joined};
     ghost use Rattle.vr_ledger.specs.Seats.{whole_of, table_of};
 
     /// A table for a history, with no turn.
@@ -67,9 +66,8 @@ impl LedgerSeat {
     /// A turn comes in.
     pub(crate) fn take_in(&mut self, turn: Badge<View>)
         requires own { turn.table_id ≡ table_of self.old }
-        requires turn { (known : Part) × (turn.views ≡ OfTurn known ∷ []) }
-        ensures whole { (known : Part) → turn.views ≡ OfTurn known ∷ []
-            → whole_of self.new ≡ taken_in known (whole_of self.old) }
+        requires turn { IsOfTurn turn.views }
+        ensures whole { whole_of self.new ≡ taken_in (known_in turn.views) (whole_of self.old) }
         ensures table { table_of self.new ≡ table_of self.old }
     {
         let LedgerSeat { table, seat, .. } = self;
@@ -78,12 +76,11 @@ impl LedgerSeat {
 
     /// The history goes on as this one, with entries of the deck whose turn is in.
     pub(crate) fn grow(&mut self, history: &History)
-        requires { (known : Part) × ((whole_of self.old).joined ≡ Some known)
-            × ((made : List Entry)
+        requires in_turn { HasTurnIn (whole_of self.old) }
+        requires more { (made : List Entry)
             × (history.now.entries ≡ (whole_of self.old).history ++ made)
-            × All (IsOf known.deck) made) }
-        ensures told { (known : Part) → (whole_of self.old).joined ≡ Some known
-            → IsAllOf (whole_of self.old).history known }
+            × All (IsOf (part_joined (whole_of self.old)).deck) made }
+        ensures told { IsAllOf (whole_of self.old).history (part_joined (whole_of self.old)) }
         ensures whole { whole_of self.new ≡ grown history.now.entries (whole_of self.old) }
         ensures table { table_of self.new ≡ table_of self.old }
     {
@@ -102,8 +99,8 @@ impl LedgerSeat {
 
     /// The turn that is in ends.
     pub(crate) fn settle(&mut self)
-        ensures told { (known : Part) → (whole_of self.old).joined ≡ Some known
-            → IsAllOf (whole_of self.old).history known }
+        requires in_turn { HasTurnIn (whole_of self.old) }
+        ensures told { IsAllOf (whole_of self.old).history (part_joined (whole_of self.old)) }
         ensures whole { whole_of self.new ≡ settled (whole_of self.old) }
         ensures table { table_of self.new ≡ table_of self.old }
     {
@@ -113,9 +110,8 @@ impl LedgerSeat {
 
     /// The turn that is in goes out.
     pub(crate) fn hand_out(&mut self) -> Badge<View>
-        requires { (known : Part) × ((whole_of self.old).joined ≡ Some known) }
-        ensures turn { (known : Part) → (whole_of self.old).joined ≡ Some known
-            → result.views ≡ OfTurn known ∷ [] }
+        requires in_turn { HasTurnIn (whole_of self.old) }
+        ensures turn { result.views ≡ OfTurn (part_joined (whole_of self.old)) ∷ [] }
         ensures own { result.table_id ≡ table_of self.old }
         ensures whole { whole_of self.new ≡ handed_out (whole_of self.old) }
         ensures table { table_of self.new ≡ table_of self.old }
