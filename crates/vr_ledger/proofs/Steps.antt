@@ -47,7 +47,8 @@ within : (views : List View) (seat : ℕ) (view : View) → get_elem? views seat
     → seat < length views
 within [] seat view there = absurd (some-ne-none view (sym there))
 within (first ∷ views) zero view there = omega arith
-within (first ∷ views) (suc seat) view there = let rest = within views seat view there in omega arith
+within (first ∷ views) (suc seat) view there =
+    let rest = within views seat view there in omega arith
 
 -- the last view is at the end
 at_end : (views : List View) (last view : View) (seat : ℕ)

@@ -10,7 +10,8 @@ use Rattle.vr_ledger.specs.declared.view.Said.TheVariants.{Enters, Grows as Grow
 use Rattle.vr_ledger.specs.declared.view.Whole.{Whole}
 use Rattle.vr_ledger.specs.declared.view.View.{View}
 use Rattle.vr_ledger.specs.declared.view.View.TheVariants.{OfLedger}
-use Rattle.vr_ledger.specs.Views.{IsAllOf, HasTurnIn, part_joined, whole_in, admitted, grown, settled}
+use Rattle.vr_ledger.specs.Views.{IsAllOf, HasTurnIn, part_joined, whole_in}
+use Rattle.vr_ledger.specs.Views.{admitted, grown, settled}
 
 -- the deck and the history that a step announces
 abbrev pub deck_in : Said → ℕ

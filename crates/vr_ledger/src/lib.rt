@@ -5,9 +5,9 @@
 //! and on `vr_history` for what an entry is. What a seat at the table knows exists in the proofs
 //! alone: at run time a turn is the deck's number, and a ledger counts entries.
 //!
-//! It promises, by the rule of `specs/Rule.antt` which each step of the table keeps: what a turn
-//! knows is all that the history has of the turn's deck, whatever other decks entered since. A deck
-//! has one turn at most.
+//! It promises: what a turn knows is all that the history has of the turn's deck, whatever other
+//! decks entered since, and `record` and `leave` report that it is. The rule of `specs/Rule.antt`,
+//! which each step of the table keeps, says so of all turns at once.
 #![tactic(auto)]
 
 mod crossing;
