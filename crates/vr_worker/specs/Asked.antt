@@ -41,11 +41,11 @@ MayGoOn false request own = MayAsk request own
 -- whether the request was answered
 abbrev pub is_done : Result Bool RunNo → Bool
 is_done (Ok done) = done
-is_done (Err no) = false
+is_done (Err fault) = false
 
 abbrev pub is_ok : Result (Unit {0}) RunNo → Bool
 is_ok (Ok value) = true
-is_ok (Err no) = false
+is_ok (Err fault) = false
 
 -- a request, with its volume and line
 abbrev pub bound_to : ℕ → ℕ → Request → Bound
