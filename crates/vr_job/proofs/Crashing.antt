@@ -1,5 +1,5 @@
 -- An image that a shorter history allows, a longer one allows.
-use Rattle.std.proofs.Common.{inl, inr, ⊎_elim, ◌∙◌, ℕ, List, [], ◌++◌, refl, ap}
+use Rattle.std.proofs.Common.{◌≡◌, inl, inr, ⊎_elim, ◌∙◌, ℕ, List, [], ◌++◌, None, refl, ap, subst}
 use Rattle.std.proofs.Common.{append_assoc}
 use Rattle.vr_types.specs.Image.{Image}
 use Rattle.vr_types.specs.Seen.{Seen}
@@ -10,7 +10,11 @@ use Rattle.vr_types.specs.declared.unit.Unit.{Unit as UnitOfRecovery}
 use Rattle.vr_history.specs.State.{State}
 use Rattle.vr_history.specs.declared.entry.Entry.{Entry}
 use Rattle.vr_volume.specs.Crashes.{RecoversTo}
+use Rattle.vr_record_file.specs.Now.{state_now}
+use Rattle.vr_event.specs.Volume.{IsHeld, IsWhole, VolumeNow}
+use Rattle.vr_event.proofs.CallerLemmas.{stored-left}
 use Rattle.vr_job.specs.Crash.{AreInCommit, IsLeftBy}
+use Rattle.vr_job.specs.Events.{LeavesAtRest}
 
 commit-more : (counted : List UnitOfRecovery) (entries more : List Entry)
     → AreInCommit counted entries → AreInCommit counted (entries ++ more)
@@ -53,3 +57,15 @@ guards-on geometry number opening entries more a b c first second =
     (guards-weaken a b (IsLeftBy geometry number opening entries)
     (IsLeftBy geometry number opening (entries ++ more)) first
     (λ image is. left-more geometry number opening entries more image is)) second
+
+-- what a crash may leave of a volume that is held
+pub held-left : {B : Type 0} (seen : B → Seen) (opening : State) (volume : VolumeNow B)
+    → IsWhole seen volume → IsHeld seen opening volume
+    → LeavesAtRest seen volume.file.geometry volume.number opening volume.blocks
+    volume.file.entries
+held-left seen opening volume whole held none image left =
+    let stops : volume.file.stopped ≡ None = held.file.now.stopped ∙ none in
+    subst (λ (g : Geometry). RecoversTo g volume.number (state_now opening volume.file) [] image)
+    (whole.geometry stops)
+    (stored-left volume.number volume.store (state_now opening volume.file) (seen volume.blocks)
+    (held.stored stops) image left)

@@ -16,6 +16,7 @@ use Rattle.vr_record_file.specs.declared.numbers.DeckNumber.{DeckNumber}
 use Rattle.vr_event.specs.Volume.{IsHeld, IsWhole, VolumeNow}
 use Rattle.vr_job.specs.Asking.{RanEach, RanFirst, RanSome, all_ask, asked_of}
 use Rattle.vr_job.specs.Crash.{IsLeftBy}
+use Rattle.vr_job.specs.Events.{IsOfEvents}
 use Rattle.vr_job.specs.Faultless.{AreFaultless}
 use Rattle.vr_job.specs.Parts.{of_deck}
 use Rattle.vr_job.specs.declared.run_no.RunNo.{RunNo}
@@ -122,6 +123,8 @@ module _ {B : Type 0} (tells : Bool) (seen : B → Seen)
       held = held opening run.held;
       left = subst (λ (v : VolumeNow B). Guards (seen first) (seen v.blocks)
           (IsLeftBy v.file.geometry v.number opening v.file.entries)) (sym same) run.left;
+      events = subst (λ (v : VolumeNow B). IsOfEvents seen v.file.geometry v.number opening first
+          v.blocks v.file.entries) (sym same) run.events;
     };
   }
     where

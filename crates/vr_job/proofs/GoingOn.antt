@@ -1,9 +1,9 @@
 -- What one event leaves of a volume, and what goes on from it.
 use Rattle.std.proofs.Common.{◌≡◌, ◌≢◌, inl, inr, ⊎_elim, ◌∙◌, ℕ, ◌==◌, Bool, true, false, cond}
 use Rattle.std.proofs.Common.{List, [], ◌∷◌, ◌++◌, Option, Some, None, refl, sym, ap, subst}
-use Rattle.std.proofs.Common.{append_assoc, arith, flat_map, if◌then◌else◌}
+use Rattle.std.proofs.Common.{◌≤◌, append_assoc, arith, flat_map, if◌then◌else◌, length}
 use Rattle.std.proofs.lemmas.Grind.{flat_map-append}
-use Rattle.std.proofs.lemmas.List.{append-nil, map-append}
+use Rattle.std.proofs.lemmas.List.{append-nil, append_cancel_left, map-append}
 use Rattle.vr_types.specs.declared.bound.Bound.{Bound}
 use Rattle.vr_types.specs.Faults.{Faults}
 use Rattle.vr_types.specs.Image.{Image}
@@ -22,7 +22,7 @@ use Rattle.vr_history.specs.State.{State}
 use Rattle.vr_history.specs.declared.entry.Entry.{Entry}
 use Rattle.vr_history.specs.declared.entry.What.{What}
 use Rattle.vr_history.specs.declared.entry.What.TheVariants.{Asked, Faulted}
-use Rattle.vr_record_file.specs.Now.{FileNow, asked_failing, entry_next, has_deck, number_of}
+use Rattle.vr_record_file.specs.Now.{FileNow, asked_failing, entry_next, failed, has_deck, number_of}
 use Rattle.vr_record_file.specs.Now.{state_now}
 use Rattle.vr_record_file.specs.declared.numbers.DeckNumber.{DeckNumber}
 use Rattle.vr_event.specs.Acting.{IsActed, IsLeftIn}
@@ -31,12 +31,14 @@ use Rattle.vr_event.specs.Volume.{IsHeld, IsWhole, VolumeNow}
 use Rattle.vr_event.specs.declared.act.Act.{Act}
 use Rattle.vr_event.specs.declared.act.Act.TheVariants.{Again, Done}
 use Rattle.vr_event.proofs.CallerLemmas.{acted_made, event_calms}
+use Rattle.vr_volume.specs.Crashes.{RecoversTo}
 use Rattle.vr_job.specs.Asking.{Asks, CalmOnce, GoesOn, HasRun, Ran, bound_to, is_done}
 use Rattle.vr_job.specs.Asking.{asked_of, unit_of}
 use Rattle.vr_job.specs.Crash.{IsCommit, IsLeftBy}
+use Rattle.vr_job.specs.Events.{IsLeftWhile, IsOfEvents, LeavesAtRest, requests_in}
 use Rattle.vr_job.specs.Faultless.{AreFaultless}
 use Rattle.vr_job.specs.Parts.{of_deck, on_volume_0}
-use Rattle.vr_job.proofs.Crashing.{left-more}
+use Rattle.vr_job.proofs.Crashing.{held-left, left-more}
 use Rattle.vr_job.proofs.Events.{asks-same, of-none}
 use Rattle.vr_job.proofs.Faultless.{NoFault, acted-faultless}
 
@@ -97,6 +99,34 @@ made-asks (Again given) unit line request made is other = ⊎_elim
     (λ one. ap (asked_of other) one.1
     ∙ none-asked other one.0 (step-none unit request one.0 one.2)) is
     ∙ sym (of-none unit.deck other)
+
+some-none : (stamp : ℕ) → ◌≡◌ {A = Option ℕ} (Some stamp) None → ⊥
+some-none stamp same = cc
+
+-- an event answers one request at most
+alone : (entry : Entry) → request_in 0 entry.line entry.what ≡ [] → requests_in (entry ∷ []) ≡ []
+alone entry none = ap (λ (them : List Bound). them ++ []) none
+
+made-once : (act : Act) (unit : UnitOfRecovery) (line : ℕ) (request : Request) (made : List Entry)
+    → MadeBy act unit line request made → length (requests_in made) ≤ 1
+made-once Done unit line request made is =
+    omega (arith, ap (λ (them : List Bound). length them) one)
+  where
+    rest-none : requests_in is.rest ≡ []
+    rest-none = ⊎_elim (λ none. ap requests_in none)
+        (λ fault. ap requests_in fault.1
+        ∙ alone fault.0 (ap (request_in 0 fault.0.line) fault.3)) is.follows
+
+    one : requests_in made ≡ bound_to is.entry.line request ∷ []
+    one = ap requests_in is.is
+        ∙ ap (λ (them : List Bound). request_in 0 is.entry.line is.entry.what ++ them) rest-none
+        ∙ ap (λ (w : What). request_in 0 is.entry.line w ++ []) is.what_is
+made-once (Again given) unit line request made is =
+    omega (arith, ap (λ (them : List Bound). length them) none)
+  where
+    none : requests_in made ≡ []
+    none = ⊎_elim (λ no. ap requests_in no)
+        (λ one. ap requests_in one.1 ∙ alone one.0 (step-none unit request one.0 one.2)) is
 
 -- ---- one event
 
@@ -166,7 +196,7 @@ module _ {B : Type 0} (seen : B → Seen) (faults : B → Faults) (old new : Vol
         → new.file.entries ≡ old.file.entries
         ++ entry_next old.file.entries after unit line (Asked request reply) ∷ rest
         → IsCommit (Asked request reply)
-        → Rattle.vr_volume.specs.Crashes.RecoversTo geometry old.number
+        → RecoversTo geometry old.number
         (Rattle.vr_history.specs.Legal.state_of geometry opening old.file.entries) (unit ∷ []) image
         → IsLeftBy geometry old.number opening new.file.entries image
     commit-left geometry image reply rest entries commit recovers = record {
@@ -177,6 +207,17 @@ module _ {B : Type 0} (seen : B → Seen) (faults : B → Faults) (old new : Vol
       commits = inr (_, rest, refl, commit, refl);
       recovers = recovers;
     }
+
+    fails-entries : new.file ≡ failed after unit line request old.file
+        → new.file.entries ≡ old.file.entries
+        ++ entry_next old.file.entries after unit line (Asked request (Refused WriteFault))
+        ∷ entry_next (asked_failing after unit line request old.file).entries 0 unit line
+        (Faulted Write) ∷ []
+    fails-entries fails = ap (λ (f : FileNow). f.entries) fails
+        ∙ append_assoc old.file.entries
+        (entry_next old.file.entries after unit line (Asked request (Refused WriteFault)) ∷ [])
+        (entry_next (asked_failing after unit line request old.file).entries 0 unit line
+        (Faulted Write) ∷ [])
 
     -- each image that is left in the event is left by the history after it
     in-left : (image : Image)
@@ -199,11 +240,7 @@ module _ {B : Type 0} (seen : B → Seen) (faults : B → Faults) (old new : Vol
         (λ fails. commit-left old.file.geometry image (Refused WriteFault)
         (entry_next (asked_failing after unit line request old.file).entries 0 unit line
         (Faulted Write) ∷ [])
-        (ap (λ (f : FileNow). f.entries) fails
-        ∙ append_assoc old.file.entries
-        (entry_next old.file.entries after unit line (Asked request (Refused WriteFault)) ∷ [])
-        (entry_next (asked_failing after unit line request old.file).entries 0 unit line
-        (Faulted Write) ∷ []))
+        (fails-entries fails)
         (inr (ap (λ (r : Request). Asked r (Refused WriteFault)) commit.0)) commit.2)
         commit.1) is
 
@@ -215,6 +252,42 @@ module _ {B : Type 0} (seen : B → Seen) (faults : B → Faults) (old new : Vol
         subst (λ (entries : List Entry). IsLeftBy old.file.geometry old.number opening entries image)
         (sym made-in.entries)
         (left-more old.file.geometry old.number opening old.file.entries made-in.made image is)
+
+    -- and by the history before it, perhaps with the unit whose COMMIT it enters
+    commit-while : (image : Image) (reply : Reply) (rest : List Entry)
+        → new.file.entries ≡ old.file.entries
+        ++ entry_next old.file.entries after unit line (Asked request reply) ∷ rest
+        → IsCommit (Asked request reply)
+        → RecoversTo old.file.geometry old.number (state_now opening old.file) (unit ∷ []) image
+        → IsLeftWhile old.file.geometry old.number opening old.file.entries made-in.made image
+    commit-while image reply rest entries commit recovers = record {
+      counted = unit ∷ [];
+      commits = inr (
+        _,
+        rest,
+        append_cancel_left old.file.entries made-in.made _ (sym made-in.entries ∙ entries),
+        commit,
+        refl,
+      );
+      recovers = recovers;
+    }
+
+    in-while : (image : Image)
+        → IsLeftIn old.file.geometry old.number (state_now opening old.file) after unit line request
+        old.file new.file image
+        → IsLeftWhile old.file.geometry old.number opening old.file.entries made-in.made image
+    in-while image is = ⊎_elim
+        (λ rests. record { counted = []; commits = inl refl; recovers = rests })
+        (λ commit. ⊎_elim
+        (λ ended. commit-while image (DoneReply 0 None None) []
+        (ap (λ (f : FileNow). f.entries) ended)
+        (inl (ap (λ (r : Request). Asked r (DoneReply 0 None None)) commit.0)) commit.2)
+        (λ fails. commit-while image (Refused WriteFault)
+        (entry_next (asked_failing after unit line request old.file).entries 0 unit line
+        (Faulted Write) ∷ [])
+        (fails-entries fails)
+        (inr (ap (λ (r : Request). Asked r (Refused WriteFault)) commit.0)) commit.2)
+        commit.1) is
 
     module _ (first : B) (run : HasRun seen opening first old) (number : new.number ≡ old.number)
         (whole : IsWhole seen old)
@@ -242,14 +315,51 @@ module _ {B : Type 0} (seen : B → Seen) (faults : B → Faults) (old new : Vol
           new.file)) (whole.geometry going) (moments going))
           in-left)
       by_stop (Some stamp) is = subst (λ (b : B). Guards (seen first) (seen b) Left-by)
-          (sym (stays (λ none. some-none (sym is ∙ none)))) so-far
-        where
-          some-none : Some stamp ≡ None → ⊥
-          some-none same = cc
+          (sym (stays (λ none. some-none stamp (sym is ∙ none)))) so-far
 
-      pub event-run : IsHeld seen opening new → HasRun seen opening first new
-      event-run held = record {
+      by_while : (stopped : Option ℕ) → old.file.stopped ≡ stopped
+          → (new.blocks ≡ old.blocks) ⊎ Guards (seen old.blocks) (seen new.blocks)
+          (IsLeftWhile old.file.geometry old.number opening old.file.entries made-in.made)
+      by_while None going = inr (guards-weaken (seen old.blocks) (seen new.blocks)
+          (IsLeftIn old.file.geometry old.number (state_now opening old.file) after unit line request
+          old.file new.file)
+          (IsLeftWhile old.file.geometry old.number opening old.file.entries made-in.made)
+          (subst (λ (g : Geometry). Guards (seen old.blocks) (seen new.blocks)
+          (IsLeftIn g old.number (state_now opening old.file) after unit line request old.file
+          new.file)) (whole.geometry going) (moments going))
+          in-while)
+      by_while (Some stamp) is = inl (stays (λ none. some-none stamp (sym is ∙ none)))
+
+      one-event : IsWhole seen new → IsHeld seen opening new
+          → IsOfEvents seen old.file.geometry old.number opening first new.blocks new.file.entries
+      one-event whole-new held = record {
+        events = record {
+          blocks = old.blocks;
+          entries = old.file.entries;
+          made = made-in.made;
+        } ∷ run.events.events;
+        are = (
+          record {
+            entries_are = made-in.entries;
+            once = made-once act unit line request made-in.made made-in.by;
+            during = by_while old.file.stopped refl;
+            after = subst (λ (n : ℕ). LeavesAtRest seen old.file.geometry n opening new.blocks
+                new.file.entries) number
+                (subst (λ (g : Geometry). LeavesAtRest seen g new.number opening new.blocks
+                new.file.entries) made-in.geometry
+                (held-left seen opening new whole-new held));
+          },
+          run.events.are,
+        );
+      }
+
+      pub event-run : IsWhole seen new → IsHeld seen opening new → HasRun seen opening first new
+      event-run whole-new held = record {
         held = held;
+        events = subst (λ (n : ℕ). IsOfEvents seen new.file.geometry n opening first new.blocks
+            new.file.entries) (sym number)
+            (subst (λ (g : Geometry). IsOfEvents seen g old.number opening first new.blocks
+            new.file.entries) (sym made-in.geometry) (one-event whole-new held));
         left = subst (λ (n : ℕ). Guards (seen first) (seen new.blocks)
             (IsLeftBy new.file.geometry n opening new.file.entries)) (sym number)
             (subst (λ (g : Geometry). Guards (seen first) (seen new.blocks)
@@ -268,6 +378,8 @@ ready-run {B} seen opening first old mid room files_room same held run = record 
   held = held;
   left = subst (λ (v : VolumeNow B). Guards (seen first) (seen v.blocks)
       (IsLeftBy v.file.geometry v.number opening v.file.entries)) (sym same) run.left;
+  events = subst (λ (v : VolumeNow B). IsOfEvents seen v.file.geometry v.number opening first
+      v.blocks v.file.entries) (sym same) run.events;
 }
 
 -- nor does it ask or enter anything

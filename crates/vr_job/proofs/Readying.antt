@@ -428,6 +428,7 @@ opening-run seen opening volume none going whole held may = record {
         recovers = subst (λ (g : Geometry). RecoversTo g volume.number state [] image)
             (whole.geometry going) is;
       });
+  events = record { events = []; are = (refl, none) };
 }
   where
     now : Seen

@@ -264,8 +264,10 @@ module _ {D : Type 0} (tells : Bool) (seen : D → Seen) (faults : D → Faults)
         (IsLeftBy end.file.geometry end.number opening end.file.entries) MayLeave run.left
         (λ image is. inr is))
 
-    at-end : IsRun end.number steps answer end.file.entries old (seen device) (faults first)
-        (faults device)
+    abbrev Ran-as : ℕ → List Entry → Type 0
+    Ran-as n es = IsRun tells seen faults n steps answer es first device
+
+    at-end : Ran-as end.number end.file.entries
     at-end = record {
       geometry = end.file.geometry;
       contents = held.contents;
@@ -282,6 +284,14 @@ module _ {D : Type 0} (tells : Bool) (seen : D → Seen) (faults : D → Faults)
       legal = run.held.file.legal;
       moments = guards-keeps tells old (seen end.blocks) (seen device) MayLeave each-moment
           ended.closed.keeps told;
+      opened = volume.blocks;
+      opens = guards-weaken old (seen volume.blocks) (λ (image : Image). Left old image
+          ⊎ Recovers volume.file.geometry number image held.contents) (λ (image : Image).
+          Left old image ⊎ Recovers end.file.geometry end.number image held.contents) opened
+          (λ image is. ⊎_elim (λ before. inl before) (λ recovers. inr (as-end image recovers)) is);
+      ended = end.blocks;
+      events = run.events;
+      closes = ended.closed.keeps;
       goes = λ same. sym run.held.file.now.stopped ∙ ended-going (faults first) never going same;
       kept = λ goes image left.
           let stops = run.held.file.now.stopped ∙ goes in
@@ -292,9 +302,6 @@ module _ {D : Type 0} (tells : Bool) (seen : D → Seen) (faults : D → Faults)
           (keeps-left tells (seen end.blocks) (seen device) image told ended.closed.keeps left));
     }
 
-    pub ended-run : IsRun number steps answer entries old (seen device) (faults first)
-        (faults device)
-    ended-run = subst (λ (es : List Entry). IsRun number steps answer es old (seen device)
-        (faults first) (faults device)) (sym ended.entries_are)
-        (subst (λ (n : ℕ). IsRun n steps answer end.file.entries old (seen device) (faults first)
-        (faults device)) same-number at-end)
+    pub ended-run : Ran-as number entries
+    ended-run = subst (λ (es : List Entry). Ran-as number es) (sym ended.entries_are)
+        (subst (λ (n : ℕ). Ran-as n end.file.entries) same-number at-end)

@@ -23,6 +23,7 @@ use Rattle.vr_event.specs.Made.{IsCalm, IsCalmBut}
 use Rattle.vr_event.specs.Volume.{IsHeld, IsWhole, VolumeNow}
 use Rattle.vr_job.specs.declared.run_no.RunNo.{RunNo}
 use Rattle.vr_job.specs.Crash.{IsLeftBy}
+use Rattle.vr_job.specs.Events.{IsOfEvents}
 use Rattle.vr_job.specs.Faultless.{AreFaultless}
 use Rattle.vr_job.specs.Parts.{IsPrefixOf, of_deck, on_volume_0}
 
@@ -62,12 +63,15 @@ pub record GoesOn {B : Type 0} (seen : B → Seen) (faults : B → Faults) (old 
       → AreFaultless old.file.entries → AreFaultless new.file.entries
 
 -- What goes on where it does, from an opening and the blocks as they were then: the history is legal
--- and gives what the volume has, and each image at each moment since is left by the history.
+-- and gives what the volume has, each image at each moment since is left by the history, and so it is
+-- event by event.
 pub record HasRun {B : Type 0} (seen : B → Seen) (opening : State) (first : B)
     (volume : VolumeNow B) : Type 0 where
   pub held : IsHeld seen opening volume
   pub left : Guards (seen first) (seen volume.blocks)
       (IsLeftBy volume.file.geometry volume.number opening volume.file.entries)
+  pub events : IsOfEvents seen volume.file.geometry volume.number opening first volume.blocks
+      volume.file.entries
 
 -- the current unit of recovery of a deck
 abbrev pub unit_of : ℕ → FileNow → UnitOfRecovery

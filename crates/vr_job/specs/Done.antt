@@ -75,7 +75,7 @@ pub record IsVolumeRun {D : Type 0} (tells : Bool) (seen : D → Seen) (faults :
   pub closed : IsTrue tells → (faults new).writes ≡ (faults old).writes
       → OnOk answer (AllForced (seen new).count (seen new).cur (seen new).may)
   pub run : IsTrue tells
-      → IsRun number steps answer entries (seen old) (seen new) (faults old) (faults new)
+      → IsRun tells seen faults number steps answer entries old new
       ⊎ IsUnopened number answer entries (seen old) (seen new)
 
 -- The job was read, and its decks were run on the one device, from where the run began.

@@ -1,5 +1,6 @@
 pub mod Parts
 pub mod Crash
+pub mod Events
 pub mod Asking
 pub mod Opened
 pub mod OpenEnds

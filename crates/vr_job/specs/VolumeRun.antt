@@ -25,6 +25,7 @@ use Rattle.vr_volume.specs.Crashes.{RecoversTo}
 use Rattle.vr_volume.specs.Volume.{Recovers}
 use Rattle.vr_job.specs.Asking.{RanSome, asked_of, job_asks}
 use Rattle.vr_job.specs.Crash.{IsLeftBy}
+use Rattle.vr_job.specs.Events.{IsOfEvents}
 use Rattle.vr_job.specs.OpenEnds.{IsOpenEnd, NeverFall}
 use Rattle.vr_job.specs.Parts.{IsPrefixOf}
 use Rattle.vr_job.specs.declared.run_no.RunNo.{RunNo}
@@ -85,25 +86,33 @@ pub record HasEnded {D : Type 0} (tells : Bool) (seen : D → Seen) (faults : D 
 
 -- The volume was opened: the blocks were one's of this number, which recovered to these contents; its
 -- decks asked what they request by its catalog; the history is legal from its opening; and each image
--- of each moment is one that a crash left before, or is left by the history. As long as the device
--- counted no write that failed, the volume wasn't stopped, and each image that a crash may leave at the
--- end recovers to what is committed by all of the history.
-pub record IsRun (number : ℕ) (steps : List Step) (answer : Answer) (entries : List Entry)
-    (old new : Seen) (before now : Faults) : Type 0 where
+-- of each moment is one that a crash left before, or is left by the history. From the end of its
+-- opening on the run is events, in each of which an image recovers to what is committed by the history
+-- before it, perhaps with the unit whose COMMIT it enters; then nothing more is put. As long as the
+-- device counted no write that failed, the volume wasn't stopped, and each image that a crash may leave
+-- at the end recovers to what is committed by all of the history.
+pub record IsRun {D : Type 0} (tells : Bool) (seen : D → Seen) (faults : D → Faults) (number : ℕ)
+    (steps : List Step) (answer : Answer) (entries : List Entry) (old new : D) : Type 0 where
   pub geometry : Geometry
   pub contents : ℕ → Content
   pub owned : List Owned
-  pub volume : IsVolume number geometry contents old
+  pub volume : IsVolume number geometry contents (seen old)
   pub by : Result (Unit {0}) RunNo
-  pub answer_is : EndsAs number by before now answer
+  pub answer_is : EndsAs number by (faults old) (faults new) answer
   pub asked : HasAsked (entries_in (contents 0)) steps answer entries
   pub legal : IsLegal geometry (opening_state contents owned) entries
-  pub moments : Guards old new (λ image. Left old image
+  pub moments : Guards (seen old) (seen new) (λ image. Left (seen old) image
       ⊎ IsLeftBy geometry number (opening_state contents owned) entries image)
-  pub goes : now.writes ≡ before.writes
+  pub opened : D
+  pub opens : Guards (seen old) (seen opened) (λ image. Left (seen old) image
+      ⊎ Recovers geometry number image contents)
+  pub ended : D
+  pub events : IsOfEvents seen geometry number (opening_state contents owned) opened ended entries
+  pub closes : Keeps tells (seen ended) (seen new)
+  pub goes : (faults new).writes ≡ (faults old).writes
       → (state_of geometry (opening_state contents owned) entries).stopped ≡ None
   pub kept : (state_of geometry (opening_state contents owned) entries).stopped ≡ None
-      → (image : Image) → Left new image → RecoversTo geometry number
+      → (image : Image) → Left (seen new) image → RecoversTo geometry number
       (state_of geometry (opening_state contents owned) entries) [] image
 
 -- It was not opened: nothing was asked, and each image of each moment is one that a crash left before,

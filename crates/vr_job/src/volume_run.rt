@@ -165,8 +165,8 @@ fn run_blocks<D: BlockDevice>(
         → OnOk result.result (AllForced (D.seen result.device).count (D.seen result.device).cur
         (D.seen result.device).may) }
     ensures run { IsTrue D.tells
-        → IsRun number steps.now result.result result.history.entries (D.seen blocks)
-        (D.seen result.device) (D.faults blocks) (D.faults result.device)
+        → IsRun D.tells D.seen D.faults number steps.now result.result result.history.entries
+        blocks result.device
         ⊎ IsUnopened number result.result result.history.entries (D.seen blocks)
         (D.seen result.device) }
 {
@@ -205,8 +205,8 @@ pub fn run_volume<D: BlockDevice>(
         → OnOk result.result (AllForced (D.seen result.device).count (D.seen result.device).cur
         (D.seen result.device).may) }
     ensures run { IsTrue D.tells
-        → IsRun number steps.now result.result result.history.entries (D.seen device)
-        (D.seen result.device) (D.faults device) (D.faults result.device)
+        → IsRun D.tells D.seen D.faults number steps.now result.result result.history.entries
+        device result.device
         ⊎ IsUnopened number result.result result.history.entries (D.seen device)
         (D.seen result.device) }
 {

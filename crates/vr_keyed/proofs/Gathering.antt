@@ -1,12 +1,12 @@
 -- Lengths that are gathered: of the records of an interval, and of what is kept for its places.
-use Rattle.std.proofs.Common.{◌≡◌, ◌≢◌, ◌⊎◌, ⊎_elim, ℕ, ◌+◌, ◌-◌, ◌*◌, ◌/◌, ◌<◌, ◌≤◌, Bool, true}
-use Rattle.std.proofs.Common.{false, List, [], ◌∷◌, ◌++◌, Option, Some, None, length, map, take}
+use Rattle.std.proofs.Common.{◌≡◌, ◌≢◌, ⊎_elim, ℕ, ◌+◌, ◌-◌, ◌≤◌, Bool, true}
+use Rattle.std.proofs.Common.{false, List, [], ◌∷◌, ◌++◌, Option, Some, None, length, map}
 use Rattle.std.proofs.Common.{drop}
 use Rattle.std.proofs.Common.{All, refl, sym, ap, subst, ◌∙◌, arith, true≢false, append_assoc}
-use Rattle.std.proofs.Common.{IsTrue}
-use Rattle.std.specs.Prelude.{cond, filter, MatchBool}
+use Rattle.std.proofs.Common.{◌&&◌}
+use Rattle.std.specs.Prelude.{cond, filter, unwrap_or, MatchBool}
 use Rattle.std.specs.List.Sorted.{IsStrictlySortedBy}
-use Rattle.std.specs.Ordering.{is_lt}
+use Rattle.std.specs.Ordering.{is_le, is_lt}
 use Rattle.std.specs.declared.cmp.Ordering.{Ordering}
 use Rattle.std.specs.declared.cmp.Ordering.TheVariants.{Less, Equal, Greater}
 use Rattle.std.proofs.lemmas.Bool.{leb-true}
@@ -27,12 +27,13 @@ use Rattle.vr_space.specs.Room.{with_lengths, lengths_in, length_at, length_by, 
 use Rattle.vr_space.specs.Keyed.{Keyed, IsKept, IsValid, key_of, placed, length_of}
 use Rattle.vr_space.specs.Keyed.{HoldsRange}
 use Rattle.vr_space.specs.Room.{have_room}
-use Rattle.vr_space.proofs.CallerLemmas.{items-read}
+use Rattle.vr_space.proofs.CallerLemmas.{items-read, above-more, in-above, in-most, in-both, in-past}
+use Rattle.vr_space.proofs.CallerLemmas.{is_past, not_past}
 use Rattle.vr_split.specs.Weights.{LengthsRoom, HasNoRoom}
 use Rattle.vr_split.proofs.CallerLemmas.{with_length-after, weight-with, weight_places}
 use Rattle.vr_split.proofs.CallerLemmas.{ArePast}
 use Rattle.vr_keyed.specs.Lent.{lengths_among, ArePlaces, HasRoomFor}
-use Rattle.vr_keyed.specs.Lent.{with_record, with_kept}
+use Rattle.vr_keyed.specs.Lent.{with_record}
 
 -- ---- the records of an interval
 
@@ -199,68 +200,164 @@ gather-full part range all old left i item before now cut fits has count bytes g
 
 -- ---- what is kept
 
--- what is kept past the last place
-abbrev pub kept_after : Option (List ℕ) → Lengths → Lengths
-kept_after last kept = filter (λ (entry : List ℕ × ℕ). is_above last entry.0) kept
+first-is : (first place : List ℕ) → Some first ≡ Some place → first ≡ place
+first-is first place is = ap (λ (o : Option (List ℕ)). unwrap_or o place) is
 
-after-places : (last : Option (List ℕ)) (kept : Lengths)
-    → filter (is_above last) (places_kept kept) ≡ places_kept (kept_after last kept)
-after-places last [] = refl
-after-places last (entry ∷ kept) = by (is_above last entry.0) (after-places last kept)
+-- what is past a place that is past the range is past it too
+past-over : (range : Range) (place other : List ℕ) → is_le (place_cmp place range.high) ≡ false
+    → place_cmp place other ≡ Less → is_le (place_cmp other range.high) ≡ false
+past-over range place other over less = by (is_le (place_cmp other range.high)) refl
   where
-    by : (b : Bool) → filter (is_above last) (places_kept kept)
-        ≡ places_kept (kept_after last kept)
-        → cond b (entry.0 ∷ filter (is_above last) (places_kept kept))
-        (filter (is_above last) (places_kept kept))
-        ≡ places_kept (cond b (entry ∷ kept_after last kept) (kept_after last kept))
+    by : (b : Bool) → is_le (place_cmp other range.high) ≡ b → b ≡ false
+    by true most = absurd (not_past other range.high most
+        (nat_list_cmp_total.trans range.high place other (is_past place range.high over) less))
+    by false most = refl
+
+-- the least of what is kept above a low place, where it is in the range too
+pub first-in : (range : Range) (kept : Lengths) (place : List ℕ)
+    → first_of (filter (is_above range.low) (places_kept kept)) ≡ Some place
+    → is_le (place_cmp place range.high) ≡ true
+    → first_of (filter (is_in range) (places_kept kept)) ≡ Some place
+first-in range [] place is most = is
+first-in range (entry ∷ kept) place is most =
+    by (is_above range.low entry.0) refl is (λ more. first-in range kept place more most)
+  where
+    above : List (List ℕ)
+    above = filter (is_above range.low) (places_kept kept)
+
+    rest : List (List ℕ)
+    rest = filter (is_in range) (places_kept kept)
+
+    by : (b : Bool) → is_above range.low entry.0 ≡ b
+        → first_of (cond b (entry.0 ∷ above) above) ≡ Some place
+        → (first_of above ≡ Some place → first_of rest ≡ Some place)
+        → first_of (cond (b && is_le (place_cmp entry.0 range.high)) (entry.0 ∷ rest) rest)
+        ≡ Some place
+    by true low same more =
+        let here : entry.0 ≡ place = first-is entry.0 place same in
+        ap (λ (b : Bool). first_of (cond b (entry.0 ∷ rest) rest))
+        (ap (λ (p : List ℕ). is_le (place_cmp p range.high)) here ∙ most) ∙ same
+    by false low same more = more same
+
+-- what is past a place that is past the range isn't in it
+none-in : (range : Range) (place : List ℕ) (kept : Lengths)
+    → is_le (place_cmp place range.high) ≡ false → ArePast place kept
+    → filter (is_in range) (places_kept kept) ≡ []
+none-in range place [] over past = refl
+none-in range place (entry ∷ kept) over past =
+    ap (λ (b : Bool). cond b (entry.0 ∷ filter (is_in range) (places_kept kept))
+    (filter (is_in range) (places_kept kept)))
+    (in-past range entry.0 (past-over range place entry.0 over past.0))
+    ∙ none-in range place kept over past.1
+
+-- where the least above the low place is past the range, none is in it
+pub none-past : (range : Range) (kept : Lengths) (place : List ℕ) → AscendLengths kept
+    → first_of (filter (is_above range.low) (places_kept kept)) ≡ Some place
+    → is_le (place_cmp place range.high) ≡ false
+    → first_of (filter (is_in range) (places_kept kept)) ≡ None
+unfolding IsStrictlySortedBy
+none-past range [] place ascend is over = refl
+none-past range (entry ∷ kept) place ascend is over =
+    by (is_above range.low entry.0) refl is (λ more. none-past range kept place ascend.1 more over)
+  where
+    above : List (List ℕ)
+    above = filter (is_above range.low) (places_kept kept)
+
+    rest : List (List ℕ)
+    rest = filter (is_in range) (places_kept kept)
+
+    by : (b : Bool) → is_above range.low entry.0 ≡ b
+        → first_of (cond b (entry.0 ∷ above) above) ≡ Some place
+        → (first_of above ≡ Some place → first_of rest ≡ None)
+        → first_of (cond (b && is_le (place_cmp entry.0 range.high)) (entry.0 ∷ rest) rest) ≡ None
+    by true low same more =
+        let here : entry.0 ≡ place = first-is entry.0 place same in
+        ap (λ (b : Bool). first_of (cond b (entry.0 ∷ rest) rest))
+        (ap (λ (p : List ℕ). is_le (place_cmp p range.high)) here ∙ over)
+        ∙ ap first_of (none-in range place kept over
+        (subst (λ (p : List ℕ). ArePast p kept) here ascend.0))
+    by false low same more = more same
+
+-- where none is above the low place, none is in the range
+pub none-above-in : (range : Range) (kept : Lengths)
+    → first_of (filter (is_above range.low) (places_kept kept)) ≡ None
+    → first_of (filter (is_in range) (places_kept kept)) ≡ None
+none-above-in range [] none = refl
+none-above-in range (entry ∷ kept) none =
+    by (is_above range.low entry.0) none (none-above-in range kept)
+  where
+    above : List (List ℕ)
+    above = filter (is_above range.low) (places_kept kept)
+
+    rest : List (List ℕ)
+    rest = filter (is_in range) (places_kept kept)
+
+    by : (b : Bool) → first_of (cond b (entry.0 ∷ above) above) ≡ None
+        → (first_of above ≡ None → first_of rest ≡ None)
+        → first_of (cond (b && is_le (place_cmp entry.0 range.high)) (entry.0 ∷ rest) rest) ≡ None
+    by true is more = absurd cc
+    by false is more = more is
+
+in-places : (range : Range) (kept : Lengths)
+    → filter (is_in range) (places_kept kept) ≡ places_kept (lengths_in range kept)
+in-places range [] = refl
+in-places range (entry ∷ kept) = by (is_in range entry.0) (in-places range kept)
+  where
+    by : (b : Bool) → filter (is_in range) (places_kept kept)
+        ≡ places_kept (lengths_in range kept)
+        → cond b (entry.0 ∷ filter (is_in range) (places_kept kept))
+        (filter (is_in range) (places_kept kept))
+        ≡ places_kept (cond b (entry ∷ lengths_in range kept) (lengths_in range kept))
     by true more = ap (λ (l : List (List ℕ)). entry.0 ∷ l) more
     by false more = more
 
--- The next place is the first of what is kept past the last one, and the others are past it.
-pub record IsNextKept (kept : Lengths) (last : Option (List ℕ)) (place : List ℕ) : Type 0 where
+-- what a range has above a place of it
+abbrev pub above_in : Range → List ℕ → Range
+above_in range place = record { low = Some place; high = range.high }
+
+-- The place is the least of what is kept for the range, and the others are above it.
+pub record IsNextKept (kept : Lengths) (range : Range) (place : List ℕ) : Type 0 where
   pub longest : ℕ
   pub there : length_at kept place ≡ Some longest
-  pub above : is_above last place ≡ true
-  pub first : kept_after last kept ≡ (place, longest) ∷ kept_after (Some place) kept
+  pub inside : is_in range place ≡ true
+  pub first : lengths_in range kept ≡ (place, longest) ∷ lengths_in (above_in range place) kept
 
-is_above_itself : (place : List ℕ) → is_above (Some place) place ≡ false
-is_above_itself place = ap is_lt (tied_itself nat_list_cmp_total place)
-
--- those past a place that is past the last one are past that
-all-after : (last : Option (List ℕ)) (place : List ℕ) (kept : Lengths)
-    → ((other : List ℕ) → place_cmp place other ≡ Less → is_above last other ≡ true)
-    → ArePast place kept → kept_after last kept ≡ kept
-all-after last place [] above past = refl
-all-after last place (entry ∷ kept) above past =
-    ap (λ (b : Bool). cond b (entry ∷ kept_after last kept) (kept_after last kept))
-    (above entry.0 past.0)
-    ∙ ap (λ (l : Lengths). entry ∷ l) (all-after last place kept above past.1)
+not-above-itself : (range : Range) (place : List ℕ) → is_in (above_in range place) place ≡ false
+not-above-itself range place = ap (λ (o : Ordering). is_lt o && is_le (place_cmp place range.high))
+    (tied_itself nat_list_cmp_total place)
 
 pub above_then : (last : Option (List ℕ)) (place : List ℕ) → is_above last place ≡ true
     → (other : List ℕ) → place_cmp place other ≡ Less → is_above last other ≡ true
-above_then None place above other less = refl
-above_then (Some low) place above other less =
-    ap is_lt (nat_list_cmp_total.trans low place other (tested (place_cmp low place) above) less)
-  where
-    tested : (o : Ordering) → is_lt o ≡ true → o ≡ Less
-    tested Less is = refl
-    tested Equal is = absurd (true≢false (sym is))
-    tested Greater is = absurd (true≢false (sym is))
+above_then last place above other less = above-more last place other above (ap is_lt less)
 
--- a place that isn't past the last one is neither past one that is, nor that one
-not_after : (last : Option (List ℕ)) (place other : List ℕ) → is_above last place ≡ true
-    → is_above last other ≡ false → is_above (Some place) other ≡ false
-not_after last place other above below = by (place_cmp place other) refl
-  where
-    by : (o : Ordering) → place_cmp place other ≡ o → is_lt o ≡ false
-    by Less is = absurd (true≢false (sym (above_then last place above other is) ∙ below))
-    by Equal is = refl
-    by Greater is = refl
+-- those past a place of the range are in it where they are in what is above the place
+all-above : (range : Range) (place : List ℕ) (kept : Lengths) → is_in range place ≡ true
+    → ArePast place kept → lengths_in range kept ≡ lengths_in (above_in range place) kept
+all-above range place [] inside past = refl
+all-above range place (entry ∷ kept) inside past =
+    ap (λ (b : Bool). cond b (entry ∷ lengths_in range kept) (lengths_in range kept))
+    (ap (λ (b : Bool). b && is_le (place_cmp entry.0 range.high))
+    (above_then range.low place (in-above range place inside) entry.0 past.0
+    ∙ sym (ap is_lt past.0)))
+    ∙ ap (λ (l : Lengths). cond (is_in (above_in range place) entry.0) (entry ∷ l) l)
+    (all-above range place kept inside past.1)
 
-not_that : (last : Option (List ℕ)) (place other : List ℕ) → is_above last place ≡ true
-    → is_above last other ≡ false → place_cmp place other ≢ Equal
-not_that last place other above below equal =
-    true≢false (sym above ∙ ap (is_above last) (same_place place other equal) ∙ below)
+-- a place that isn't in the range isn't in what is above a place of it
+not-above : (range : Range) (place other : List ℕ) → is_in range place ≡ true
+    → is_in range other ≡ false → is_in (above_in range place) other ≡ false
+not-above range place other inside out = by (is_in (above_in range place) other) refl
+  where
+    by : (b : Bool) → is_in (above_in range place) other ≡ b → b ≡ false
+    by true is = absurd (true≢false (sym (in-both range other
+        (above-more range.low place other (in-above range place inside)
+        (in-above (above_in range place) other is))
+        (in-most (above_in range place) other is)) ∙ out))
+    by false is = refl
+
+not_that : (range : Range) (place other : List ℕ) → is_in range place ≡ true
+    → is_in range other ≡ false → place_cmp place other ≢ Equal
+not_that range place other inside out equal =
+    true≢false (sym inside ∙ ap (is_in range) (same_place place other equal) ∙ out)
 
 passed : (o : Ordering) (here : ℕ) (further : Option ℕ) → o ≢ Equal
     → length_by o here further ≡ further
@@ -268,104 +365,80 @@ passed Less here further other = refl
 passed Equal here further other = absurd (other refl)
 passed Greater here further other = refl
 
-pub next-kept : (kept : Lengths) (last : Option (List ℕ)) (place : List ℕ) → AscendLengths kept
-    → first_of (filter (is_above last) (places_kept kept)) ≡ Some place
-    → IsNextKept kept last place
+pub next-kept : (kept : Lengths) (range : Range) (place : List ℕ) → AscendLengths kept
+    → first_of (filter (is_in range) (places_kept kept)) ≡ Some place
+    → IsNextKept kept range place
 unfolding IsStrictlySortedBy
-next-kept [] last place ascend is = absurd cc
-next-kept (entry ∷ kept) last place ascend is =
-    by (is_above last entry.0) refl is (λ more. next-kept kept last place ascend.1 more)
+next-kept [] range place ascend is = absurd cc
+next-kept (entry ∷ kept) range place ascend is =
+    by (is_in range entry.0) refl is (λ more. next-kept kept range place ascend.1 more)
   where
-    by : (b : Bool) → is_above last entry.0 ≡ b
-        → first_of (cond b (entry.0 ∷ filter (is_above last) (places_kept kept))
-        (filter (is_above last) (places_kept kept))) ≡ Some place
-        → (first_of (filter (is_above last) (places_kept kept)) ≡ Some place
-        → IsNextKept kept last place)
-        → IsNextKept (entry ∷ kept) last place
-    by true above same more =
-        let here : entry.0 ≡ place = ap (λ (o : Option (List ℕ)).
-        Rattle.std.proofs.Common.unwrap_or o place) same in
+    rest : Lengths
+    rest = lengths_in range kept
+
+    above : Lengths
+    above = lengths_in (above_in range place) kept
+
+    by : (b : Bool) → is_in range entry.0 ≡ b
+        → first_of (cond b (entry.0 ∷ filter (is_in range) (places_kept kept))
+        (filter (is_in range) (places_kept kept))) ≡ Some place
+        → (first_of (filter (is_in range) (places_kept kept)) ≡ Some place
+        → IsNextKept kept range place)
+        → IsNextKept (entry ∷ kept) range place
+    by true is_it same more =
+        let here : entry.0 ≡ place = first-is entry.0 place same in
+        let inside : is_in range place ≡ true = ap (is_in range) (sym here) ∙ is_it in
         let past : ArePast place kept = subst (λ (p : List ℕ). ArePast p kept) here ascend.0 in
         record {
           longest = entry.1;
           there = ap (λ (o : Ordering). length_by o entry.1 (length_at kept place))
               (ap (place_cmp place) here ∙ tied_itself nat_list_cmp_total place);
-          above = ap (is_above last) (sym here) ∙ above;
-          first = ap (λ (b : Bool). cond b (entry ∷ kept_after last kept) (kept_after last kept))
-              above
-              ∙ ap (λ (l : Lengths). entry ∷ l) (all-after last place kept
-              (above_then last place (ap (is_above last) (sym here) ∙ above)) past)
-              ∙ ap (λ (p : List ℕ). let e : List ℕ × ℕ = (p, entry.1) in e ∷ kept) here
-              ∙ ap (λ (l : Lengths). (place, entry.1) ∷ l)
-              (sym (all-after (Some place) place kept (λ other less. ap is_lt less) past))
-              ∙ ap (λ (b : Bool). (place, entry.1) ∷ cond b (entry ∷ kept_after (Some place) kept)
-              (kept_after (Some place) kept))
-              (sym (ap (is_above (Some place)) here ∙ is_above_itself place));
+          inside = inside;
+          first = ap (λ (b : Bool). cond b (entry ∷ rest) rest) is_it
+              ∙ ap (λ (l : Lengths). entry ∷ l) (all-above range place kept inside past)
+              ∙ ap (λ (p : List ℕ). let e : List ℕ × ℕ = (p, entry.1) in e ∷ above) here
+              ∙ ap (λ (b : Bool). (place, entry.1) ∷ cond b (entry ∷ above) above)
+              (sym (ap (is_in (above_in range place)) here ∙ not-above-itself range place));
         }
-    by false below same more =
-        let next : IsNextKept kept last place = more same in
+    by false out same more =
+        let next : IsNextKept kept range place = more same in
         record {
           longest = next.longest;
           there = passed (place_cmp place entry.0) entry.1 (length_at kept place)
-              (not_that last place entry.0 next.above below)
+              (not_that range place entry.0 next.inside out)
               ∙ next.there;
-          above = next.above;
-          first = ap (λ (b : Bool). cond b (entry ∷ kept_after last kept) (kept_after last kept))
-              below
+          inside = next.inside;
+          first = ap (λ (b : Bool). cond b (entry ∷ rest) rest) out
               ∙ next.first
-              ∙ ap (λ (b : Bool). (place, next.longest)
-              ∷ cond b (entry ∷ kept_after (Some place) kept) (kept_after (Some place) kept))
-              (sym (not_after last place entry.0 next.above below));
+              ∙ ap (λ (b : Bool). (place, next.longest) ∷ cond b (entry ∷ above) above)
+              (sym (not-above range place entry.0 next.inside out));
         }
 
-pub none-kept : (kept : Lengths) (last : Option (List ℕ))
-    → first_of (filter (is_above last) (places_kept kept)) ≡ None → kept_after last kept ≡ []
-none-kept kept last is =
-    empty (kept_after last kept) (ap first_of (sym (after-places last kept)) ∙ is)
+pub none-kept : (kept : Lengths) (range : Range)
+    → first_of (filter (is_in range) (places_kept kept)) ≡ None → lengths_in range kept ≡ []
+none-kept kept range is =
+    empty (lengths_in range kept) (ap first_of (sym (in-places range kept)) ∙ is)
   where
     empty : (xs : Lengths) → first_of (places_kept xs) ≡ None → xs ≡ []
     empty [] none = refl
     empty (x ∷ xs) none = absurd cc
 
--- what is gathered with what is kept past the last place is all
-abbrev pub IsAdding : Range → Lengths → Lengths → Option (List ℕ) → Lengths → Type 0
-IsAdding range all kept last lengths =
-    with_lengths lengths (lengths_in range (kept_after last kept)) ≡ all
+-- what is gathered with what is kept for the rest of a range is all
+abbrev pub IsAdding : Range → Lengths → Lengths → Lengths → Type 0
+IsAdding range all kept lengths = with_lengths lengths (lengths_in range kept) ≡ all
 
-pub adding-starts : (range : Range) (kept lengths : Lengths)
-    → IsAdding range (with_lengths lengths (lengths_in range kept)) kept None lengths
-adding-starts range kept lengths =
-    ap (λ (l : Lengths). with_lengths lengths (lengths_in range l)) (every kept)
-  where
-    every : (xs : Lengths) → kept_after None xs ≡ xs
-    every [] = refl
-    every (x ∷ xs) = ap (λ (l : Lengths). x ∷ l) (every xs)
-
-in_turn : (range : Range) (lengths rest : Lengths) (place : List ℕ) (n : ℕ)
-    → with_lengths lengths (lengths_in range ((place, n) ∷ rest))
-    ≡ with_lengths (with_kept range lengths place n) (lengths_in range rest)
-in_turn range lengths rest place n = by (is_in range place)
-  where
-    by : (b : Bool)
-        → with_lengths lengths (cond b ((place, n) ∷ lengths_in range rest) (lengths_in range rest))
-        ≡ with_lengths (cond b (with_length lengths place n) lengths) (lengths_in range rest)
-    by true = refl
-    by false = refl
-
-pub adding-more : (range : Range) (all kept lengths new : Lengths) (last : Option (List ℕ))
-    (place : List ℕ) (next : IsNextKept kept last place)
-    → new ≡ with_kept range lengths place next.longest → IsAdding range all kept last lengths
-    → IsAdding range all kept (Some place) new
-adding-more range all kept lengths new last place next added adding =
-    ap (λ (l : Lengths). with_lengths l (lengths_in range (kept_after (Some place) kept))) added
-    ∙ sym (in_turn range lengths (kept_after (Some place) kept) place next.longest)
-    ∙ ap (λ (l : Lengths). with_lengths lengths (lengths_in range l)) (sym next.first)
+pub adding-more : (range : Range) (all kept lengths new : Lengths) (place : List ℕ)
+    (next : IsNextKept kept range place) → new ≡ with_length lengths place next.longest
+    → IsAdding range all kept lengths → IsAdding (above_in range place) all kept new
+adding-more range all kept lengths new place next added adding =
+    ap (λ (l : Lengths). with_lengths l (lengths_in (above_in range place) kept)) added
+    ∙ ap (λ (l : Lengths). with_lengths lengths l) (sym next.first)
     ∙ adding
 
-pub adding-ends : (range : Range) (all kept lengths : Lengths) (last : Option (List ℕ))
-    → kept_after last kept ≡ [] → IsAdding range all kept last lengths → lengths ≡ all
-adding-ends range all kept lengths last none adding =
-    ap (λ (l : Lengths). with_lengths lengths (lengths_in range l)) (sym none) ∙ adding
+pub adding-ends : (range : Range) (all kept lengths : Lengths) → lengths_in range kept ≡ []
+    → IsAdding range all kept lengths → lengths ≡ all
+adding-ends range all kept lengths none adding =
+    ap (λ (l : Lengths). with_lengths lengths l) (sym none) ∙ adding
 
 pub weight-withs : (lengths more : Lengths) → weight lengths ≤ weight (with_lengths lengths more)
 weight-withs lengths [] = omega arith
@@ -394,12 +467,11 @@ kept-place key (entry ∷ kept) place n places is =
     by Greater which same more = more same
 
 -- where there is no room for it, there is none in the interval
-pub adding-full : (part : Keyed) (range : Range) (all kept : Lengths) (last : Option (List ℕ))
-    (place : List ℕ) (before now : LengthsRoom) → ArePlaces part.key kept
-    → IsNextKept kept last place → HasRoomFor part before → now.count ≡ before.count
-    → now.bytes ≡ before.bytes → IsAdding range all kept last now.lengths → HasNoRoom now place
-    → HaveRoom part.size all → ⊥
-adding-full part range all kept last place before now places next has count bytes adding none fits =
+pub adding-full : (part : Keyed) (range : Range) (all kept : Lengths) (place : List ℕ)
+    (before now : LengthsRoom) → ArePlaces part.key kept → IsNextKept kept range place
+    → HasRoomFor part before → now.count ≡ before.count → now.bytes ≡ before.bytes
+    → IsAdding range all kept now.lengths → HasNoRoom now place → HaveRoom part.size all → ⊥
+adding-full part range all kept place before now places next has count bytes adding none fits =
     no_more part now place now.lengths
     (record {
       count = omega (arith, has.count, count);
@@ -408,7 +480,7 @@ adding-full part range all kept last place before now places next has count byte
     (omega (
       arith,
       ap weight adding,
-      weight-withs now.lengths (lengths_in range (kept_after last kept)),
+      weight-withs now.lengths (lengths_in range kept),
       fits,
     ))
     none

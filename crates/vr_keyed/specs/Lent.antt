@@ -14,19 +14,15 @@ abbrev pub lengths_among : Keyed → Range → List ci.Item → Lengths
 lengths_among part range items =
     map length_of (filter (λ (entry : Placed). is_in range entry.0) (map (placed part) items))
 
--- the place that is lent, if there is one
-abbrev pub last_lent : Option (Bor (List ℕ)) → Option (List ℕ)
-last_lent last = option_map (λ (place : Bor (List ℕ)). place.now) last
+-- the low place that is lent, if there is one
+abbrev pub low_lent : Option (Bor (List ℕ)) → Option (List ℕ)
+low_lent low = option_map (λ (place : Bor (List ℕ)). place.now) low
 
 -- with one record more, if it is in the range
 abbrev pub with_record : Keyed → Range → Lengths → List ℕ → Lengths
 with_record part range lengths bytes =
     if is_in range (key_of part bytes)
     then with_length lengths (key_of part bytes) (length bytes) else lengths
-
--- with one that is kept more, if it is in the range
-abbrev pub with_kept : Range → Lengths → List ℕ → ℕ → Lengths
-with_kept range lengths place n = if is_in range place then with_length lengths place n else lengths
 
 -- each place has so many bytes
 abbrev pub ArePlaces : ℕ → Lengths → Type 0

@@ -23,8 +23,8 @@ ghost use Rattle.vr_space.specs.Keyed.{Keyed, HoldsRange, IsKept, IsValid, key_o
 ghost use Rattle.vr_space.specs.Part.{KeyedShape, part_no};
 ghost use Rattle.vr_split.specs.Weights.{HasNoRoom};
 ghost use Rattle.vr_space.specs.Lent.{range_lent};
-ghost use Rattle.vr_keyed.specs.Lent.{lengths_among, with_record, with_kept};
-ghost use Rattle.vr_keyed.specs.Lent.{ArePlaces, HasRoomFor, last_lent};
+ghost use Rattle.vr_keyed.specs.Lent.{lengths_among, with_record};
+ghost use Rattle.vr_keyed.specs.Lent.{ArePlaces, HasRoomFor, low_lent};
 
 use vr_ci::{CiView, Form};
 use vr_space::{Kept, Layout, LentRange, Whence, is_in};
@@ -89,39 +89,48 @@ fn add_records(
     true
 }
 
-/// The least place with a kept record past the last one.
-fn next_after<'a, K: Kept>(kept: &'a K, part: PartNo, last: Option<&Place>) -> Option<&'a Place>
+/// The least place with a kept record above the low one, where there is one.
+fn next_above<'a, K: Kept>(kept: &'a K, part: PartNo, low: Option<&[u8]>) -> Option<&'a Place>
     ensures { MatchOption result
-        (first_of (filter (is_above (last_lent last.entry)) (places_kept (K.kept kept.now part)))
+        (first_of (filter (is_above (low_lent low.entry)) (places_kept (K.kept kept.now part)))
         ≡ None)
-        (λ place. first_of (filter (is_above (last_lent last.entry))
+        (λ place. first_of (filter (is_above (low_lent low.entry))
         (places_kept (K.kept kept.now part))) ≡ Some place.now) }
 {
-    let from = match last {
+    let from = match low {
         None => Whence::Start,
-        Some(place) => Whence::After(place),
+        Some(low) => Whence::Above(low),
     };
     kept.next_kept(part, from)
 }
 
-/// Adds a place with a kept record, if it is in the range. False where there is no room.
-fn add_kept_at<K: Kept>(
-    kept: &K,
-    part: PartNo,
-    range: &LentRange<'_>,
-    place: &Place,
-    weights: &mut Weights,
-) -> bool
+/// The least place of a range with a kept record.
+fn first_kept<'a, K: Kept>(kept: &'a K, part: PartNo, range: &LentRange<'_>) -> Option<&'a Place>
+    ensures { MatchOption result
+        (first_of (filter (ranges.is_in (range_lent range.now))
+        (places_kept (K.kept kept.now part))) ≡ None)
+        (λ place. first_of (filter (ranges.is_in (range_lent range.now))
+        (places_kept (K.kept kept.now part))) ≡ Some place.now) }
+{
+    let Some(place) = next_above(kept, part, range.low) else {
+        return None;
+    };
+    if place.as_slice().cmp(range.high).is_le() {
+        Some(place)
+    } else {
+        None
+    }
+}
+
+/// Adds a place with a kept record. False where there is no room.
+fn add_kept_at<K: Kept>(kept: &K, part: PartNo, place: &Place, weights: &mut Weights) -> bool
     ensures added { (n : ℕ) → length_at (K.kept kept.now part) place.now ≡ Some n
         → MatchBool result
-        (weights.new.lengths ≡ with_kept (range_lent range.now) weights.old.lengths place.now n)
+        (weights.new.lengths ≡ with_length weights.old.lengths place.now n)
         (HasNoRoom weights.old place.now) }
     ensures count { weights.new.count ≡ weights.old.count }
     ensures bytes { weights.new.bytes ≡ weights.old.bytes }
 {
-    if !is_in(range, place.as_slice()) {
-        return true;
-    }
     match kept.longest(part, place) {
         None => false,
         Some(longest) => weights.add(place.as_slice(), longest),
@@ -135,7 +144,8 @@ fn part_of(layout: &Layout) -> PartNo
     layout.part
 }
 
-/// Adds what is kept for the places of the range. False where there is no room.
+/// Adds what is kept for the places of the range. False where there is no room. Each search for a
+/// place may go through all that is kept, so there is one for each of these places, and one more.
 fn add_kept<K: Kept>(kept: &K, part: PartNo, range: &LentRange<'_>, weights: &mut Weights) -> bool
     ensures added { (layout : Keyed) → ArePlaces layout.key (K.kept kept.now part)
         → HasRoomFor layout weights.old → MatchBool result
@@ -146,12 +156,12 @@ fn add_kept<K: Kept>(kept: &K, part: PartNo, range: &LentRange<'_>, weights: &mu
     ensures count { weights.new.count ≡ weights.old.count }
     ensures bytes { weights.new.bytes ≡ weights.old.bytes }
 {
-    let mut last = None;
-    while let Some(place) = next_after(kept, part, last) {
-        if !add_kept_at(kept, part, range, place, weights) {
+    let mut rest = *range;
+    while let Some(place) = first_kept(kept, part, &rest) {
+        if !add_kept_at(kept, part, place, weights) {
             return false;
         }
-        last = Some(place);
+        rest.low = Some(place.as_slice());
     }
     true
 }

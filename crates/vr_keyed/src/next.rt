@@ -34,6 +34,7 @@ fn is_allowed(from: Whence<'_>, place: &[u8]) -> bool
         Whence::Start => true,
         Whence::At(first) => first.as_slice().cmp(place).is_le(),
         Whence::After(last) => last.as_slice().cmp(place).is_lt(),
+        Whence::Above(low) => low.cmp(place).is_lt(),
     }
 }
 
@@ -147,6 +148,7 @@ fn start_in(layout: &Layout, top: &[u8], from: Whence<'_>) -> usize
         Whence::Start => 0,
         Whence::At(place) => start_at(layout, top, place.as_slice()),
         Whence::After(place) => start_at(layout, top, place.as_slice()),
+        Whence::Above(place) => start_at(layout, top, place),
     }
 }
 

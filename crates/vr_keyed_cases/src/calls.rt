@@ -206,7 +206,7 @@ fn say_stand(out: &mut String, stand: Stand) -> Answer {
     }
 }
 
-/// The least place with a record: of all, or `at KEY`, or `after KEY`.
+/// The least place with a record: of all, or `at KEY`, or `after KEY`, or `above KEY`, by `Above`.
 pub fn next(alloc: Global, held: &mut Held, rest: &str, out: &mut String) -> Answer {
     let mut into = empty_place(alloc, 8)?;
     next_into(alloc, held, rest, &mut into, out)
@@ -243,6 +243,7 @@ fn next_from(
     match how {
         "at" => Ok(held.next(Whence::At(&place), into)),
         "after" => Ok(held.next(Whence::After(&place), into)),
+        "above" => Ok(held.next(Whence::Above(place.as_slice()), into)),
         _ => Err(Stop::Line),
     }
 }

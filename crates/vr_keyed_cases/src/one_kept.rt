@@ -46,5 +46,6 @@ fn is_allowed(from: Whence<'_>, place: &Place) -> bool
         Whence::Start => true,
         Whence::At(least) => least.as_slice().cmp(place.as_slice()).is_le(),
         Whence::After(last) => last.as_slice().cmp(place.as_slice()).is_lt(),
+        Whence::Above(low) => low.cmp(place.as_slice()).is_lt(),
     }
 }

@@ -3,7 +3,7 @@ use Rattle.std.specs.Prelude.{ℕ, Bool, true, List, [], ◌∷◌, map, filter,
 use Rattle.std.specs.Ordering.{is_le, is_lt}
 use Rattle.vr_types.specs.Content.{place_cmp}
 use Rattle.vr_space.specs.declared.whence.Whence.{Whence}
-use Rattle.vr_space.specs.declared.whence.Whence.TheVariants.{Start, At, After}
+use Rattle.vr_space.specs.declared.whence.Whence.TheVariants.{Start, At, After, Above}
 use Rattle.vr_space.specs.Room.{Lengths}
 
 -- the place is one that the search may find
@@ -11,6 +11,7 @@ abbrev pub allows : Whence → List ℕ → Bool
 allows Start place = true
 allows (At from) place = is_le (place_cmp from.now place)
 allows (After from) place = is_lt (place_cmp from.now place)
+allows (Above low) place = is_lt (place_cmp low.now place)
 
 abbrev pub first_of : List (List ℕ) → Option (List ℕ)
 first_of [] = None

@@ -10,4 +10,6 @@ pub enum Whence<'a> {
     At(&'a Place),
     /// Past this place.
     After(&'a Place),
+    /// Past the place of these bytes, as where a range that is lent begins.
+    Above(&'a [u8]),
 }

@@ -26,7 +26,7 @@ returns-clause-ran g c =
           c.args.unit c.args.line c.args.request c.act-act.ensures.acted opening first run
           c.act-act.ensures.number c.requires.whole
           (λ going. c.act-act.ensures.moments told opening run.held (may opening run.held) going)
-          c.act-act.ensures.stopped
+          c.act-act.ensures.stopped c.act-act.ensures.whole
           (c.act-act.ensures.held told opening run.held (may opening run.held));
     }
   where

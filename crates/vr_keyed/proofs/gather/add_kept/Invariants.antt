@@ -1,20 +1,19 @@
 use Rattle.std.proofs.Common.{◌≡◌, length}
 use Rattle.vr_space.specs.Room.{lengths_in, with_lengths}
 use Rattle.vr_space.specs.Lent.{range_lent}
-use Rattle.vr_keyed.specs.Lent.{last_lent}
-use Rattle.vr_keyed.proofs.Gathering.{IsAdding, kept_after}
+use Rattle.vr_keyed.proofs.Gathering.{IsAdding}
 use Rattle.vr_keyed.proofs.gather.add_kept.Given as goal
 
 abbrev pub invariant-loop-place : goal.invariant-loop-place
 invariant-loop-place g l = record {
-  adding : IsAdding (range_lent l.range)
+  adding : IsAdding (range_lent l.rest)
       (with_lengths l.fn.weights.lengths
       (lengths_in (range_lent l.range) (g.K.Kept.kept l.kept l.part)))
-      (g.K.Kept.kept l.kept l.part) (last_lent l.last) l.weights.lengths;
+      (g.K.Kept.kept l.kept l.part) l.weights.lengths;
   count : l.weights.count ≡ l.fn.weights.count;
   bytes : l.weights.bytes ≡ l.fn.weights.bytes;
 }
 
 abbrev pub decreases-loop-place : goal.decreases-loop-place
 decreases-loop-place g l =
-    length (kept_after (last_lent l.last) (g.K.Kept.kept l.kept l.part))
+    length (lengths_in (range_lent l.rest) (g.K.Kept.kept l.kept l.part))

@@ -1,0 +1,65 @@
+-- The events of a run on a volume, one after another: what a crash leaves while each goes on, and once
+-- it is over. The rules are this project's own.
+use Rattle.std.specs.Prelude.{◌≡◌, ◌⊎◌, ◌≤◌, ℕ, List, [], ◌∷◌, ◌++◌, None, flat_map, length}
+use Rattle.vr_types.specs.Image.{Image}
+use Rattle.vr_types.specs.Moments.{Guards}
+use Rattle.vr_types.specs.Seen.{Left, Seen}
+use Rattle.vr_types.specs.declared.bound.Bound.{Bound}
+use Rattle.vr_types.specs.declared.geometry.Geometry.{Geometry}
+use Rattle.vr_types.specs.declared.unit.Unit.{Unit as UnitOfRecovery}
+use Rattle.vr_history.specs.Legal.{state_of}
+use Rattle.vr_history.specs.Merged.{request_in}
+use Rattle.vr_history.specs.State.{State}
+use Rattle.vr_history.specs.declared.entry.Entry.{Entry}
+use Rattle.vr_volume.specs.Crashes.{RecoversTo}
+use Rattle.vr_job.specs.Crash.{AreInCommit}
+
+-- An event: the blocks and the history as it began, and the entries that it made.
+pub record Event (B : Type 0) : Type 0 where
+  pub blocks : B
+  pub entries : List Entry
+  pub made : List Entry
+
+-- the requests that entries answer
+abbrev pub requests_in : List Entry → List Bound
+requests_in entries = flat_map (λ (entry : Entry). request_in 0 entry.line entry.what) entries
+
+-- While an event goes on, an image recovers to what is committed by the history before it, perhaps
+-- with the unit whose COMMIT it enters.
+pub record IsLeftWhile (geometry : Geometry) (number : ℕ) (opening : State)
+    (entries made : List Entry) (image : Image) : Type 0 where
+  pub counted : List UnitOfRecovery
+  pub commits : AreInCommit counted made
+  pub recovers : RecoversTo geometry number (state_of geometry opening entries) counted image
+
+-- As long as the volume hasn't stopped, each image that a crash may leave recovers to what is committed
+-- by its history.
+abbrev pub LeavesAtRest : {B : Type 0} → (B → Seen) → Geometry → ℕ → State → B → List Entry → Type 0
+LeavesAtRest seen geometry number opening now entries =
+    (state_of geometry opening entries).stopped ≡ None → (image : Image) → Left (seen now) image
+    → RecoversTo geometry number (state_of geometry opening entries) [] image
+
+-- An event, with the blocks and the history as it left them: it answered one request at most; it
+-- touched no block, or each image at each moment of it is as above; and it leaves the volume at rest.
+-- So once a COMMIT was answered with 0, its unit is in every image.
+pub record IsEvent {B : Type 0} (seen : B → Seen) (geometry : Geometry) (number : ℕ)
+    (opening : State) (event : Event B) (now : B) (entries : List Entry) : Type 0 where
+  pub entries_are : entries ≡ event.entries ++ event.made
+  pub once : length (requests_in event.made) ≤ 1
+  pub during : (now ≡ event.blocks) ⊎ Guards (seen event.blocks) (seen now)
+      (IsLeftWhile geometry number opening event.entries event.made)
+  pub after : LeavesAtRest seen geometry number opening now entries
+
+-- These are the events, the last one first, from these blocks and no history on.
+abbrev pub AreEvents : {B : Type 0} → (B → Seen) → Geometry → ℕ → State → B → B → List Entry
+    → List (Event B) → Type 0
+AreEvents seen geometry number opening first now entries [] = (now ≡ first) × (entries ≡ [])
+AreEvents seen geometry number opening first now entries (event ∷ earlier) =
+    IsEvent seen geometry number opening event now entries
+    × AreEvents seen geometry number opening first event.blocks event.entries earlier
+
+-- The run from these blocks on is such events.
+pub record IsOfEvents {B : Type 0} (seen : B → Seen) (geometry : Geometry) (number : ℕ)
+    (opening : State) (first now : B) (entries : List Entry) : Type 0 where
+  pub events : List (Event B)
+  pub are : AreEvents seen geometry number opening first now entries events
