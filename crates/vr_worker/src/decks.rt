@@ -1,15 +1,21 @@
 //! The decks of a step, each on a thread of its own.
-ghost use Rattle.std.specs.Prelude.{◌≡◌, ◌≤◌, All, IsErrOf, length, map};
+ghost use Rattle.std.specs.Prelude.{◌≡◌, ◌≤◌, All, IsErrOf, OnOk, length, map};
 ghost use Rattle.vr_worker.specs.Decks.{AreNew, ArePlaced, AreSince, HasAsked, HasUsedUp};
 ghost use Rattle.vr_worker.specs.Decks.{numbers_of};
 
-use crate::deck::DeckRun;
+use crate::deck::{DeckRun, Seat};
 use crate::no::RunNo;
+use crate::readying::{Ready, make_ready};
+use crate::running::run_named;
 use crate::served::Served;
 use std::alloc::Global;
+use std::marker::Brand;
 use std::sync::Wait;
 use std::thread::Threads;
 use vr_outside::Gate;
+
+/// The least stamp with which no event begins.
+const STAMP_LIMIT: u64 = 1 << 62;
 
 /// What the decks of a step leave: the volumes, in the order of their numbers, and whether all requests
 /// were answered.
@@ -17,6 +23,42 @@ use vr_outside::Gate;
 pub struct RunEnd<V: Drop> {
     pub volumes: Vec<V>,
     pub result: Result<(), RunNo>,
+}
+
+/// How the threads of decks ended: the first that wasn't done, or all were.
+fn end_of(seats: &[Seat]) -> Result<(), RunNo>
+    ensures { OnOk result (All (λ (seat : Seat). OnOkSeat seat) seats.now) }
+{
+    for seat in seats {
+        seat.end?;
+    }
+    Ok(())
+}
+
+/// Whether the last stamp of a volume leaves no room for an event.
+fn is_used_up<V: Served>(volumes: &[V]) -> bool
+    ensures { IsTrue result → HasUsedUp V.entries volumes.now }
+{
+    volumes
+        .iter()
+        .any(|volume| volume.history().last() >= STAMP_LIMIT)
+}
+
+/// An end for want of stamps, where a volume shows it.
+fn shown<V: Served>(result: Result<(), RunNo>, volumes: &[V]) -> Result<(), RunNo>
+    ensures ok { OnOk result (given ≡ Ok tt) }
+    ensures stamps { IsErrOf result RunNo.Stamps → HasUsedUp V.entries volumes.now }
+{
+    match result {
+        Err(RunNo::Stamps) => {
+            if is_used_up(volumes) {
+                Err(RunNo::Stamps)
+            } else {
+                Err(RunNo::Memory)
+            }
+        }
+        other => other,
+    }
 }
 
 /// Runs the decks of a step, each on a thread of its own where one can be made, over volumes that they
@@ -38,9 +80,8 @@ pub fn run_decks<R: Threads + Wait + Sync, V: Served + Send, G: Gate + Sync>(
     ensures stamps { IsErrOf result.result RunNo.Stamps
         → HasUsedUp V.entries result.volumes.items }
 {
-    let _ = (rt, alloc, decks, gate);
-    RunEnd {
-        volumes,
-        result: Err(RunNo::Memory),
+    match make_ready(alloc, decks, volumes.as_slice()) {
+        Err(OutOfMemory) => RunEnd { volumes, result: Err(RunNo::Memory) },
+        Ok(ready) => run_ready(rt, ready, volumes, gate),
     }
 }
