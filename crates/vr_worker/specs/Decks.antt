@@ -27,10 +27,14 @@ ArePlaced {V} number volumes = (place : ℕ) (volume : V) → place < length vol
 abbrev pub numbers_of : List DeckRun → List ℕ
 numbers_of decks = map (λ (deck : DeckRun). deck.number) decks
 
+-- each has a number of its own
+abbrev pub IsOnce : List DeckRun → Type 0
+IsOnce decks = (number : ℕ) → count_by (λ (other : ℕ). other == number) (numbers_of decks) ≤ 1
+
 -- The decks have numbers of their own, from 1 on, and entered nothing on these volumes yet.
 pub record AreNew {V : Type 0} (entries : V → List Entry) (decks : List DeckRun) (volumes : List V)
     : Type 0 where
-  pub once : (number : ℕ) → count_by (λ (other : ℕ). other == number) (numbers_of decks) ≤ 1
+  pub once : IsOnce decks
   pub own : All (λ (deck : DeckRun). (deck.number == 0) ≡ false) decks
   pub fresh : All (λ (deck : DeckRun). All (λ (volume : V).
       deck_entries deck.number (entries volume) ≡ []) volumes) decks
@@ -67,6 +71,13 @@ pub record AreLedgers {V : Type 0} (entries : V → List Entry) (volumes : List 
       → (get_or ledgers place ledger).history ≡ entries (get_or volumes place volume)
   pub outs : (place : ℕ) (ledger : LedgerNow) (deck : ℕ) → place < length volumes
       → times deck (get_or ledgers place ledger).out ≡ times deck out
+
+-- ledgers of the volumes' histories
+pub record HaveHistories {V : Type 0} (entries : V → List Entry) (volumes : List V)
+    (ledgers : List LedgerNow) : Type 0 where
+  pub count : length ledgers ≡ length volumes
+  pub histories : (place : ℕ) (ledger : LedgerNow) (volume : V) → place < length volumes
+      → (get_or ledgers place ledger).history ≡ entries (get_or volumes place volume)
 
 -- the ledgers are those that they were, with a deck's turn out at each
 pub record HaveEntered (deck : ℕ) (old new : List LedgerNow) : Type 0 where

@@ -47,3 +47,66 @@ fn run_each<R: Threads + Wait + Sync, V: Served + Send, N: Names<V> + Send + Syn
         thread::for_each_mut(rt, seats, most, &|_, seat| run_deck(rt, latches, seat, gate));
     }
 }
+
+/// A deck learns that what it knows of a volume is all that the volume's history has of it.
+fn tell_one<V: Served, N: Names<V>>(latched: &mut Latched<V, N>, place: u32, seat: &mut Seat)
+    requires turns { AreTurns N.ledgers seat.old.deck seat.old.turns.items }
+    requires within { place < length seat.old.turns.items }
+    requires place { V.number latched.old.volume ≡ place }
+    ensures told { IsToldAt place (V.entries latched.old.volume) seat.new }
+    ensures seat { IsSameSeat seat.old seat.new }
+    ensures volume { latched.new.volume ≡ latched.old.volume }
+{
+    latched.tell(&mut seat.turns[place as usize]);
+}
+
+/// Each deck learns it.
+fn tell_all<V: Served, N: Names<V>>(latched: &mut Latched<V, N>, place: u32, seats: &mut [Seat])
+    requires turns { All (λ (seat : Seat). AreTurns N.ledgers seat.deck seat.turns.items
+        × (place < length seat.turns.items)) seats.old }
+    requires place { V.number latched.old.volume ≡ place }
+    ensures told { All (IsToldAt place (V.entries latched.old.volume)) seats.new }
+    ensures seats { AreSameSeats seats.old seats.new }
+    ensures volume { latched.new.volume ≡ latched.old.volume }
+{
+    for at in 0..seats.len() {
+        tell_one(latched, place, &mut seats[at]);
+    }
+}
+
+/// The volume behind the latch at a place, once its threads have ended.
+fn take_out<R: Wait, V: Served + Send, N: Names<V>>(
+    rt: &R,
+    latch: Mutex<Latched<V, N>>,
+    place: u32,
+    seats: &mut [Seat],
+) -> V
+    requires turns { All (λ (seat : Seat). AreTurns N.ledgers seat.deck seat.turns.items
+        × (place < length seat.turns.items)) seats.old }
+    ensures place { V.number result ≡ place }
+    ensures since { IfSome (N.start place)
+        (λ (first : V). IsSince V.entries V.follows N.decks first result) }
+    ensures told { All (IsToldAt place (V.entries result)) seats.new }
+    ensures seats { AreSameSeats seats.old seats.new }
+{
+    let mut latched = latch.into_inner();
+    if latched.number() != place {
+        stay(rt);
+    }
+    tell_all(&mut latched, place, seats);
+    latched.into_volume()
+}
+
+/// The volumes behind the latches, in their order, in room that was made.
+fn take_all<R: Wait, V: Served + Send, N: Names<V>>(
+    rt: &R,
+    latches: Vec<Mutex<Latched<V, N>>>,
+    seats: &mut [Seat],
+    back: &mut Vec<V>,
+) {
+    let mut place: u32 = 0;
+    for latch in latches {
+        back.push_reserved(take_out(rt, latch, place, seats));
+        place += 1;
+    }
+}
