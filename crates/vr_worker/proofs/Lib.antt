@@ -2,3 +2,4 @@ pub mod Parts
 pub mod Runs
 pub mod Stamps
 pub mod Takings
+pub mod Turns

@@ -1,10 +1,9 @@
 -- The parts of a deck and of a volume, over entries that come one list after another.
-use Rattle.std.proofs.Common.{◌≡◌, ◌∙◌, ℕ, ◌==◌, true, false, cond, List, [], ◌++◌, map, ap, refl}
+use Rattle.std.proofs.Common.{◌≡◌, ◌∙◌, ℕ, ◌==◌, true, false, cond, List, [], ◌++◌, map, ap}
 use Rattle.std.specs.List.{filter}
 use Rattle.std.proofs.lemmas.Grind.{flat_map-append}
 use Rattle.std.proofs.lemmas.List.{map-append}
 use Rattle.std.proofs.lemmas.List.Elements.{filter-append}
-use Rattle.vr_types.specs.declared.bound.Bound.{Bound}
 use Rattle.vr_history.specs.declared.entry.Entry.{Entry}
 use Rattle.vr_history.specs.Merged.{Numbered, asked_by, part_of_deck}
 use Rattle.vr_trace.specs.Laws.{entries_on, entry_of, is_on}
@@ -33,10 +32,10 @@ on-both volume one more =
     ∙ map-append entry_of (filter (is_on volume) one) (filter (is_on volume) more)
 
 -- what was made on a volume is all on that one
-pub on-same : (volume : ℕ) (made : List Entry) → (volume == volume) ≡ true
-    → entries_on volume (map (with_volume volume) made) ≡ made
-on-same volume made same =
-    ap (map entry_of) (on_one volume volume made
+pub on-same : (volume other : ℕ) (made : List Entry) → (volume == other) ≡ true
+    → entries_on other (map (with_volume volume) made) ≡ made
+on-same volume other made same =
+    ap (map entry_of) (on_one other volume made
     ∙ ap (λ b. cond b (map (with_volume volume) made) []) same)
     ∙ entries_again volume made
 

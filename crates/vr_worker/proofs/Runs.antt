@@ -1,81 +1,52 @@
 -- A deck's requests, one after another.
-use Rattle.std.proofs.Common.{◌≡◌, ◌∙◌, ◌<◌, ◌≤◌, ◌==◌, ◌+◌, ◌×◌, ℕ, Bool, true, false, cond, zero, suc}
-use Rattle.std.proofs.Common.{List, [], ◌∷◌, ◌++◌, Result, Ok, Err, map, ap, refl, subst, sym, arith}
-use Rattle.std.proofs.Common.{append_assoc, get_or, length, min, take}
-use Rattle.std.specs.Prelude.{OnOk}
+use Rattle.std.proofs.Common.{◌≡◌, ◌∙◌, ◌<◌, ◌+◌, ℕ, zero, suc, List, [], ◌∷◌, ◌++◌}
+use Rattle.std.proofs.Common.{Result, Ok, Err, map, ap, refl, subst, sym, arith, get_or, length}
+use Rattle.std.proofs.Common.{min, take}
+use Rattle.std.specs.Prelude.{OnOk, set}
 use Rattle.std.specs.Result.{IsErrAnd}
-use Rattle.std.proofs.lemmas.List.{append-nil, map-append, take-take, take_all, length-take}
-use Rattle.atomic_table.specs.Seated.{TableId}
+use Rattle.std.proofs.lemmas.List.{map-append, take_more}
 use Rattle.vr_types.specs.declared.bound.Bound.{Bound}
-use Rattle.vr_history.specs.declared.entry.Entry.{Entry}
-use Rattle.vr_history.specs.Merged.{IsStamped, Numbered, last_stamp, part_of_deck}
+use Rattle.vr_history.specs.Merged.{IsStamped, last_stamp, part_of_deck}
 use Rattle.vr_ledger.specs.Turn.{TurnNow}
-use Rattle.vr_trace.specs.Laws.{entries_on, entry_of}
-use Rattle.vr_worker.specs.Deck.{AreTurns, HasRun, HaveGrown, with_more}
+use Rattle.vr_trace.specs.Laws.{entry_of}
+use Rattle.vr_trace.specs.Numbering.{with_volume}
+use Rattle.vr_trace.proofs.Volumes.{entries_again}
+use Rattle.vr_worker.specs.Asked.{if_done, is_ok}
+use Rattle.vr_worker.specs.Deck.{AreCalm, HasRun}
+use Rattle.vr_worker.specs.Latched.{HasTaken}
 use Rattle.vr_worker.specs.declared.no.RunNo.{RunNo}
-use Rattle.vr_worker.proofs.Parts.{on-both, part-both}
+use Rattle.vr_worker.proofs.Parts.{part-both}
 use Rattle.vr_worker.proofs.Stamps.{last_stamp-both, stamped-both}
+use Rattle.vr_worker.proofs.Turns.{grown-none, grown-one, grown-then}
 
--- ---- what the turns learned
-
--- nothing yet
-pub grown-none : (turns : List TurnNow) → HaveGrown turns turns []
-grown-none turns = record {
-  count = refl;
-  each = λ volume turn inside. ap (λ entries. record (get_or turns volume turn) {
-    entries = entries;
-  }) (sym (append-nil (get_or turns volume turn).entries));
-  within = λ volume outside. refl;
-}
-
--- of entries, and then of others
-pub grown-then : (a b c : List TurnNow) (one more : List Numbered) → HaveGrown a b one
-    → HaveGrown b c more → HaveGrown a c (one ++ more)
-grown-then a b c one more first second = record {
-  count = second.count ∙ first.count;
-  each = λ volume turn inside.
-      let old = get_or a volume turn in
-      let on_first = entries_on volume one in
-      let on_second = entries_on volume more in
-      second.each volume turn (omega (arith, first.count, inside))
-      ∙ ap (with_more on_second) (first.each volume turn inside)
-      ∙ ap (λ entries. record old { entries = entries })
-      (append_assoc old.entries on_first on_second
-      ∙ ap (λ entries. old.entries ++ entries) (sym (on-both volume one more)));
-  within = λ volume outside.
-      on-both volume one more
-      ∙ ap (λ entries. entries ++ entries_on volume more) (first.within volume outside)
-      ∙ second.within volume (omega (arith, first.count, outside));
-}
-
--- they are still the deck's, at the same ledgers
-pub turns-grown : (ledgers : ℕ → TableId) (deck : ℕ) (old new : List TurnNow)
-    (made : List Numbered) → HaveGrown old new made → AreTurns ledgers deck old
-    → AreTurns ledgers deck new
-turns-grown ledgers deck old new made grown turns volume turn inside =
-    let in_old : volume < length old = omega (arith, grown.count, inside) in
-    let same = sym (grown.each volume turn in_old) in
-    let was = turns volume turn in_old in
-    (
-      ap (λ (now : TurnNow). now.ledger) (sym same) ∙ was.0,
-      ap (λ (now : TurnNow). now.deck) (sym same) ∙ was.1,
-    )
-
--- ---- the requests so far
-
-take-both : {X : Type 0} (n : ℕ) (xs ys : List X) → take (length xs + n) (xs ++ ys) ≡ xs ++ take n ys
+-- the first of both, where the first list is among them
+take-both : {X : Type 0} (n : ℕ) (xs ys : List X)
+    → take (length xs + n) (xs ++ ys) ≡ xs ++ take n ys
 take-both n [] ys = ap (λ m. take m ys) (omega arith)
 take-both n (x ∷ xs) ys =
     let next : length (x ∷ xs) + n ≡ suc (length xs + n) = omega arith in
     ap (λ m. take m (x ∷ xs ++ ys)) next ∙ ap (λ l. x ∷ l) (take-both n xs ys)
 
+-- the first of the first
 take-within : {X : Type 0} (m n : ℕ) (xs : List X) → take m (take n xs) ≡ take (min m n) xs
-take-within zero n xs = refl
-take-within (suc m) zero xs = refl
-take-within (suc m) (suc n) [] = refl
-take-within (suc m) (suc n) (x ∷ xs) = ?
+take-within zero n xs =
+    let none : min zero n ≡ zero = omega arith in sym (ap (λ k. take k xs) none)
+take-within (suc m) zero xs =
+    let none : min (suc m) zero ≡ zero = omega arith in sym (ap (λ k. take k xs) none)
+take-within {X} (suc m) (suc n) [] =
+    let next : min (suc m) (suc n) ≡ suc (min m n) = omega arith in
+    sym (ap (λ k. take {A = X} k []) next)
+take-within (suc m) (suc n) (x ∷ xs) =
+    let next : min (suc m) (suc n) ≡ suc (min m n) = omega arith in
+    ap (λ l. x ∷ l) (take-within m n xs) ∙ sym (ap (λ k. take k (x ∷ xs)) next)
 
--- none yet
+-- these requests were answered, and no unit of the deck has begun to undo
+pub record RunsThrough (deck : ℕ) (requests : List Bound) (last last' : ℕ)
+    (old new : List TurnNow) : Type 0 where
+  pub ran : HasRun deck requests (Ok tt) last last' old new
+  pub calm : AreCalm new
+
+-- no request was asked
 pub run-none : (deck last : ℕ) (turns : List TurnNow) (requests : List Bound)
     (result : Result (Unit {0}) RunNo) → OnOk result ([] ≡ requests)
     → HasRun deck requests result last last turns turns
@@ -88,6 +59,42 @@ run-none deck last turns requests result whole = record {
   answers = refl;
   whole = whole;
 }
+
+-- one request is answered where its call is done
+abbrev answered : Result (Unit {0}) RunNo → ℕ
+answered (Ok value) = 1
+answered (Err fault) = 0
+
+-- one request, on the volume at whose place the turn is
+pub run-one : (deck last last' : ℕ) (bound : Bound) (result : Result (Unit {0}) RunNo)
+    (turns : List TurnNow) (old new : TurnNow) → bound.volume < length turns
+    → (get_or turns bound.volume old).deck ≡ deck
+    → HasTaken bound.volume bound.line bound.request (is_ok result) last last'
+    (get_or turns bound.volume old) new
+    → HasRun deck (bound ∷ []) result last last' turns (set turns bound.volume new)
+run-one deck last last' bound result turns old new at own taken = record {
+  made = map (with_volume bound.volume) taken.made;
+  turns = grown-one turns bound.volume old new taken.made at taken.turn;
+  stamped = subst (IsStamped last) (sym again) taken.stamped;
+  last_is = taken.last_is ∙ sym (ap (last_stamp last) again);
+  count = answered result;
+  answers = ap (λ own. part_of_deck own (map (with_volume bound.volume) taken.made)) (sym own)
+      ∙ taken.answers ∙ by_result result;
+  whole = all result;
+}
+  where
+    again : map entry_of (map (with_volume bound.volume) taken.made) ≡ taken.made
+    again = entries_again bound.volume taken.made
+
+    by_result : (result : Result (Unit {0}) RunNo)
+        → if_done (is_ok result) bound ≡ take (answered result) (bound ∷ [])
+    by_result (Ok value) = refl
+    by_result (Err fault) = refl
+
+    all : (result : Result (Unit {0}) RunNo)
+        → OnOk result (take (answered result) (bound ∷ []) ≡ bound ∷ [])
+    all (Ok value) = refl
+    all (Err fault) = tt
 
 -- requests, and then others
 pub run-then : (deck last mid last' : ℕ) (one more : List Bound)
@@ -122,18 +129,18 @@ run-then deck last mid last' one more result a b c first second = record {
     by_result (Err fault) all = tt
 
 -- what is owed where a call is done, isn't owed where it fails
-pub err-vacuous : (result : Result (Unit {0}) RunNo) (fault : RunNo) (P : Type 0)
+err-vacuous : (result : Result (Unit {0}) RunNo) (fault : RunNo) (P : Type 0)
     → IsErrAnd result (λ (given : RunNo). given ≡ fault) → OnOk result P
 err-vacuous (Ok value) fault P is = absurd is
 err-vacuous (Err given) fault P is = tt
 
--- where the first requests ended with an error, all did
-pub run-failed : (deck last last' n : ℕ) (requests : List Bound) (fault given : RunNo)
+-- a run that failed at the first n requests is one of all of them that failed
+pub run-failed : (deck last last' n : ℕ) (requests : List Bound) (fault : RunNo)
     (result : Result (Unit {0}) RunNo) (old new : List TurnNow)
     → IsErrAnd result (λ (given : RunNo). given ≡ fault)
-    → HasRun deck (take n requests) (Err given) last last' old new
+    → HasRun deck (take n requests) (Err fault) last last' old new
     → HasRun deck requests result last last' old new
-run-failed deck last last' n requests fault given result old new is run = record {
+run-failed deck last last' n requests fault result old new is run = record {
   made = run.made;
   turns = run.turns;
   stamped = run.stamped;
@@ -142,3 +149,9 @@ run-failed deck last last' n requests fault given result old new is run = record
   answers = run.answers ∙ take-within run.count n requests;
   whole = err-vacuous result fault (take (min run.count n) requests ≡ requests) is;
 }
+
+-- one request more
+pub one-more : (requests : List Bound) (i : ℕ) (bound : Bound) → i < length requests
+    → bound ≡ get_or requests i bound → take i requests ++ bound ∷ [] ≡ take (i + 1) requests
+one-more requests i bound inside at = ap (λ b. take i requests ++ b ∷ []) at
+    ∙ sym (take_more requests i bound inside)

@@ -1,14 +1,13 @@
 -- The events of one request, one after another.
-use Rattle.std.proofs.Common.{◌≡◌, ◌∙◌, ℕ, Bool, true, false, List, [], ◌++◌, map, ap, refl, subst}
+use Rattle.std.proofs.Common.{◌≡◌, ◌∙◌, ℕ, Bool, false, [], ◌++◌, map, ap, refl, subst}
 use Rattle.std.proofs.Common.{Result, Ok, Err, sym, append_assoc}
 use Rattle.std.specs.Result.{IsErrAnd}
 use Rattle.std.proofs.lemmas.List.{append-nil}
 use Rattle.vr_types.specs.declared.request.Request.{Request}
-use Rattle.vr_history.specs.declared.entry.Entry.{Entry}
 use Rattle.vr_history.specs.Merged.{IsStamped, last_stamp, part_of_deck}
 use Rattle.vr_ledger.specs.Turn.{TurnNow}
 use Rattle.vr_trace.specs.Numbering.{with_volume}
-use Rattle.vr_worker.specs.Asked.{MayAsk, is_done, is_ok}
+use Rattle.vr_worker.specs.Asked.{MayAsk, is_ok}
 use Rattle.vr_worker.specs.Deck.{with_more}
 use Rattle.vr_worker.specs.Latched.{HasTaken}
 use Rattle.vr_worker.specs.declared.no.RunNo.{RunNo}
@@ -50,13 +49,7 @@ taken-then volume line request done last mid last' a b c first second = record {
   goes_on = second.goes_on;
 }
 
--- an event that fails answers nothing
-pub err-done : (result : Result Bool RunNo) (fault : RunNo)
-    → IsErrAnd result (λ (given : RunNo). given ≡ fault) → is_done result ≡ false
-err-done (Ok value) fault is = absurd is
-err-done (Err given) fault is = refl
-
--- nor is a request answered where the call fails
+-- a request isn't answered where the call fails
 pub err-ok : (result : Result (Unit {0}) RunNo) (fault : RunNo)
     → IsErrAnd result (λ (given : RunNo). given ≡ fault) → is_ok result ≡ false
 err-ok (Ok value) fault is = absurd is
