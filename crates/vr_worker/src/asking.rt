@@ -51,8 +51,8 @@ fn event<R: Wait, V: Served + Send, N: Names<V>, G: Gate>(
 }
 
 /// Asks a request of the turn's deck on the volume of this number until it is answered. Each event
-/// is one hold of the volume's latch; between two of them the latch is free. Where it isn't answered,
-/// no stamps are left, or no memory.
+/// is one hold of the volume's latch; between two of them the latch is free. Where it isn't
+/// answered, no stamps are left, or no memory.
 pub fn run_request<R: Wait, V: Served + Send, N: Names<V>, G: Gate>(
     rt: &R,
     latch: &Mutex<Latched<V, N>>,
