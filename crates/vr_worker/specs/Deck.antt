@@ -1,5 +1,5 @@
 -- A deck as its thread runs it. The rules are this project's own.
-use Rattle.std.specs.Prelude.{◌≡◌, ◌<◌, ◌≤◌, ◌×◌, ℕ, List, [], ◌++◌, Result, OnOk, get_or, length, map, take, false}
+use Rattle.std.specs.Prelude.{◌≡◌, ◌<◌, ◌≤◌, ℕ, List, [], ◌++◌, Result, OnOk, get_or, length, map, take, false}
 use Rattle.atomic_table.specs.Seated.{TableId}
 use Rattle.vr_types.specs.declared.bound.Bound.{Bound}
 use Rattle.vr_history.specs.Merged.{IsStamped, Numbered, last_stamp, part_of_deck}

@@ -11,12 +11,12 @@
 
 mod asking;
 mod deck;
-mod decks;
 mod latched;
 mod no;
+mod readying;
+mod running;
 mod served;
 
 pub use deck::DeckRun;
-pub use decks::{RunEnd, run_decks};
 pub use no::RunNo;
 pub use served::Served;
