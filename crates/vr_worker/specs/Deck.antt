@@ -1,5 +1,6 @@
 -- A deck as its thread runs it. The rules are this project's own.
-use Rattle.std.specs.Prelude.{◌≡◌, ◌<◌, ◌≤◌, ℕ, List, [], ◌++◌, Result, OnOk, get_or, length, map, take, false}
+use Rattle.std.specs.Prelude.{◌≡◌, ◌<◌, ◌≤◌, ℕ, List, [], ◌++◌, Result, OnOk, get_or, length}
+use Rattle.std.specs.Prelude.{map, take, false}
 use Rattle.atomic_table.specs.Seated.{TableId}
 use Rattle.vr_types.specs.declared.bound.Bound.{Bound}
 use Rattle.vr_history.specs.Merged.{IsStamped, Numbered, last_stamp, part_of_deck}
@@ -35,9 +36,9 @@ pub record HaveGrown (old new : List TurnNow) (made : List Numbered) : Type 0 wh
       → get_or new volume turn ≡ with_more (entries_on volume made) (get_or old volume turn)
   pub within : (volume : ℕ) → length old ≤ volume → entries_on volume made ≡ []
 
--- The first of a deck's requests were answered, each once and in order: all of them, where the thread
--- is done. `made` is what the deck entered on all volumes, in the order in which it did, which is that
--- of its stamps.
+-- The first of a deck's requests were answered, each once and in order: all of them, where the
+-- thread is done. `made` is what the deck entered on all volumes, in the order in which it did,
+-- which is that of its stamps.
 pub record HasRun (deck : ℕ) (requests : List Bound) (result : Result (Unit {0}) RunNo)
     (last last' : ℕ) (old new : List TurnNow) : Type 0 where
   pub made : List Numbered

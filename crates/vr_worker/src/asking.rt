@@ -36,7 +36,8 @@ fn event<R: Wait, V: Served + Send, N: Names<V>, G: Gate>(
     requires deck { (turn.old.deck == 0) ≡ false }
     requires named { Contains N.decks turn.old.deck }
     requires may_ask { MayAsk request.now turn.old.entries }
-    ensures { HasTaken volume line request.now (is_done result) last.old last.new turn.old turn.new }
+    ensures { HasTaken volume line request.now (is_done result) last.old last.new turn.old
+        turn.new }
 {
     let mut held = latch.lock(rt);
     if held.number() != volume {
@@ -49,9 +50,9 @@ fn event<R: Wait, V: Served + Send, N: Names<V>, G: Gate>(
     held.answer(turn, last, line, request)
 }
 
-/// Asks a request of the turn's deck on the volume of this number until it is answered. Each event is
-/// one hold of the volume's latch; between two of them the latch is free. Where it isn't answered, no
-/// stamps are left, or no memory.
+/// Asks a request of the turn's deck on the volume of this number until it is answered. Each event
+/// is one hold of the volume's latch; between two of them the latch is free. Where it isn't
+/// answered, no stamps are left, or no memory.
 pub fn run_request<R: Wait, V: Served + Send, N: Names<V>, G: Gate>(
     rt: &R,
     latch: &Mutex<Latched<V, N>>,

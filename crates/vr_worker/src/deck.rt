@@ -18,8 +18,8 @@ pub struct DeckRun {
     pub requests: Vec<Bound>,
 }
 
-/// What the thread of a deck has: its requests, a turn at the ledger of each volume, its last stamp,
-/// and how it ended.
+/// What the thread of a deck has: its requests, a turn at the ledger of each volume, its last
+/// stamp, and how it ended.
 #[derive(Drop)]
 pub(crate) struct Seat {
     pub(crate) deck: u32,
@@ -29,7 +29,8 @@ pub(crate) struct Seat {
     pub(crate) end: Result<(), RunNo>,
 }
 
-/// Asks one request of a deck until it is answered.
+/// Asks one request of a deck until it is answered. Requests are bound to volumes that are there,
+/// so there is a latch and a turn at the place of each request's volume; no type says so.
 fn ask_one<R: Wait, V: Served + Send, N: Names<V>, G: Gate>(
     rt: &R,
     latches: &[Mutex<Latched<V, N>>],
@@ -50,14 +51,14 @@ fn ask_one<R: Wait, V: Served + Send, N: Names<V>, G: Gate>(
     let Some(latch) = latches.get(place) else {
         return Err(RunNo::Memory);
     };
-    let Some(turn) = turns.get_mut(place) else {
+    if place >= turns.len() {
         return Err(RunNo::Memory);
-    };
+    }
     run_request(
         rt,
         latch,
         bound.volume,
-        turn,
+        &mut turns[place],
         last,
         bound.line,
         &bound.request,
@@ -87,8 +88,8 @@ fn ask_all<R: Wait, V: Served + Send, N: Names<V>, G: Gate>(
     Ok(())
 }
 
-/// Runs a deck on the volumes behind these latches, from volume 0 on: asks its requests in order, to
-/// the end or until memory or stamps run out.
+/// Runs a deck on the volumes behind these latches, from volume 0 on: asks its requests in order,
+/// to the end or until memory or stamps run out.
 pub(crate) fn run_deck<R: Wait, V: Served + Send, N: Names<V>, G: Gate>(
     rt: &R,
     latches: &[Mutex<Latched<V, N>>],
