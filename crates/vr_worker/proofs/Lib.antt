@@ -6,3 +6,5 @@ pub mod Takings
 pub mod Turns
 pub mod Places
 pub mod Seats
+pub mod Told
+pub mod Sending

@@ -7,7 +7,7 @@ use Rattle.vr_ledger.specs.Entries.{entries_of}
 use Rattle.vr_ledger.specs.Ledger.{LedgerNow}
 use Rattle.vr_ledger.specs.Turn.{TurnNow}
 use Rattle.vr_trace.specs.Laws.{deck_entries}
-use Rattle.vr_worker.specs.Deck.{AreCalm, AreTurns, IsRunSeat}
+use Rattle.vr_worker.specs.Deck.{AreCalm, AreTurns, IsRunSeat, IsTurnAt}
 use Rattle.vr_worker.specs.Decks.{ArePlaced}
 use Rattle.vr_worker.specs.Latched.{IsSince}
 use Rattle.vr_worker.specs.declared.deck.DeckRun.{DeckRun}
@@ -83,6 +83,12 @@ pub record IsReady (tables : ℕ → TableId) (decks : List ℕ) (count : ℕ) (
   pub calm : AreCalm seat.turns.items
   pub own : (seat.deck == 0) ≡ false
   pub named : Contains decks seat.deck
+
+-- one of them
+pub record HasTurnAt (tables : ℕ → TableId) (place : ℕ) (seat : Seat) : Type 0 where
+  pub turn : (turn : TurnNow)
+      → IsTurnAt (tables place) seat.deck (get_or seat.turns.items place turn)
+  pub within : place < length seat.turns.items
 
 -- what a deck has stays
 pub record IsSameSeat (old new : Seat) : Type 0 where

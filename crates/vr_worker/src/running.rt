@@ -1,8 +1,9 @@
 //! The threads of a step of decks, from the making of the latches to the volumes that come back.
-ghost use Rattle.std.specs.Prelude.{◌≡◌, ◌<◌, ◌≤◌, [], All, AllZip, IfOk, IfSome, length};
+ghost use Rattle.std.specs.Prelude.{◌≡◌, ◌<◌, ◌≤◌, [], All, IfOk, IfSome, length};
+ghost use Rattle.std.specs.List.{AllZip};
 ghost use Rattle.std.specs.Prelude.{vec_capacity};
 ghost use Rattle.vr_worker.specs.Latched.{IsLatched, IsSince};
-ghost use Rattle.vr_worker.specs.Ready.{AreLater, AreSameSeats, AreTold, HasTurns, HaveRun};
+ghost use Rattle.vr_worker.specs.Ready.{AreLater, AreSameSeats, AreTold, HasTurnAt, HaveRun};
 ghost use Rattle.vr_worker.specs.Ready.{IsReady, IsSameSeat, IsToldAt, IsUnrun};
 
 use crate::asking::stay;
@@ -71,18 +72,37 @@ fn run_each<R: Threads + Wait + Sync, V: Served + Send, N: Names<V> + Send + Syn
 {
     let most = seats.len();
     if most > 0 {
-        thread::for_each_mut(rt, seats, most, &|_, seat| run_deck(rt, latches, seat, gate));
+        thread::for_each_mut(
+            rt,
+            seats,
+            most,
+            &|_, seat: &mut Seat|
+                requires { IsReady N.ledgers N.decks (length latches.now) seat.now }
+            { run_deck(rt, latches, seat, gate) },
+        );
     }
 }
 
 /// A deck learns that what it knows of a volume is all that the volume's history has of it.
 fn tell_one<V: Served, N: Names<V>>(latched: &mut Latched<V, N>, place: usize, seat: &mut Seat)
     requires place { V.number latched.old.volume ≡ place }
-    requires turns { HasTurns N.ledgers (length seat.old.turns.items) seat.old }
-    requires within { place < length seat.old.turns.items }
+    requires turn { HasTurnAt N.ledgers place seat.old }
     ensures told { IsToldAt place (V.entries latched.old.volume) seat.new }
     ensures seat { IsSameSeat seat.old seat.new }
     ensures volume { latched.new.volume ≡ latched.old.volume }
 {
     latched.tell(&mut seat.turns[place]);
+}
+
+/// Each deck learns it.
+fn tell_all<V: Served, N: Names<V>>(latched: &mut Latched<V, N>, place: usize, seats: &mut [Seat])
+    requires place { V.number latched.old.volume ≡ place }
+    requires turns { All (HasTurnAt N.ledgers place) seats.old }
+    ensures told { All (IsToldAt place (V.entries latched.old.volume)) seats.new }
+    ensures seats { AreSameSeats seats.old seats.new }
+    ensures volume { latched.new.volume ≡ latched.old.volume }
+{
+    for at in 0..seats.len() {
+        tell_one(latched, place, &mut seats[at]);
+    }
 }
