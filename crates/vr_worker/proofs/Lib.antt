@@ -8,3 +8,5 @@ pub mod Places
 pub mod Seats
 pub mod Told
 pub mod Sending
+pub mod Volumes
+pub mod Asks

@@ -1,5 +1,5 @@
 -- How the decks of a step get their turns.
-use Rattle.std.proofs.Common.{◌≡◌, ◌∙◌, ℕ, ◌+◌, ◌<◌, ◌≤◌, List, [], ◌∷◌, ◌++◌, All, map, refl, sym}
+use Rattle.std.proofs.Common.{◌≡◌, ◌∙◌, ℕ, ◌+◌, List, [], ◌∷◌, ◌++◌, All, map, sym}
 use Rattle.std.proofs.Common.{ap, arith, append-nil, append_assoc, map-id}
 use Rattle.std.proofs.lemmas.List.{map_push}
 use Rattle.std.proofs.lemmas.List.Elements.{All-map, All-nil, All-push, All-same, All-weaker}

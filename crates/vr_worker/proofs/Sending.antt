@@ -1,5 +1,5 @@
 -- What lies behind a latch may be sent to another thread, where the volume may.
-use denote.Param.Send.{IsSend, IsSync, sendable}
+use denote.Param.Send.{IsSend, sendable}
 use denote.RattleType.{RattleType}
 use Rattle.std.proofs.Crossing.{crosses}
 use Rattle.vr_ledger.proofs.CallerLemmas.{ledger_send}

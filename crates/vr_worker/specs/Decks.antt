@@ -1,7 +1,6 @@
 -- The decks of a step, and what they leave of the volumes. The rules are this project's own.
 use Rattle.std.specs.Prelude.{◌≡◌, ◌<◌, ◌≤◌, ◌^◌, ◌==◌, ℕ, List, [], false, All, Contains, Result}
 use Rattle.std.specs.Prelude.{OnOk, get_or, length, map, take, count_by}
-use Rattle.vr_types.specs.declared.bound.Bound.{Bound}
 use Rattle.vr_history.specs.Merged.{last_stamp, merged, part_of_deck}
 use Rattle.vr_history.specs.declared.entry.Entry.{Entry}
 use Rattle.vr_trace.specs.Laws.{deck_entries}
@@ -30,8 +29,8 @@ pub record AreNew {V : Type 0} (entries : V → List Entry) (decks : List DeckRu
   pub fresh : All (λ (deck : DeckRun). All (λ (volume : V).
       deck_entries deck.number (entries volume) ≡ []) volumes) decks
 
--- Each volume that comes back is since the one at its place: a later state of it, whose history grew by
--- entries of these decks alone.
+-- Each volume that comes back is since the one at its place: a later state of it, whose history grew
+-- by entries of these decks alone.
 pub record AreSince {V : Type 0} (entries : V → List Entry) (follows : V → V → Type 0)
     (decks : List ℕ) (old new : List V) : Type 0 where
   pub count : length new ≡ length old

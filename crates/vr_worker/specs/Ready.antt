@@ -1,6 +1,6 @@
 -- A step of decks as it is made ready, and as its threads run. The rules are this project's own.
-use Rattle.std.specs.Prelude.{◌≡◌, ◌<◌, ◌==◌, ℕ, suc, zero, List, [], ◌∷◌, ◌++◌, false, All}
-use Rattle.std.specs.Prelude.{Contains, IfSome, Option, Some, None, Err, get_or, length, map}
+use Rattle.std.specs.Prelude.{◌≡◌, ◌<◌, ◌==◌, ℕ, suc, zero, List, [], ◌∷◌, ◌++◌, false}
+use Rattle.std.specs.Prelude.{Contains, IfSome, Option, Some, None, Ok, Err, get_or, length, map}
 use Rattle.atomic_table.specs.Seated.{TableId}
 use Rattle.vr_history.specs.declared.entry.Entry.{Entry}
 use Rattle.vr_ledger.specs.Entries.{entries_of}
@@ -43,6 +43,10 @@ turn_at deck ledger = record {
 -- the thread of a deck didn't run yet
 abbrev pub IsUnrun : Seat → Type 0
 IsUnrun seat = seat.end ≡ Err Memory
+
+-- it ran, and was done
+abbrev pub IsDone : Seat → Type 0
+IsDone seat = seat.end ≡ Ok tt
 
 -- A deck before its thread begins: it has a turn at each ledger, and no request was answered.
 pub record IsBegun (ledgers : List LedgerNow) (seat : Seat) : Type 0 where

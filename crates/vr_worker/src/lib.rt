@@ -11,6 +11,7 @@
 
 mod asking;
 mod deck;
+mod decks;
 mod latched;
 mod no;
 mod readying;
@@ -18,5 +19,6 @@ mod running;
 mod served;
 
 pub use deck::DeckRun;
+pub use decks::{RunEnd, run_decks};
 pub use no::RunNo;
 pub use served::Served;

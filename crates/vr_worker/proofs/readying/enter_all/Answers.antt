@@ -1,8 +1,8 @@
-use Rattle.std.proofs.Common.{◌≡◌, ◌∙◌, ◌∷◌, ◌++◌, ◌<◌, [], List, ap, arith, get_or, length, map, sym, take}
+use Rattle.std.proofs.Common.{◌≡◌, ◌∙◌, ◌∷◌, ◌++◌, ◌<◌, [], List, ap, arith, get_or, length}
+use Rattle.std.proofs.Common.{map, sym, take}
 use Rattle.std.proofs.Math.ListN.{set}
 use Rattle.std.proofs.lemmas.List.{map_more}
 use Rattle.std.proofs.lemmas.List.Edits.{map_over_more}
-use Rattle.vr_ledger.specs.Ledger.{LedgerNow}
 use Rattle.vr_ledger.specs.Turn.{TurnNow}
 use Rattle.vr_worker.specs.Ready.{turn_at, with_out}
 use Rattle.vr_worker.proofs.Places.{not-yet}

@@ -1,4 +1,4 @@
-use Rattle.std.proofs.Common.{◌≡◌, ◌∙◌, ◌∷◌, ◌++◌, [], List, ap, refl, subst, sym}
+use Rattle.std.proofs.Common.{List, refl, subst, sym}
 use Rattle.vr_worker.specs.declared.deck.Seat.{Seat}
 use Rattle.vr_worker.proofs.Seats.{HaveSeats, all-begun, next-free, next-seated, no-seats}
 use Rattle.vr_worker.proofs.Seats.{same-histories}
