@@ -2,3 +2,4 @@ pub mod Asked
 pub mod Latched
 pub mod Deck
 pub mod Decks
+pub mod Ready

@@ -14,6 +14,8 @@ mod deck;
 mod decks;
 mod latched;
 mod no;
+mod readying;
+mod running;
 mod served;
 
 pub use deck::DeckRun;

@@ -1,9 +1,9 @@
 //! What a step of decks needs before its first thread starts.
-ghost use Rattle.std.specs.Prelude.{◌≡◌, ◌<◌, ◌≤◌, ℕ, [], IfOk, OnOk, get_or, length};
+ghost use Rattle.std.specs.Prelude.{◌≡◌, ◌∷◌, [], All, IfOk, OnOk, map};
 ghost use Rattle.vr_ledger.specs.Decks.{times};
 ghost use Rattle.vr_ledger.specs.Ledger.{LedgerNow};
-ghost use Rattle.vr_worker.specs.Decks.{AreEntered, AreLedgers, AreSameLedgers, AreSeated};
-ghost use Rattle.vr_worker.specs.Decks.{HaveEntered, IsOnce};
+ghost use Rattle.vr_worker.specs.Decks.{IsOnce};
+ghost use Rattle.vr_worker.specs.Ready.{IsBegun, IsUnused, decks_of, history_of, turn_at, with_out};
 
 use crate::deck::{DeckRun, Seat};
 use crate::no::RunNo;
@@ -21,7 +21,9 @@ pub(crate) struct Ready {
 
 /// A ledger of each volume's history.
 fn ledgers_of<V: Served>(alloc: Global, volumes: &[V]) -> Result<Vec<Ledger>, OutOfMemory>
-    ensures { IfOk result (λ ledgers. AreLedgers V.entries volumes.now [] ledgers.items) }
+    ensures histories { IfOk result (λ ledgers. map history_of ledgers.items
+        ≡ map V.entries volumes.now) }
+    ensures unused { IfOk result (λ ledgers. All IsUnused ledgers.items) }
 {
     let mut ledgers = Vec::new(alloc);
     for volume in volumes {
@@ -32,10 +34,9 @@ fn ledgers_of<V: Served>(alloc: Global, volumes: &[V]) -> Result<Vec<Ledger>, Ou
 
 /// A turn of a deck at each ledger.
 fn enter_all(alloc: Global, deck: u32, ledgers: &mut [Ledger]) -> Result<Vec<Turn>, OutOfMemory>
-    requires free { (place : ℕ) (ledger : LedgerNow) → place < length ledgers.old
-        → times deck (get_or ledgers.old place ledger).out ≡ 0 }
-    ensures turns { IfOk result (λ turns. AreEntered deck ledgers.old turns.items) }
-    ensures entered { OnOk result (HaveEntered deck ledgers.old ledgers.new) }
+    requires free { All (λ (ledger : LedgerNow). times deck ledger.out ≡ 0) ledgers.old }
+    ensures turns { IfOk result (λ turns. turns.items ≡ map (turn_at deck) ledgers.old) }
+    ensures entered { OnOk result (ledgers.new ≡ map (with_out (deck ∷ [])) ledgers.old) }
 {
     let mut turns = Vec::new(alloc);
     for place in 0..ledgers.len() {
@@ -50,11 +51,11 @@ fn seats_of(
     decks: Vec<DeckRun>,
     ledgers: &mut [Ledger],
 ) -> Result<Vec<Seat>, OutOfMemory>
-    requires none { (place : ℕ) (ledger : LedgerNow) (deck : ℕ) → place < length ledgers.old
-        → times deck (get_or ledgers.old place ledger).out ≡ 0 }
+    requires unused { All IsUnused ledgers.old }
     requires once { IsOnce decks.items }
-    ensures seats { IfOk result (λ seats. AreSeated ledgers.old decks.items seats.items) }
-    ensures same { OnOk result (AreSameLedgers ledgers.old ledgers.new) }
+    ensures decks { IfOk result (λ seats. decks_of seats.items ≡ decks.items) }
+    ensures begun { IfOk result (λ seats. All (IsBegun ledgers.new) seats.items) }
+    ensures histories { OnOk result (map history_of ledgers.new ≡ map history_of ledgers.old) }
 {
     let mut seats = Vec::new(alloc);
     for deck in decks {
@@ -77,9 +78,10 @@ pub(crate) fn make_ready<V: Served>(
     volumes: &[V],
 ) -> Result<Ready, OutOfMemory>
     requires once { IsOnce decks.items }
-    ensures seats { IfOk result (λ ready. AreSeated ready.ledgers.items decks.items
-        ready.seats.items) }
-    ensures histories { IfOk result (λ ready. HaveHistories V.entries volumes.now ready.ledgers.items) }
+    ensures decks { IfOk result (λ ready. decks_of ready.seats.items ≡ decks.items) }
+    ensures begun { IfOk result (λ ready. All (IsBegun ready.ledgers.items) ready.seats.items) }
+    ensures histories { IfOk result (λ ready. map history_of ready.ledgers.items
+        ≡ map V.entries volumes.now) }
 {
     let mut ledgers = ledgers_of(alloc, volumes)?;
     let seats = seats_of(alloc, decks, ledgers.as_mut_slice())?;

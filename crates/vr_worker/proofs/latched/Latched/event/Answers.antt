@@ -1,8 +1,7 @@
-use Rattle.std.proofs.Common.{◌≡◌, ◌∙◌, ◌<◌, ◌≤◌, ℕ, List, Option, ap, arith, subst, sym}
+use Rattle.std.proofs.Common.{◌≡◌, ◌∙◌, ℕ, List, ap, arith, subst, sym}
 use Rattle.std.specs.Prelude.{IfSome}
 use Rattle.vr_history.specs.Merged.{last_stamp}
 use Rattle.vr_history.specs.declared.entry.Entry.{Entry}
-use Rattle.vr_ledger.specs.Turn.{TurnNow}
 use Rattle.vr_trace.specs.Laws.{deck_entries}
 use Rattle.vr_worker.specs.Asked.{is_done}
 use Rattle.vr_worker.specs.Latched.{HasTaken, IsSince, LatchedNow}
@@ -49,7 +48,7 @@ returns g c =
     c.last-now.ensures ∙ ap (last_stamp 0) c.history-2.ensures in
     let last : c.if-now-before.last ≡ last_stamp c.args.last.now entered.made =
     elim c.if-now-before.branch [
-      then-now-before w ↦ w.last-is ∙ last-then (V.number old) deck c.args.line c.args.request.now
+      | then-now-before w ↦ w.last-is ∙ last-then (V.number old) deck c.args.line c.args.request.now
           c.args.last.now done (V.entries old) (V.entries new) entered c.last-before.result
           c.last-now.result before now (omega (arith, w.if-now-before.true))
       | else-now-before w ↦ w.last-is ∙ last-else (V.number old) deck c.args.line
