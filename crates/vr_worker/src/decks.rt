@@ -1,5 +1,5 @@
 //! The decks of a step, each on a thread of its own.
-ghost use Rattle.std.specs.Prelude.{◌≡◌, ◌≤◌, ◌^◌, All, IsErrOf, IsTrue, Ok, OnOk, length, map};
+ghost use Rattle.std.specs.Prelude.{◌≡◌, ◌^◌, All, IsErrOf, IsTrue, Ok, OnOk, map};
 ghost use Rattle.vr_worker.specs.Decks.{AreNew, ArePlaced, AreSince, HasAsked, HasUsedUp};
 ghost use Rattle.vr_worker.specs.Decks.{numbers_of};
 ghost use Rattle.vr_worker.specs.Ready.{IsBegun, IsDone, decks_of, history_of};
@@ -105,7 +105,6 @@ pub fn run_decks<R: Threads + Wait + Sync, V: Served + Send, G: Gate + Sync>(
     gate: &G,
 ) -> RunEnd<V>
     requires placed { ArePlaced V.number volumes.items }
-    requires few { length volumes.items ≤ 16 }
     requires decks { AreNew V.entries decks.items volumes.items }
     ensures placed { ArePlaced V.number result.volumes.items }
     ensures since { AreSince V.entries V.follows (numbers_of decks.items) volumes.items
