@@ -1,5 +1,5 @@
 -- What one event of a deck's request adds to the history of a volume. The rules are this project's own.
-use Rattle.std.specs.Prelude.{◌≡◌, ◌⊎◌, ◌==◌, ℕ, Bool, true, false, cond, IsTrue, List, [], ◌∷◌}
+use Rattle.std.specs.Prelude.{◌≡◌, ◌⊎◌, ℕ, Bool, true, false, cond, IsTrue, List, [], ◌∷◌}
 use Rattle.std.specs.Prelude.{◌++◌, All, Result, Ok, Err, map, max}
 use Rattle.vr_types.specs.declared.bound.Bound.{Bound}
 use Rattle.vr_types.specs.declared.request.Request.{Request}

@@ -1,6 +1,6 @@
 -- What lies behind a latch while the decks of a step run, and what is known of it whenever the latch is
 -- free. The rules are this project's own.
-use Rattle.std.specs.Prelude.{◌≡◌, ℕ, Bool, List, [], ◌++◌, All, Contains, IfSome, Option, map}
+use Rattle.std.specs.Prelude.{◌≡◌, ℕ, Bool, List, ◌++◌, All, Contains, IfSome, Option, map}
 use Rattle.atomic_table.specs.Seated.{TableId}
 use Rattle.vr_types.specs.declared.request.Request.{Request}
 use Rattle.vr_history.specs.Merged.{IsStamped, last_stamp, part_of_deck}
