@@ -8,6 +8,7 @@
 #![tactic(auto)]
 
 mod file_source;
+mod gate;
 mod laws;
 mod memory_sink;
 mod memory_source;
@@ -19,6 +20,7 @@ mod steady;
 mod whole;
 
 pub use file_source::FileSource;
+pub use gate::{Gate, OpenGate, Spot};
 pub use laws::{reads_end, reads_join, takes_join};
 pub use memory_sink::MemorySink;
 pub use memory_source::MemorySource;

@@ -1,0 +1,212 @@
+-- What the decks of a step asked, by the volumes that come back.
+use Rattle.std.proofs.Common.{◌≡◌, ◌∙◌, ◌<◌, ◌==◌, ℕ, List, [], ◌∷◌, ◌++◌, All, Result, Ok, Err}
+use Rattle.std.proofs.Common.{ap, arith, false, inl, inr, get_or, length, map, subst, sym, take}
+use Rattle.std.specs.Prelude.{Contains, OnOk}
+use Rattle.std.proofs.lemmas.Bool.{cases_lt}
+use Rattle.std.proofs.lemmas.List.{get_or-map, get_or_past, length-map}
+use Rattle.std.proofs.lemmas.List.Elements.{All-map, Contains-get_or}
+use Rattle.vr_history.specs.Merged.{IsStamped, Numbered, merged, part_of_deck}
+use Rattle.vr_history.specs.declared.entry.Entry.{Entry}
+use Rattle.vr_ledger.specs.Ledger.{LedgerNow}
+use Rattle.vr_ledger.specs.Turn.{TurnNow}
+use Rattle.vr_trace.proofs.CallerLemmas.{deck_asked}
+use Rattle.vr_trace.proofs.Volumes.{requests_of_deck}
+use Rattle.vr_trace.specs.Laws.{deck_entries, entries_on, entry_of, history_at}
+use Rattle.vr_worker.specs.Asked.{undoes}
+use Rattle.vr_worker.specs.Deck.{IsRunSeat}
+use Rattle.vr_worker.specs.Decks.{AreNew, HasAsked, numbers_of}
+use Rattle.vr_worker.specs.Ready.{AreTold, IsBegun, IsDone, IsReady, IsToldAt, deck_of, decks_of}
+use Rattle.vr_worker.specs.Ready.{HaveRun, history_of, table_at, turn_at}
+use Rattle.vr_worker.specs.declared.deck.DeckRun.{DeckRun}
+use Rattle.vr_worker.specs.declared.deck.Seat.{Seat}
+use Rattle.vr_worker.specs.declared.no.RunNo.{RunNo}
+use Rattle.vr_worker.specs.declared.no.RunNo.TheVariants.{Memory}
+use Rattle.vr_worker.proofs.Places.{all-unmapped}
+use Rattle.vr_worker.proofs.Volumes.{as-many, history-there, table-there}
+
+-- where the whole was done, each part of it was
+pub ok-through : (result end : Result (Unit {0}) RunNo) (P : Type 0) → OnOk result (end ≡ Ok tt)
+    → OnOk end P → OnOk result P
+ok-through (Ok value) end P done has =
+    subst (λ (it : Result (Unit {0}) RunNo). OnOk it P) done has
+ok-through (Err fault) end P done has = tt
+
+ok-map : (result : Result (Unit {0}) RunNo) (P Q : Type 0) → (P → Q) → OnOk result P → OnOk result Q
+ok-map (Ok value) P Q step has = step has
+ok-map (Err fault) P Q step has = tt
+
+-- a deck entered nothing on volumes, nor where there is none
+fresh-at : {V : Type 0} (entries : V → List Entry) (volumes : List V) (deck : ℕ)
+    → All (λ (volume : V). deck_entries deck (entries volume) ≡ []) volumes → (volume : ℕ)
+    → deck_entries deck (history_at (map entries volumes) volume) ≡ []
+fresh-at entries volumes deck fresh volume = elim (cases_lt volume (length (map entries volumes))) [
+  | inl near ↦ All-map (λ (history : List Entry). deck_entries deck history ≡ []) entries volumes
+      fresh volume [] near
+  | inr far ↦ ap (deck_entries deck) (get_or_past (map entries volumes) volume [] far)
+]
+
+-- a deck's part of the merged history is what it entered, whose stamps rise, and which is all that
+-- each volume has of it
+asked-by : (deck : ℕ) (histories : List (List Entry)) (made : List Numbered)
+    → IsStamped 0 (map entry_of made)
+    → ((volume : ℕ) → entries_on volume made ≡ deck_entries deck (history_at histories volume))
+    → part_of_deck deck (merged histories) ≡ part_of_deck deck made
+asked-by deck histories made rising each = requests_of_deck deck (merged histories)
+    ∙ ap (part_of_deck deck) (deck_asked deck histories made rising each)
+
+-- nothing, where it entered nothing
+pub none-asked : {V : Type 0} (entries : V → List Entry) (volumes : List V) (deck : DeckRun)
+    → All (λ (volume : V). deck_entries deck.number (entries volume) ≡ []) volumes
+    → HasAsked (Err Memory) (map entries volumes) deck
+none-asked entries volumes deck fresh = record {
+  count = 0;
+  asked = asked-by deck.number (map entries volumes) [] tt
+      (λ volume. sym (fresh-at entries volumes deck.number fresh volume));
+  whole = tt;
+}
+
+told-at : {V : Type 0} (entries : V → List Entry) (volumes : List V) (seat : Seat)
+    → AreTold entries volumes seat → (place : ℕ) → place < length volumes
+    → IsToldAt place (history_at (map entries volumes) place) seat
+told-at entries [] seat told place near = absurd (omega (arith, near))
+told-at entries (volume ∷ volumes) seat told place near =
+    subst (λ (history : List Entry). IsToldAt place history seat)
+    (sym (get_or-map entries (volume ∷ volumes) place volume [] near)) (told place volume near)
+
+-- some turn, and some ledger
+no-turn : TurnNow
+no-turn = record { deck = 0; ledger = table_at [] 0; entries = [] }
+
+no-ledger : LedgerNow
+no-ledger = record { table = table_at [] 0; history = []; out = [] }
+
+module _ {V : Type 0} (entries : V → List Entry) (volumes : List V) (ledgers : List LedgerNow)
+    (same : map history_of ledgers ≡ map entries volumes) where
+  -- ---- as a deck begins
+
+  module _ (seat : Seat) (begun : IsBegun ledgers seat) where
+    pub turns-many : length seat.turns.items ≡ length volumes
+    turns-many = ap (λ (turns : List TurnNow). length turns) begun.turns
+        ∙ length-map ledgers (turn_at seat.deck) ∙ as-many entries volumes ledgers same
+
+    turn-there : (place : ℕ) (turn : TurnNow) (ledger : LedgerNow) → place < length volumes
+        → get_or seat.turns.items place turn ≡ turn_at seat.deck (get_or ledgers place ledger)
+    turn-there place turn ledger near =
+        ap (λ (turns : List TurnNow). get_or turns place turn) begun.turns
+        ∙ get_or-map (turn_at seat.deck) ledgers place ledger turn
+        (omega (arith, as-many entries volumes ledgers same, near))
+
+    -- what it knows of each volume is all that the history has of it
+    pub first-told : AreTold entries volumes seat
+    first-told place volume near turn =
+        ap (λ (it : TurnNow). it.entries) (turn-there place turn no-ledger near)
+        ∙ ap (deck_entries seat.deck)
+        (history-there entries volumes ledgers same place no-ledger volume near)
+
+    -- which is nothing, where it is new
+    pub first-none : All (λ (volume : V). deck_entries seat.deck (entries volume) ≡ []) volumes
+        → (place : ℕ) (turn : TurnNow) → place < length volumes
+        → (get_or seat.turns.items place turn).entries ≡ []
+    first-none fresh place turn near = told-at entries volumes seat first-told place near turn
+        ∙ fresh-at entries volumes seat.deck fresh place
+
+    -- so it may run
+    pub first-ready : (decks : List ℕ)
+        → All (λ (volume : V). deck_entries seat.deck (entries volume) ≡ []) volumes
+        → (seat.deck == 0) ≡ false → Contains decks seat.deck
+        → IsReady (table_at ledgers) decks (length volumes) seat
+    first-ready decks fresh own named = record {
+      turns = record {
+        turns = λ place turn near.
+            let within : place < length volumes = omega (arith, turns-many, near) in
+            let it = turn-there place turn no-ledger within in (
+              ap (λ (it : TurnNow). it.ledger) it
+                  ∙ table-there ledgers place no-ledger
+                  (omega (arith, as-many entries volumes ledgers same, within)),
+              ap (λ (it : TurnNow). it.deck) it,
+            );
+        many = turns-many;
+      };
+      calm = λ place turn near.
+          ap undoes (first-none fresh place turn (omega (arith, turns-many, near)));
+      own = own;
+      named = named;
+    }
+
+  -- ---- as it ends
+
+  module _ (old new : Seat) (begun : IsBegun ledgers old) (run : IsRunSeat old new)
+      (fresh : All (λ (volume : V). deck_entries old.deck (entries volume) ≡ []) volumes)
+      (result : List V) (count : length result ≡ length volumes)
+      (told : AreTold entries result new) where
+    made-on : (volume : ℕ)
+        → entries_on volume run.ran.made
+        ≡ deck_entries old.deck (history_at (map entries result) volume)
+    made-on volume = elim (cases_lt volume (length volumes)) [
+      | inl near ↦
+          let within : volume < length old.turns.items =
+          omega (arith, turns-many old begun, near) in
+          sym (ap (λ (it : TurnNow). it.entries) (run.ran.turns.each volume no-turn within)
+          ∙ ap (λ (them : List Entry). them ++ entries_on volume run.ran.made)
+          (first-none old begun fresh volume no-turn near))
+          ∙ told-at entries result new told volume (omega (arith, count, near)) no-turn
+          ∙ ap (λ (deck : ℕ). deck_entries deck (history_at (map entries result) volume)) run.deck
+      | inr far ↦ run.ran.turns.within volume (omega (arith, turns-many old begun, far))
+          ∙ sym (ap (deck_entries old.deck) (get_or_past (map entries result) volume []
+          (omega (arith, length-map result entries, count, far))))
+    ]
+
+    pub has-asked : (end : Result (Unit {0}) RunNo) → OnOk end (IsDone new)
+        → HasAsked end (map entries result) (deck_of old)
+    has-asked end done = record {
+      count = run.ran.count;
+      asked = asked-by old.deck (map entries result) run.ran.made
+          (subst (λ (last : ℕ). IsStamped last (map entry_of run.ran.made)) begun.last
+          run.ran.stamped) made-on ∙ run.ran.answers;
+      whole = ok-through end new.end (take run.ran.count old.requests.items ≡ old.requests.items)
+          done run.ran.whole;
+    }
+
+-- ---- all decks
+
+module _ {V : Type 0} (entries : V → List Entry) (volumes : List V) (ledgers : List LedgerNow)
+    (same : map history_of ledgers ≡ map entries volumes) (seats : List Seat)
+    (begun : All (IsBegun ledgers) seats) (are-new : AreNew entries (decks_of seats) volumes) where
+  fresh-seat : All (λ (seat : Seat). All (λ (volume : V).
+      deck_entries seat.deck (entries volume) ≡ []) volumes) seats
+  fresh-seat = all-unmapped deck_of (λ (deck : DeckRun). All (λ (volume : V).
+      deck_entries deck.number (entries volume) ≡ []) volumes) seats are-new.fresh
+
+  named-seat : (k : ℕ) (seat : Seat) → k < length seats
+      → Contains (numbers_of (decks_of seats)) (get_or seats k seat).deck
+  named-seat k seat near = subst (Contains (numbers_of (decks_of seats)))
+      (get_or-map (λ (deck : DeckRun). deck.number) (decks_of seats) k (deck_of seat) 0 within
+      ∙ ap (λ (deck : DeckRun). deck.number) (get_or-map deck_of seats k seat (deck_of seat) near))
+      (Contains-get_or (numbers_of (decks_of seats)) k 0
+      (omega (arith, length-map (decks_of seats) (λ (deck : DeckRun). deck.number), within)))
+    where
+      within : k < length (decks_of seats)
+      within = omega (arith, length-map seats deck_of, near)
+
+  pub all-ready : All (IsReady (table_at ledgers) (numbers_of (decks_of seats)) (length volumes))
+      seats
+  all-ready k seat near = first-ready entries volumes ledgers same (get_or seats k seat)
+      (begun k seat near) (numbers_of (decks_of seats)) (fresh-seat k seat near)
+      (all-unmapped deck_of (λ (deck : DeckRun). (deck.number == 0) ≡ false) seats are-new.own k
+      seat near) (named-seat k seat near)
+
+  pub all-told : All (AreTold entries volumes) seats
+  all-told k seat near = first-told entries volumes ledgers same (get_or seats k seat)
+      (begun k seat near)
+
+  pub all-asked : (new : List Seat) (result : List V) (end given : Result (Unit {0}) RunNo)
+      → HaveRun seats new → length result ≡ length volumes → All (AreTold entries result) new
+      → OnOk end (given ≡ Ok tt) → OnOk given (All IsDone new)
+      → All (HasAsked end (map entries result)) (decks_of seats)
+  all-asked new result end given ran count told done ends = All-map
+      (HasAsked end (map entries result)) deck_of seats (λ k seat near.
+      let inside : k < length new = omega (arith, ran.count, near) in
+      has-asked entries volumes ledgers same (get_or seats k seat) (get_or new k seat)
+      (begun k seat near) (ran.each k seat near) (fresh-seat k seat near) result count
+      (told k seat inside) end (ok-map end (All IsDone new) (IsDone (get_or new k seat))
+      (λ all. all k seat inside) (ok-through end given (All IsDone new) done ends)))

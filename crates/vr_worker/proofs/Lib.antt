@@ -1,0 +1,12 @@
+pub mod Taken
+pub mod Parts
+pub mod Runs
+pub mod Stamps
+pub mod Takings
+pub mod Turns
+pub mod Places
+pub mod Seats
+pub mod Told
+pub mod Sending
+pub mod Volumes
+pub mod Asks

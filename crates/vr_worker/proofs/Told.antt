@@ -1,0 +1,88 @@
+-- What decks have once their threads have ended, and what they learn of the volumes then.
+use Rattle.std.proofs.Common.{◌≡◌, ◌∙◌, ◌<◌, ◌++◌, ◌∷◌, ℕ, List, [], All, ap, arith, get_or, length}
+use Rattle.std.proofs.Common.{refl, subst, sym}
+use Rattle.std.specs.Prelude.{OnOk, Result}
+use Rattle.atomic_table.specs.Seated.{TableId}
+use Rattle.vr_history.specs.declared.entry.Entry.{Entry}
+use Rattle.vr_ledger.specs.Turn.{TurnNow}
+use Rattle.vr_trace.specs.Laws.{deck_entries}
+use Rattle.vr_worker.specs.Ready.{AreSameSeats, AreTold, HasTurnAt, HasTurns, HaveRun}
+use Rattle.vr_worker.specs.Ready.{IsSameSeat, IsToldAt, IsUnrun}
+use Rattle.vr_worker.specs.declared.deck.Seat.{Seat}
+use Rattle.vr_worker.specs.declared.no.RunNo.{RunNo}
+use Rattle.vr_worker.proofs.Places.{at-push}
+use Rattle.vr_worker.proofs.Runs.{run-none}
+
+-- what decks have stays, and stays
+same-then : {a b c : Seat} → IsSameSeat a b → IsSameSeat b c → IsSameSeat a c
+same-then first second = record {
+  deck = second.deck ∙ first.deck;
+  requests = second.requests ∙ first.requests;
+  turns = second.turns ∙ first.turns;
+  last = second.last ∙ first.last;
+  end = second.end ∙ first.end;
+}
+
+pub all-same-then : {a b c : List Seat} → AreSameSeats a b → AreSameSeats b c → AreSameSeats a c
+all-same-then first second = record {
+  count = second.count ∙ first.count;
+  each = λ place seat near. same-then (first.each place seat near)
+      (second.each place seat (omega (arith, first.count)));
+}
+
+told-stays : (place : ℕ) (entries : List Entry) {old new : Seat} → IsSameSeat old new
+    → IsToldAt place entries old → IsToldAt place entries new
+told-stays place entries {old = old} {new = new} same told = λ turn.
+    ap (λ (turns : List TurnNow). (get_or turns place turn).entries) same.turns ∙ told turn
+    ∙ ap (λ (deck : ℕ). deck_entries deck entries) (sym same.deck)
+
+-- a deck has the same turn
+turn-stays : (tables : ℕ → TableId) (place : ℕ) {old new : Seat} → IsSameSeat old new
+    → HasTurnAt tables place old → HasTurnAt tables place new
+turn-stays tables place {old = old} {new = new} same has = record {
+  turn = λ turn. (
+    ap (λ (turns : List TurnNow). (get_or turns place turn).ledger) same.turns
+        ∙ (has.turn turn).0,
+    ap (λ (turns : List TurnNow). (get_or turns place turn).deck) same.turns ∙ (has.turn turn).1
+        ∙ sym same.deck,
+  );
+  within = omega (arith, ap (λ (turns : List TurnNow). length turns) same.turns, has.within);
+}
+
+-- and each has one at each place
+pub turns-at : (tables : ℕ → TableId) (count place : ℕ) {first now : List Seat} → place < count
+    → AreSameSeats first now → All (HasTurns tables count) first
+    → All (HasTurnAt tables place) now
+turns-at tables count place {first = first} {now = now} inside same has = λ k seat near.
+    let within : k < length first = omega (arith, same.count, near) in
+    let had = has k seat within in
+    turn-stays tables place (same.each k seat within) (record {
+      turn = λ turn. had.turns place turn (omega (arith, had.many, inside));
+      within = omega (arith, had.many, inside);
+    })
+
+-- where no thread ran, each deck ran as far as that
+pub none-ran : (seats : List Seat) → All IsUnrun seats → HaveRun seats seats
+none-ran seats unrun = record {
+  count = refl;
+  each = λ place seat near.
+      let it = get_or seats place seat in record {
+        deck = refl;
+        requests = refl;
+        ran = run-none it.deck it.last it.turns.items it.requests.items it.end
+            (subst (λ (end : Result (Unit {0}) RunNo).
+            OnOk end ([] ≡ it.requests.items)) (sym (unrun place seat near)) tt);
+      };
+}
+
+-- each deck knows one more volume
+pub told-more : {V : Type 0} (entries : V → List Entry) (volumes : List V) (volume : V)
+    {old new : List Seat} → AreSameSeats old new → All (AreTold entries volumes) old
+    → All (IsToldAt (length volumes) (entries volume)) new
+    → All (AreTold entries (volumes ++ volume ∷ [])) new
+told-more entries volumes volume {old = old} {new = new} same told more = λ k seat near.
+    let inside : k < length old = omega (arith, same.count, near) in
+    at-push (λ place it. IsToldAt place (entries it) (get_or new k seat)) volumes volume
+    (λ place it within. told-stays place (entries (get_or volumes place it))
+    (same.each k seat inside) (told k seat inside place it within))
+    (more k seat near)

@@ -1,0 +1,15 @@
+use Rattle.std.proofs.Common.{get_or}
+use Rattle.vr_worker.proofs.Asks.{none-asked}
+use Rattle.vr_worker.proofs.Volumes.{since-themselves}
+use Rattle.vr_worker.specs.Decks.{numbers_of}
+use Rattle.vr_worker.proofs.decks.run_decks.Goals as goal
+
+pub returns-in-Err-clause-since : goal.returns-in-Err-clause-since
+returns-in-Err-clause-since g c =
+    let V = g.V.Served in
+    since-themselves V.number V.entries V.follows V.stays (numbers_of c.args.decks.items)
+    c.args.volumes.items c.requires.placed
+
+pub returns-in-Err-clause-asked : goal.returns-in-Err-clause-asked
+returns-in-Err-clause-asked g c = λ k deck near. none-asked g.V.Served.entries
+    c.args.volumes.items (get_or c.args.decks.items k deck) (c.requires.decks.fresh k deck near)

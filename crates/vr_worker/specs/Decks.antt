@@ -1,0 +1,52 @@
+-- The decks of a step, and what they leave of the volumes. The rules are this project's own.
+use Rattle.std.specs.Prelude.{◌≡◌, ◌<◌, ◌≤◌, ◌^◌, ◌==◌, ℕ, List, [], false, All, Contains, Result}
+use Rattle.std.specs.Prelude.{OnOk, get_or, length, map, take, count_by}
+use Rattle.vr_history.specs.Merged.{last_stamp, merged, part_of_deck}
+use Rattle.vr_history.specs.declared.entry.Entry.{Entry}
+use Rattle.vr_trace.specs.Laws.{deck_entries}
+use Rattle.vr_worker.specs.Latched.{IsSince}
+use Rattle.vr_worker.specs.declared.deck.DeckRun.{DeckRun}
+use Rattle.vr_worker.specs.declared.no.RunNo.{RunNo}
+
+-- the volume at each place has the number of the place
+abbrev pub ArePlaced : {V : Type 0} → (V → ℕ) → List V → Type 0
+ArePlaced {V} number volumes = (place : ℕ) (volume : V) → place < length volumes
+    → number (get_or volumes place volume) ≡ place
+
+-- the numbers of decks
+abbrev pub numbers_of : List DeckRun → List ℕ
+numbers_of decks = map (λ (deck : DeckRun). deck.number) decks
+
+-- each has a number of its own
+abbrev pub IsOnce : List DeckRun → Type 0
+IsOnce decks = (number : ℕ) → count_by (λ (other : ℕ). other == number) (numbers_of decks) ≤ 1
+
+-- The decks have numbers of their own, from 1 on, and entered nothing on these volumes yet.
+pub record AreNew {V : Type 0} (entries : V → List Entry) (decks : List DeckRun) (volumes : List V)
+    : Type 0 where
+  pub once : IsOnce decks
+  pub own : All (λ (deck : DeckRun). (deck.number == 0) ≡ false) decks
+  pub fresh : All (λ (deck : DeckRun). All (λ (volume : V).
+      deck_entries deck.number (entries volume) ≡ []) volumes) decks
+
+-- Each volume that comes back is since the one at its place: a later state of it, whose history grew
+-- by entries of these decks alone.
+pub record AreSince {V : Type 0} (entries : V → List Entry) (follows : V → V → Type 0)
+    (decks : List ℕ) (old new : List V) : Type 0 where
+  pub count : length new ≡ length old
+  pub each : (place : ℕ) (volume : V) → place < length old
+      → IsSince entries follows decks (get_or old place volume) (get_or new place volume)
+
+-- A deck's part of the merged history of the volumes is the first of its requests, each once and in
+-- order: all of them, where the step is done.
+pub record HasAsked (result : Result (Unit {0}) RunNo) (histories : List (List Entry))
+    (deck : DeckRun) : Type 0 where
+  pub count : ℕ
+  pub asked : part_of_deck deck.number (merged histories) ≡ take count deck.requests.items
+  pub whole : OnOk result (take count deck.requests.items ≡ deck.requests.items)
+
+-- the last stamp of one of the volumes is 2^62 or more
+pub record HasUsedUp {V : Type 0} (entries : V → List Entry) (volumes : List V) : Type 0 where
+  pub volume : V
+  pub one : Contains volumes volume
+  pub stamp : 2 ^ 62 ≤ last_stamp 0 (entries volume)

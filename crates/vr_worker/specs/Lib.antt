@@ -1,0 +1,5 @@
+pub mod Asked
+pub mod Latched
+pub mod Deck
+pub mod Decks
+pub mod Ready

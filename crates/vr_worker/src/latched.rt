@@ -1,0 +1,146 @@
+//! What lies behind the latch of a volume while the decks of a step run.
+ghost use Rattle.std.specs.Prelude.{◌≡◌, ◌==◌, ℕ, List, Option, Contains, IfSome, Some, false};
+ghost use Rattle.std.specs.Prelude.{None, []};
+ghost use Rattle.atomic_table.specs.Seated.{TableId};
+ghost use Rattle.vr_trace.specs.Laws.{deck_entries};
+ghost use Rattle.vr_worker.specs.Asked.{MayAsk, is_done};
+ghost use Rattle.vr_worker.specs.Latched.{HasTaken, IsLatched, IsSince};
+
+use crate::no::RunNo;
+use crate::served::Served;
+use std::marker::{Brand, Model, PhantomData};
+use vr_ledger::{Ledger, Turn};
+use vr_types::SharedRequest;
+
+/// What a step knows of each volume by its number: the volume as the step began, and its ledger; and
+/// the decks of the step. One call fixes it.
+pub trait Names<V> {
+    ghost start: { ℕ → Option V };
+
+    ghost ledgers: { ℕ → TableId };
+
+    ghost decks: { List ℕ };
+}
+
+impl<V> Names<V> for Brand {
+    ghost start = { λ number. None };
+
+    ghost ledgers = { λ number. record {
+      words = 0;
+      slots = 0;
+      views_name = 0;
+      atom = 0;
+      block = 0;
+      offset = 0;
+      slot_names = [];
+    } };
+
+    ghost decks = { [] };
+}
+
+/// A volume with its ledger, of which a step knows by its number what it was.
+#[derive(Drop)]
+pub struct Latched<V: Served, N: Names<V>> {
+    volume: V,
+    ledger: Ledger,
+    of: PhantomData<N>,
+}
+
+impl<V: Served, N: Names<V>> Model for Latched<V, N> {
+    ghost use Rattle.vr_worker.specs.Latched.{IsLatched, LatchedNow};
+
+    ghost Value = { LatchedNow V };
+
+    ghost view = { λ latched. record { volume = latched.volume; ledger = latched.ledger } };
+
+    ghost invariant = { λ latched. IsLatched V.number V.entries V.follows N.start N.ledgers N.decks
+        latched.volume latched.ledger };
+}
+
+impl<V: Served, N: Names<V>> Latched<V, N> {
+    /// A volume as a step begins, with a ledger of its history.
+    pub fn new(volume: V, ledger: Ledger) -> Latched<V, N>
+        requires { IsLatched V.number V.entries V.follows N.start N.ledgers N.decks volume ledger }
+        ensures { result ≡ record { volume = volume; ledger = ledger } }
+    {
+        Latched {
+            volume,
+            ledger,
+            of: PhantomData,
+        }
+    }
+
+    /// The number of the volume.
+    pub fn number(&self) -> u32
+        ensures { result ≡ V.number self.now.volume }
+    {
+        self.volume.number()
+    }
+
+    /// Learns that the turn has all that the history has of its deck.
+    pub fn tell(&mut self, turn: &mut Turn)
+        requires own_ledger { turn.old.ledger ≡ N.ledgers (V.number self.old.volume) }
+        ensures told { turn.old.entries ≡ deck_entries turn.old.deck (V.entries self.old.volume) }
+        ensures turn { turn.new ≡ turn.old }
+        ensures volume { self.new.volume ≡ self.old.volume }
+    {
+        self.ledger.record(turn, self.volume.history());
+    }
+
+    /// One event of a request of the turn's deck, whose last stamp is `last`: whether the request was
+    /// answered.
+    pub fn answer(
+        &mut self,
+        turn: &mut Turn,
+        last: &mut u64,
+        line: u32,
+        request: &SharedRequest,
+    ) -> Result<bool, RunNo>
+        requires own_ledger { turn.old.ledger ≡ N.ledgers (V.number self.old.volume) }
+        requires deck { (turn.old.deck == 0) ≡ false }
+        requires named { Contains N.decks turn.old.deck }
+        requires may_ask { MayAsk request.now turn.old.entries }
+        ensures { HasTaken (V.number self.old.volume) line request.now (is_done result) last.old
+            last.new turn.old turn.new }
+    {
+        self.tell(turn);
+        self.event(turn, last, line, request)
+    }
+
+    /// The same, where the turn has all that the history has of its deck.
+    fn event(
+        &mut self,
+        turn: &mut Turn,
+        last: &mut u64,
+        line: u32,
+        request: &SharedRequest,
+    ) -> Result<bool, RunNo>
+        requires own_ledger { turn.old.ledger ≡ N.ledgers (V.number self.old.volume) }
+        requires deck { (turn.old.deck == 0) ≡ false }
+        requires named { Contains N.decks turn.old.deck }
+        requires may_ask { MayAsk request.now turn.old.entries }
+        requires told { turn.old.entries
+            ≡ deck_entries turn.old.deck (V.entries self.old.volume) }
+        ensures { HasTaken (V.number self.old.volume) line request.now (is_done result) last.old
+            last.new turn.old turn.new }
+    {
+        let before = self.volume.history().last();
+        let answer = self.volume.answer(turn.deck(), line, request, *last);
+        let now = self.volume.history().last();
+        if now > before {
+            *last = now;
+        }
+        self.ledger.record(turn, self.volume.history());
+        answer
+    }
+
+    /// The volume alone, as the step ends.
+    pub fn into_volume(self) -> V
+        ensures volume { result ≡ self.volume }
+        ensures since { IfSome (N.start (V.number result))
+            (λ (first : V). IsSince V.entries V.follows N.decks first result) }
+    {
+        let Latched { volume, .. } = self;
+        volume
+    }
+}

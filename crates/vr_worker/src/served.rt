@@ -1,0 +1,51 @@
+//! A volume, as the thread of a deck sees it.
+ghost use Rattle.std.specs.Prelude.{◌≡◌, ◌<◌, ◌==◌, ◌^◌, ℕ, List, false};
+ghost use Rattle.vr_history.specs.declared.entry.Entry.{Entry};
+ghost use Rattle.vr_trace.specs.Laws.{deck_entries};
+ghost use Rattle.vr_worker.specs.Asked.{HasEntered, MayAsk, is_done};
+
+use crate::no::RunNo;
+use vr_history::History;
+use vr_types::SharedRequest;
+
+/// A volume that answers the requests of decks event by event.
+pub trait Served: Drop {
+    /// The number of the volume.
+    ghost number: { Self → ℕ };
+
+    /// Its history.
+    ghost entries: { Self → List Entry };
+
+    /// The second is a later state of the first.
+    ghost follows: { Self → Self → Type 0 };
+
+    ghost stays: { (volume : Self) → Self.follows volume volume };
+
+    ghost goes_on: { (a b c : Self) → Self.follows a b → Self.follows b c → Self.follows a c };
+
+    /// The number of the volume.
+    fn number(&self) -> u32
+        ensures { result ≡ number self.now };
+
+    /// Its history.
+    fn history(&self) -> &History
+        ensures { result.now.entries ≡ entries self.now };
+
+    /// One event of a request of a deck, whose last stamp is `after`: whether the request was answered.
+    /// Where it wasn't, a stage of it was done, and the deck asks it again. Nothing is entered where no
+    /// stamps or numbers of units are left (`Stamps`), or no memory (`Memory`, which may come at any
+    /// time).
+    fn answer(
+        &mut self,
+        deck: u32,
+        line: u32,
+        request: &SharedRequest,
+        after: u64,
+    ) -> Result<bool, RunNo>
+        requires deck { (deck == 0) ≡ false }
+        requires may_ask { MayAsk request.now (deck_entries deck (entries self.old)) }
+        ensures number { number self.new ≡ number self.old }
+        ensures follows { follows self.old self.new }
+        ensures entered { HasEntered (number self.old) deck line request.now after (is_done result)
+            (entries self.old) (entries self.new) };
+}
