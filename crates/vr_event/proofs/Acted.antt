@@ -1,5 +1,5 @@
 -- What an event of a request adds to the history.
-use Rattle.std.proofs.Common.{◌≡◌, inl, inr, ⊎_elim, ◌∙◌, ℕ}
+use Rattle.std.proofs.Common.{◌≡◌, inl, inr, ⊎_elim, ◌∙◌, ℕ, ◌==◌, false}
 use Rattle.std.proofs.Common.{List, [], ◌∷◌, ◌++◌, refl, sym, ap}
 use Rattle.std.proofs.Common.{append_assoc, arith, map}
 use Rattle.std.proofs.lemmas.Bool.Decides.{nat_tests}
@@ -19,7 +19,7 @@ use Rattle.vr_history.specs.declared.entry.What.{What}
 use Rattle.vr_history.specs.declared.entry.What.TheVariants.{Asked, Faulted, Split, Undone}
 use Rattle.vr_history.proofs.CallerLemmas.{last_stamp-append}
 use Rattle.vr_record_file.specs.Now.{FileNow, asked_failing, ended, entry_next, failed, has_deck}
-use Rattle.vr_record_file.specs.Now.{raised_for, with_event}
+use Rattle.vr_record_file.specs.Now.{number_of, raised_for, with_event}
 use Rattle.vr_record_file.specs.declared.numbers.DeckNumber.{DeckNumber}
 use Rattle.vr_event.specs.Acting.{HasStepped, IsActed, IsAnsweredFor}
 use Rattle.vr_event.specs.Made.{HasAsked, HasMade, MadeBy, NumbersStay}
@@ -33,6 +33,13 @@ raised-decks deck other [] = refl
 raised-decks deck other (number ∷ numbers) =
     grind (arith, nat_tests, raised-decks deck other numbers)
 
+-- and the number of another deck's unit stays
+raised-others : (deck other : ℕ) (numbers : List DeckNumber) → (other == deck) ≡ false
+    → number_of (map (raised_for deck) numbers) other ≡ number_of numbers other
+raised-others deck other [] differs = refl
+raised-others deck other (number ∷ numbers) differs =
+    grind (arith, nat_tests, differs, raised-others deck other numbers differs)
+
 -- one entry more, of a record file of which locks, positions and numbers may have changed
 event-made : (act : Act) (after : ℕ) (unit : UnitOfRecovery) (line at : ℕ) (request : Request)
     (what : What) (old new : FileNow) (locks : List Lock) (files : List FilePosition)
@@ -44,10 +51,12 @@ event-made : (act : Act) (after : ℕ) (unit : UnitOfRecovery) (line at : ℕ) (
       numbers = numbers;
     })
     → ((deck : ℕ) → has_deck deck numbers ≡ has_deck deck old.numbers)
+    → ((other : ℕ) → (other == unit.deck) ≡ false
+    → number_of numbers other ≡ number_of old.numbers other)
     → NumbersStay act old new → MadeBy act unit line request (entry_next old.entries after unit at what ∷ [])
     → HasMade act after unit line request old new
 event-made act after unit line at request what old new locks files files_room numbers leaves decks
-    stay by =
+    others stay by =
     let entry : Entry = entry_next old.entries after unit at what in
     let entries : new.entries ≡ old.entries ++ entry ∷ [] =
     ap (λ (f : FileNow). f.entries) leaves in
@@ -63,6 +72,8 @@ event-made act after unit line at request what old new locks files files_room nu
       catalog = ap (λ (f : FileNow). f.catalog) leaves;
       decks = λ deck. ap (λ (f : FileNow). has_deck deck f.numbers) leaves ∙ decks deck;
       numbers = stay;
+      others = λ other differs. ap (λ (f : FileNow). number_of f.numbers other) leaves
+          ∙ others other differs;
     }
 
 -- nothing was entered
@@ -79,6 +90,7 @@ same-made after unit line request given old new same = record {
   catalog = ap (λ (f : FileNow). f.catalog) same;
   decks = λ deck. ap (λ (f : FileNow). has_deck deck f.numbers) same;
   numbers = ap (λ (f : FileNow). f.numbers) same;
+  others = λ other differs. ap (λ (f : FileNow). number_of f.numbers other) same;
 }
 
 stepped-made : (after : ℕ) (unit : UnitOfRecovery) (line : ℕ) (request given : Request)
@@ -89,10 +101,10 @@ stepped-made after unit line request given old new is = ⊎_elim
     (λ step. ⊎_elim
     (λ split. event-made (Again given) after unit line 0 request (Split split.0) old new old.locks
     old.files old.files_room old.numbers split.1 (λ deck. refl)
-    (ap (λ (f : FileNow). f.numbers) split.1) (inr (_, refl, (refl, inl (split.0, refl)))))
+    (λ other differs. refl) (ap (λ (f : FileNow). f.numbers) split.1) (inr (_, refl, (refl, inl (split.0, refl)))))
     (λ back. event-made (Again given) after unit line 0 request (Undone back.1 back.2) old new
     old.locks old.files old.files_room old.numbers back.3 (λ deck. refl)
-    (ap (λ (f : FileNow). f.numbers) back.3) (inr (_, refl, (refl, inr (back.0, back.1, back.2, refl)))))
+    (λ other differs. refl) (ap (λ (f : FileNow). f.numbers) back.3) (inr (_, refl, (refl, inr (back.0, back.1, back.2, refl)))))
     step) is
 
 -- a request that was asked
@@ -143,6 +155,7 @@ failed-made after unit line request old new locks leaves =
       catalog = ap (λ (f : FileNow). f.catalog) leaves;
       decks = λ deck. ap (λ (f : FileNow). has_deck deck f.numbers) leaves;
       numbers = tt;
+      others = λ other differs. ap (λ (f : FileNow). number_of f.numbers other) leaves;
     }
 
 answered-made : (before now : Faults) (after : ℕ) (unit : UnitOfRecovery) (line : ℕ)
@@ -152,12 +165,13 @@ answered-made : (before now : Faults) (after : ℕ) (unit : UnitOfRecovery) (lin
 answered-made before now after unit line request old new is = ⊎_elim
     (λ entered. event-made Done after unit line line request
     (Asked request entered.entered.reply) old new new.locks new.files new.files_room old.numbers
-    entered.entered.leaves (λ deck. refl) tt
+    entered.entered.leaves (λ deck. refl) (λ other differs. refl) tt
     (asked-by after unit line request entered.entered.reply old.entries))
     (λ further. ⊎_elim
     (λ over. event-made Done after unit line line request (Asked request (DoneReply 0 None None))
     old new (ended unit old).locks (ended unit old).files old.files_room (ended unit old).numbers
-    over.1 (λ deck. raised-decks unit.deck deck old.numbers) tt
+    over.1 (λ deck. raised-decks unit.deck deck old.numbers)
+    (λ other differs. raised-others unit.deck other old.numbers differs) tt
     (asked-by after unit line request (DoneReply 0 None None) old.entries))
     (λ fails. failed-made after unit line request old new new.locks fails.0)
     further) is

@@ -1,6 +1,6 @@
 -- What an event of a request adds to the history of its volume, and what it leaves of the rest that
 -- the record file has in memory. The rules are this project's own.
-use Rattle.std.specs.Prelude.{◌≡◌, ◌⊎◌, ◌+◌, ◌≤◌, ℕ, IsTrue, true, false, List, [], ◌∷◌, ◌++◌, max}
+use Rattle.std.specs.Prelude.{◌≡◌, ◌⊎◌, ◌+◌, ◌≤◌, ◌==◌, ℕ, IsTrue, true, false, List, [], ◌∷◌, ◌++◌, max}
 use Rattle.vr_types.specs.Locks.{same_unit}
 use Rattle.vr_types.specs.declared.fault.DeviceFault.TheVariants.{Write}
 use Rattle.vr_types.specs.declared.reply.Reply.{Reply}
@@ -11,7 +11,7 @@ use Rattle.vr_history.specs.Legal.{is_backout}
 use Rattle.vr_history.specs.Merged.{IsStamped, last_stamp}
 use Rattle.vr_history.specs.declared.entry.Entry.{Entry}
 use Rattle.vr_history.specs.declared.entry.What.TheVariants.{Asked, Faulted, Split, Undone}
-use Rattle.vr_record_file.specs.Now.{FileNow, has_deck, is_undoing}
+use Rattle.vr_record_file.specs.Now.{FileNow, has_deck, is_undoing, number_of}
 use Rattle.vr_event.specs.declared.act.Act.{Act}
 use Rattle.vr_event.specs.declared.act.Act.TheVariants.{Again, Done}
 
@@ -53,18 +53,21 @@ abbrev pub NumbersStay : Act → FileNow → FileNow → Type 0
 NumbersStay Done old new = Unit {0}
 NumbersStay (Again given) old new = new.numbers ≡ old.numbers
 
--- The entries that an event added, by what it came to. Their stamps rise.
+-- The entries that an event added, by what it came to. Their stamps rise above those of the history and
+-- above the one that was handed in; and the numbers of other decks' units stay.
 pub record HasMade (act : Act) (after : ℕ) (unit : UnitOfRecovery) (line : ℕ) (request : Request)
     (old new : FileNow) : Type 0 where
   pub made : List Entry
   pub entries : new.entries ≡ old.entries ++ made
   pub by : MadeBy act unit line request made
-  pub stamped : IsStamped (last_stamp 0 old.entries) made
+  pub stamped : IsStamped (max (last_stamp 0 old.entries) after) made
   pub last : last_stamp 0 new.entries ≤ max (last_stamp 0 old.entries) after + 2
   pub geometry : new.geometry ≡ old.geometry
   pub catalog : new.catalog ≡ old.catalog
   pub decks : (deck : ℕ) → has_deck deck new.numbers ≡ has_deck deck old.numbers
   pub numbers : NumbersStay act old new
+  pub others : (other : ℕ) → (other == unit.deck) ≡ false
+      → number_of new.numbers other ≡ number_of old.numbers other
 
 -- ---- units that have begun to undo
 

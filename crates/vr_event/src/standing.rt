@@ -30,6 +30,20 @@ impl<B: Blocks, P: Part> Volume<B, P> {
         self.file.entries()
     }
 
+    /// The number of the volume.
+    pub fn number(&self) -> u32
+        ensures { result ≡ self.now.number }
+    {
+        self.number
+    }
+
+    /// The history.
+    pub fn history(&self) -> &History
+        ensures { result.now.entries ≡ self.now.file.entries }
+    {
+        self.file.history()
+    }
+
     /// The stamp of the last entry, 0 where there is none.
     pub fn last(&self) -> u64
         ensures { result ≡ last_stamp 0 self.now.file.entries }

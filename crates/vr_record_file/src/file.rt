@@ -82,6 +82,13 @@ impl RecordFile {
         self.history.entries()
     }
 
+    /// The history.
+    pub fn history(&self) -> &History
+        ensures { result.now.entries ≡ self.now.entries }
+    {
+        &self.history
+    }
+
     /// The stamp of the last entry, 0 where there is none.
     pub fn last(&self) -> u64
         ensures { result ≡ last_stamp 0 self.now.entries }
