@@ -19,7 +19,7 @@ use Rattle.vr_deck_text.specs.declared.text.DeckFile.{DeckFile}
 use Rattle.vr_deck_text.specs.declared.text.DeckText.{DeckText}
 use Rattle.vr_deck_text.specs.declared.text.Order.{Order}
 use Rattle.vr_bind.specs.Bound.{is_named, volumes_of, volumes_asked, request_of, on_each, bound_order}
-use Rattle.vr_bind.specs.Bound.{bound_requests}
+use Rattle.vr_bind.specs.Bound.{bound_on, bound_requests}
 use Rattle.vr_bind.specs.Named.{file_on, unknown_file, file_from, files_from, files_of, file_at}
 use Rattle.vr_bind.specs.Placed.{file_in, IsThere, IsPlaced}
 
@@ -168,6 +168,16 @@ are_placed deck catalogs =
     (orders_placed count files (volumes_of count files) deck.orders on there)
     (each_placed count 0 requests.Commit (volumes_of count files)
     (λ file is. let no : ⊥ = cc in no) there))
+
+-- the requests are those of the deck, where the files and the volumes are those of the catalogs
+pub bound_same : (deck : DeckText) (catalogs : List (List CatEntry)) (files : List FileRef)
+    (count : ℕ) (orders : List Order) → files ≡ files_of catalogs deck.files
+    → count ≡ length catalogs → orders ≡ deck.orders
+    → bound_on files count orders ≡ bound_requests deck catalogs
+bound_same deck catalogs files count orders found many same =
+    ap (λ (them : List FileRef). bound_on them count orders) found
+    ∙ ap (λ (n : ℕ). bound_on (files_of catalogs deck.files) n orders) many
+    ∙ ap (λ (them : List Order). bound_on (files_of catalogs deck.files) (length catalogs) them) same
 
 pub if_whole : {X E : Type 0} (P : X → Type 0) (whole : X) (outcome : Result X E)
     → IfOk outcome (λ x. x ≡ whole) → P whole → IfOk outcome P

@@ -1,5 +1,5 @@
 //! The requests that the text of a deck stands for.
-ghost use Rattle.std.specs.Prelude.{◌≡◌, ◌++◌, ◌<◌, ◌^◌, flat_map, length, All, IfOk, OnOk};
+ghost use Rattle.std.specs.Prelude.{◌≡◌, ◌++◌, ◌<◌, ◌^◌, flat_map, length, map, All, IfOk, OnOk};
 ghost use Rattle.vr_types.specs.declared.request.Request.TheVariants.{Commit};
 ghost use Rattle.vr_bind.specs.Bound.{is_named, volumes_of, on_each, bound_order, bound_by};
 ghost use Rattle.vr_bind.specs.Bound.{bound_on, bound_requests};
@@ -22,12 +22,14 @@ use vr_types::{Bound, FileRef, OutOfMemory, Request, SharedRequest};
 pub fn bind(
     alloc: Global,
     deck: &DeckText,
-    catalogs: &[Catalog],
+    catalogs: &[&Catalog],
 ) -> Result<DeckRequests, OutOfMemory>
     requires few { length catalogs.now < 2 ^ 32 }
-    ensures value { IfOk result (λ requests. requests ≡ bound_requests deck.now catalogs.now) }
+    ensures value { IfOk result (λ requests. requests
+        ≡ bound_requests deck.now (map (λ c. c.now) catalogs.now)) }
     ensures placed { IfOk result (λ requests. All (IsPlaced (length catalogs.now)) requests) }
-    ensures based { AreAllowed catalogs.now → IfOk result (λ requests. All IsBased requests) }
+    ensures based { AreAllowed (map (λ c. c.now) catalogs.now)
+        → IfOk result (λ requests. All IsBased requests) }
 {
     let files = files_of(alloc, catalogs, &deck.files)?;
     bind_on(

@@ -37,6 +37,13 @@ impl DeckRequests {
         self.requests.as_slice()
     }
 
+    /// The requests themselves, first to last.
+    pub fn into_vec(self) -> Vec<Bound>
+        ensures { result.items ≡ self }
+    {
+        self.requests
+    }
+
     /// Adds a request at the end. Where memory runs out, nothing changes.
     pub fn push(&mut self, request: Bound) -> Result<(), OutOfMemory>
         ensures ok { OnOk result (self.new ≡ self.old ++ request ∷ []) }

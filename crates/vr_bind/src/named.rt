@@ -1,5 +1,5 @@
 //! What the files of a deck are on.
-ghost use Rattle.std.specs.Prelude.{◌≡◌, ℕ, ◌<◌, ◌^◌, length, IfOk};
+ghost use Rattle.std.specs.Prelude.{◌≡◌, ℕ, ◌<◌, ◌^◌, length, map, IfOk};
 ghost use Rattle.std.specs.Option.{option_map};
 ghost use Rattle.vr_catalog.specs.Catalog.{opened_directly, opened_as, opened};
 ghost use Rattle.vr_bind.specs.Found.{found_of, opened_over};
@@ -109,12 +109,12 @@ fn unknown_file(slot: u32) -> FileRef
 }
 
 /// The file of a name: on the lowest volume whose catalog has it.
-fn file_named(catalogs: &[Catalog], slot: u32, name: &Name) -> FileRef
+fn file_named(catalogs: &[&Catalog], slot: u32, name: &Name) -> FileRef
     requires { length catalogs.now < 2 ^ 32 }
-    ensures { result ≡ file_named catalogs.now slot name.now }
+    ensures { result ≡ file_named (map (λ c. c.now) catalogs.now) slot name.now }
 {
     for volume in 0..catalogs.len() {
-        let catalog = &catalogs[volume];
+        let catalog = catalogs[volume];
         match opened(catalog, name) {
             None => {}
             Some(found) => return file_on(slot, volume as u32, catalog, found),
@@ -126,11 +126,12 @@ fn file_named(catalogs: &[Catalog], slot: u32, name: &Name) -> FileRef
 /// The files that a deck declares.
 pub(crate) fn files_of(
     alloc: Global,
-    catalogs: &[Catalog],
+    catalogs: &[&Catalog],
     files: &Files,
 ) -> Result<Vec<FileRef>, OutOfMemory>
     requires { length catalogs.now < 2 ^ 32 }
-    ensures { IfOk result (λ found. found.items ≡ files_of catalogs.now files.now) }
+    ensures { IfOk result (λ found. found.items
+        ≡ files_of (map (λ c. c.now) catalogs.now) files.now) }
 {
     let files = files.as_slice();
     let mut found = Vec::new(alloc);

@@ -5,6 +5,7 @@ use crate::catalogs::two_catalogs;
 use std::alloc::Global;
 use std::fmt::Write;
 use vr_bind::bind;
+use vr_catalog::Catalog;
 use vr_deck_text::{DeckFault, DeckText, parse_deck};
 use vr_text::Lines;
 use vr_types::{Bound, FileRef, Find, Integrity, Kind, PartNo, Place, Request};
@@ -27,10 +28,11 @@ pub fn bind_text(alloc: Global, text: &str, out: &mut String) -> Answer {
 /// Writes the requests of a deck.
 fn bind_deck(alloc: Global, deck: &DeckText, out: &mut String) -> Answer {
     let catalogs = two_catalogs(alloc)?;
-    if catalogs.len() > 16 {
+    let lent: Vec<&Catalog> = catalogs.iter().collect(alloc)?;
+    if lent.len() > 16 {
         return Err(Stop::Line);
     }
-    let requests = bind(alloc, deck, catalogs.as_slice())?;
+    let requests = bind(alloc, deck, lent.as_slice())?;
     for bound in requests.as_slice() {
         write_bound(alloc, bound, out)?;
     }
