@@ -1,9 +1,8 @@
 -- What one event leaves of a volume, and what goes on from it.
-use Rattle.std.proofs.Common.{◌≡◌, ◌≢◌, inl, inr, ⊎_elim, ◌∙◌, ℕ, ◌==◌, Bool, true, false, cond}
-use Rattle.std.proofs.Common.{List, [], ◌∷◌, ◌++◌, Option, Some, None, refl, sym, ap, subst}
-use Rattle.std.proofs.Common.{◌≤◌, ◌⊎◌, append_assoc, arith, flat_map, if◌then◌else◌, length}
-use Rattle.std.proofs.lemmas.Grind.{flat_map-append}
-use Rattle.std.proofs.lemmas.List.{append-nil, append_cancel_left, map-append}
+use Rattle.std.proofs.Common.{◌≡◌, ◌≢◌, inl, inr, ⊎_elim, ◌∙◌, ℕ, Bool, true, List, [], ◌∷◌, ◌++◌}
+use Rattle.std.proofs.Common.{Option, Some, None, refl, sym, ap, subst, ◌≤◌, ◌⊎◌, append_assoc, arith}
+use Rattle.std.proofs.Common.{length, max}
+use Rattle.std.proofs.lemmas.List.{append-nil, append_cancel_left}
 use Rattle.vr_types.specs.declared.bound.Bound.{Bound}
 use Rattle.vr_types.specs.Faults.{Faults}
 use Rattle.vr_types.specs.Image.{Image}
@@ -17,7 +16,7 @@ use Rattle.vr_types.specs.declared.reply.Reply.TheVariants.{Done as DoneReply, R
 use Rattle.vr_types.specs.declared.request.Request.{Request}
 use Rattle.vr_types.specs.declared.unit.Unit.{Unit as UnitOfRecovery}
 use Rattle.vr_types.proofs.CallerLemmas.{guards-then, guards-weaken}
-use Rattle.vr_history.specs.Merged.{IsStamped, Numbered, asked_by, last_stamp, request_in}
+use Rattle.vr_history.specs.Merged.{IsStamped, last_stamp, request_in}
 use Rattle.vr_history.specs.State.{State}
 use Rattle.vr_history.specs.declared.entry.Entry.{Entry}
 use Rattle.vr_history.specs.declared.entry.What.{What}
@@ -26,79 +25,37 @@ use Rattle.vr_record_file.specs.Now.{FileNow, asked_failing, entry_next, failed,
 use Rattle.vr_record_file.specs.Now.{state_now}
 use Rattle.vr_record_file.specs.declared.numbers.DeckNumber.{DeckNumber}
 use Rattle.vr_event.specs.Acting.{IsActed, IsLeftIn}
-use Rattle.vr_event.specs.Made.{HasMade, IsCalmBut, IsStepFor, MadeBy}
+use Rattle.vr_event.specs.Made.{HasMade, MadeBy}
 use Rattle.vr_event.specs.Volume.{IsHeld, IsWhole, VolumeNow}
 use Rattle.vr_event.specs.declared.act.Act.{Act}
 use Rattle.vr_event.specs.declared.act.Act.TheVariants.{Again, Done}
-use Rattle.vr_event.proofs.CallerLemmas.{acted_made, event_calms}
+use Rattle.vr_event.proofs.CallerLemmas.{acted_made}
 use Rattle.vr_volume.specs.Crashes.{RecoversTo}
-use Rattle.vr_job.specs.Asking.{Asks, CalmOnce, GoesOn, HasRun, Ran, bound_to, is_done}
-use Rattle.vr_job.specs.Asking.{asked_of, unit_of}
+use Rattle.vr_worker.specs.Asked.{bound_to}
 use Rattle.vr_job.specs.Crash.{IsCommit, IsLeftBy}
 use Rattle.vr_job.specs.Events.{IsLeftWhile, IsOfEvents, LeavesAtRest, requests_in}
 use Rattle.vr_job.specs.Faultless.{AreFaultless}
-use Rattle.vr_job.specs.Parts.{of_deck, on_volume_0}
+use Rattle.vr_job.specs.Going.{GoesOn, HasRun, went-then}
+use Rattle.vr_job.specs.Serving.{IsServing, StaysServing}
 use Rattle.vr_job.proofs.Crashing.{held-left, left-more}
-use Rattle.vr_job.proofs.Events.{asks-same, of-none}
+use Rattle.vr_job.proofs.Entering.{step-none}
 use Rattle.vr_job.proofs.Faultless.{NoFault, acted-faultless}
+use Rattle.vr_job.proofs.Undoing.{shows-same}
+
+-- stamps above one are above a lesser one
+stamped-above : (low high : ℕ) (entries : List Entry) → low ≤ high → IsStamped high entries
+    → IsStamped low entries
+stamped-above low high [] less is = tt
+stamped-above low high (entry ∷ entries) less is = (omega (arith, less, is.0), is.1)
 
 -- stamps rise on
-pub stamped-more : (before : ℕ) (entries more : List Entry) → IsStamped before entries
+stamped-more : (before : ℕ) (entries more : List Entry) → IsStamped before entries
     → IsStamped (last_stamp before entries) more → IsStamped before (entries ++ more)
 stamped-more before [] more first second = second
 stamped-more before (entry ∷ entries) more first second =
     (first.0, stamped-more entry.stamp entries more first.1 second)
 
--- ---- what a deck asks in one event
-
-asked-append : (other : ℕ) (entries more : List Entry)
-    → asked_of other (entries ++ more) ≡ asked_of other entries ++ asked_of other more
-asked-append other entries more =
-    ap (flat_map (asked_by other)) (map-append numbered entries more)
-    ∙ flat_map-append (asked_by other) (on_volume_0 entries) (on_volume_0 more)
-  where
-    numbered : Entry → Numbered
-    numbered entry = record { volume = 0; entry = entry }
-
--- an entry that is of no request
-none-asked : (other : ℕ) (entry : Entry) → request_in 0 entry.line entry.what ≡ []
-    → asked_of other (entry ∷ []) ≡ []
-none-asked other entry none = by_test (entry.unit.deck == other)
-  where
-    by_test : (b : Bool) → (if b then request_in 0 entry.line entry.what else []) ++ [] ≡ []
-    by_test true = ap (λ (them : List Bound). them ++ []) none
-    by_test false = refl
-
-step-none : (unit : UnitOfRecovery) (request : Request) (entry : Entry)
-    → IsStepFor unit request entry → request_in 0 entry.line entry.what ≡ []
-step-none unit request entry is = ⊎_elim
-    (λ split. ap (request_in 0 entry.line) split.1)
-    (λ back. ap (request_in 0 entry.line) back.3) is.1
-
-made-asks : (act : Act) (unit : UnitOfRecovery) (line : ℕ) (request : Request) (made : List Entry)
-    → MadeBy act unit line request made → (other : ℕ)
-    → asked_of other made
-    ≡ of_deck unit.deck (cond (is_done act) (bound_to line request ∷ []) []) other
-made-asks Done unit line request made is other =
-    ap (asked_of other) is.is
-    ∙ asked-append other (is.entry ∷ []) is.rest
-    ∙ ap (λ (them : List Bound). asked_of other (is.entry ∷ []) ++ them) rest-none
-    ∙ append-nil (asked_of other (is.entry ∷ []))
-    ∙ append-nil (asked_by other (record { volume = 0; entry = is.entry }))
-    ∙ ap (λ (u : UnitOfRecovery). if u.deck == other then request_in 0 is.entry.line is.entry.what
-    else []) is.unit_is
-    ∙ ap (λ (n : ℕ). if unit.deck == other then request_in 0 n is.entry.what else []) is.line_is
-    ∙ ap (λ (w : What). if unit.deck == other then request_in 0 line w else []) is.what_is
-  where
-    rest-none : asked_of other is.rest ≡ []
-    rest-none = ⊎_elim (λ none. ap (asked_of other) none)
-        (λ fault. ap (asked_of other) fault.1
-        ∙ none-asked other fault.0 (ap (request_in 0 fault.0.line) fault.3)) is.follows
-made-asks (Again given) unit line request made is other = ⊎_elim
-    (λ none. ap (asked_of other) none)
-    (λ one. ap (asked_of other) one.1
-    ∙ none-asked other one.0 (step-none unit request one.0 one.2)) is
-    ∙ sym (of-none unit.deck other)
+-- ---- one event
 
 some-none : (stamp : ℕ) → ◌≡◌ {A = Option ℕ} (Some stamp) None → ⊥
 some-none stamp same = cc
@@ -117,7 +74,7 @@ made-once Done unit line request made is =
         (λ fault. ap requests_in fault.1
         ∙ alone fault.0 (ap (request_in 0 fault.0.line) fault.3)) is.follows
 
-    one : requests_in made ≡ bound_to is.entry.line request ∷ []
+    one : requests_in made ≡ bound_to 0 is.entry.line request ∷ []
     one = ap requests_in is.is
         ∙ ap (λ (them : List Bound). request_in 0 is.entry.line is.entry.what ++ them) rest-none
         ∙ ap (λ (w : What). request_in 0 is.entry.line w ++ []) is.what_is
@@ -126,18 +83,18 @@ made-once (Again given) unit line request made is =
   where
     none : requests_in made ≡ []
     none = ⊎_elim (λ no. ap requests_in no)
-        (λ one. ap requests_in one.1 ∙ alone one.0 (step-none unit request one.0 one.2)) is
-
--- ---- one event
+        (λ one. ap requests_in one.1 ∙ alone one.0 (step-none 0 unit request one.0 one.2)) is
 
 module _ {B : Type 0} (seen : B → Seen) (faults : B → Faults) (old new : VolumeNow B) (act : Act)
     (after : ℕ) (unit : UnitOfRecovery) (line : ℕ) (request : Request)
     (acted : IsActed (faults old.blocks) (faults new.blocks) act after unit line request old.file
     new.file) where
+  -- what an event adds to the history
   pub made-in : HasMade act after unit line request old.file new.file
   made-in = acted_made (faults old.blocks) (faults new.blocks) act after unit line request old.file
       new.file acted
 
+  -- what goes on over it, whether or not the device reports its contents,
   pub event-on : IsWhole seen new → new.number ≡ old.number → GoesOn seen faults old new
   event-on whole number = record {
     whole = whole;
@@ -148,7 +105,9 @@ module _ {B : Type 0} (seen : B → Seen) (faults : B → Faults) (old new : Vol
     made = made-in.made;
     entries = made-in.entries;
     stamped = λ before. subst (IsStamped 0) (sym made-in.entries)
-        (stamped-more 0 old.file.entries made-in.made before made-in.stamped);
+        (stamped-more 0 old.file.entries made-in.made before
+        (stamped-above (last_stamp 0 old.file.entries) (max (last_stamp 0 old.file.entries) after)
+        made-in.made (omega arith) made-in.stamped));
     reads = acted.reads;
     writes = acted.writes;
     stops = λ same. (no-fault same).stopped;
@@ -158,35 +117,6 @@ module _ {B : Type 0} (seen : B → Seen) (faults : B → Faults) (old new : Vol
       no-fault : (faults new.blocks).writes ≡ (faults old.blocks).writes → NoFault old.file new.file
       no-fault same = acted-faultless (faults old.blocks) (faults new.blocks) act after unit line
           request old.file new.file same acted
-
-  -- the request is asked once, where it is done
-  pub event-asks : Asks unit.deck (cond (is_done act) (bound_to line request ∷ []) [])
-      old.file.entries new.file.entries
-  event-asks other = ap (asked_of other) made-in.entries
-      ∙ asked-append other old.file.entries made-in.made
-      ∙ ap (λ (them : List Bound). asked_of other old.file.entries ++ them)
-      (made-asks act unit line request made-in.made made-in.by other)
-
-  pub event-calm : unit ≡ unit_of unit.deck old.file → IsCalmBut unit request old.file.entries
-      → CalmOnce (is_done act) unit.deck request new.file
-  event-calm current calm = by_act act refl
-    where
-      numbers-same : new.file.numbers ≡ old.file.numbers → unit ≡ unit_of unit.deck new.file
-      numbers-same same = current
-          ∙ ap (λ (numbers : List DeckNumber). record {
-            deck = unit.deck;
-            number = number_of numbers unit.deck;
-          }) (sym same)
-
-      by_act : (it : Act) → act ≡ it → CalmOnce (is_done it) unit.deck request new.file
-      by_act Done is = event_calms Done after unit line request old.file new.file
-          (subst (λ (a : Act). HasMade a after unit line request old.file new.file) is made-in) calm
-      by_act (Again given) is =
-          let made : HasMade (Again given) after unit line request old.file new.file =
-          subst (λ (a : Act). HasMade a after unit line request old.file new.file) is made-in in
-          subst (λ (u : UnitOfRecovery). IsCalmBut u request new.file.entries)
-          (numbers-same made.numbers)
-          (event_calms (Again given) after unit line request old.file new.file made calm)
 
   -- ---- what a crash leaves
 
@@ -353,6 +283,7 @@ module _ {B : Type 0} (seen : B → Seen) (faults : B → Faults) (old new : Vol
         );
       }
 
+      -- and where it does: what a crash leaves at each moment, event by event
       pub event-run : IsWhole seen new → IsHeld seen opening new → HasRun seen opening first new
       event-run whole-new held = record {
         held = held;
@@ -367,62 +298,87 @@ module _ {B : Type 0} (seen : B → Seen) (faults : B → Faults) (old new : Vol
             (by_stop old.file.stopped refl));
       }
 
--- ---- room
+-- ---- room, and a deck that is entered
 
--- room that is made leaves what a crash leaves
-pub ready-run : {B : Type 0} (seen : B → Seen) (opening : State) (first : B)
-    (old mid : VolumeNow B) (room files_room : ℕ) → mid ≡ record old {
-      file = record old.file { room = room; files_room = files_room };
-    } → IsHeld seen opening mid → HasRun seen opening first old → HasRun seen opening first mid
-ready-run {B} seen opening first old mid room files_room same held run = record {
-  held = held;
-  left = subst (λ (v : VolumeNow B). Guards (seen first) (seen v.blocks)
-      (IsLeftBy v.file.geometry v.number opening v.file.entries)) (sym same) run.left;
-  events = subst (λ (v : VolumeNow B). IsOfEvents seen v.file.geometry v.number opening first
-      v.blocks v.file.entries) (sym same) run.events;
-}
+module _ {B : Type 0} (seen : B → Seen) (old mid : VolumeNow B) (numbers : List DeckNumber)
+    (room files_room : ℕ) (same : mid ≡ record old {
+      file = record old.file { numbers = numbers; room = room; files_room = files_room };
+    }) where
+  entries-stay : mid.file.entries ≡ old.file.entries
+  entries-stay = ap (λ (v : VolumeNow B). v.file.entries) same
 
--- nor does it ask or enter anything
-pub ready-ran : {B : Type 0} (tells : Bool) (seen : B → Seen) (faults : B → Faults) (deck : ℕ)
-    (old mid : VolumeNow B) (room files_room : ℕ) → mid ≡ record old {
-      file = record old.file { room = room; files_room = files_room };
-    } → IsWhole seen mid → ((opening : State) → IsHeld seen opening old → IsHeld seen opening mid)
-    → Ran tells seen faults deck [] old mid
-ready-ran {B} tells seen faults deck old mid room files_room same whole held = record {
-  on = record {
+  -- they leave what a crash leaves,
+  stays-run : (opening : State) (first : B) → IsHeld seen opening mid
+      → HasRun seen opening first old → HasRun seen opening first mid
+  stays-run opening first held run = record {
+    held = held;
+    left = subst (λ (v : VolumeNow B). Guards (seen first) (seen v.blocks)
+        (IsLeftBy v.file.geometry v.number opening v.file.entries)) (sym same) run.left;
+    events = subst (λ (v : VolumeNow B). IsOfEvents seen v.file.geometry v.number opening first
+        v.blocks v.file.entries) (sym same) run.events;
+  }
+
+  stays-on : (faults : B → Faults) → IsWhole seen mid
+      → ((deck : ℕ) → has_deck deck old.file.numbers ≡ true
+      → has_deck deck mid.file.numbers ≡ true) → GoesOn seen faults old mid
+  stays-on faults whole decks = record {
     whole = whole;
     number = ap (λ (v : VolumeNow B). v.number) same;
     geometry = ap (λ (v : VolumeNow B). v.file.geometry) same;
     catalog = ap (λ (v : VolumeNow B). v.file.catalog) same;
-    decks = λ other has. subst (λ (v : VolumeNow B). has_deck other v.file.numbers ≡ true)
-        (sym same) has;
+    decks = decks;
     made = [];
-    entries = entries ∙ sym (append-nil old.file.entries);
-    stamped = λ before. subst (IsStamped 0) (sym entries) before;
+    entries = entries-stay ∙ sym (append-nil old.file.entries);
+    stamped = λ before. subst (IsStamped 0) (sym entries-stay) before;
     reads = omega (arith, ap (λ (v : VolumeNow B). (faults v.blocks).reads) same);
     writes = omega (arith, ap (λ (v : VolumeNow B). (faults v.blocks).writes) same);
     stops = λ as_before. ap (λ (v : VolumeNow B). v.file.stopped) same;
-    faultless = λ as_before before. subst AreFaultless (sym entries) before;
-  };
-  asked = asks-same deck old.file.entries mid.file.entries entries;
-  held = λ told opening is. held opening is;
-  run = λ told opening first run. ready-run seen opening first old mid room files_room same
-      (held opening run.held) run;
-}
-  where
-    entries : mid.file.entries ≡ old.file.entries
-    entries = ap (λ (v : VolumeNow B). v.file.entries) same
+    faultless = λ as_before before. subst AreFaultless (sym entries-stay) before;
+  }
 
--- nor does it begin to undo anything
-pub ready-calm : (deck number : ℕ) (request given : Request) (old mid : FileNow)
-    → mid.entries ≡ old.entries → mid.numbers ≡ old.numbers → number ≡ number_of mid.numbers deck
-    → given ≡ request → IsCalmBut (unit_of deck old) request old.entries
-    → IsCalmBut (record { deck = deck; number = number }) given mid.entries
-ready-calm deck number request given old mid entries numbers is same calm =
-    let own : unit_of deck old ≡ record { deck = deck; number = number } =
-    ap (λ (n : ℕ). record { deck = deck; number = n })
-    (sym (is ∙ ap (λ (them : List DeckNumber). number_of them deck) numbers)) in
-    subst (λ (r : Request). IsCalmBut (record { deck = deck; number = number }) r mid.entries)
-    (sym same)
-    (subst (λ (u : UnitOfRecovery). IsCalmBut u request mid.entries) own
-    (subst (IsCalmBut (unit_of deck old) request) (sym entries) calm))
+  -- and the volume serves as before
+  pub stays-serving : (tells : Bool) (faults : B → Faults)
+      → (IsWhole seen old → IsWhole seen mid)
+      → ((opening : State) → IsHeld seen opening old → IsHeld seen opening mid)
+      → ((deck : ℕ) → has_deck deck old.file.numbers ≡ true
+      → has_deck deck mid.file.numbers ≡ true)
+      → ((deck : ℕ) → number_of mid.file.numbers deck ≡ number_of old.file.numbers deck)
+      → IsServing tells seen old → StaysServing tells seen faults old mid
+  stays-serving tells faults whole held decks stay is = record {
+    serving = record {
+      whole = whole is.whole;
+      holds = λ told. record {
+        opening = (is.holds told).opening;
+        held = held (is.holds told).opening (is.holds told).held;
+      };
+      shows = shows-same old.file mid.file entries-stay stay is.shows;
+    };
+    went = record {
+      on = stays-on faults (whole is.whole) decks;
+      held = λ told opening from. held opening from;
+      run = λ told opening first run. stays-run opening first (held opening run.held) run;
+    };
+    entries = entries-stay;
+  }
+
+  -- so it does where the numbers stay too
+  pub stays-room : (tells : Bool) (faults : B → Faults) → numbers ≡ old.file.numbers
+      → (IsWhole seen old → IsWhole seen mid)
+      → ((opening : State) → IsHeld seen opening old → IsHeld seen opening mid)
+      → IsServing tells seen old → StaysServing tells seen faults old mid
+  stays-room tells faults stay whole held = stays-serving tells faults whole held
+      (λ deck has. subst (λ (them : List DeckNumber). has_deck deck them ≡ true) (sym are) has)
+      (λ deck. ap (λ (them : List DeckNumber). number_of them deck) are)
+    where
+      are : mid.file.numbers ≡ old.file.numbers
+      are = ap (λ (v : VolumeNow B). v.file.numbers) same ∙ stay
+
+-- and on
+pub stays-then : {B : Type 0} (tells : Bool) (seen : B → Seen) (faults : B → Faults)
+    (a b c : VolumeNow B) → StaysServing tells seen faults a b → StaysServing tells seen faults b c
+    → StaysServing tells seen faults a c
+stays-then tells seen faults a b c first second = record {
+  serving = second.serving;
+  went = went-then tells seen faults a b c first.went second.went;
+  entries = second.entries ∙ first.entries;
+}

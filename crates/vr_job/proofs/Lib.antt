@@ -1,10 +1,12 @@
+pub mod Sending
 pub mod VolumeRuns
+pub mod ShelfRuns
+pub mod Shelves
 pub mod Readying
 pub mod Crashing
+pub mod Entering
+pub mod Undoing
 pub mod GoingOn
-pub mod Events
-pub mod DeckRuns
-pub mod Numbers
 pub mod Faultless
 pub mod Devices
 pub mod Shown

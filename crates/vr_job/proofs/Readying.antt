@@ -45,7 +45,7 @@ use Rattle.vr_record_file.specs.Now.{state_now}
 use Rattle.vr_volume.specs.Crashes.{RecoversTo}
 use Rattle.vr_event.specs.Volume.{IsHeld, IsWhole, VolumeNow}
 use Rattle.vr_event.proofs.CallerLemmas.{idle-guards}
-use Rattle.vr_job.specs.Asking.{HasRun}
+use Rattle.vr_job.specs.Going.{HasRun}
 use Rattle.vr_job.specs.Crash.{IsLeftBy}
 use Rattle.vr_job.specs.Opened.{IsReady, IsReadyFrom, opened_now}
 

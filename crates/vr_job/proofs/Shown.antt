@@ -1,10 +1,12 @@
 -- What was done is told of the trace that is handed back, whose end alone may have changed.
-use Rattle.std.proofs.Common.{◌≡◌, ◌∙◌, ℕ, Bool, List, Option, ap}
+use Rattle.std.proofs.Common.{◌≡◌, ◌∙◌, ℕ, Bool, List, Option, ap, subst, sym}
 use Rattle.vr_types.specs.Faults.{Faults}
 use Rattle.vr_types.specs.Seen.{Seen}
+use Rattle.vr_history.specs.declared.entry.Entry.{Entry}
 use Rattle.vr_job_text.specs.declared.text.JobText.{JobText}
 use Rattle.vr_job_ends.specs.declared.job_end.End.{End}
 use Rattle.vr_job_ends.specs.declared.job_end.Trace.{Trace}
+use Rattle.vr_job.specs.ShelfRun.{IsShelfRun}
 use Rattle.vr_job.specs.Done.{HasRun, HasRunOn, IsNothing, IsRunDone, NotBegun, NotRun}
 
 module _ (old new : Trace) (end : End) (same : new ≡ record old { end = end }) where
@@ -21,15 +23,9 @@ module _ (old new : Trace) (end : End) (same : new ≡ record old { end = end })
     run-on-shown job lines begun left by run = record {
       kept = ap (λ (trace : Trace). trace.job) same ∙ run.kept;
       lines_are = ap (λ (trace : Trace). trace.lines) same ∙ run.lines_are;
-      entries = run.entries;
-      history = ap (λ (trace : Trace). trace.histories) same ∙ run.history;
-      answer = run.answer;
-      end_is = run.end_is;
-      device = run.device;
-      begun_is = run.begun_is;
-      left = run.left;
-      new_is = run.new_is;
-      run = run.run;
+      run = subst (λ (histories : List (List Entry)).
+          IsShelfRun tells seen faults job.steps by histories begun left)
+          (sym (ap (λ (trace : Trace). trace.histories) same)) run.run;
     }
 
     pub run-shown : (in_memory lines : Bool) (left left' : Option (List ℕ)) (fails fails' : ℕ)

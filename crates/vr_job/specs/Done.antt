@@ -1,27 +1,19 @@
 -- What is done for the words of the program. The rules are this project's own.
-use Rattle.std.specs.Prelude.{◌≡◌, ◌≢◌, ◌≤◌, ◌⊎◌, ℕ, Bool, true, false, IsTrue, List, [], ◌∷◌}
-use Rattle.std.specs.Prelude.{Option, Some, None, Ok, Err, IfErr, IsErrOf, OnOk, length, min, ◌^◌}
+use Rattle.std.specs.Prelude.{◌≡◌, ◌<◌, ◌≤◌, ◌⊎◌, ℕ, Bool, true, false, List, []}
+use Rattle.std.specs.Prelude.{Option, Some, None, length, min, ◌^◌}
 use Rattle.std.specs.Prelude.{◌-◌}
-use Rattle.vr_types.specs.Blocks.{AllForced}
 use Rattle.vr_types.specs.Faults.{Faults}
 use Rattle.vr_types.specs.Seen.{Seen}
-use Rattle.vr_catalog.specs.declared.entry.CatEntry.{CatEntry}
-use Rattle.vr_history.specs.Merged.{IsStamped, last_stamp}
-use Rattle.vr_history.specs.declared.entry.Entry.{Entry}
 use Rattle.vr_job_text.specs.declared.text.JobText.{JobText}
-use Rattle.vr_job_text.specs.declared.text.Step.{Step}
 use Rattle.vr_trace.specs.declared.ending.EndLine.{EndLine}
 use Rattle.vr_trace.specs.declared.ending.EndLine.TheVariants.{Formatted, NoCommand, NoMemory, Shelf}
-use Rattle.vr_trace.specs.declared.ending.EndLine.TheVariants.{StampsUsedUp}
 use Rattle.vr_job_ends.specs.Ends.{TakesMemory}
 use Rattle.vr_job_ends.specs.Reading.{IsInputEnd, IsJobRead}
 use Rattle.vr_job_ends.specs.declared.job_end.End.{End}
-use Rattle.vr_job_ends.specs.declared.job_end.End.TheVariants.{Line, Ran}
+use Rattle.vr_job_ends.specs.declared.job_end.End.TheVariants.{Line}
 use Rattle.vr_job_ends.specs.declared.job_end.Trace.{Trace}
-use Rattle.vr_job.specs.Faultless.{AreFaultless}
 use Rattle.vr_job.specs.Formats.{AreAllowed, AreFormatted, IsFormatEnd}
-use Rattle.vr_job.specs.OpenEnds.{HasEndCause, NeverFall}
-use Rattle.vr_job.specs.VolumeRun.{Answer, HasAsked, IsRun, IsUnopened}
+use Rattle.vr_job.specs.ShelfRun.{IsShelfRun}
 
 -- the trace has no job and no history
 pub record IsNothing (trace : Trace) : Type 0 where
@@ -42,56 +34,26 @@ pub data IsFormatDone {D : Type 0} (tells : Bool) (seen : D → Seen) (faults : 
 
 -- ---- runs
 
--- The devices as the run of a job begins: there is one. A volume in memory was formatted, with 64
--- blocks of log and 15 intervals an area; another is as it was.
+-- The devices as the run of a job begins: there are 1 to 16, as they were; or for a volume in memory
+-- one, which was formatted with 64 blocks of log and 15 intervals an area.
 abbrev pub HasBegun : {D : Type 0} → Bool → (D → Seen) → Bool → List D → List D → Type 0
-HasBegun tells seen false old new = (length old ≡ 1) × (new ≡ old)
+HasBegun tells seen false old new = (1 ≤ length old) × (length old ≤ 16) × (new ≡ old)
 HasBegun tells seen true old new = (length old ≡ 1) × AreAllowed seen 64 15 old
     × AreFormatted tells seen 64 15 old new
 
 -- how a job ends whose run doesn't begin
 abbrev pub HasNotBegun : {D : Type 0} → Bool → (D → Seen) → (D → Faults) → Bool → List D → List D
     → EndLine → Type 0
-HasNotBegun tells seen faults false old new line =
-    (length old ≢ 1) × (line ≡ Shelf (length old)) × (new ≡ old)
+HasNotBegun tells seen faults false old new line = ((length old ≡ 0) ⊎ (16 < length old))
+    × (line ≡ Shelf (length old)) × (new ≡ old)
 HasNotBegun tells seen faults true old new line = IsFormatEnd tells seen faults 1 64 15 old new line
 
--- how a job came to its end whose volume was run so
-abbrev pub end_of : Answer → End
-end_of (Ok value) = Ran
-end_of (Err line) = Line line
-
--- What the run of a job's decks comes to on the device of the volume of this number, whether or not it
--- reports its contents; and where it does. Clauses of `run_volume` say the same.
-pub record IsVolumeRun {D : Type 0} (tells : Bool) (seen : D → Seen) (faults : D → Faults)
-    (number : ℕ) (steps : List Step) (answer : Answer) (entries : List Entry) (old new : D)
-    : Type 0 where
-  pub stamped : IsStamped 0 entries
-  pub asked : (catalog : List CatEntry) × HasAsked catalog steps answer entries
-  pub never_fall : NeverFall (faults old) (faults new)
-  pub cause : IfErr answer (HasEndCause number (faults old) (faults new))
-  pub stamps : IsErrOf answer StampsUsedUp → 2 ^ 62 ≤ last_stamp 0 entries
-  pub faulted : (faults new).writes ≡ (faults old).writes → AreFaultless entries
-  pub closed : IsTrue tells → (faults new).writes ≡ (faults old).writes
-      → OnOk answer (AllForced (seen new).count (seen new).cur (seen new).may)
-  pub run : IsTrue tells
-      → IsRun tells seen faults number steps answer entries old new
-      ⊎ IsUnopened number answer entries (seen old) (seen new)
-
--- The job was read, and its decks were run on the one device, from where the run began.
+-- The job was read, and its decks were run on the volumes of the devices, from where the run began.
 pub record HasRunOn {D : Type 0} (tells : Bool) (seen : D → Seen) (faults : D → Faults)
     (job : JobText) (lines : Bool) (begun new : List D) (trace : Trace) (end : End) : Type 0 where
   pub kept : trace.job ≡ Some job
   pub lines_are : trace.lines ≡ lines
-  pub entries : List Entry
-  pub history : trace.histories ≡ entries ∷ []
-  pub answer : Answer
-  pub end_is : end ≡ end_of answer
-  pub device : D
-  pub begun_is : begun ≡ device ∷ []
-  pub left : D
-  pub new_is : new ≡ left ∷ []
-  pub run : IsVolumeRun tells seen faults 0 job.steps answer entries device left
+  pub run : IsShelfRun tells seen faults job.steps end trace.histories begun new
 
 -- How the run of a job comes to its end, with what the source had left and how often it had failed,
 -- before and after: the run doesn't begin, and nothing is read; or the input is no job, or memory ran

@@ -1,10 +1,12 @@
-pub mod Parts
 pub mod Crash
 pub mod Events
-pub mod Asking
+pub mod Faultless
+pub mod Going
+pub mod Serving
 pub mod Opened
 pub mod OpenEnds
-pub mod VolumeRun
-pub mod Faultless
 pub mod Formats
+pub mod VolumeRun
+pub mod Shelf
+pub mod ShelfRun
 pub mod Done

@@ -21,7 +21,7 @@ use Rattle.vr_volume.specs.Laid.{shape_in}
 use Rattle.vr_event.specs.Volume.{VolumeNow}
 use Rattle.vr_event.specs.declared.parts.Laid.{Laid}
 use Rattle.vr_recover.specs.Opening.{IsVolume, shape_owned}
-use Rattle.vr_job.specs.Asking.{HasRun}
+use Rattle.vr_job.specs.Going.{HasRun}
 
 -- a part with its number, as it is seen
 abbrev pub laid_now : Laid Owned → PartNow

@@ -1,21 +1,25 @@
 //! What is done for the words of the program, before anything is printed.
-ghost use Rattle.std.specs.Prelude.{◌≡◌, ◌≤◌, ◌⊎◌, IfErr, OnOk, length};
+ghost use Rattle.std.specs.Prelude.{◌≡◌, ◌≤◌, ◌⊎◌, IfErr, OnOk, Some, length};
 ghost use Rattle.vr_job_text.specs.Numbers.{AreNumbered};
-ghost use Rattle.vr_job.specs.Done as dones;
 ghost use Rattle.vr_job.specs.Formats.{AreAllowed, AreFormatted, IsFormatEnd};
 ghost use Rattle.vr_job.specs.Done.{HasBegun, HasNotBegun, HasRunOn, IsFormatDone, IsNothing};
-ghost use Rattle.vr_job.specs.Done.{IsRunDone, IsVolumeRun, narrowed};
+ghost use Rattle.vr_job.specs.Done.{IsRunDone, narrowed};
 ghost use Rattle.vr_job_ends.specs.declared.job_end.End.TheVariants.{Line};
 ghost use Rattle.vr_trace.specs.declared.ending.EndLine.TheVariants.{NoMemory};
 
 use crate::formatting::{format_devices, narrow};
-use crate::volume_run::{VolumeEnd, run_volume};
+use crate::shelf_run::{ShelfEnd, run_volumes};
 use std::alloc::Global;
+use std::sync::Wait;
+use std::thread::Threads;
 use vr_device::BlockDevice;
 use vr_job_ends::{End, Trace, read_job};
 use vr_job_text::JobText;
-use vr_outside::Source;
+use vr_outside::{Gate, Source};
 use vr_trace::{EndLine, Histories};
+
+/// The most volumes of a shelf.
+const MOST_VOLUMES: usize = 16;
 
 /// The blocks of log of a volume in memory.
 const MEMORY_LOG: u32 = 64;
@@ -92,17 +96,18 @@ pub(crate) fn format_shelf<D: BlockDevice>(
     }
 }
 
-/// Sees that there is one device, and formats it where it is a volume in memory.
+/// Sees that there are 1 to 16 devices, or formats the one of a volume in memory.
 fn begin<D: BlockDevice>(alloc: Global, shelf: &mut Vec<D>, in_memory: bool) -> Result<(), EndLine>
     ensures begun { OnOk result (HasBegun D.tells D.seen in_memory shelf.old.items
         shelf.new.items) }
     ensures not_begun { IfErr result (HasNotBegun D.tells D.seen D.faults in_memory
         shelf.old.items shelf.new.items) }
+    ensures few { OnOk result (length shelf.new.items ≤ 16) }
 {
     if in_memory {
         return format_devices(alloc, shelf.as_mut_slice(), 1, MEMORY_LOG, MEMORY_AREA);
     }
-    if shelf.len() != 1 {
+    if shelf.is_empty() || shelf.len() > MOST_VOLUMES {
         return Err(EndLine::Shelf {
             devices: shelf.len() as u64,
         });
@@ -110,64 +115,67 @@ fn begin<D: BlockDevice>(alloc: Global, shelf: &mut Vec<D>, in_memory: bool) -> 
     Ok(())
 }
 
-/// How a job came to its end whose volume was run so.
-fn end_of(answer: Result<(), EndLine>) -> End
-    ensures { result ≡ dones.end_of answer }
-{
-    match answer {
-        Ok(()) => End::Ran,
-        Err(line) => End::Line(line),
-    }
-}
-
-/// Runs the decks of a job on the volume of a device.
-fn run_one<D: BlockDevice>(alloc: Global, device: D, job: &JobText) -> VolumeEnd<D>
-    requires { AreNumbered job.now.steps }
-    ensures { IsVolumeRun D.tells D.seen D.faults 0 job.now.steps result.result
-        result.history.entries device result.device }
-{
-    run_volume(alloc, device, 0, job.steps.as_slice())
-}
-
-/// Runs a job on the one device of the shelf. The room for its history is made before the device is
-/// touched; where there is none, nothing is run.
-fn run_on<D: BlockDevice>(alloc: Global, mut shelf: Vec<D>, job: JobText, lines: bool) -> Done<D>
-    requires one { length shelf.items ≡ 1 }
+/// Runs a job on the volumes of the shelf. Where there is no memory for their list, nothing is run.
+fn run_on<R: Threads + Wait + Sync, D: BlockDevice + Send, G: Gate + Sync>(
+    rt: &R,
+    alloc: Global,
+    shelf: Vec<D>,
+    job: JobText,
+    lines: bool,
+    gate: &G,
+) -> Done<D>
+    requires few { length shelf.items ≤ 16 }
     requires numbered { AreNumbered job.steps }
     ensures { ((result.trace.end ≡ Line NoMemory) × IsNothing result.trace
         × (result.shelf.items ≡ shelf.items))
         ⊎ HasRunOn D.tells D.seen D.faults job lines shelf.items result.shelf.items
         result.trace result.trace.end }
 {
-    let mut histories = Vec::new(alloc);
-    if histories.reserve(1).is_err() {
-        return not_run(alloc, EndLine::NoMemory, shelf);
+    match run_volumes(rt, alloc, shelf, job.steps.as_slice(), gate) {
+        Ok(end) => ran(job, lines, end),
+        Err(shelf) => not_run(alloc, EndLine::NoMemory, shelf),
     }
-    let Some(device) = shelf.pop() else {
-        return not_run(alloc, EndLine::NoMemory, shelf);
-    };
-    let end = run_one(alloc, device, &job);
-    shelf.push_reserved(end.device);
-    histories.push_reserved(end.history);
+}
+
+/// A job that was run on the volumes of a shelf.
+fn ran<D: BlockDevice>(job: JobText, lines: bool, end: ShelfEnd<D>) -> Done<D>
+    ensures job { result.trace.job ≡ Some job }
+    ensures lines { result.trace.lines ≡ lines }
+    ensures end { result.trace.end ≡ end.end }
+    ensures histories { result.trace.histories ≡ end.histories }
+    ensures shelf { result.shelf ≡ end.shelf }
+{
+    let ShelfEnd {
+        shelf,
+        histories,
+        end,
+    } = end;
     Done {
         trace: Trace {
             job: Some(job),
-            end: end_of(end.result),
+            end,
             lines,
-            histories: Histories::from_vec(histories),
+            histories,
         },
         shelf,
     }
 }
 
-/// Reads a job and runs it on the one device of the shelf, which is formatted first where it is a
-/// volume in memory.
-pub(crate) fn run_shelf<S: Source, D: BlockDevice>(
+/// Reads a job and runs it on the volumes of the shelf, the one of which is formatted first where it is
+/// a volume in memory.
+pub(crate) fn run_shelf<
+    R: Threads + Wait + Sync,
+    S: Source,
+    D: BlockDevice + Send,
+    G: Gate + Sync,
+>(
+    rt: &R,
     alloc: Global,
     input: &mut S,
     mut shelf: Vec<D>,
     in_memory: bool,
     lines: bool,
+    gate: &G,
 ) -> Done<D>
     ensures done { IsRunDone D.tells D.seen D.faults in_memory lines (S.left input.old)
         (S.left input.new) (S.faults input.old) (S.faults input.new) shelf.items
@@ -177,7 +185,7 @@ pub(crate) fn run_shelf<S: Source, D: BlockDevice>(
         return not_run(alloc, line, shelf);
     }
     match read_job(alloc, input) {
-        Ok(job) => run_on(alloc, shelf, job, lines),
+        Ok(job) => run_on(rt, alloc, shelf, job, lines, gate),
         Err(line) => not_run(alloc, line, shelf),
     }
 }

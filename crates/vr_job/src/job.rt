@@ -11,19 +11,23 @@ ghost use Rattle.vr_job.specs.Done.{IsRunJob, narrowed};
 
 use crate::done::{Done, format_shelf, not_run, run_shelf};
 use std::alloc::Global;
+use std::sync::Wait;
+use std::thread::Threads;
 use vr_device::BlockDevice;
 use vr_job_ends::{JobEnd, print_end};
-use vr_outside::{Sink, Source};
+use vr_outside::{Gate, Sink, Source};
 use vr_plan::{Plan, plan};
 use vr_trace::EndLine;
 use vr_types::Words;
 
 /// Does what the words ask for. It prints nothing.
-fn run_words<S: Source, D: BlockDevice>(
+fn run_words<R: Threads + Wait + Sync, S: Source, D: BlockDevice + Send, G: Gate + Sync>(
+    rt: &R,
     alloc: Global,
     words: &Words,
     input: &mut S,
     shelf: Vec<D>,
+    gate: &G,
 ) -> Done<D>
     ensures command { plan_of words.now ≡ None
         → IsNoCommand shelf.items result.shelf.items result.trace }
@@ -48,18 +52,31 @@ fn run_words<S: Source, D: BlockDevice>(
                 ..
             },
         ) => format_shelf(alloc, shelf, count, log, area),
-        Some(Plan::Run { dir, trace, .. }) => run_shelf(alloc, input, shelf, dir == "-", trace),
+        Some(Plan::Run { dir, trace, .. }) => {
+            run_shelf(rt, alloc, input, shelf, dir == "-", trace, gate)
+        }
     }
 }
 
 /// Does what the words ask for, and prints what comes of it: the devices of the shelf are formatted,
-/// or the job of the input is run on the one volume of the shelf.
-pub fn run_job<S: Source, K: Sink, D: BlockDevice>(
+/// or the job of the input is run on the volumes of the shelf, 1 to 16 of them, the decks of a step each
+/// on a thread of its own where one can be made. A deck's thread passes the gate between two events of a
+/// request, and before each event with the latch of its volume held. Every clause holds at every
+/// schedule.
+pub fn run_job<
+    R: Threads + Wait + Sync,
+    S: Source,
+    K: Sink,
+    D: BlockDevice + Send,
+    G: Gate + Sync,
+>(
+    rt: &R,
     alloc: Global,
     words: &Words,
     input: &mut S,
     output: &mut K,
     shelf: Vec<D>,
+    gate: &G,
 ) -> JobEnd<D>
     // What was printed, and the status, are those of the trace.
     ensures status { IsStatus (K.faults output.old) (K.faults output.new) result.trace
@@ -86,6 +103,6 @@ pub fn run_job<S: Source, K: Sink, D: BlockDevice>(
     ensures untouched { ((job dir : List ℕ) (lines : Bool)
         → plan_of words.now ≢ Some (Run job dir lines)) → input.new ≡ input.old }
 {
-    let done = run_words(alloc, words, input, shelf);
+    let done = run_words(rt, alloc, words, input, shelf, gate);
     print_end(alloc, done.trace, done.shelf, output)
 }

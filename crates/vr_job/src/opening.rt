@@ -11,7 +11,7 @@ ghost use Rattle.vr_event.specs.Volume.{IsWhole};
 ghost use Rattle.vr_history.specs.State.{opening_state};
 ghost use Rattle.vr_volume.specs.Volume.{Recovers};
 ghost use Rattle.vr_recover.specs.Opening.{IsHandedOut, IsOpened, IsVolume};
-ghost use Rattle.vr_job.specs.Asking.{HasRun};
+ghost use Rattle.vr_job.specs.Going.{HasRun};
 ghost use Rattle.vr_job.specs.OpenEnds as ends;
 ghost use Rattle.vr_job.specs.OpenEnds.{HasEndCause, IsOpenEnd, IsOpenLine, NeverFall};
 ghost use Rattle.vr_job.specs.Opened.{IsOpenHeld, IsReady, IsReadyFrom, laid_now, opened_now};

@@ -16,7 +16,7 @@ use Rattle.vr_trace.specs.declared.kept.KeptStep.{KeptStep}
 use Rattle.vr_history.specs.declared.entry.Entry.{Entry}
 use Rattle.vr_job_ends.specs.Names.{names_of}
 use Rattle.vr_job_ends.specs.declared.job_end.End.{End}
-use Rattle.vr_job_ends.specs.declared.job_end.End.TheVariants.{Ran, Line}
+use Rattle.vr_job_ends.specs.declared.job_end.End.TheVariants.{Ran, Unsynced, Line}
 use Rattle.vr_job_ends.specs.declared.job_end.Trace.{Trace}
 
 -- the status of a job that ends with a line
@@ -43,14 +43,18 @@ abbrev pub lines_shown : Bool → List (List Entry) → List ℕ
 lines_shown false histories = []
 lines_shown true histories = trace_of histories
 
--- by how it ended: the greatest code of the steps that ran, or the status of its line
+-- by how it ended: the greatest code of the steps that ran, that of a fault of a device, or the status
+-- of its line
 abbrev pub status_by : End → Trace → ℕ
 status_by Ran trace = job_code trace.histories (steps_shown trace.job)
+status_by (Unsynced volume) trace = line_status (DeviceFault volume)
 status_by (Line line) trace = line_status line
 
 abbrev pub printed_by : End → Trace → List ℕ
 printed_by Ran trace = listing_of (steps_shown trace.job) trace.histories
     ++ lines_shown trace.lines trace.histories
+printed_by (Unsynced volume) trace = (listing_of (steps_shown trace.job) trace.histories
+    ++ lines_shown trace.lines trace.histories) ++ end_line_of (DeviceFault volume)
 printed_by (Line line) trace = end_line_of line
 
 -- the bytes that a job with this trace prints
@@ -60,6 +64,7 @@ printed_of trace = printed_by trace.end trace
 -- what is printed takes memory to make
 abbrev pub TakesMemory : End → Type 0
 TakesMemory Ran = Unit {0}
+TakesMemory (Unsynced volume) = Unit {0}
 TakesMemory (Line line) = HasNumber line
 
 -- a job that came through: the sink may be why its status is another
@@ -67,6 +72,7 @@ abbrev pub IsThrough : End → Type 0
 IsThrough Ran = Unit {0}
 IsThrough (Line (Formatted volumes)) = Unit {0}
 IsThrough (Line line) = ⊥
+IsThrough (Unsynced volume) = ⊥
 
 -- The status is that of how the job ended, or 28 where the sink failed.
 abbrev pub IsStatus : ℕ → ℕ → Trace → ℕ → Type 0

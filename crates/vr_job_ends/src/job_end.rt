@@ -8,6 +8,8 @@ use vr_trace::{EndLine, Histories};
 pub enum End {
     /// Its steps ran.
     Ran,
+    /// Its steps ran, and then the device of this volume failed to sync as it was closed.
+    Unsynced(u32),
     /// Otherwise: one line says how.
     Line(EndLine),
 }

@@ -3,7 +3,7 @@ ghost use Rattle.std.specs.Prelude.{◌≡◌, ◌≢◌, ◌↔◌, ◌⊎◌, 
 ghost use Rattle.vr_outside.specs.Told.{Takes, TakesPart};
 ghost use Rattle.vr_job_ends.specs.Ends as ends;
 ghost use Rattle.vr_job_ends.specs.Ends.{IsPrinted, IsStatus, IsThrough};
-ghost use Rattle.vr_job_ends.specs.declared.job_end.End.TheVariants.{Line, Ran};
+ghost use Rattle.vr_job_ends.specs.declared.job_end.End.TheVariants.{Line, Ran, Unsynced};
 ghost use Rattle.vr_job_ends.specs.declared.job_end.Trace.{Trace as TraceOf};
 ghost use Rattle.vr_trace.specs.declared.ending.EndLine.TheVariants.{NoMemory};
 
@@ -65,7 +65,7 @@ fn is_through(end: &End) -> bool
     match end {
         End::Ran => true,
         End::Line(EndLine::Formatted { .. }) => true,
-        End::Line(_) => false,
+        End::Unsynced(_) | End::Line(_) => false,
     }
 }
 
@@ -81,6 +81,19 @@ fn ran_text(alloc: Global, trace: &Trace) -> Result<(u8, Bytes), OutOfMemory>
     Ok((job_code(&steps, &trace.histories), text))
 }
 
+/// The status and the text of a job whose steps ran, where the device of this volume failed to sync as
+/// it was closed: the line of that comes last.
+fn unsynced_text(alloc: Global, trace: &Trace, volume: u32) -> Result<(u8, Bytes), OutOfMemory>
+    ensures status { IfOk result (λ made. made.0 ≡ ends.status_by (Unsynced volume) trace.now) }
+    ensures text { IfOk result (λ made. made.1 ≡ ends.printed_by (Unsynced volume) trace.now) }
+{
+    let fault = EndLine::DeviceFault { volume };
+    let (_, mut text) = ran_text(alloc, trace)?;
+    let line = end_line(alloc, &fault)?;
+    text.extend(line.as_slice())?;
+    Ok((line_status(&fault), text))
+}
+
 /// The status that a job ends with, and the text that it prints.
 fn text_of(alloc: Global, trace: &Trace) -> Result<(u8, Bytes), OutOfMemory>
     ensures status { IfOk result (λ made. made.0 ≡ ends.status_by trace.now.end trace.now) }
@@ -88,6 +101,7 @@ fn text_of(alloc: Global, trace: &Trace) -> Result<(u8, Bytes), OutOfMemory>
 {
     match &trace.end {
         End::Ran => ran_text(alloc, trace),
+        End::Unsynced(volume) => unsynced_text(alloc, trace, *volume),
         End::Line(line) => Ok((line_status(line), end_line(alloc, line)?)),
     }
 }
@@ -119,7 +133,7 @@ fn fixed_text(end: &End) -> Option<(u8, &'static [u8])>
     ensures none { IfNone result (ends.TakesMemory end.now) }
 {
     match end {
-        End::Ran => None,
+        End::Ran | End::Unsynced(_) => None,
         End::Line(line) => match fixed_line(line) {
             None => None,
             Some(text) => Some((line_status(line), text)),

@@ -1,6 +1,6 @@
 //! The program: it makes the source, the sink and the devices that its words name, hands them to the
 //! top call (vr_job), and ends with that call's status. It stands on vr_job, on vr_plan for the
-//! words, on vr_device for the volumes, and on vr_outside for the two ends.
+//! words, on vr_device for the volumes, and on vr_outside for the two ends and the gate.
 #![tactic(auto)]
 
 mod shape;
@@ -14,9 +14,11 @@ use std::fs::{File, Files};
 use std::io;
 use std::process::ExitCode;
 use std::rt::Env;
+use std::sync::Wait;
+use std::thread::Threads;
 use vr_device::{BlockDevice, MemoryDevice, memory_device};
 use vr_job::run_job;
-use vr_outside::{FileSource, Source, StdSink, StdSource, SteadySource};
+use vr_outside::{FileSource, OpenGate, Source, StdSink, StdSource, SteadySource};
 use vr_plan::{Plan, plan};
 use vr_types::{Geometry, OutOfMemory, Words};
 
@@ -47,7 +49,7 @@ fn keep_numbers<R: Files>(rt: &R) -> [io::Result<R::File>; 3] {
 
 /// Does what the words of the program ask for, and answers the status. Out of memory is its one
 /// error.
-fn run<R: Env + Input + Print + AllocGlobal + Files<File = File>>(
+fn run<R: Threads + Wait + Sync + Env + Input + Print + AllocGlobal + Files<File = File>>(
     rt: &R,
 ) -> Result<u8, OutOfMemory> {
     let words = words_of(rt)?;
@@ -69,13 +71,13 @@ fn run<R: Env + Input + Print + AllocGlobal + Files<File = File>>(
 }
 
 /// Hands over words that are no command, with an empty shelf.
-fn run_nothing<R: Print + AllocGlobal>(rt: &R, words: &Words) -> u8 {
+fn run_nothing<R: Threads + Wait + Sync + Print + AllocGlobal>(rt: &R, words: &Words) -> u8 {
     let shelf: Vec<MemoryDevice> = Vec::new(rt.alloc());
     end(rt, words, empty_source(rt.alloc()), shelf)
 }
 
 /// Formats new files as volumes.
-fn format<R: Print + AllocGlobal + Files<File = File>>(
+fn format<R: Threads + Wait + Sync + Print + AllocGlobal + Files<File = File>>(
     rt: &R,
     words: &Words,
     dir: &str,
@@ -87,7 +89,7 @@ fn format<R: Print + AllocGlobal + Files<File = File>>(
 }
 
 /// Runs a job over the volumes of a directory.
-fn run_in_directory<R: Input + Print + AllocGlobal + Files<File = File>>(
+fn run_in_directory<R: Threads + Wait + Sync + Input + Print + AllocGlobal + Files<File = File>>(
     rt: &R,
     words: &Words,
     job: &str,
@@ -98,7 +100,7 @@ fn run_in_directory<R: Input + Print + AllocGlobal + Files<File = File>>(
 }
 
 /// Runs a job over one volume in memory.
-fn run_in_memory<R: Input + Print + AllocGlobal + Files<File = File>>(
+fn run_in_memory<R: Threads + Wait + Sync + Input + Print + AllocGlobal + Files<File = File>>(
     rt: &R,
     words: &Words,
     job: &str,
@@ -109,12 +111,10 @@ fn run_in_memory<R: Input + Print + AllocGlobal + Files<File = File>>(
 }
 
 /// Runs a job over these devices: that of standard input for `-`, else that of a file.
-fn run_over<R: Input + Print + AllocGlobal + Files<File = File>, D: BlockDevice>(
-    rt: &R,
-    words: &Words,
-    job: &str,
-    shelf: Vec<D>,
-) -> u8 {
+fn run_over<
+    R: Threads + Wait + Sync + Input + Print + AllocGlobal + Files<File = File>,
+    D: BlockDevice + Send,
+>(rt: &R, words: &Words, job: &str, shelf: Vec<D>) -> u8 {
     if job == "-" {
         end(rt, words, StdSource::new(rt.reader()), shelf)
     } else {
@@ -122,15 +122,25 @@ fn run_over<R: Input + Print + AllocGlobal + Files<File = File>, D: BlockDevice>
     }
 }
 
-/// Hands all over to the top call, with standard output as the sink, and answers its status.
-fn end<R: Print + AllocGlobal, S: Source + Drop, D: BlockDevice>(
+/// Hands all over to the top call, with standard output as the sink and a gate that holds nobody,
+/// and answers its status.
+fn end<R: Threads + Wait + Sync + Print + AllocGlobal, S: Source + Drop, D: BlockDevice + Send>(
     rt: &R,
     words: &Words,
     mut input: S,
     shelf: Vec<D>,
 ) -> u8 {
     let mut output = StdSink::new(io::writer(rt));
-    run_job(rt.alloc(), words, &mut input, &mut output, shelf).status
+    run_job(
+        rt,
+        rt.alloc(),
+        words,
+        &mut input,
+        &mut output,
+        shelf,
+        &OpenGate,
+    )
+    .status
 }
 
 /// The source where no job is read.

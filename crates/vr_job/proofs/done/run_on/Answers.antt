@@ -1,28 +1,28 @@
-use Rattle.std.proofs.Common.{◌≡◌, ◌∷◌, [], ◌++◌, ◌∙◌, ap, inr, refl, subst}
-use Rattle.std.specs.Option.{option_to_list}
-use Rattle.vr_trace.specs.Volumes.{entries_of}
-use Rattle.vr_job.proofs.Devices.{one-taken}
+use Rattle.std.proofs.Common.{List, ap, inl, inr, subst, sym}
+use Rattle.vr_history.specs.declared.entry.Entry.{Entry}
+use Rattle.vr_job_ends.specs.declared.job_end.End.{End}
+use Rattle.vr_job_text.specs.declared.text.Step.{Step}
+use Rattle.vr_job.specs.ShelfRun.{IsShelfRun}
 use Rattle.vr_job.proofs.done.run_on.Goals as goal
 
-pub returns : goal.returns
-returns g c =
-    let end = c.run_one-end.result in
-    let taken = one-taken c.args.shelf.items c.pop.new.self.items c.in-Some.device c.requires.one
-    (subst (λ found. c.args.shelf.items ≡ c.pop.new.self.items ++ option_to_list found) c.in-Some.is
-    c.pop.ensures.items) in
+pub returns-in-Ok : goal.returns-in-Ok
+returns-in-Ok g c =
+    let D = g.D.BlockDevice in
+    let end = c.in-Ok.end in
+    let made = c.ran in
     inr (record {
-      kept = refl;
-      lines_are = refl;
-      entries = end.history.entries;
-      history = c.from_vec.ensures
-          ∙ ap entries_of (c.push_reserved-2.ensures.items
-          ∙ ap (λ items. items ++ end.history ∷ []) (c.reserve.ensures.items
-          ∙ c.new-histories.ensures.items));
-      answer = end.result;
-      end_is = c.end_of.ensures;
-      device = c.in-Some.device;
-      begun_is = taken.1;
-      left = end.device;
-      new_is = c.push_reserved.ensures.items ∙ ap (λ items. items ++ end.device ∷ []) taken.0;
-      run = c.run_one-end.ensures;
+      kept = made.ensures.job;
+      lines_are = made.ensures.lines;
+      run = subst (λ (by : End). IsShelfRun D.tells D.seen D.faults c.args.job.steps by
+          made.result.trace.histories c.args.shelf.items made.result.shelf.items)
+          (sym made.ensures.end)
+          (subst (λ (histories : List (List Entry)). IsShelfRun D.tells D.seen D.faults
+          c.args.job.steps end.end histories c.args.shelf.items made.result.shelf.items)
+          (sym made.ensures.histories)
+          (subst (λ (shelf : List g.row.D.Denot). IsShelfRun D.tells D.seen D.faults
+          c.args.job.steps end.end end.histories c.args.shelf.items shelf)
+          (sym (ap (λ shelf. shelf.items) made.ensures.shelf))
+          (subst (λ (steps : List Step). IsShelfRun D.tells D.seen D.faults steps end.end
+          end.histories c.args.shelf.items end.shelf.items) c.as_slice.ensures
+          c.in-Ok.ensures.ran)));
     })

@@ -3,7 +3,7 @@ use Rattle.vr_event.specs.Opening.{IsOpened, owned_in}
 use Rattle.vr_event.specs.Store.{PartNow}
 use Rattle.vr_history.specs.State.{opening_state}
 use Rattle.vr_log.specs.LogNow.{LogNow}
-use Rattle.vr_job.specs.Asking.{HasRun}
+use Rattle.vr_job.specs.Going.{HasRun}
 use Rattle.vr_job.specs.Opened.{IsReady, laid_now}
 use Rattle.vr_job.specs.declared.numbering.Ready.{Ready}
 use Rattle.vr_job.proofs.Readying.{opening-run, ready-same}

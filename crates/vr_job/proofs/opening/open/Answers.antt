@@ -7,7 +7,7 @@ use Rattle.vr_event.specs.Opening.{owned_in}
 use Rattle.vr_history.specs.State.{opening_state}
 use Rattle.vr_recover.specs.Opening.{IsVolume}
 use Rattle.vr_volume.specs.Volume.{Recovers}
-use Rattle.vr_job.specs.Asking.{HasRun}
+use Rattle.vr_job.specs.Going.{HasRun}
 use Rattle.vr_job.proofs.opening.open.Goals as goal
 
 pub returns-in-Ok-clause-held : goal.returns-in-Ok-clause-held

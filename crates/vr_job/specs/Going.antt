@@ -1,0 +1,121 @@
+-- What goes on of a volume from event to event. The rules are this project's own.
+use Rattle.std.specs.Prelude.{◌≡◌, ◌⊎◌, ◌≤◌, ℕ, Bool, true, IsTrue, List, ◌++◌}
+use Rattle.std.proofs.Common.{◌∙◌, inl, inr, ⊎_elim, append_assoc, ap, arith, refl, subst, sym}
+use Rattle.vr_types.specs.Faults.{Faults}
+use Rattle.vr_types.specs.Moments.{Guards}
+use Rattle.vr_types.specs.Seen.{Seen}
+use Rattle.vr_history.specs.Merged.{IsStamped}
+use Rattle.vr_history.specs.State.{State}
+use Rattle.vr_history.specs.declared.entry.Entry.{Entry}
+use Rattle.vr_record_file.specs.Now.{has_deck}
+use Rattle.vr_event.specs.Volume.{IsHeld, IsWhole, VolumeNow}
+use Rattle.vr_job.specs.Crash.{IsLeftBy}
+use Rattle.vr_job.specs.Events.{IsOfEvents}
+use Rattle.vr_job.specs.Faultless.{AreFaultless}
+
+-- What goes on from event to event whether or not the device reports its contents: the volume is
+-- whole, its shape and catalog stay, each deck stays entered, entries are added alone, at stamps
+-- that rise, and no count of faults falls. Where no write failed, the volume isn't stopped, and no
+-- fault is entered.
+pub record GoesOn {B : Type 0} (seen : B → Seen) (faults : B → Faults) (old new : VolumeNow B)
+    : Type 0 where
+  pub whole : IsWhole seen new
+  pub number : new.number ≡ old.number
+  pub geometry : new.file.geometry ≡ old.file.geometry
+  pub catalog : new.file.catalog ≡ old.file.catalog
+  pub decks : (deck : ℕ) → has_deck deck old.file.numbers ≡ true
+      → has_deck deck new.file.numbers ≡ true
+  pub made : List Entry
+  pub entries : new.file.entries ≡ old.file.entries ++ made
+  pub stamped : IsStamped 0 old.file.entries → IsStamped 0 new.file.entries
+  pub reads : (faults old.blocks).reads ≤ (faults new.blocks).reads
+  pub writes : (faults old.blocks).writes ≤ (faults new.blocks).writes
+  pub stops : (faults new.blocks).writes ≡ (faults old.blocks).writes
+      → new.file.stopped ≡ old.file.stopped
+  pub faultless : (faults new.blocks).writes ≡ (faults old.blocks).writes
+      → AreFaultless old.file.entries → AreFaultless new.file.entries
+
+-- What goes on where it does, from an opening and the blocks as they were then: the history is
+-- legal and gives what the volume has, each image at each moment since is left by the history, and
+-- so it is event by event.
+pub record HasRun {B : Type 0} (seen : B → Seen) (opening : State) (first : B)
+    (volume : VolumeNow B) : Type 0 where
+  pub held : IsHeld seen opening volume
+  pub left : Guards (seen first) (seen volume.blocks)
+      (IsLeftBy volume.file.geometry volume.number opening volume.file.entries)
+  pub events : IsOfEvents seen volume.file.geometry volume.number opening first volume.blocks
+      volume.file.entries
+
+-- What goes on, and where the device reports its contents, what goes on from each opening.
+pub record WentOn {B : Type 0} (tells : Bool) (seen : B → Seen) (faults : B → Faults)
+    (old new : VolumeNow B) : Type 0 where
+  pub on : GoesOn seen faults old new
+  pub held : IsTrue tells → (opening : State) → IsHeld seen opening old
+      → IsHeld seen opening new
+  pub run : IsTrue tells → (opening : State) (first : B) → HasRun seen opening first old
+      → HasRun seen opening first new
+
+-- A later state of a volume: it is as it was, or went on.
+abbrev pub Follows : {B : Type 0} → Bool → (B → Seen) → (B → Faults) → VolumeNow B → VolumeNow B
+    → Type 0
+Follows tells seen faults old new = (new ≡ old) ⊎ WentOn tells seen faults old new
+
+-- ---- laws of later states, which those of a volume behind a latch cite
+
+pub goes-then : {B : Type 0} (seen : B → Seen) (faults : B → Faults) (a b c : VolumeNow B)
+    → GoesOn seen faults a b → GoesOn seen faults b c → GoesOn seen faults a c
+goes-then {B} seen faults a b c first second = record {
+  whole = second.whole;
+  number = second.number ∙ first.number;
+  geometry = second.geometry ∙ first.geometry;
+  catalog = second.catalog ∙ first.catalog;
+  decks = λ deck has. second.decks deck (first.decks deck has);
+  made = first.made ++ second.made;
+  entries = second.entries
+      ∙ ap (λ (entries : List Entry). entries ++ second.made) first.entries
+      ∙ append_assoc a.file.entries first.made second.made;
+  stamped = λ before. second.stamped (first.stamped before);
+  reads = omega (arith, first.reads, second.reads);
+  writes = omega (arith, first.writes, second.writes);
+  stops = λ same. second.stops (second-same same) ∙ first.stops (first-same same);
+  faultless = λ same before. second.faultless (second-same same)
+      (first.faultless (first-same same) before);
+}
+  where
+    first-same : (faults c.blocks).writes ≡ (faults a.blocks).writes
+        → (faults b.blocks).writes ≡ (faults a.blocks).writes
+    first-same same = omega (arith, same, first.writes, second.writes)
+
+    second-same : (faults c.blocks).writes ≡ (faults a.blocks).writes
+        → (faults c.blocks).writes ≡ (faults b.blocks).writes
+    second-same same = omega (arith, same, first.writes, second.writes)
+
+pub went-then : {B : Type 0} (tells : Bool) (seen : B → Seen) (faults : B → Faults)
+    (a b c : VolumeNow B) → WentOn tells seen faults a b → WentOn tells seen faults b c
+    → WentOn tells seen faults a c
+went-then tells seen faults a b c first second = record {
+  on = goes-then seen faults a b c first.on second.on;
+  held = λ told opening held. second.held told opening (first.held told opening held);
+  run = λ told opening from run. second.run told opening from (first.run told opening from run);
+}
+
+-- a volume is a later state of itself
+pub follows-itself : {B : Type 0} (tells : Bool) (seen : B → Seen) (faults : B → Faults)
+    (volume : VolumeNow B) → Follows tells seen faults volume volume
+follows-itself tells seen faults volume = inl refl
+
+-- a later state of a later state is one
+pub follows-on : {B : Type 0} (tells : Bool) (seen : B → Seen) (faults : B → Faults)
+    (a b c : VolumeNow B) → Follows tells seen faults a b → Follows tells seen faults b c
+    → Follows tells seen faults a c
+follows-on {B} tells seen faults a b c first second = ⊎_elim
+    (λ same. subst (λ (v : VolumeNow B). Follows tells seen faults v c) same second)
+    (λ went. ⊎_elim
+    (λ same. subst (Follows tells seen faults a) (sym same) first)
+    (λ more. inr (went-then tells seen faults a b c went more)) second) first
+
+-- the catalog stays
+pub follows-catalog : {B : Type 0} (tells : Bool) (seen : B → Seen) (faults : B → Faults)
+    (a b : VolumeNow B) → Follows tells seen faults a b → b.file.catalog ≡ a.file.catalog
+follows-catalog {B} tells seen faults a b is = ⊎_elim
+    (λ same. ap (λ (v : VolumeNow B). v.file.catalog) same) (λ went. went.on.catalog) is

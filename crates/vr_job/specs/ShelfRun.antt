@@ -1,0 +1,80 @@
+-- The run of a job on the volumes of the devices of a shelf, from their opening to the end. The rules
+-- are this project's own.
+use Rattle.std.specs.Prelude.{◌≡◌, ◌<◌, ◌≤◌, ◌+◌, ◌^◌, ℕ, Bool, List, [], ◌∷◌, Result, Ok, Err}
+use Rattle.std.specs.Prelude.{IsOk, IsTrue, Some, map, slice_get}
+use Rattle.vr_types.specs.Faults.{Faults}
+use Rattle.vr_types.specs.Seen.{Seen}
+use Rattle.vr_catalog.specs.declared.entry.CatEntry.{CatEntry}
+use Rattle.vr_history.specs.Merged.{last_stamp}
+use Rattle.vr_history.specs.declared.entry.Entry.{Entry}
+use Rattle.vr_job_text.specs.declared.text.Step.{Step}
+use Rattle.vr_steps.specs.Steps.{HasAsked}
+use Rattle.vr_job_ends.specs.declared.job_end.End.{End}
+use Rattle.vr_job_ends.specs.declared.job_end.End.TheVariants.{Line, Ran, Unsynced}
+use Rattle.vr_trace.specs.declared.ending.EndLine.{EndLine}
+use Rattle.vr_trace.specs.declared.ending.EndLine.TheVariants.{NoMemory, StampsUsedUp}
+use Rattle.vr_worker.specs.declared.no.RunNo.{RunNo}
+use Rattle.vr_worker.specs.declared.no.RunNo.TheVariants as nos
+use Rattle.vr_job.specs.OpenEnds.{IsOpenEnd, IsOpenLine}
+use Rattle.vr_job.specs.VolumeRun.{IsVolumeRun}
+
+-- how a job ends whose requests weren't all answered
+abbrev pub run_line : RunNo → EndLine
+run_line nos.Stamps = StampsUsedUp
+run_line nos.Memory = NoMemory
+
+abbrev pub run_end : Result (Unit {0}) RunNo → End
+run_end (Ok value) = Ran
+run_end (Err fault) = Line (run_line fault)
+
+-- A volume of a run: its catalog, its history, and its device before and after.
+pub record VolumeOf (D : Type 0) : Type 0 where
+  pub catalog : List CatEntry
+  pub entries : List Entry
+  pub device : D
+  pub left : D
+
+-- Each volume was run, the first of them having this number.
+abbrev pub AreVolumeRuns : {D : Type 0} → Bool → (D → Seen) → (D → Faults) → List Step → End → ℕ
+    → List (VolumeOf D) → Type 0
+AreVolumeRuns tells seen faults steps end number [] = Unit {0}
+AreVolumeRuns tells seen faults steps end number (volume ∷ volumes) =
+    IsVolumeRun tells seen faults number steps volume.catalog end volume.entries volume.device
+    volume.left
+    × AreVolumeRuns tells seen faults steps end (number + 1) volumes
+
+-- the volume of this number
+abbrev pub IsAt : {D : Type 0} → ℕ → VolumeOf D → List (VolumeOf D) → Type 0
+IsAt number volume volumes = slice_get volumes number ≡ Some volume
+
+-- How a job ends, by what its requests came to: as they did; or all were answered and the device of a
+-- volume failed to sync as it was closed, which was counted; or a volume was not opened, and none was
+-- asked.
+pub data IsShelfEnd {D : Type 0} (tells : Bool) (seen : D → Seen) (faults : D → Faults)
+    (volumes : List (VolumeOf D)) (by : Result (Unit {0}) RunNo) (end : End) : Type 0 where
+  AsAsked : end ≡ run_end by → IsShelfEnd tells seen faults volumes by end
+  ByClosing : IsOk by → (number : ℕ) (volume : VolumeOf D) → IsAt number volume volumes
+      → end ≡ Unsynced number → (faults volume.device).writes < (faults volume.left).writes
+      → IsShelfEnd tells seen faults volumes by end
+  ByOpening : (number : ℕ) (volume : VolumeOf D) (line : EndLine) → IsAt number volume volumes
+      → end ≡ Line line → IsOpenLine number line
+      → (IsTrue tells → IsOpenEnd number (seen volume.device) line)
+      → IsShelfEnd tells seen faults volumes by end
+
+-- The decks of the job asked what they request by the catalogs of the volumes; each volume was run; as
+-- many devices come back, each at its place, and so does the history of each volume; stamps were used up
+-- only where a history shows it; and so the job ended.
+pub record IsShelfRun {D : Type 0} (tells : Bool) (seen : D → Seen) (faults : D → Faults)
+    (steps : List Step) (end : End) (histories : List (List Entry)) (old new : List D) : Type 0
+  where
+    pub volumes : List (VolumeOf D)
+    pub old_are : old ≡ map (λ (volume : VolumeOf D). volume.device) volumes
+    pub new_are : new ≡ map (λ (volume : VolumeOf D). volume.left) volumes
+    pub histories_are : histories ≡ map (λ (volume : VolumeOf D). volume.entries) volumes
+    pub runs : AreVolumeRuns tells seen faults steps end 0 volumes
+    pub by : Result (Unit {0}) RunNo
+    pub asked : HasAsked (map (λ (volume : VolumeOf D). volume.catalog) volumes) steps by histories
+    pub stamps : end ≡ Line StampsUsedUp
+        → (number : ℕ) × (volume : VolumeOf D) × IsAt number volume volumes
+        × (2 ^ 62 ≤ last_stamp 0 volume.entries)
+    pub ends : IsShelfEnd tells seen faults volumes by end

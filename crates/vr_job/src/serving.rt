@@ -1,0 +1,240 @@
+//! A volume that the threads of decks share: one event of a request, under the volume's latch.
+ghost use Rattle.std.specs.Prelude.{◌≡◌, ◌<◌, ◌≤◌, ◌==◌, ◌+◌, ◌-◌, ◌^◌, [], IsTrue, OnOk};
+ghost use Rattle.std.specs.Prelude.{false, true};
+ghost use Rattle.vr_answer.specs.Scope.{IsDirect};
+ghost use Rattle.vr_event.specs.Volume.{Holds, IsWhole};
+ghost use Rattle.vr_history.specs.Merged.{last_stamp};
+ghost use Rattle.vr_record_file.specs.Now.{has_deck, number_of};
+ghost use Rattle.vr_trace.specs.Laws.{deck_entries};
+ghost use Rattle.vr_worker.specs.Asked as asked;
+ghost use Rattle.vr_worker.specs.Asked.{HasEntered, MayAsk};
+ghost use Rattle.vr_job.specs.Going.{Follows, WentOn};
+ghost use Rattle.vr_job.specs.Serving.{IsServing, StaysServing, is_done, unit_of};
+
+use std::alloc::Global;
+use std::marker::Model;
+use vr_answer::is_direct;
+use vr_catalog::Catalog;
+use vr_device::{BlockDevice, Direct};
+use vr_event::{Act, Volume};
+use vr_history::History;
+use vr_keyed::Keyed;
+use vr_space::Part;
+use vr_steps::Cataloged;
+use vr_types::{Blocks, OutOfMemory, SharedRequest, Unit};
+use vr_worker::{RunNo, Served};
+
+/// The least stamp with which no event begins.
+const STAMP_LIMIT: u64 = 1 << 62;
+
+/// Enters a deck, where it wasn't. It fails only if memory runs out. Nothing is entered in the
+/// history, whatever the answer.
+fn enter<B: Blocks, P: Part>(volume: &mut Volume<B, P>, deck: u32) -> Result<(), OutOfMemory>
+    requires { IsServing B.tells B.seen volume.old }
+    ensures deck { OnOk result (has_deck deck volume.new.file.numbers ≡ true) }
+    ensures stays { StaysServing B.tells B.seen B.faults volume.old volume.new }
+{
+    volume.enter_deck(deck)
+}
+
+/// Enters a deck and makes room for one event. It fails only if memory runs out. Nothing is entered
+/// in the history, whatever the answer.
+fn make_room<B: Blocks, P: Part>(volume: &mut Volume<B, P>, deck: u32) -> Result<(), OutOfMemory>
+    requires { IsServing B.tells B.seen volume.old }
+    ensures deck { OnOk result (has_deck deck volume.new.file.numbers ≡ true) }
+    ensures room { OnOk result (4 ≤ volume.new.file.room) }
+    ensures files_room { OnOk result (0 < volume.new.file.files_room) }
+    ensures stays { StaysServing B.tells B.seen B.faults volume.old volume.new }
+{
+    enter(volume, deck)?;
+    volume.reserve()
+}
+
+/// Makes room for one event of a deck whose last stamp is `after`, and sees that there are stamps
+/// and numbers for it. Nothing is entered in the history, whatever the answer.
+fn make_ready<B: Blocks, P: Part>(
+    volume: &mut Volume<B, P>,
+    deck: u32,
+    after: u64,
+) -> Result<(), RunNo>
+    requires { IsServing B.tells B.seen volume.old }
+    ensures deck { OnOk result (has_deck deck volume.new.file.numbers ≡ true) }
+    ensures room { OnOk result (4 ≤ volume.new.file.room) }
+    ensures files_room { OnOk result (0 < volume.new.file.files_room) }
+    ensures last { OnOk result (last_stamp 0 volume.new.file.entries < 2 ^ 62) }
+    ensures after { OnOk result (after < 2 ^ 62) }
+    ensures generation { OnOk result (volume.new.store.log.generation + 1 < 2 ^ 64) }
+    ensures number { OnOk result (number_of volume.new.file.numbers deck < 2 ^ 32 - 1) }
+    ensures stays { StaysServing B.tells B.seen B.faults volume.old volume.new }
+{
+    make_room(volume, deck)?;
+    if volume.last() >= STAMP_LIMIT || after >= STAMP_LIMIT {
+        return Err(RunNo::Stamps);
+    }
+    if !volume.has_numbers(deck) {
+        return Err(RunNo::Memory);
+    }
+    Ok(())
+}
+
+/// Whether an event entered its request.
+fn is_done(act: &Act) -> bool
+    ensures { result ≡ is_done act.now }
+{
+    matches!(act, Act::Done)
+}
+
+/// One event of a request of a deck's current unit, in room that was made: whether the request was
+/// answered.
+fn event<B: Blocks, P: Part>(
+    alloc: Global,
+    volume: &mut Volume<B, P>,
+    unit: Unit,
+    line: u32,
+    request: SharedRequest,
+    after: u64,
+) -> bool
+    requires serving { IsServing B.tells B.seen volume.old }
+    requires room { 4 ≤ volume.old.file.room }
+    requires files { 0 < volume.old.file.files_room }
+    requires last { last_stamp 0 volume.old.file.entries < 2 ^ 62 }
+    requires after { after < 2 ^ 62 }
+    requires generation { volume.old.store.log.generation + 1 < 2 ^ 64 }
+    requires number { number_of volume.old.file.numbers unit.deck < 2 ^ 32 - 1 }
+    requires direct { IsDirect request }
+    requires deck { has_deck unit.deck volume.old.file.numbers ≡ true }
+    requires own { (unit.deck == 0) ≡ false }
+    requires current { unit ≡ unit_of unit.deck volume.old.file }
+    requires may_ask { MayAsk request (deck_entries unit.deck volume.old.file.entries) }
+    ensures serving { IsServing B.tells B.seen volume.new }
+    ensures went { WentOn B.tells B.seen B.faults volume.old volume.new }
+    ensures entered { HasEntered volume.old.number unit.deck line request after result
+        volume.old.file.entries volume.new.file.entries }
+{
+    let act = volume.act(alloc, unit, line, request, after);
+    is_done(&act)
+}
+
+/// One event of a request of a deck: whether the request was answered.
+fn serve<B: Blocks, P: Part>(
+    alloc: Global,
+    volume: &mut Volume<B, P>,
+    deck: u32,
+    line: u32,
+    request: &SharedRequest,
+    after: u64,
+) -> Result<bool, RunNo>
+    requires serving { IsServing B.tells B.seen volume.old }
+    requires own { (deck == 0) ≡ false }
+    requires may_ask { MayAsk request.now (deck_entries deck volume.old.file.entries) }
+    ensures serving { IsServing B.tells B.seen volume.new }
+    ensures follows { Follows B.tells B.seen B.faults volume.old volume.new }
+    ensures entered { HasEntered volume.old.number deck line request.now after
+        (asked.is_done result) volume.old.file.entries volume.new.file.entries }
+    ensures number { volume.new.number ≡ volume.old.number }
+{
+    if !is_direct(request.get()) {
+        return Err(RunNo::Memory);
+    }
+    make_ready(volume, deck, after)?;
+    let shared = request.share()?;
+    let number = volume.unit_number(deck);
+    let done = event(alloc, volume, Unit { deck, number }, line, shared, after);
+    Ok(done)
+}
+
+/// A volume that serves the decks of a job. A request that isn't direct isn't answered here yet, and
+/// ends the job as out of memory does.
+#[derive(Drop)]
+pub(crate) struct Serving<D: BlockDevice> {
+    alloc: Global,
+    volume: Volume<Direct<D>, Keyed>,
+}
+
+impl<D: BlockDevice> Model for Serving<D> {
+    ghost use Rattle.vr_event.specs.Volume.{VolumeNow};
+    ghost use Rattle.vr_job.specs.Serving.{IsServing};
+
+    ghost Value = { VolumeNow D };
+
+    ghost view = { λ serving. serving.volume };
+
+    ghost invariant = { λ serving. IsServing D.tells D.seen serving.volume };
+}
+
+impl<D: BlockDevice> Serving<D> {
+    /// A volume with no history yet, ready to serve.
+    pub(crate) fn new(alloc: Global, volume: Volume<Direct<D>, Keyed>) -> Serving<D>
+        requires whole { IsWhole D.seen volume }
+        requires holds { IsTrue D.tells → Holds D.seen volume }
+        requires begins { volume.file.entries ≡ [] }
+        ensures { result ≡ volume }
+    {
+        Serving { alloc, volume }
+    }
+
+    /// The volume alone.
+    pub(crate) fn into_volume(self) -> Volume<Direct<D>, Keyed>
+        ensures volume { result ≡ self }
+        ensures whole { IsWhole D.seen result }
+    {
+        self.volume
+    }
+}
+
+impl<D: BlockDevice> Served for Serving<D> {
+    ghost use Rattle.vr_job.specs.Going.{Follows, follows-itself, follows-on};
+
+    ghost number = { λ serving. serving.number };
+
+    ghost entries = { λ serving. serving.file.entries };
+
+    ghost follows = { λ old new. Follows D.tells D.seen D.faults old new };
+
+    ghost stays = { λ serving. follows-itself D.tells D.seen D.faults serving };
+
+    ghost goes_on = { λ a b c first second. follows-on D.tells D.seen D.faults a b c first second };
+
+    fn number(&self) -> u32
+        ensures { result ≡ self.now.number }
+    {
+        self.volume.number()
+    }
+
+    fn history(&self) -> &History
+        ensures { result.now.entries ≡ self.now.file.entries }
+    {
+        self.volume.history()
+    }
+
+    fn answer(
+        &mut self,
+        deck: u32,
+        line: u32,
+        request: &SharedRequest,
+        after: u64,
+    ) -> Result<bool, RunNo>
+        requires deck { (deck == 0) ≡ false }
+        requires may_ask { MayAsk request.now (deck_entries deck self.old.file.entries) }
+        ensures number { self.new.number ≡ self.old.number }
+        ensures follows { Follows D.tells D.seen D.faults self.old self.new }
+        ensures entered { HasEntered self.old.number deck line request.now after
+            (asked.is_done result) self.old.file.entries self.new.file.entries }
+    {
+        serve(self.alloc, &mut self.volume, deck, line, request, after)
+    }
+}
+
+impl<D: BlockDevice> Cataloged for Serving<D> {
+    ghost use Rattle.vr_job.specs.Going.{follows-catalog};
+
+    ghost catalog = { λ serving. serving.file.catalog };
+
+    fn catalog(&self) -> &Catalog
+        ensures { result.now ≡ self.now.file.catalog }
+    {
+        self.volume.catalog()
+    }
+
+    ghost stays_same = { λ a b follows. follows-catalog D.tells D.seen D.faults a b follows };
+}

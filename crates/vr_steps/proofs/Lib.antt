@@ -1,0 +1,4 @@
+pub mod Numbering
+pub mod RunLists
+pub mod Grown
+pub mod Sequences

@@ -1,0 +1,31 @@
+-- What the decks of a job request, by the catalogs of the volumes. The rules are this project's
+-- own.
+use Rattle.std.specs.Prelude.{◌≡◌, ℕ, ◌==◌, if◌then◌else◌, List, [], ◌++◌, flat_map}
+use Rattle.vr_types.specs.declared.bound.Bound.{Bound}
+use Rattle.vr_catalog.specs.declared.entry.CatEntry.{CatEntry}
+use Rattle.vr_bind.specs.Bound.{bound_requests}
+use Rattle.vr_job_text.specs.declared.text.Deck.{Deck}
+use Rattle.vr_job_text.specs.declared.text.Step.{Step}
+
+-- the requests of a deck, as each deck number has them: none at another number
+abbrev pub of_deck : ℕ → List Bound → ℕ → List Bound
+of_deck own requests deck = if own == deck then requests else []
+
+-- a list goes on as another does
+abbrev pub IsPrefixOf : List Bound → List Bound → Type 0
+IsPrefixOf prefix whole = (rest : List Bound) × (prefix ++ rest ≡ whole)
+
+-- what a deck requests
+abbrev pub requests_of : List (List CatEntry) → Deck → ℕ → List Bound
+requests_of catalogs deck number = of_deck deck.number (bound_requests deck.text catalogs) number
+
+-- what each of some requests, one after another
+abbrev pub all_ask : {X : Type 0} → (X → ℕ → List Bound) → List X → ℕ → List Bound
+all_ask asks those number = flat_map (λ one. asks one number) those
+
+-- and what the decks of a step request, and those of some steps
+abbrev pub step_asks : List (List CatEntry) → Step → ℕ → List Bound
+step_asks catalogs step = all_ask (requests_of catalogs) step.decks
+
+abbrev pub steps_ask : List (List CatEntry) → List Step → ℕ → List Bound
+steps_ask catalogs steps = all_ask (step_asks catalogs) steps
