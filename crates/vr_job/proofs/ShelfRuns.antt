@@ -295,11 +295,11 @@ module _ {D : Type 0} (tells : Bool) (seen : D → Seen) (faults : D → Faults)
   failed-at number at [] (closing ∷ closings) one opens_so since closed there failed = absurd since
   failed-at number zero (opening ∷ openings) (closing ∷ closings) one opens_so since closed there
       failed = (
-    _,
-    refl,
-    closing-rose number opening closing opens_so.0 since.0 closed.0
-        (subst (λ (c : Closing D). IsErr c.result) (sym (some-is closing one there)) failed),
-  )
+        _,
+        refl,
+        closing-rose number opening closing opens_so.0 since.0 closed.0
+            (subst (λ (c : Closing D). IsErr c.result) (sym (some-is closing one there)) failed),
+      )
   failed-at number (suc at) (opening ∷ openings) (closing ∷ closings) one opens_so since closed there
       failed =
       failed-at (number + 1) at openings closings one opens_so.1 since.1 closed.1 there failed

@@ -71,123 +71,130 @@ module _ {D : Type 0} (tells : Bool) (seen : D → Seen) (faults : D → Faults)
       (sym (append-nil is.taken) ∙ is.all) is.opened
 
   module _ (devices rest : List D) (device : D) (volumes : List (VolumeNow D)) (unopened : List D)
-      where
-    -- the next one
-    pub opening-next : (value : Unit {0}) (volumes' : List (VolumeNow D)) (unopened' : List D)
-        (result : Answer)
-        → AreOpening tells seen faults devices (device ∷ rest) volumes unopened (Ok value)
-        → HasOpenedNext tells seen faults device volumes volumes' unopened unopened' result
-        → AreOpening tells seen faults devices rest volumes' unopened' result
-    opening-next value volumes' unopened' (Ok given) so next = record {
-      taken = so.taken ++ device ∷ [];
-      all = append_assoc so.taken (device ∷ []) rest ∙ so.all;
-      opened = record {
-        first = so.opened.first ++ one ∷ [];
-        opens = open-more 0 so.opened.first one so.opened.opens
-            (subst (λ (n : ℕ). IsOpen tells seen faults n device next.0)
-            (omega (arith, ap (λ (them : List (VolumeNow D)). length them) so.opened.volumes_are,
-            length-map so.opened.first volume_of)) next.3);
-        volumes_are = next.1
-            ∙ ap (λ (them : List (VolumeNow D)). them ++ next.0 ∷ []) so.opened.volumes_are
-            ∙ sym (map-append volume_of so.opened.first (one ∷ []));
-        rest = [];
-        devices_are = ap (λ (them : List D). them ++ device ∷ [])
-            (so.opened.devices_are
-            ∙ ap (λ (them : List D). map device_of so.opened.first ++ them) so.opened.rest_is.0
-            ∙ append-nil (map device_of so.opened.first))
-            ∙ sym (map-append device_of so.opened.first (one ∷ []))
-            ∙ sym (append-nil (map device_of (so.opened.first ++ one ∷ [])));
-        rest_is = (refl, next.2 ∙ so.opened.rest_is.1);
-      };
-      count = omega (
-        arith,
-        so.count,
-        ap (λ (them : List (VolumeNow D)). length them) next.1,
-        ap (λ (them : List D). length them) next.2,
-        length-append volumes (next.0 ∷ []),
-        length-append so.taken (device ∷ []),
-      );
-    }
-      where
-        one : Opening D
-        one = record { device = device; volume = next.0 }
-    opening-next value volumes' unopened' (Err end) so next = record {
-      taken = so.taken ++ device ∷ [];
-      all = append_assoc so.taken (device ∷ []) rest ∙ so.all;
-      opened = record {
-        first = so.opened.first;
-        opens = so.opened.opens;
-        volumes_are = next.2 ∙ so.opened.volumes_are;
-        rest = device ∷ [];
-        devices_are = ap (λ (them : List D). them ++ device ∷ [])
-            (so.opened.devices_are
-            ∙ ap (λ (them : List D). map device_of so.opened.first ++ them) so.opened.rest_is.0
-            ∙ append-nil (map device_of so.opened.first));
-        rest_is = (
-          device,
-          next.0,
-          [],
-          refl,
-          next.1 ∙ ap (λ (them : List D). them ++ next.0 ∷ []) so.opened.rest_is.1,
-          subst (λ (n : ℕ). Rattle.vr_job.specs.VolumeRun.IsNotOpen tells seen faults n device next.0
-              end) (omega (arith, ap (λ (them : List (VolumeNow D)). length them)
-              so.opened.volumes_are, length-map so.opened.first volume_of)) next.3,
+    where
+      -- the next one
+      pub opening-next : (value : Unit {0}) (volumes' : List (VolumeNow D)) (unopened' : List D)
+          (result : Answer)
+          → AreOpening tells seen faults devices (device ∷ rest) volumes unopened (Ok value)
+          → HasOpenedNext tells seen faults device volumes volumes' unopened unopened' result
+          → AreOpening tells seen faults devices rest volumes' unopened' result
+      opening-next value volumes' unopened' (Ok given) so next = record {
+        taken = so.taken ++ device ∷ [];
+        all = append_assoc so.taken (device ∷ []) rest ∙ so.all;
+        opened = record {
+          first = so.opened.first ++ one ∷ [];
+          opens = open-more 0 so.opened.first one so.opened.opens
+              (subst (λ (n : ℕ). IsOpen tells seen faults n device next.0)
+              (omega (
+                arith,
+                ap (λ (them : List (VolumeNow D)). length them) so.opened.volumes_are,
+                length-map so.opened.first volume_of,
+              )) next.3);
+          volumes_are = next.1
+              ∙ ap (λ (them : List (VolumeNow D)). them ++ next.0 ∷ []) so.opened.volumes_are
+              ∙ sym (map-append volume_of so.opened.first (one ∷ []));
+          rest = [];
+          devices_are = ap (λ (them : List D). them ++ device ∷ [])
+              (so.opened.devices_are
+              ∙ ap (λ (them : List D). map device_of so.opened.first ++ them) so.opened.rest_is.0
+              ∙ append-nil (map device_of so.opened.first))
+              ∙ sym (map-append device_of so.opened.first (one ∷ []))
+              ∙ sym (append-nil (map device_of (so.opened.first ++ one ∷ [])));
+          rest_is = (refl, next.2 ∙ so.opened.rest_is.1);
+        };
+        count = omega (
+          arith,
+          so.count,
+          ap (λ (them : List (VolumeNow D)). length them) next.1,
+          ap (λ (them : List D). length them) next.2,
+          length-append volumes (next.0 ∷ []),
+          length-append so.taken (device ∷ []),
         );
-      };
-      count = omega (
-        arith,
-        so.count,
-        ap (λ (them : List (VolumeNow D)). length them) next.2,
-        ap (λ (them : List D). length them) next.1,
-        length-append unopened (next.0 ∷ []),
-        length-append so.taken (device ∷ []),
-      );
-    }
-
-    -- one after that wasn't opened
-    pub opening-past : (end : EndLine) (unopened' : List D) → unopened' ≡ unopened ++ device ∷ []
-        → AreOpening tells seen faults devices (device ∷ rest) volumes unopened (Err end)
-        → AreOpening tells seen faults devices rest volumes unopened' (Err end)
-    opening-past end unopened' pushed so = record {
-      taken = so.taken ++ device ∷ [];
-      all = append_assoc so.taken (device ∷ []) rest ∙ so.all;
-      opened = record {
-        first = so.opened.first;
-        opens = so.opened.opens;
-        volumes_are = so.opened.volumes_are;
-        rest = so.opened.rest ++ device ∷ [];
-        devices_are = ap (λ (them : List D). them ++ device ∷ []) so.opened.devices_are
-            ∙ append_assoc (map device_of so.opened.first) so.opened.rest (device ∷ []);
-        rest_is = (
-          so.opened.rest_is.0,
-          so.opened.rest_is.1,
-          so.opened.rest_is.2 ++ device ∷ [],
-          ap (λ (them : List D). them ++ device ∷ []) so.opened.rest_is.3,
-          pushed ∙ ap (λ (them : List D). them ++ device ∷ []) so.opened.rest_is.4,
-          so.opened.rest_is.5,
+      }
+        where
+          one : Opening D
+          one = record { device = device; volume = next.0 }
+      opening-next value volumes' unopened' (Err end) so next = record {
+        taken = so.taken ++ device ∷ [];
+        all = append_assoc so.taken (device ∷ []) rest ∙ so.all;
+        opened = record {
+          first = so.opened.first;
+          opens = so.opened.opens;
+          volumes_are = next.2 ∙ so.opened.volumes_are;
+          rest = device ∷ [];
+          devices_are = ap (λ (them : List D). them ++ device ∷ [])
+              (so.opened.devices_are
+              ∙ ap (λ (them : List D). map device_of so.opened.first ++ them) so.opened.rest_is.0
+              ∙ append-nil (map device_of so.opened.first));
+          rest_is = (
+            device,
+            next.0,
+            [],
+            refl,
+            next.1 ∙ ap (λ (them : List D). them ++ next.0 ∷ []) so.opened.rest_is.1,
+            subst (λ (n : ℕ). Rattle.vr_job.specs.VolumeRun.IsNotOpen tells seen faults n device next.0
+                end) (omega (
+                  arith,
+                  ap (λ (them : List (VolumeNow D)). length them)
+                      so.opened.volumes_are,
+                  length-map so.opened.first volume_of,
+                )) next.3,
+          );
+        };
+        count = omega (
+          arith,
+          so.count,
+          ap (λ (them : List (VolumeNow D)). length them) next.2,
+          ap (λ (them : List D). length them) next.1,
+          length-append unopened (next.0 ∷ []),
+          length-append so.taken (device ∷ []),
         );
-      };
-      count = omega (
-        arith,
-        so.count,
-        ap (λ (them : List D). length them) pushed,
-        length-append unopened (device ∷ []),
-        length-append so.taken (device ∷ []),
-      );
-    }
+      }
 
-    -- whichever it is
-    pub opening-step : (so : Answer) (volumes' : List (VolumeNow D)) (unopened' : List D)
-        (result : Answer) → AreOpening tells seen faults devices (device ∷ rest) volumes unopened so
-        → HasOpenedOrKept tells seen faults so device volumes volumes' unopened unopened' result
-        → AreOpening tells seen faults devices rest volumes' unopened' result
-    opening-step (Ok value) volumes' unopened' result is next =
-        opening-next value volumes' unopened' result is next
-    opening-step (Err end) volumes' unopened' result is next =
-        subst (λ (them : List (VolumeNow D)). AreOpening tells seen faults devices rest them unopened'
-        result) (sym next.1)
-        (subst (λ (r : Answer). AreOpening tells seen faults devices rest volumes unopened' r)
-        (sym next.0) (opening-past end unopened' next.2 is))
+      -- one after that wasn't opened
+      pub opening-past : (end : EndLine) (unopened' : List D) → unopened' ≡ unopened ++ device ∷ []
+          → AreOpening tells seen faults devices (device ∷ rest) volumes unopened (Err end)
+          → AreOpening tells seen faults devices rest volumes unopened' (Err end)
+      opening-past end unopened' pushed so = record {
+        taken = so.taken ++ device ∷ [];
+        all = append_assoc so.taken (device ∷ []) rest ∙ so.all;
+        opened = record {
+          first = so.opened.first;
+          opens = so.opened.opens;
+          volumes_are = so.opened.volumes_are;
+          rest = so.opened.rest ++ device ∷ [];
+          devices_are = ap (λ (them : List D). them ++ device ∷ []) so.opened.devices_are
+              ∙ append_assoc (map device_of so.opened.first) so.opened.rest (device ∷ []);
+          rest_is = (
+            so.opened.rest_is.0,
+            so.opened.rest_is.1,
+            so.opened.rest_is.2 ++ device ∷ [],
+            ap (λ (them : List D). them ++ device ∷ []) so.opened.rest_is.3,
+            pushed ∙ ap (λ (them : List D). them ++ device ∷ []) so.opened.rest_is.4,
+            so.opened.rest_is.5,
+          );
+        };
+        count = omega (
+          arith,
+          so.count,
+          ap (λ (them : List D). length them) pushed,
+          length-append unopened (device ∷ []),
+          length-append so.taken (device ∷ []),
+        );
+      }
+
+      -- whichever it is
+      pub opening-step : (so : Answer) (volumes' : List (VolumeNow D)) (unopened' : List D)
+          (result : Answer) → AreOpening tells seen faults devices (device ∷ rest) volumes unopened so
+          → HasOpenedOrKept tells seen faults so device volumes volumes' unopened unopened' result
+          → AreOpening tells seen faults devices rest volumes' unopened' result
+      opening-step (Ok value) volumes' unopened' result is next =
+          opening-next value volumes' unopened' result is next
+      opening-step (Err end) volumes' unopened' result is next =
+          subst (λ (them : List (VolumeNow D)). AreOpening tells seen faults devices rest them unopened'
+          result) (sym next.1)
+          (subst (λ (r : Answer). AreOpening tells seen faults devices rest volumes unopened' r)
+          (sym next.0) (opening-past end unopened' next.2 is))
 
   -- how many are open and handed back, and how many are to come
   pub opening-count : (devices rest : List D) (volumes : List (VolumeNow D)) (unopened : List D)

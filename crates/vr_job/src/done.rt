@@ -163,12 +163,7 @@ fn ran<D: BlockDevice>(job: JobText, lines: bool, end: ShelfEnd<D>) -> Done<D>
 
 /// Reads a job and runs it on the volumes of the shelf, the one of which is formatted first where it is
 /// a volume in memory.
-pub(crate) fn run_shelf<
-    R: Threads + Wait + Sync,
-    S: Source,
-    D: BlockDevice + Send,
-    G: Gate + Sync,
->(
+pub(crate) fn run_shelf<R: Threads + Wait + Sync, S: Source, D: BlockDevice + Send, G: Gate + Sync>(
     rt: &R,
     alloc: Global,
     input: &mut S,

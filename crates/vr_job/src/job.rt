@@ -63,13 +63,7 @@ fn run_words<R: Threads + Wait + Sync, S: Source, D: BlockDevice + Send, G: Gate
 /// on a thread of its own where one can be made. A deck's thread passes the gate between two events of a
 /// request, and before each event with the latch of its volume held. Every clause holds at every
 /// schedule.
-pub fn run_job<
-    R: Threads + Wait + Sync,
-    S: Source,
-    K: Sink,
-    D: BlockDevice + Send,
-    G: Gate + Sync,
->(
+pub fn run_job<R: Threads + Wait + Sync, S: Source, K: Sink, D: BlockDevice + Send, G: Gate + Sync>(
     rt: &R,
     alloc: Global,
     words: &Words,

@@ -245,11 +245,7 @@ fn run_line(no: RunNo) -> EndLine
 
 /// How a job ends: by a volume that wasn't opened, as its requests came to, or by the first device that
 /// failed to sync.
-fn end_of(
-    opened: Result<(), EndLine>,
-    asked: Result<(), RunNo>,
-    unsynced: Option<u32>,
-) -> End
+fn end_of(opened: Result<(), EndLine>, asked: Result<(), RunNo>, unsynced: Option<u32>) -> End
     ensures { result ≡ shelves.end_of opened asked unsynced }
 {
     if let Err(line) = opened {
