@@ -6,11 +6,13 @@ use crate::escapes::show;
 use crate::jobs::{NONE, print_job};
 use crate::shelf::new_shelf;
 use std::rt::Files;
+use std::sync::Wait;
+use std::thread::Threads;
 use std::{fs, io};
 
 /// Whether the job `NAME.job` prints `NAME.listing` over a new device of the default shape, which stays
 /// on the shelf: `example NAME`. Its status comes first.
-pub fn example<R: Files + AllocGlobal>(
+pub fn example<R: Threads + Wait + Sync + Files + AllocGlobal>(
     rt: &R,
     desk: &mut Desk,
     name: &str,
@@ -24,7 +26,7 @@ pub fn example<R: Files + AllocGlobal>(
 }
 
 /// Whether the job `JOB.job` prints `LISTING.listing` over the shelf: `again JOB LISTING`.
-pub fn again<R: Files + AllocGlobal>(
+pub fn again<R: Threads + Wait + Sync + Files + AllocGlobal>(
     rt: &R,
     desk: &mut Desk,
     names: &str,
@@ -34,7 +36,7 @@ pub fn again<R: Files + AllocGlobal>(
     run_file(rt, desk, "run JOB DIR", job, listing, out)
 }
 
-fn run_file<R: Files + AllocGlobal>(
+fn run_file<R: Threads + Wait + Sync + Files + AllocGlobal>(
     rt: &R,
     desk: &mut Desk,
     words: &str,
@@ -49,7 +51,7 @@ fn run_file<R: Files + AllocGlobal>(
     Ok(compare(rt, desk, words, text.as_slice(), wanted.as_slice(), out))
 }
 
-fn compare<R: AllocGlobal>(
+fn compare<R: Threads + Wait + Sync + AllocGlobal>(
     rt: &R,
     desk: &mut Desk,
     words: &str,
@@ -58,7 +60,7 @@ fn compare<R: AllocGlobal>(
     out: &mut String,
 ) -> Answer {
     let shelf = desk.take(rt.alloc());
-    let printed = print_job(rt.alloc(), words, text, NONE, shelf)?;
+    let printed = print_job(rt, rt.alloc(), words, text, NONE, shelf)?;
     say_number(out, "", u64::from(printed.status))?;
     say(out, " ")?;
     if printed.text.as_slice() == wanted {

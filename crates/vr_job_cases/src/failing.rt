@@ -5,32 +5,40 @@ use crate::escapes::bytes_of;
 use crate::jobs::{Fails, LEAST_BLOCKS, MOST, NONE, Printed, print_job};
 use crate::shelf::new_shelf;
 use std::alloc::Global;
+use std::sync::Wait;
+use std::thread::Threads;
 
 /// More calls than any job of the table makes.
 const CALLS: u64 = 10_000;
 
 /// Runs a job over a small new device whose calls of these numbers fail.
-pub fn print_new(
+pub fn print_new<R: Threads + Wait + Sync>(
+    rt: &R,
     alloc: Global,
     text: &[u8],
     fails: Fails<'_>,
     device: &[u64],
 ) -> Result<Printed, Stop> {
     let shelf = new_shelf(alloc, 512, LEAST_BLOCKS, device)?;
-    print_job(alloc, "run - -", text, fails, shelf)
+    print_job(rt, alloc, "run - -", text, fails, shelf)
 }
 
 /// How many of a job's reads end it with 24 and its one line where they fail: `reads TEXT`.
-pub fn reads(alloc: Global, rest: &str, out: &mut String) -> Answer {
+pub fn reads<R: Threads + Wait + Sync>(
+    rt: &R,
+    alloc: Global,
+    rest: &str,
+    out: &mut String,
+) -> Answer {
     let text = bytes_of(alloc, rest)?;
-    let whole = print_new(alloc, text.as_slice(), NONE, &[])?;
+    let whole = print_new(rt, alloc, text.as_slice(), NONE, &[])?;
     let mut right = 0u64;
     for call in 0..CALLS {
         let fails = Fails {
             reads: &[call],
             ..NONE
         };
-        let printed = print_new(alloc, text.as_slice(), fails, &[])?;
+        let printed = print_new(rt, alloc, text.as_slice(), fails, &[])?;
         if is_same(&printed, &whole) {
             return say_right(out, right, call);
         }
@@ -43,16 +51,21 @@ pub fn reads(alloc: Global, rest: &str, out: &mut String) -> Answer {
 
 /// How many of a job's writes end it, where they fail, with 28 or the status of its one line, and
 /// the bytes before: `writes TEXT`.
-pub fn writes(alloc: Global, rest: &str, out: &mut String) -> Answer {
+pub fn writes<R: Threads + Wait + Sync>(
+    rt: &R,
+    alloc: Global,
+    rest: &str,
+    out: &mut String,
+) -> Answer {
     let text = bytes_of(alloc, rest)?;
-    let whole = print_new(alloc, text.as_slice(), NONE, &[])?;
+    let whole = print_new(rt, alloc, text.as_slice(), NONE, &[])?;
     let mut right = 0u64;
     for call in 0..CALLS {
         let fails = Fails {
             writes: &[call],
             ..NONE
         };
-        let printed = print_new(alloc, text.as_slice(), fails, &[])?;
+        let printed = print_new(rt, alloc, text.as_slice(), fails, &[])?;
         if is_same(&printed, &whole) {
             return say_right(out, right, call);
         }
@@ -119,14 +132,21 @@ impl Statuses {
     }
 }
 
+/// Whether the last line is that of the fault: it comes after the listing where closing failed.
 fn is_device_fault(printed: &Printed) -> bool {
-    printed.text.as_slice() == b"VOLUME 0 DEVICE FAULT\n".as_slice() && printed.shelf.len() == 1
+    let line = b"VOLUME 0 DEVICE FAULT\n".as_slice();
+    printed.text.as_slice().ends_with(line) && printed.shelf.len() == 1
 }
 
 /// How often a job ends with which status where each call of its device fails in turn: `device TEXT`.
-pub fn device(alloc: Global, rest: &str, out: &mut String) -> Answer {
+pub fn device<R: Threads + Wait + Sync>(
+    rt: &R,
+    alloc: Global,
+    rest: &str,
+    out: &mut String,
+) -> Answer {
     let text = bytes_of(alloc, rest)?;
-    let calls = calls_in(&print_new(alloc, text.as_slice(), NONE, &[])?);
+    let calls = calls_in(&print_new(rt, alloc, text.as_slice(), NONE, &[])?);
     let mut statuses = Statuses {
         through: 0,
         faulted: 0,
@@ -134,7 +154,7 @@ pub fn device(alloc: Global, rest: &str, out: &mut String) -> Answer {
         others: 0,
     };
     for call in 0..calls {
-        let printed = print_new(alloc, text.as_slice(), NONE, &[call])?;
+        let printed = print_new(rt, alloc, text.as_slice(), NONE, &[call])?;
         statuses.count(&printed);
     }
     statuses.say(out)

@@ -5,9 +5,11 @@ use crate::desk::Desk;
 use crate::escapes::{bytes_of, show};
 use crate::shelf::{calls_of, new_shelf};
 use std::alloc::Global;
+use std::sync::Wait;
+use std::thread::Threads;
 use vr_device::MemoryDevice;
 use vr_job::run_job;
-use vr_outside::{MemorySink, MemorySource};
+use vr_outside::{MemorySink, MemorySource, OpenGate};
 use vr_types::Words;
 
 /// How many bytes a source or a sink hands on at a call.
@@ -82,26 +84,28 @@ fn sink_of(alloc: Global, fails: Fails<'_>) -> Result<Box<MemorySink>, Stop> {
 }
 
 /// Runs a job over these ends and devices: its status, and the devices that it hands back.
-fn run_over(
+fn run_over<R: Threads + Wait + Sync>(
+    rt: &R,
     alloc: Global,
     words: &Words,
     input: &mut MemorySource,
     output: &mut MemorySink,
     shelf: Vec<MemoryDevice>,
 ) -> (u8, Vec<MemoryDevice>) {
-    let end = run_job(alloc, words, input, output, shelf);
+    let end = run_job(rt, alloc, words, input, output, shelf, &OpenGate);
     (end.status, end.shelf)
 }
 
 /// Runs a job over these ends and devices.
-fn print_over(
+fn print_over<R: Threads + Wait + Sync>(
+    rt: &R,
     alloc: Global,
     words: &Words,
     input: &mut MemorySource,
     output: &mut MemorySink,
     shelf: Vec<MemoryDevice>,
 ) -> Result<Printed, Stop> {
-    let (status, shelf) = run_over(alloc, words, input, output, shelf);
+    let (status, shelf) = run_over(rt, alloc, words, input, output, shelf);
     let text = output.taken().to_vec(alloc)?;
     Ok(Printed {
         status,
@@ -112,7 +116,8 @@ fn print_over(
 }
 
 /// Runs a job over ends in memory that hand on at most 10 bytes at a call, and fail at these calls.
-pub fn print_job(
+pub fn print_job<R: Threads + Wait + Sync>(
+    rt: &R,
     alloc: Global,
     words: &str,
     text: &[u8],
@@ -122,7 +127,7 @@ pub fn print_job(
     let words = words_of(alloc, words)?;
     let mut input = source_of(alloc, text, fails)?;
     let mut output = sink_of(alloc, fails)?;
-    print_over(alloc, &words, &mut *input, &mut *output, shelf)
+    print_over(rt, alloc, &words, &mut *input, &mut *output, shelf)
 }
 
 /// Writes what a job ended with, and keeps its devices.
@@ -138,57 +143,94 @@ fn say_printed(desk: &mut Desk, printed: Printed, out: &mut String) -> Answer {
 
 /// What words do with a text over the shelf: `WORD.. < TEXT`, or the words alone, where the text is
 /// `abc`.
-fn ask(alloc: Global, desk: &mut Desk, rest: &str, fails: Fails<'_>, out: &mut String) -> Answer {
+fn ask<R: Threads + Wait + Sync>(
+    rt: &R,
+    alloc: Global,
+    desk: &mut Desk,
+    rest: &str,
+    fails: Fails<'_>,
+    out: &mut String,
+) -> Answer {
     let (words, text) = rest.split_once(" < ").unwrap_or((rest, "abc"));
     let text = bytes_of(alloc, text)?;
     let shelf = desk.take(alloc);
-    let printed = print_job(alloc, words, text.as_slice(), fails, shelf)?;
+    let printed = print_job(rt, alloc, words, text.as_slice(), fails, shelf)?;
     say_printed(desk, printed, out)
 }
 
 /// What words do with a text: `words WORD.. < TEXT`.
-pub fn words(alloc: Global, desk: &mut Desk, rest: &str, out: &mut String) -> Answer {
-    ask(alloc, desk, rest, NONE, out)
+pub fn words<R: Threads + Wait + Sync>(
+    rt: &R,
+    alloc: Global,
+    desk: &mut Desk,
+    rest: &str,
+    out: &mut String,
+) -> Answer {
+    ask(rt, alloc, desk, rest, NONE, out)
 }
 
 /// The same where these reads of the source fail: `source CALL,CALL.. WORD.. < TEXT`.
-pub fn source(alloc: Global, desk: &mut Desk, rest: &str, out: &mut String) -> Answer {
+pub fn source<R: Threads + Wait + Sync>(
+    rt: &R,
+    alloc: Global,
+    desk: &mut Desk,
+    rest: &str,
+    out: &mut String,
+) -> Answer {
     let (calls, rest) = rest.split_once(' ').ok_or(Stop::Line)?;
     let calls = calls_of(alloc, calls)?;
     let fails = Fails {
         reads: calls.as_slice(),
         ..NONE
     };
-    ask(alloc, desk, rest, fails, out)
+    ask(rt, alloc, desk, rest, fails, out)
 }
 
 /// The same where these writes of the sink fail: `sink CALL,CALL.. WORD.. < TEXT`.
-pub fn sink(alloc: Global, desk: &mut Desk, rest: &str, out: &mut String) -> Answer {
+pub fn sink<R: Threads + Wait + Sync>(
+    rt: &R,
+    alloc: Global,
+    desk: &mut Desk,
+    rest: &str,
+    out: &mut String,
+) -> Answer {
     let (calls, rest) = rest.split_once(' ').ok_or(Stop::Line)?;
     let calls = calls_of(alloc, calls)?;
     let fails = Fails {
         writes: calls.as_slice(),
         ..NONE
     };
-    ask(alloc, desk, rest, fails, out)
+    ask(rt, alloc, desk, rest, fails, out)
 }
 
 /// The same where these writes of the sink take nothing: `idle CALL,CALL.. WORD.. < TEXT`.
-pub fn idle(alloc: Global, desk: &mut Desk, rest: &str, out: &mut String) -> Answer {
+pub fn idle<R: Threads + Wait + Sync>(
+    rt: &R,
+    alloc: Global,
+    desk: &mut Desk,
+    rest: &str,
+    out: &mut String,
+) -> Answer {
     let (calls, rest) = rest.split_once(' ').ok_or(Stop::Line)?;
     let calls = calls_of(alloc, calls)?;
     let fails = Fails {
         idle: calls.as_slice(),
         ..NONE
     };
-    ask(alloc, desk, rest, fails, out)
+    ask(rt, alloc, desk, rest, fails, out)
 }
 
 /// What a job of a text does over a new device of the default shape: `job TEXT`.
-pub fn job(alloc: Global, desk: &mut Desk, rest: &str, out: &mut String) -> Answer {
+pub fn job<R: Threads + Wait + Sync>(
+    rt: &R,
+    alloc: Global,
+    desk: &mut Desk,
+    rest: &str,
+    out: &mut String,
+) -> Answer {
     let text = bytes_of(alloc, rest)?;
     let shelf = new_shelf(alloc, 4096, 2048, &[])?;
-    let printed = print_job(alloc, "run - -", text.as_slice(), NONE, shelf)?;
+    let printed = print_job(rt, alloc, "run - -", text.as_slice(), NONE, shelf)?;
     say_printed(desk, printed, out)
 }
 
@@ -203,12 +245,18 @@ fn long_source(alloc: Global, length: u64) -> Result<Box<MemorySource>, Stop> {
 }
 
 /// What a job of so many empty lines does over a small new device: `long N`.
-pub fn long(alloc: Global, desk: &mut Desk, rest: &str, out: &mut String) -> Answer {
+pub fn long<R: Threads + Wait + Sync>(
+    rt: &R,
+    alloc: Global,
+    desk: &mut Desk,
+    rest: &str,
+    out: &mut String,
+) -> Answer {
     let length = long_number(rest)?;
     let words = words_of(alloc, "run - -")?;
     let mut input = long_source(alloc, length)?;
     let mut output = sink_of(alloc, NONE)?;
     let shelf = new_shelf(alloc, 512, LEAST_BLOCKS, &[])?;
-    let printed = print_over(alloc, &words, &mut *input, &mut *output, shelf)?;
+    let printed = print_over(rt, alloc, &words, &mut *input, &mut *output, shelf)?;
     say_printed(desk, printed, out)
 }

@@ -3,8 +3,8 @@
 //! on the sources and sinks of `vr_outside` and on the devices of `vr_device`. Each line of its input
 //! has a question, ` -> ` and the answer that is wanted. It prints each line whose answer differs,
 //! and at the end how many lines there were and how many differ; the status is 1 where one differs.
-//! What it promises is that it is safe and ends: what the answers show is tested, and its whole
-//! output is compared.
+//! What it promises is that it is safe: what the answers show is tested, and its whole output is
+//! compared.
 #![tactic(auto)]
 
 mod answers;
@@ -24,6 +24,8 @@ use std::alloc::AllocError;
 use std::io;
 use std::process::ExitCode;
 use std::rt::Files;
+use std::sync::Wait;
+use std::thread::Threads;
 
 /// How many lines were asked, and how many of them differ.
 #[derive(Clone, Copy)]
@@ -42,7 +44,10 @@ fn main(rt: HostRuntime) -> io::Result<ExitCode> {
 }
 
 /// Asks each line of the input. Empty lines and those that begin with `#` are skipped.
-fn ask_lines<R: Input + Print + Files + AllocGlobal>(rt: &R, desk: &mut Desk) -> io::Result<Tally> {
+fn ask_lines<R: Threads + Wait + Sync + Input + Print + Files + AllocGlobal>(
+    rt: &R,
+    desk: &mut Desk,
+) -> io::Result<Tally> {
     let mut tally = Tally {
         lines: 0,
         differ: 0,
@@ -60,7 +65,11 @@ fn ask_lines<R: Input + Print + Files + AllocGlobal>(rt: &R, desk: &mut Desk) ->
 }
 
 /// Asks a line, prints it if its answer differs, and says whether it is what is wanted.
-fn ask<R: Print + Files + AllocGlobal>(rt: &R, desk: &mut Desk, line: &str) -> io::Result<bool> {
+fn ask<R: Threads + Wait + Sync + Print + Files + AllocGlobal>(
+    rt: &R,
+    desk: &mut Desk,
+    line: &str,
+) -> io::Result<bool> {
     let (asked, wanted) = line.split_once(" -> ").unwrap_or((line, "ok"));
     let got = got(rt, desk, asked)?;
     let got = got.as_str();
@@ -72,12 +81,16 @@ fn ask<R: Print + Files + AllocGlobal>(rt: &R, desk: &mut Desk, line: &str) -> i
 }
 
 /// The answer to a question. A line that is not a question has an answer that says so.
-fn got<R: Files + AllocGlobal>(rt: &R, desk: &mut Desk, asked: &str) -> io::Result<String> {
+fn got<R: Threads + Wait + Sync + Files + AllocGlobal>(
+    rt: &R,
+    desk: &mut Desk,
+    asked: &str,
+) -> io::Result<String> {
     let mut out = String::new(rt.alloc());
     let answered = match asked.split_once(' ') {
         Some(("example", name)) => examples::example(rt, desk, name, &mut out)?,
         Some(("again", names)) => examples::again(rt, desk, names, &mut out)?,
-        _ => answer(rt.alloc(), desk, asked, &mut out),
+        _ => answer(rt, rt.alloc(), desk, asked, &mut out),
     };
     match answered {
         Ok(()) => Ok(out),

@@ -7,6 +7,8 @@ use crate::jobs::{NONE, Printed, print_job};
 use crate::shelf::new_shelf;
 use std::alloc::Global;
 use std::fmt::Write;
+use std::sync::Wait;
+use std::thread::Threads;
 
 /// What a deck may ask here.
 #[derive(Clone, Copy)]
@@ -228,6 +230,19 @@ impl Job {
         self.list(alloc, deck, line, asked)
     }
 
+    /// Writes the card of a step, and its heading in the listing.
+    fn step(&mut self, name: &str) -> Answer {
+        write!(self.text, "//{name} EXEC PGM=VRMDECK\n")?;
+        write!(self.listing, "STEP {name} DECKS\n")?;
+        Ok(())
+    }
+
+    /// Writes the last line of a step in the listing.
+    fn end_step(&mut self, name: &str) -> Answer {
+        write!(self.listing, "STEP {name} CODE 0\n")?;
+        Ok(())
+    }
+
     /// Writes a deck of these requests, whose card is on this line of the text.
     fn deck(&mut self, alloc: Global, deck: u32, card: u32, requests: &[Asked]) -> Answer {
         write!(self.text, "//DECK{deck} DD *\nFILE F VRM.FIRST\n")?;
@@ -240,40 +255,59 @@ impl Job {
     }
 }
 
-/// Writes a job of two decks: the first adds a record, commits it, and asks for three things; the
-/// second asks for the records of both keys.
+/// Writes a job of two steps, each of one deck: the first adds a record, commits it, and asks for
+/// three things; the second asks for the records of both keys.
 fn write_job(alloc: Global, job: &mut Job, three: [Asked; 3]) -> Answer {
-    job.text.push_str("//S EXEC PGM=VRMDECK\n")?;
-    job.listing.push_str("STEP S DECKS\n")?;
     let [first, second, third] = three;
     let begun = Asked::Put("00000001A");
-    let ended = [Asked::Get("00000001"), Asked::Get("00000000")];
+    job.step("S")?;
     job.deck(alloc, 1, 2, &[begun, Asked::Commit, first, second, third])?;
-    job.deck(alloc, 2, 9, &ended)?;
-    job.listing.push_str("STEP S CODE 0\nJOB CODE 0\n")?;
+    job.end_step("S")?;
+    job.step("T")?;
+    job.deck(
+        alloc,
+        2,
+        10,
+        &[Asked::Get("00000001"), Asked::Get("00000000")],
+    )?;
+    job.end_step("T")?;
+    job.listing.push_str("JOB CODE 0\n")?;
     Ok(())
 }
 
 /// Runs a job on a small new volume.
-fn print_small(alloc: Global, text: &str) -> Result<Printed, Stop> {
+fn print_small<R: Threads + Wait + Sync>(
+    rt: &R,
+    alloc: Global,
+    text: &str,
+) -> Result<Printed, Stop> {
     let shelf = new_shelf(alloc, 512, 16, &[])?;
-    let made = print_job(alloc, "format DIR 1 512 16 2 4", b"", NONE, shelf)?;
-    print_job(alloc, "run JOB DIR", text.as_bytes(), NONE, made.shelf)
+    let made = print_job(rt, alloc, "format DIR 1 512 16 2 4", b"", NONE, shelf)?;
+    print_job(rt, alloc, "run JOB DIR", text.as_bytes(), NONE, made.shelf)
 }
 
 /// Whether a job prints what the rules say.
-fn is_right(alloc: Global, three: [Asked; 3]) -> Result<bool, Stop> {
+fn is_right<R: Threads + Wait + Sync>(
+    rt: &R,
+    alloc: Global,
+    three: [Asked; 3],
+) -> Result<bool, Stop> {
     let mut job = Job::new(alloc)?;
     write_job(alloc, &mut job, three)?;
-    let printed = print_small(alloc, job.text.as_str())?;
+    let printed = print_small(rt, alloc, job.text.as_str())?;
     Ok(printed.status == 0 && printed.text.as_slice() == job.listing.as_bytes())
 }
 
 /// How many of all decks that go on with these two requests and a third print what the rules say.
-fn judge_two(alloc: Global, first: Asked, second: Asked) -> Result<u64, Stop> {
+fn judge_two<R: Threads + Wait + Sync>(
+    rt: &R,
+    alloc: Global,
+    first: Asked,
+    second: Asked,
+) -> Result<u64, Stop> {
     let mut right = 0u64;
     for third in all_asked() {
-        if is_right(alloc, [first, second, third])? {
+        if is_right(rt, alloc, [first, second, third])? {
             right = right.saturating_add(1);
         }
     }
@@ -281,11 +315,11 @@ fn judge_two(alloc: Global, first: Asked, second: Asked) -> Result<u64, Stop> {
 }
 
 /// How many of all decks of three requests print what the rules say.
-pub fn judge(alloc: Global, out: &mut String) -> Answer {
+pub fn judge<R: Threads + Wait + Sync>(rt: &R, alloc: Global, out: &mut String) -> Answer {
     let (mut right, mut all) = (0u64, 0u64);
     for first in all_asked() {
         for second in all_asked() {
-            let more = judge_two(alloc, first, second)?;
+            let more = judge_two(rt, alloc, first, second)?;
             right = right.saturating_add(more);
             all = all.saturating_add(all_asked().len() as u64);
         }

@@ -4,23 +4,32 @@ use crate::answers::{Answer, Stop};
 use crate::desk::Desk;
 use crate::{failing, jobs, plain_file, shelf};
 use std::alloc::Global;
+use std::sync::Wait;
+use std::thread::Threads;
 
 /// Writes the answer to a question.
-pub fn answer(alloc: Global, desk: &mut Desk, line: &str, out: &mut String) -> Answer {
+pub fn answer<R: Threads + Wait + Sync>(
+    rt: &R,
+    alloc: Global,
+    desk: &mut Desk,
+    line: &str,
+    out: &mut String,
+) -> Answer {
     let (verb, rest) = line.split_once(' ').unwrap_or((line, ""));
     match verb {
-        "job" => jobs::job(alloc, desk, rest, out),
-        "words" => jobs::words(alloc, desk, rest, out),
-        "source" => jobs::source(alloc, desk, rest, out),
-        "sink" => jobs::sink(alloc, desk, rest, out),
-        "idle" => jobs::idle(alloc, desk, rest, out),
-        "long" => jobs::long(alloc, desk, rest, out),
-        _ => answer_further(alloc, desk, verb, rest, out),
+        "job" => jobs::job(rt, alloc, desk, rest, out),
+        "words" => jobs::words(rt, alloc, desk, rest, out),
+        "source" => jobs::source(rt, alloc, desk, rest, out),
+        "sink" => jobs::sink(rt, alloc, desk, rest, out),
+        "idle" => jobs::idle(rt, alloc, desk, rest, out),
+        "long" => jobs::long(rt, alloc, desk, rest, out),
+        _ => answer_further(rt, alloc, desk, verb, rest, out),
     }
 }
 
 /// The same of the other verbs.
-fn answer_further(
+fn answer_further<R: Threads + Wait + Sync>(
+    rt: &R,
     alloc: Global,
     desk: &mut Desk,
     verb: &str,
@@ -33,18 +42,18 @@ fn answer_further(
         "calls" => shelf::calls(desk, out),
         "stop" => shelf::stop(desk, rest, out),
         "write" => shelf::write(alloc, desk, rest, out),
-        "reads" => failing::reads(alloc, rest, out),
-        "writes" => failing::writes(alloc, rest, out),
-        "device" => failing::device(alloc, rest, out),
-        "judge" => judge(alloc, rest, out),
+        "reads" => failing::reads(rt, alloc, rest, out),
+        "writes" => failing::writes(rt, alloc, rest, out),
+        "device" => failing::device(rt, alloc, rest, out),
+        "judge" => judge(rt, alloc, rest, out),
         _ => Err(Stop::Line),
     }
 }
 
 /// Compares the top call with a plain program over all small inputs.
-fn judge(alloc: Global, rest: &str, out: &mut String) -> Answer {
+fn judge<R: Threads + Wait + Sync>(rt: &R, alloc: Global, rest: &str, out: &mut String) -> Answer {
     match rest {
-        "file" => plain_file::judge(alloc, out),
+        "file" => plain_file::judge(rt, alloc, out),
         _ => Err(Stop::Line),
     }
 }
