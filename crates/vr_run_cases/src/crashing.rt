@@ -4,8 +4,11 @@
 use crate::answers::{Answer, Stop, say, text_of};
 use crate::desk::Desk;
 use crate::images::{Leaves, copy_of, left_by};
-use crate::running::{DECK, job_of, run_job, run_on};
+use crate::one_volume::run_job;
+use crate::running::{DECK, job_of, run_on};
 use std::alloc::Global;
+use std::sync::Wait;
+use std::thread::Threads;
 use vr_device::MemoryDevice;
 
 /// The most calls at which a device is stopped.
@@ -14,7 +17,13 @@ pub const CALLS: u64 = 100_000;
 /// Runs a deck on copies of the device that are stopped at each of its calls, and another on what each
 /// of several crashes leaves then: `DECK => DECK`. Writes what the other prints, each text once, in
 /// the order in which they come first.
-pub fn stops(alloc: Global, desk: &mut Desk, rest: &str, out: &mut String) -> Answer {
+pub fn stops<R: Threads + Wait + Sync>(
+    rt: &R,
+    alloc: Global,
+    desk: &mut Desk,
+    rest: &str,
+    out: &mut String,
+) -> Answer {
     let (first, then) = rest.split_once(" => ").ok_or(Stop::Line)?;
     let first = text_of(alloc, DECK, first)?;
     let then = text_of(alloc, DECK, then)?;
@@ -22,8 +31,8 @@ pub fn stops(alloc: Global, desk: &mut Desk, rest: &str, out: &mut String) -> An
     let mut seen = Vec::new(alloc);
     for call in 0..CALLS {
         let copy = copy_of(alloc, &start)?;
-        let stopped = run_stopped(alloc, copy, call, first.as_slice())?;
-        look(alloc, &stopped, then.as_slice(), &mut seen)?;
+        let stopped = run_stopped(rt, alloc, copy, call, first.as_slice())?;
+        look(rt, alloc, &stopped, then.as_slice(), &mut seen)?;
         if stopped.calls() <= call {
             return say_seen(seen.as_slice(), out);
         }
@@ -32,7 +41,8 @@ pub fn stops(alloc: Global, desk: &mut Desk, rest: &str, out: &mut String) -> An
 }
 
 /// Runs a job on a device that is stopped at a call.
-fn run_stopped(
+fn run_stopped<R: Threads + Wait + Sync>(
+    rt: &R,
     alloc: Global,
     mut device: MemoryDevice,
     call: u64,
@@ -40,20 +50,27 @@ fn run_stopped(
 ) -> Result<MemoryDevice, Stop> {
     device.stop(call);
     let job = job_of(alloc, text)?;
-    let end = run_job(alloc, device, &job);
+    let end = run_job(rt, alloc, device, &job)?;
     Ok(end.device)
 }
 
 /// Adds what a job prints on what crashes leave of a device.
-fn look(alloc: Global, device: &MemoryDevice, text: &[u8], seen: &mut Vec<String>) -> Answer {
+fn look<R: Threads + Wait + Sync>(
+    rt: &R,
+    alloc: Global,
+    device: &MemoryDevice,
+    text: &[u8],
+    seen: &mut Vec<String>,
+) -> Answer {
     for leaves in [Leaves::Oldest, Leaves::Newest, Leaves::Even, Leaves::Odd] {
-        look_once(alloc, device, leaves, text, seen)?;
+        look_once(rt, alloc, device, leaves, text, seen)?;
     }
     Ok(())
 }
 
 /// Adds what a job prints on what one of them leaves.
-fn look_once(
+fn look_once<R: Threads + Wait + Sync>(
+    rt: &R,
     alloc: Global,
     device: &MemoryDevice,
     leaves: Leaves,
@@ -62,7 +79,7 @@ fn look_once(
 ) -> Answer {
     let left = left_by(alloc, device, leaves)?;
     let mut printed = String::new(alloc);
-    run_on(alloc, left, text, &mut printed)?;
+    run_on(rt, alloc, left, text, &mut printed)?;
     add(printed, seen)
 }
 

@@ -3,12 +3,15 @@
 use crate::answers::{Answer, Stop, text_of};
 use crate::contents::Contents;
 use crate::numbered::Job;
+use crate::one_volume::{VolumeEnd, run_job};
 use crate::plain::{PlainFile, key_in, quoted};
-use crate::running::{DECK, job_of, run_job};
+use crate::running::{DECK, job_of};
 use std::alloc::Global;
+use std::sync::Wait;
+use std::thread::Threads;
 use vr_device::MemoryDevice;
 use vr_history::{Entry, What};
-use vr_job::VolumeEnd;
+use vr_job::End;
 use vr_trace::EndLine;
 use vr_types::{Bytes, Refusal, Reply};
 
@@ -157,7 +160,7 @@ impl Case {
     }
 
     /// What a run of the deck leaves of a plain file, by what its lines were answered.
-    pub fn left(&self, alloc: Global, end: &VolumeEnd<MemoryDevice>) -> Result<PlainFile, Stop> {
+    pub fn left(&self, alloc: Global, end: &VolumeEnd) -> Result<PlainFile, Stop> {
         self.left_over(alloc, Contents::new(alloc), end)
     }
 
@@ -166,7 +169,7 @@ impl Case {
         &self,
         alloc: Global,
         before: Contents,
-        end: &VolumeEnd<MemoryDevice>,
+        end: &VolumeEnd,
     ) -> Result<PlainFile, Stop> {
         let mut file = PlainFile::over(alloc, self.keys, before)?;
         match self.take_in(alloc, end.history.entries(), &mut file) {
@@ -191,17 +194,18 @@ impl Case {
 
     /// Reads the records of the volume on a device, which is opened first. None where it isn't, or
     /// where a record could not be read.
-    pub fn read(&self, alloc: Global, device: MemoryDevice) -> Result<Option<Contents>, Stop> {
-        let end = run_job(alloc, device, &self.reader);
+    pub fn read<R: Threads + Wait + Sync>(
+        &self,
+        rt: &R,
+        alloc: Global,
+        device: MemoryDevice,
+    ) -> Result<Option<Contents>, Stop> {
+        let end = run_job(rt, alloc, device, &self.reader)?;
         self.found(alloc, &end)
     }
 
-    fn found(
-        &self,
-        alloc: Global,
-        end: &VolumeEnd<MemoryDevice>,
-    ) -> Result<Option<Contents>, Stop> {
-        if end.result.is_err() {
+    fn found(&self, alloc: Global, end: &VolumeEnd) -> Result<Option<Contents>, Stop> {
+        if end.end != End::Ran {
             return Ok(None);
         }
         let mut found = Contents::new(alloc);
@@ -263,11 +267,12 @@ fn bytes_of(reply: &Reply) -> Option<&[u8]> {
 
 /// Whether a run came through, or ended with a fault of its device before its first request or after
 /// its last one.
-pub fn ended_well(end: &VolumeEnd<MemoryDevice>) -> bool {
-    match end.result {
-        Ok(()) => true,
-        Err(EndLine::DeviceFault { .. }) => end.history.entries().last().is_none_or(is_last),
-        Err(_) => false,
+pub fn ended_well(end: &VolumeEnd) -> bool {
+    match end.end {
+        End::Ran => true,
+        End::Unsynced(_) => end.history.entries().last().is_none_or(is_last),
+        End::Line(EndLine::DeviceFault { .. }) => end.history.entries().is_empty(),
+        End::Line(_) => false,
     }
 }
 

@@ -6,33 +6,25 @@ use vr_history::History;
 use vr_job_ends::{End, Trace, print_end};
 use vr_job_text::JobText;
 use vr_outside::MemorySink;
-use vr_trace::{EndLine, Histories};
+use vr_trace::Histories;
 
 /// Writes what a job prints that left this history, or that ended otherwise.
 pub fn say_end(
     alloc: Global,
     job: JobText,
     history: History,
-    answer: Result<(), EndLine>,
+    end: End,
     out: &mut String,
 ) -> Answer {
     let mut histories = Histories::new(alloc);
     histories.push(history)?;
     let trace = Trace {
         job: Some(job),
-        end: end_of(answer),
+        end,
         lines: false,
         histories,
     };
     say_trace(alloc, trace, out)
-}
-
-/// How a job came to its end.
-fn end_of(answer: Result<(), EndLine>) -> End {
-    match answer {
-        Ok(()) => End::Ran,
-        Err(line) => End::Line(line),
-    }
 }
 
 /// Writes what a trace prints.

@@ -2,14 +2,15 @@
 use crate::answers::{Answer, Stop, say, text_of};
 use crate::desk::{Desk, Shape};
 use crate::numbered::Job;
+use crate::one_volume::run_job;
 use crate::printing::say_end;
 use crate::words::{long_number, numbers};
 use std::alloc::Global;
+use std::sync::Wait;
+use std::thread::Threads;
 use vr_device::{MemoryDevice, memory_device};
-use vr_job::{VolumeEnd, run_volume};
 use vr_job_text::parse_job;
 use vr_recover::{FormatNo, format_volume};
-use vr_trace::EndLine;
 
 /// The largest block, in bytes, and the most blocks.
 const LIMIT: u32 = 4096;
@@ -93,38 +94,53 @@ pub fn job_of(alloc: Global, text: &[u8]) -> Result<Job, Stop> {
     }
 }
 
-/// Runs a job on a device.
-pub fn run_job(alloc: Global, device: MemoryDevice, job: &Job) -> VolumeEnd<MemoryDevice> {
-    run_volume(alloc, device, 0, job.steps())
-}
-
 /// Runs a job on a device, writes what it prints, and answers what it leaves of the device.
-pub fn run_on(
+pub fn run_on<R: Threads + Wait + Sync>(
+    rt: &R,
     alloc: Global,
     device: MemoryDevice,
     text: &[u8],
     out: &mut String,
 ) -> Result<MemoryDevice, Stop> {
     let job = job_of(alloc, text)?;
-    let end = run_job(alloc, device, &job);
-    say_end(alloc, job.into_text(), end.history, end.result, out)?;
+    let end = run_job(rt, alloc, device, &job)?;
+    say_end(alloc, job.into_text(), end.history, end.end, out)?;
     Ok(end.device)
 }
 
 /// Runs the job of a text on the device: its lines, which `|` separates.
-pub fn job(alloc: Global, desk: &mut Desk, rest: &str, out: &mut String) -> Answer {
-    run_text(alloc, desk, "", rest, out)
+pub fn job<R: Threads + Wait + Sync>(
+    rt: &R,
+    alloc: Global,
+    desk: &mut Desk,
+    rest: &str,
+    out: &mut String,
+) -> Answer {
+    run_text(rt, alloc, desk, "", rest, out)
 }
 
 /// Runs a job of one step S with one deck 1 on the device, with the file F on VRM.FIRST: the further
 /// lines of the deck.
-pub fn deck(alloc: Global, desk: &mut Desk, rest: &str, out: &mut String) -> Answer {
-    run_text(alloc, desk, DECK, rest, out)
+pub fn deck<R: Threads + Wait + Sync>(
+    rt: &R,
+    alloc: Global,
+    desk: &mut Desk,
+    rest: &str,
+    out: &mut String,
+) -> Answer {
+    run_text(rt, alloc, desk, DECK, rest, out)
 }
 
-fn run_text(alloc: Global, desk: &mut Desk, first: &str, rest: &str, out: &mut String) -> Answer {
+fn run_text<R: Threads + Wait + Sync>(
+    rt: &R,
+    alloc: Global,
+    desk: &mut Desk,
+    first: &str,
+    rest: &str,
+    out: &mut String,
+) -> Answer {
     let text = text_of(alloc, first, rest)?;
-    let device = run_on(alloc, desk.take()?, text.as_slice(), out)?;
+    let device = run_on(rt, alloc, desk.take()?, text.as_slice(), out)?;
     desk.set(device);
     Ok(())
 }

@@ -8,13 +8,16 @@ use crate::desk::{Desk, Shape};
 use crate::images::{Images, Leaves, copy_of, left_by};
 use crate::judging::{Case, case_of, cases_of, ended_well};
 use crate::numbered::Job;
+use crate::one_volume::{VolumeEnd, run_job};
 use crate::plain::PlainFile;
-use crate::running::{formatted, run_job};
+use crate::running::formatted;
 use crate::words::{long_number, parted};
 use std::alloc::Global;
 use std::fmt::Write;
+use std::sync::Wait;
+use std::thread::Threads;
 use vr_device::MemoryDevice;
-use vr_job::VolumeEnd;
+use vr_job::End;
 
 /// How many calls there were, how many stops of second decks, how many images were opened, and
 /// how many runs and images were wrong.
@@ -44,11 +47,17 @@ impl Table {
 /// Runs a deck on an empty volume on copies of the device that are stopped at each of their calls, and
 /// opens each image that a crash may leave then: `KEYS LINES`. An image is wrong whose records aren't
 /// those that are committed, or those that a COMMIT would have committed which a fault refused.
-pub fn crashes(alloc: Global, desk: &mut Desk, rest: &str, out: &mut String) -> Answer {
+pub fn crashes<R: Threads + Wait + Sync>(
+    rt: &R,
+    alloc: Global,
+    desk: &mut Desk,
+    rest: &str,
+    out: &mut String,
+) -> Answer {
     let case = case_of(alloc, rest)?;
     let mut table = Table::new();
     let start = left_by(alloc, desk.device()?, Leaves::Newest)?;
-    crash_all(alloc, &start, &case, &mut table)?;
+    crash_all(rt, alloc, &start, &case, &mut table)?;
     let Table {
         calls,
         images,
@@ -59,10 +68,16 @@ pub fn crashes(alloc: Global, desk: &mut Desk, rest: &str, out: &mut String) -> 
     Ok(())
 }
 
-fn crash_all(alloc: Global, device: &MemoryDevice, case: &Case, table: &mut Table) -> Answer {
+fn crash_all<R: Threads + Wait + Sync>(
+    rt: &R,
+    alloc: Global,
+    device: &MemoryDevice,
+    case: &Case,
+    table: &mut Table,
+) -> Answer {
     for call in 0..CALLS {
         let copy = copy_of(alloc, device)?;
-        if crash_at(alloc, copy, call, case, table)? {
+        if crash_at(rt, alloc, copy, call, case, table)? {
             return Ok(());
         }
     }
@@ -70,32 +85,34 @@ fn crash_all(alloc: Global, device: &MemoryDevice, case: &Case, table: &mut Tabl
 }
 
 /// The same for one call. Answers whether the deck makes fewer.
-fn crash_at(
+fn crash_at<R: Threads + Wait + Sync>(
+    rt: &R,
     alloc: Global,
     device: MemoryDevice,
     call: u64,
     case: &Case,
     table: &mut Table,
 ) -> Result<bool, Stop> {
-    let end = run_stopped(alloc, device, call, &case.job);
+    let end = run_stopped(rt, alloc, device, call, &case.job)?;
     let file = case.left(alloc, &end)?;
     let done = end.device.calls() <= call;
     table.calls = table.calls.saturating_add(if done { 0 } else { 1 });
     table.count(ended_well(&end) && !file.is_wrong());
     let wanted = if done { Wanted::All } else { Wanted::First };
-    look(alloc, &end.device, case, &file, wanted, table)?;
+    look(rt, alloc, &end.device, case, &file, wanted, table)?;
     Ok(done)
 }
 
 /// Runs a job on a device that is stopped at a call.
-fn run_stopped(
+fn run_stopped<R: Threads + Wait + Sync>(
+    rt: &R,
     alloc: Global,
     mut device: MemoryDevice,
     call: u64,
     job: &Job,
-) -> VolumeEnd<MemoryDevice> {
+) -> Result<VolumeEnd, Stop> {
     device.stop(call);
-    run_job(alloc, device, job)
+    run_job(rt, alloc, device, job)
 }
 
 /// With what the records of an image are compared beside what the replies say.
@@ -110,7 +127,8 @@ enum Wanted {
 }
 
 /// Opens each image that a crash may leave of a device and judges its records.
-fn look(
+fn look<R: Threads + Wait + Sync>(
+    rt: &R,
     alloc: Global,
     device: &MemoryDevice,
     case: &Case,
@@ -123,7 +141,7 @@ fn look(
         let Some(image) = images.next(alloc, device)? else {
             return Ok(());
         };
-        let found = case.read(alloc, image)?;
+        let found = case.read(rt, alloc, image)?;
         table.images = table.images.saturating_add(1);
         table.count(is_right(&found, case, file, wanted));
     }
@@ -147,13 +165,19 @@ fn is_right(found: &Option<Contents>, case: &Case, file: &PlainFile, wanted: Wan
 /// requests, and each image that a crash may leave then is opened: on one image at every so many stops
 /// of the first deck, which has of each block its last content or its stable one, in turn:
 /// `EVERY KEYS LINES => LINES`. What the second deck begins with is what that image has.
-pub fn again(alloc: Global, desk: &mut Desk, rest: &str, out: &mut String) -> Answer {
+pub fn again<R: Threads + Wait + Sync>(
+    rt: &R,
+    alloc: Global,
+    desk: &mut Desk,
+    rest: &str,
+    out: &mut String,
+) -> Answer {
     let (every, rest) = parted(rest);
     let every = long_number(every)?.max(1);
     let (first, then) = cases_of(alloc, rest)?;
     let mut table = Table::new();
     let start = left_by(alloc, desk.device()?, Leaves::Newest)?;
-    again_all(alloc, &start, every, &first, &then, &mut table)?;
+    again_all(rt, alloc, &start, every, &first, &then, &mut table)?;
     let Table {
         calls,
         again,
@@ -167,7 +191,8 @@ pub fn again(alloc: Global, desk: &mut Desk, rest: &str, out: &mut String) -> An
     Ok(())
 }
 
-fn again_all(
+fn again_all<R: Threads + Wait + Sync>(
+    rt: &R,
     alloc: Global,
     device: &MemoryDevice,
     every: u64,
@@ -183,7 +208,7 @@ fn again_all(
             Leaves::Oldest
         };
         let call = turn.saturating_mul(every);
-        if again_at(alloc, copy, call, leaves, first, then, table)? {
+        if again_at(rt, alloc, copy, call, leaves, first, then, table)? {
             return Ok(());
         }
     }
@@ -191,7 +216,8 @@ fn again_all(
 }
 
 /// The same for one call of the first deck. Answers whether it makes fewer.
-fn again_at(
+fn again_at<R: Threads + Wait + Sync>(
+    rt: &R,
     alloc: Global,
     device: MemoryDevice,
     call: u64,
@@ -200,21 +226,22 @@ fn again_at(
     then: &Case,
     table: &mut Table,
 ) -> Result<bool, Stop> {
-    let end = run_stopped(alloc, device, call, &first.job);
+    let end = run_stopped(rt, alloc, device, call, &first.job)?;
     let file = first.left(alloc, &end)?;
     let done = end.device.calls() <= call;
     table.calls = table.calls.saturating_add(if done { 0 } else { 1 });
     let image = left_by(alloc, &end.device, leaves)?;
-    let found = first.read(alloc, copy_of(alloc, &image)?)?;
+    let found = first.read(rt, alloc, copy_of(alloc, &image)?)?;
     table.count(is_right(&found, first, &file, Wanted::First));
     if let Some(found) = found {
-        then_all(alloc, &image, &found, then, table)?;
+        then_all(rt, alloc, &image, &found, then, table)?;
     }
     Ok(done)
 }
 
 /// Stops the second deck at each of its calls, on an image with these records.
-fn then_all(
+fn then_all<R: Threads + Wait + Sync>(
+    rt: &R,
     alloc: Global,
     image: &MemoryDevice,
     found: &Contents,
@@ -223,7 +250,7 @@ fn then_all(
 ) -> Answer {
     for call in 0..CALLS {
         let copy = copy_of(alloc, image)?;
-        if then_at(alloc, copy, call, found, then, table)? {
+        if then_at(rt, alloc, copy, call, found, then, table)? {
             return Ok(());
         }
     }
@@ -231,7 +258,8 @@ fn then_all(
 }
 
 /// The same for one call of the second deck. Answers whether it makes fewer.
-fn then_at(
+fn then_at<R: Threads + Wait + Sync>(
+    rt: &R,
     alloc: Global,
     device: MemoryDevice,
     call: u64,
@@ -239,21 +267,27 @@ fn then_at(
     then: &Case,
     table: &mut Table,
 ) -> Result<bool, Stop> {
-    let end = run_stopped(alloc, device, call, &then.job);
+    let end = run_stopped(rt, alloc, device, call, &then.job)?;
     let file = then.left_over(alloc, found.copy(alloc)?, &end)?;
     let done = end.device.calls() <= call;
     table.again = table.again.saturating_add(if done { 0 } else { 1 });
     table.count(ended_well(&end) && !file.is_wrong());
-    look(alloc, &end.device, then, &file, Wanted::Replies, table)?;
+    look(rt, alloc, &end.device, then, &file, Wanted::Replies, table)?;
     Ok(done)
 }
 
 /// Runs a deck on a volume that is formatted anew with the shape of the last `volume`, where one call
 /// fails once, each in turn, and opens each image that a crash may leave then: `KEYS LINES`.
-pub fn faults(alloc: Global, desk: &mut Desk, rest: &str, out: &mut String) -> Answer {
+pub fn faults<R: Threads + Wait + Sync>(
+    rt: &R,
+    alloc: Global,
+    desk: &mut Desk,
+    rest: &str,
+    out: &mut String,
+) -> Answer {
     let case = case_of(alloc, rest)?;
     let mut table = Table::new();
-    fail_all(alloc, desk.shape()?, &case, &mut table)?;
+    fail_all(rt, alloc, desk.shape()?, &case, &mut table)?;
     let Table {
         calls,
         images,
@@ -264,10 +298,16 @@ pub fn faults(alloc: Global, desk: &mut Desk, rest: &str, out: &mut String) -> A
     Ok(())
 }
 
-fn fail_all(alloc: Global, shape: Shape, case: &Case, table: &mut Table) -> Answer {
+fn fail_all<R: Threads + Wait + Sync>(
+    rt: &R,
+    alloc: Global,
+    shape: Shape,
+    case: &Case,
+    table: &mut Table,
+) -> Answer {
     let first = formatted(alloc, shape, &[])?.calls();
     for more in 0..CALLS {
-        if fail_at(alloc, shape, first.saturating_add(more), case, table)? {
+        if fail_at(rt, alloc, shape, first.saturating_add(more), case, table)? {
             return Ok(());
         }
     }
@@ -275,7 +315,8 @@ fn fail_all(alloc: Global, shape: Shape, case: &Case, table: &mut Table) -> Answ
 }
 
 /// The same for one call. Answers whether the deck makes fewer.
-fn fail_at(
+fn fail_at<R: Threads + Wait + Sync>(
+    rt: &R,
     alloc: Global,
     shape: Shape,
     call: u64,
@@ -283,13 +324,13 @@ fn fail_at(
     table: &mut Table,
 ) -> Result<bool, Stop> {
     let device = formatted(alloc, shape, &[call])?;
-    let end = run_job(alloc, device, &case.job);
+    let end = run_job(rt, alloc, device, &case.job)?;
     let file = case.left(alloc, &end)?;
     let done = end.device.calls() <= call;
     table.calls = table.calls.saturating_add(if done { 0 } else { 1 });
-    let failed = u32::from(!done && end.result.is_ok());
+    let failed = u32::from(!done && end.end == End::Ran);
     table.count(ended_well(&end) && !file.is_wrong() && file.faults() == failed);
     let wanted = if done { Wanted::All } else { Wanted::Replies };
-    look(alloc, &end.device, case, &file, wanted, table)?;
+    look(rt, alloc, &end.device, case, &file, wanted, table)?;
     Ok(done)
 }

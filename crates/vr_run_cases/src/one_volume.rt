@@ -1,0 +1,52 @@
+//! A job that is run on a shelf of one device.
+
+use crate::answers::Stop;
+use crate::numbered::Job;
+use std::alloc::Global;
+use std::sync::Wait;
+use std::thread::Threads;
+use vr_device::MemoryDevice;
+use vr_history::History;
+use vr_job::{End, ShelfEnd, run_volumes};
+use vr_outside::OpenGate;
+
+/// What a run leaves: the device, the history of its volume, and how the job ended.
+#[derive(Drop)]
+pub struct VolumeEnd {
+    pub device: MemoryDevice,
+    pub history: History,
+    pub end: End,
+}
+
+/// What a run leaves of the one volume of its shelf.
+fn volume_end(end: ShelfEnd<MemoryDevice>) -> Result<VolumeEnd, Stop> {
+    let ShelfEnd {
+        mut shelf,
+        histories,
+        end,
+    } = end;
+    let mut histories = histories.into_vec();
+    match (shelf.pop(), histories.pop()) {
+        (Some(device), Some(history)) => Ok(VolumeEnd {
+            device,
+            history,
+            end,
+        }),
+        _ => Err(Stop::Line),
+    }
+}
+
+/// Runs a job on a device, as volume 0.
+pub fn run_job<R: Threads + Wait + Sync>(
+    rt: &R,
+    alloc: Global,
+    device: MemoryDevice,
+    job: &Job,
+) -> Result<VolumeEnd, Stop> {
+    let mut shelf = Vec::new(alloc);
+    shelf.push(device)?;
+    match run_volumes(rt, alloc, shelf, job.steps(), &OpenGate) {
+        Ok(end) => volume_end(end),
+        Err(_) => Err(Stop::Memory),
+    }
+}
