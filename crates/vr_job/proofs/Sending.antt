@@ -1,10 +1,9 @@
 -- A volume that serves decks may be sent to another thread, where its device may.
-use denote.Param.Send.{IsSend, IsSync, sendable}
+use denote.Param.Send.{IsSend, sendable}
 use denote.RattleType.{RattleType}
 use Rattle.std.proofs.Crossing.{crosses}
 use Rattle.std.proofs.MapsCrossing.{HashMap-send}
 use Rattle.vr_ledger.proofs.CallerLemmas.{history_send}
-use Rattle.vr_types.specs.contracts.geometry.Geometry.{the_row as GeometryRow}
 use Rattle.vr_catalog.specs.contracts.catalog.Catalog.{the_row as CatalogRow}
 use Rattle.vr_locks.specs.contracts.table.LockTable.{the_row as LockTableRow}
 use Rattle.vr_browse.specs.contracts.positions.Positions.{the_row as PositionsRow}

@@ -1,16 +1,13 @@
 -- What the run of a job comes to on the volumes of a shelf.
-use Rattle.std.proofs.Common.{◌≡◌, ◌≢◌, ◌∙◌, ◌⊎◌, ◌<◌, ◌≤◌, ◌+◌, ◌^◌, inl, inr, ⊎_elim, ℕ, zero, suc, Bool, true, false}
+use Rattle.std.proofs.Common.{◌≡◌, ◌∙◌, ◌<◌, ◌≤◌, ◌+◌, ◌^◌, inl, inr, ⊎_elim, ℕ, zero, suc, Bool}
 use Rattle.std.proofs.Common.{List, [], ◌∷◌, ◌++◌, Result, Ok, Err, Some, None, Option, arith, refl}
-use Rattle.std.proofs.Common.{sym, ap, subst, append_assoc, get_or, length, map}
-use Rattle.std.specs.Prelude.{Contains, IsErr, IsOk, IsTrue, is_ok, slice_get}
-use Rattle.std.proofs.lemmas.List.{append-nil, length-map, map-append}
+use Rattle.std.proofs.Common.{sym, ap, subst, get_or, length, map}
+use Rattle.std.specs.Prelude.{Contains, IsErr, IsOk, is_ok, slice_get}
+use Rattle.std.proofs.lemmas.List.{append-nil, map-append}
 use Rattle.vr_types.specs.Faults.{Faults}
-use Rattle.vr_types.specs.Image.{Image}
-use Rattle.vr_types.specs.Moments.{Guards}
-use Rattle.vr_types.specs.Seen.{Left, Seen}
-use Rattle.vr_types.specs.declared.fault.Failed.{Failed}
+use Rattle.vr_types.specs.Seen.{Seen}
 use Rattle.vr_catalog.specs.declared.entry.CatEntry.{CatEntry}
-use Rattle.vr_history.specs.Merged.{in_order, last_stamp, merged, numbered_from, part_of_deck}
+use Rattle.vr_history.specs.Merged.{in_order, last_stamp, numbered_from, part_of_deck}
 use Rattle.vr_history.specs.declared.entry.Entry.{Entry}
 use Rattle.vr_job_text.specs.declared.text.Step.{Step}
 use Rattle.vr_event.specs.Volume.{VolumeNow}
@@ -21,16 +18,15 @@ use Rattle.vr_job_ends.specs.declared.job_end.End.{End}
 use Rattle.vr_job_ends.specs.declared.job_end.End.TheVariants.{Line, Ran, Unsynced}
 use Rattle.vr_trace.specs.declared.ending.EndLine.{EndLine}
 use Rattle.vr_trace.specs.declared.ending.EndLine.TheVariants.{DeviceFault, StampsUsedUp}
-use Rattle.vr_worker.specs.Decks.{HasUsedUp}
 use Rattle.vr_worker.specs.declared.no.RunNo.{RunNo}
 use Rattle.vr_worker.specs.declared.no.RunNo.TheVariants as nos
 use Rattle.vr_job.specs.Going.{Follows}
-use Rattle.vr_job.specs.OpenEnds.{IsOpenLine, NeverFall, open_line}
+use Rattle.vr_job.specs.OpenEnds.{IsOpenLine, open_line}
 use Rattle.vr_job.specs.Shelf.{Answer, AreClosing, AreOpen, Closing, HaveClosed, HaveOpened, HaveRun, HaveRunWhere}
 use Rattle.vr_job.specs.Shelf.{IsClosing, IsRest, IsUnsynced, Opening, catalog_of, end_of, entries_on}
 use Rattle.vr_job.specs.ShelfRun.{AreVolumeRuns, AsAsked, ByClosing, ByOpening, IsShelfEnd, IsShelfRun}
 use Rattle.vr_job.specs.ShelfRun.{VolumeOf, run_end, run_line}
-use Rattle.vr_job.specs.VolumeRun.{HasEnded, HasFaultCause, IsClosed, IsFaultEnd, IsNotOpen}
+use Rattle.vr_job.specs.VolumeRun.{HasFaultCause, IsFaultEnd, IsNotOpen}
 use Rattle.vr_job.specs.VolumeRun.{IsOpen, IsVolumeRun}
 use Rattle.vr_job.proofs.VolumeRuns.{ended-rose, volume-run}
 

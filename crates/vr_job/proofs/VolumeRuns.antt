@@ -1,6 +1,6 @@
 -- What the run of a job comes to on one of its volumes, from its opening to the end.
-use Rattle.std.proofs.Common.{◌≡◌, ◌<◌, ◌∙◌, ◌⊎◌, inl, inr, ⊎_elim, ℕ, Bool, true, false, List, [], ◌++◌}
-use Rattle.std.proofs.Common.{Result, Ok, Err, None, Option, arith, refl, sym, ap, subst}
+use Rattle.std.proofs.Common.{◌≡◌, ◌<◌, ◌∙◌, ◌⊎◌, inl, inr, ⊎_elim, ℕ, Bool, true, false, List, []}
+use Rattle.std.proofs.Common.{Result, Ok, Err, None, Option, arith, refl, sym, subst}
 use Rattle.std.specs.Prelude.{IsErr, IsSome, IsTrue, OnOk}
 use Rattle.std.proofs.lemmas.Bool.{true≢false}
 use Rattle.std.proofs.lemmas.List.{append-nil}
@@ -13,7 +13,6 @@ use Rattle.vr_types.specs.Blocks.{AllForced, Keeps}
 use Rattle.vr_types.specs.declared.fault.Failed.{Failed}
 use Rattle.vr_types.proofs.CallerLemmas.{guards-keeps, guards-then, guards-weaken}
 use Rattle.vr_types.specs.declared.geometry.Geometry.{Geometry}
-use Rattle.vr_catalog.specs.declared.entry.CatEntry.{CatEntry}
 use Rattle.vr_history.specs.Merged.{IsStamped}
 use Rattle.vr_history.specs.State.{State, opening_state}
 use Rattle.vr_history.specs.declared.entry.Entry.{Entry}

@@ -1,4 +1,4 @@
-use Rattle.std.proofs.Common.{List, ap, inl, inr, subst, sym}
+use Rattle.std.proofs.Common.{List, ap, inr, subst, sym}
 use Rattle.vr_history.specs.declared.entry.Entry.{Entry}
 use Rattle.vr_job_ends.specs.declared.job_end.End.{End}
 use Rattle.vr_job_text.specs.declared.text.Step.{Step}

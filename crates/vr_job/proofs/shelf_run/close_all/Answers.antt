@@ -1,4 +1,4 @@
-use Rattle.std.proofs.Common.{◌∙◌, ◌∷◌, List, arith, ap, length, map, subst, sym}
+use Rattle.std.proofs.Common.{◌∙◌, List, arith, ap, length, subst, sym}
 use Rattle.std.proofs.lemmas.List.{length-map}
 use Rattle.vr_event.specs.Volume.{VolumeNow}
 use Rattle.vr_history.specs.Kept.{Kept}

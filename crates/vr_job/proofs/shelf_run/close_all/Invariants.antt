@@ -1,4 +1,4 @@
-use Rattle.std.proofs.Common.{◌≡◌, ◌≤◌, length}
+use Rattle.std.proofs.Common.{◌≡◌}
 use Rattle.std.specs.Prelude.{vec_capacity}
 use Rattle.vr_trace.specs.Volumes.{entries_of}
 use Rattle.vr_job.specs.Shelf.{AreBeingClosed}

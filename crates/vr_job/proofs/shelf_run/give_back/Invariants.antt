@@ -1,4 +1,4 @@
-use Rattle.std.proofs.Common.{◌≡◌, ◌+◌, ◌≤◌, ◌++◌, List, [], length, map}
+use Rattle.std.proofs.Common.{◌≡◌, ◌+◌, ◌≤◌, ◌++◌, [], length, map}
 use Rattle.std.specs.Prelude.{vec_capacity}
 use Rattle.vr_trace.specs.Volumes.{entries_of}
 use Rattle.vr_job.proofs.shelf_run.give_back.Given as goal

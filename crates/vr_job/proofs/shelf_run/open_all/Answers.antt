@@ -1,4 +1,4 @@
-use Rattle.std.proofs.Common.{◌∙◌, ◌≤◌, ◌∷◌, List, arith, ap, length, subst, sym}
+use Rattle.std.proofs.Common.{◌∙◌, List, arith, subst, sym}
 use Rattle.vr_job.specs.Shelf.{AreOpening}
 use Rattle.vr_job.proofs.Shelves.{none-left, opening-all, opening-count, opening-step}
 use Rattle.vr_job.proofs.shelf_run.open_all.Goals as goal

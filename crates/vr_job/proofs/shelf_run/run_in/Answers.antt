@@ -1,4 +1,4 @@
-use Rattle.std.proofs.Common.{◌∙◌, ◌++◌, Bool, List, [], ap, arith, length, map, subst, sym}
+use Rattle.std.proofs.Common.{◌∙◌, ◌++◌, Bool, List, [], arith, map, subst, sym}
 use Rattle.std.proofs.lemmas.List.{length-map}
 use Rattle.vr_history.specs.Kept.{Kept}
 use Rattle.vr_history.specs.declared.entry.Entry.{Entry}
