@@ -24,7 +24,7 @@ use Rattle.vr_job.specs.Going.{Follows}
 use Rattle.vr_job.specs.OpenEnds.{IsOpenLine, open_line}
 use Rattle.vr_job.specs.Shelf.{Answer, AreClosing, AreOpen, Closing, HaveClosed, HaveOpened, HaveRun, HaveRunWhere}
 use Rattle.vr_job.specs.Shelf.{IsClosing, IsRest, IsUnsynced, Opening, catalog_of, end_of, entries_on}
-use Rattle.vr_job.specs.ShelfRun.{AreVolumeRuns, AsAsked, ByClosing, ByOpening, IsShelfEnd, IsShelfRun}
+use Rattle.vr_job.specs.ShelfRun.{AreEmpty, AreVolumeRuns, AsAsked, ByClosing, ByOpening, IsShelfEnd, IsShelfRun}
 use Rattle.vr_job.specs.ShelfRun.{VolumeOf, run_end, run_line}
 use Rattle.vr_job.specs.VolumeRun.{HasFaultCause, IsFaultEnd, IsNotOpen}
 use Rattle.vr_job.specs.VolumeRun.{IsOpen, IsVolumeRun}
@@ -460,10 +460,6 @@ module _ {D : Type 0} (tells : Bool) (seen : D → Seen) (faults : D → Faults)
 
   -- ---- histories without an entry
 
-  abbrev AreEmpty : List (VolumeOf D) → Type 0
-  AreEmpty [] = Unit {0}
-  AreEmpty (volume ∷ volumes) = (volume.entries ≡ []) × AreEmpty volumes
-
   empty-append : (volumes more : List (VolumeOf D)) → AreEmpty volumes → AreEmpty more
       → AreEmpty (volumes ++ more)
   empty-append [] more one next = next
@@ -635,14 +631,12 @@ module _ {D : Type 0} (tells : Bool) (seen : D → Seen) (faults : D → Faults)
           ));
       by = Err nos.Memory;
       asked = subst (HasAsked (map (λ (one : VolumeOf D). one.catalog) all) steps lacks)
-          (sym kept-are) (none-asked all (empty-append first more
-          (empty-opened openings closings 0 opened.opens together closed.closing)
-          (refl, empty-untouched after)));
+          (sym kept-are) (none-asked all all-empty);
       stamps = λ used. absurd (open-line-stamps (length openings) fault.line.0
           (sym fault.line.1 ∙ line-is end StampsUsedUp used));
       ends = ByOpening (length openings) one end
           (subst (λ (n : ℕ). slice_get all n ≡ Some one) (as-many openings closings since)
-          (next-is first (map untouched after) one)) refl fault.line fault.shown;
+          (next-is first (map untouched after) one)) refl fault.line fault.shown all-empty;
     }
       where
         openings : List (Opening D)
@@ -680,6 +674,11 @@ module _ {D : Type 0} (tells : Bool) (seen : D → Seen) (faults : D → Faults)
 
         all : List (VolumeOf D)
         all = first ++ more
+
+        all-empty : AreEmpty all
+        all-empty = empty-append first more
+            (empty-opened openings closings 0 opened.opens together closed.closing)
+            (refl, empty-untouched after)
 
         kept-are : histories ++ map (λ (d : D). []) unopened
             ≡ map (λ (one : VolumeOf D). one.entries) all

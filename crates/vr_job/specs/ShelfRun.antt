@@ -47,6 +47,11 @@ AreVolumeRuns tells seen faults steps end number (volume ∷ volumes) =
 abbrev pub IsAt : {D : Type 0} → ℕ → VolumeOf D → List (VolumeOf D) → Type 0
 IsAt number volume volumes = slice_get volumes number ≡ Some volume
 
+-- nothing was entered in the histories of the volumes
+abbrev pub AreEmpty : {D : Type 0} → List (VolumeOf D) → Type 0
+AreEmpty [] = Unit {0}
+AreEmpty (volume ∷ volumes) = (volume.entries ≡ []) × AreEmpty volumes
+
 -- How a job ends, by what its requests came to: as they did; or all were answered and the device of a
 -- volume failed to sync as it was closed, which was counted; or a volume was not opened, and none was
 -- asked.
@@ -59,7 +64,7 @@ pub data IsShelfEnd {D : Type 0} (tells : Bool) (seen : D → Seen) (faults : D 
   ByOpening : (number : ℕ) (volume : VolumeOf D) (line : EndLine) → IsAt number volume volumes
       → end ≡ Line line → IsOpenLine number line
       → (IsTrue tells → IsOpenEnd number (seen volume.device) line)
-      → IsShelfEnd tells seen faults volumes by end
+      → AreEmpty volumes → IsShelfEnd tells seen faults volumes by end
 
 -- The decks of the job asked what they request by the catalogs of the volumes; each volume was run; as
 -- many devices come back, each at its place, and so does the history of each volume; stamps were used up
