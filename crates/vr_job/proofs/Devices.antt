@@ -107,10 +107,3 @@ module _ {D : Type 0} (tells : Bool) (seen : D → Seen) (log area : ℕ) where
       below is) ∙ subst (λ n. slice_get devices n ≡ Some other) same there)) allowed)
       (λ (lower : at < number). before at other lower there)
       (eq-or-lt_of_le (omega (arith, less)))
-
--- the one element that was taken out
-pub one-taken : {X : Type 0} (xs rest : List X) (x : X) → length xs ≡ 1 → xs ≡ rest ++ x ∷ []
-    → (rest ≡ []) × (xs ≡ x ∷ [])
-one-taken xs [] x one is = (refl, is)
-one-taken xs (y ∷ rest) x one is =
-    absurd (omega (arith, sym one ∙ ap length is ∙ ap suc (length-append rest (x ∷ []))))

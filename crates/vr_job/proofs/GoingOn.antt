@@ -31,6 +31,7 @@ use Rattle.vr_event.specs.declared.act.Act.{Act}
 use Rattle.vr_event.specs.declared.act.Act.TheVariants.{Again, Done}
 use Rattle.vr_event.proofs.CallerLemmas.{acted_made}
 use Rattle.vr_volume.specs.Crashes.{RecoversTo}
+use Rattle.vr_worker.proofs.Taken.{stamped-above}
 use Rattle.vr_worker.specs.Asked.{bound_to}
 use Rattle.vr_job.specs.Crash.{IsCommit, IsLeftBy}
 use Rattle.vr_job.specs.Events.{IsLeftWhile, IsOfEvents, LeavesAtRest, requests_in}
@@ -41,12 +42,6 @@ use Rattle.vr_job.proofs.Crashing.{held-left, left-more}
 use Rattle.vr_job.proofs.Entering.{step-none}
 use Rattle.vr_job.proofs.Faultless.{NoFault, acted-faultless}
 use Rattle.vr_job.proofs.Undoing.{shows-same}
-
--- stamps above one are above a lesser one
-stamped-above : (low high : ℕ) (entries : List Entry) → low ≤ high → IsStamped high entries
-    → IsStamped low entries
-stamped-above low high [] less is = tt
-stamped-above low high (entry ∷ entries) less is = (omega (arith, less, is.0), is.1)
 
 -- stamps rise on
 stamped-more : (before : ℕ) (entries more : List Entry) → IsStamped before entries

@@ -28,12 +28,10 @@ use Rattle.vr_job.specs.ShelfRun.{AreEmpty, AreVolumeRuns, AsAsked, ByClosing, B
 use Rattle.vr_job.specs.ShelfRun.{VolumeOf, run_end, run_line}
 use Rattle.vr_job.specs.VolumeRun.{HasFaultCause, IsFaultEnd, IsNotOpen}
 use Rattle.vr_job.specs.VolumeRun.{IsOpen, IsVolumeRun}
+use Rattle.vr_job.proofs.Devices.{same-some}
 use Rattle.vr_job.proofs.VolumeRuns.{ended-rose, volume-run}
 
 -- ---- ends
-
-some-is : {X : Type 0} (x y : X) → Some x ≡ Some y → x ≡ y
-some-is x y same = cc
 
 line-is : (one other : EndLine) → Line one ≡ Line other → one ≡ other
 line-is one other same = cc
@@ -243,7 +241,7 @@ module _ {D : Type 0} (tells : Bool) (seen : D → Seen) (faults : D → Faults)
       → FailsAt failing number closings
   one-fails failing number at [] one is there failed = tt
   one-fails failing number zero (closing ∷ closings) one is there failed = (
-    λ same. subst (λ (c : Closing D). IsErr c.result) (sym (some-is closing one there)) failed,
+    λ same. subst (λ (c : Closing D). IsErr c.result) (sym (same-some closing one there)) failed,
     past-fails failing (number + 1) closings (omega (arith, is)),
   )
   one-fails failing number (suc at) (closing ∷ closings) one is there failed = (
@@ -294,7 +292,7 @@ module _ {D : Type 0} (tells : Bool) (seen : D → Seen) (faults : D → Faults)
         _,
         refl,
         closing-rose number opening closing opens_so.0 since.0 closed.0
-            (subst (λ (c : Closing D). IsErr c.result) (sym (some-is closing one there)) failed),
+            (subst (λ (c : Closing D). IsErr c.result) (sym (same-some closing one there)) failed),
       )
   failed-at number (suc at) (opening ∷ openings) (closing ∷ closings) one opens_so since closed there
       failed =
