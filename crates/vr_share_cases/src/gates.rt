@@ -60,6 +60,7 @@ pub struct InTurns {
 }
 
 impl InTurns {
+    /// A gate that no deck has passed yet.
     pub fn new() -> InTurns {
         InTurns {
             first: Count::new(),
@@ -132,6 +133,7 @@ pub struct BothHeld {
 }
 
 impl BothHeld {
+    /// A gate that no deck has passed yet.
     pub fn new() -> BothHeld {
         BothHeld {
             first: Count::new(),
