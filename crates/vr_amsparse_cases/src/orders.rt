@@ -5,6 +5,7 @@ use vr_amsparse::{DefineCommand, DeleteCommand};
 use vr_catalog::{Alter, DataOptions, EntryKind, FreeSpace, NewEntry, ShareOptions, SpaceUnit};
 use vr_types::{Bytes, Kind};
 
+/// DEFINE with its operands.
 pub fn say_define(out: &mut String, define: &DefineCommand) -> Answer {
     say(out, "DEFINE")?;
     say_text(out, define.order.name.as_slice())?;
@@ -108,6 +109,7 @@ fn say_volume(out: &mut String, volume: &Option<Bytes>) -> Answer {
     }
 }
 
+/// ALTER with what it changes.
 pub fn say_alter(out: &mut String, alter: &Alter) -> Answer {
     say(out, "ALTER")?;
     say_text(out, alter.name.as_slice())?;
@@ -121,6 +123,7 @@ pub fn say_alter(out: &mut String, alter: &Alter) -> Answer {
     }
 }
 
+/// DELETE with its names and operands.
 pub fn say_delete(out: &mut String, delete: &DeleteCommand) -> Answer {
     say(out, "DELETE")?;
     for name in delete.names.as_slice() {

@@ -211,6 +211,7 @@ fn asked_here(case: &Case) -> Option<Refusal>
     }
 }
 
+/// The refusal that a request meets here, by its file and its form.
 pub(crate) fn file_here(case: &Case) -> Option<Refusal>
     ensures { result ≡ here.file_here case.now }
 {
@@ -220,9 +221,9 @@ pub(crate) fn file_here(case: &Case) -> Option<Refusal>
     }
 }
 
-/// The refusal that neither a fault nor want of memory comes before: `NoFile`, where no data set
-/// that can be opened has the name, or `Stopped`, where a write or a sync of the volume failed
-/// earlier. It takes no memory.
+/// The refusal that comes before a fault and before out of memory: `NoFile`, where no data set that
+/// can be opened has the name, or `Stopped`, where a write or a sync of the volume failed earlier.
+/// It takes no memory.
 #[tactic(auto, using(crate::proofs::FileLemmas::before_is))]
 pub fn refused_before_all(case: &Case) -> Option<Refusal>
     ensures { InEach case.now (λ whole. result ≡ replies.first_of (replies.before_all whole)) }

@@ -74,7 +74,7 @@ fn log_size(geometry: Geometry) -> u64
     geometry.log as u64 * geometry.size.saturating_sub(16) as u64
 }
 
-/// Whether so many bytes more go past the end of the log.
+/// Whether this many bytes more go past the end of the log.
 fn is_past_end(size: u64, used: u64, need: u64) -> bool
     ensures { result ≡ nat_lt size (used + need) }
 {

@@ -16,7 +16,7 @@ pub enum Ask {
         update: bool,
         keeps: Keeps,
     },
-    /// GET of a place that has so many bytes.
+    /// GET of a place that has this many bytes.
     GetOf {
         length: u32,
     },

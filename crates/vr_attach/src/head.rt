@@ -56,7 +56,7 @@ fn is_of_part(layout: &Layout, view: &SeqView<'_>) -> bool
     view.part() == layout.part.0 && view.low().len() == usize::from(layout.key)
 }
 
-/// Whether a place is the greatest of so many bytes.
+/// Whether a place is the greatest of this many bytes.
 fn is_greatest(place: &[u8], bytes: u16) -> bool
     ensures { IsTrue result ↔ (place.now ≡ replicate bytes 255) }
 {

@@ -2,7 +2,7 @@
 -- file is one request on the volume of the file. COMMIT and BACKOUT end the unit of recovery of the
 -- deck on each volume that its FILE lines name, wherever these stand, and a COMMIT is added at the
 -- deck's end, with line 0 (the requests are those of DFSMS Using Data Sets and the DFSMStvs Planning
--- and Operating Guide; that a deck goes over several volumes is this project's own rule).
+-- and Operating Guide; that a deck may have files on several volumes is this project's own rule).
 use Rattle.std.specs.Prelude.{ℕ, suc, Bool, ◌==◌, List, [], ◌∷◌, ◌++◌, length, map, filter, flat_map}
 use Rattle.std.specs.Prelude.{Option, Some, None}
 use Rattle.std.specs.List.{list_any, range_with_len}

@@ -9,13 +9,13 @@ use vr_types::OutOfMemory;
 pub enum DeckCause {
     /// The first word is no verb.
     UnknownVerb,
-    /// The word is no name of a file: no card could have it.
+    /// The word can't name a file: no card could have it.
     BadFileName,
     /// No line above declares the file.
     NotDeclared,
     /// A line above declares the file, or 64 files are declared already.
     DeclaredTwice,
-    /// The word is no name of a data set.
+    /// The word can't name a data set.
     BadDataSetName,
     /// An operand is missing, is given twice, or is excluded by one before it.
     Operands,

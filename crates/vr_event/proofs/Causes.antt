@@ -24,7 +24,7 @@ use Rattle.vr_event.specs.declared.no.LookNo.{LookNo}
 use Rattle.vr_event.specs.declared.no.LookNo.TheVariants.{Fault, Memory}
 use Rattle.vr_event.proofs.Ended.{may-fail}
 
--- what a GET comes to, or that it is refused for want of memory
+-- what a GET comes to, or that memory ran out
 pub may-unless : (case : Case) (get : IsGetOf case.request)
     → first_of (file_refusals case) ≡ None → (outcome result : Outcome)
     → (result ≡ outcome) ⊎ (result ≡ outcomes.Refused NoMemory) → MayEnd case outcome

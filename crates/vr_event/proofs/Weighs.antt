@@ -50,7 +50,7 @@ module _ (case : Case) where
   refuse-log no-record (Some refusal) is stays =
       λ none. (inl (answered_by_log case refusal none no-record (sym is)), stays)
 
--- ---- for want of memory, by a fault, or for want of room
+-- ---- out of memory, a fault, or no room
 
 none-some : {X : Type 0} {x : X} → None ≡ Some x → ⊥
 none-some same = cc

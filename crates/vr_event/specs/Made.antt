@@ -1,7 +1,6 @@
 -- What an event of a request adds to the history of its volume, and what it leaves of the rest that
 -- the record file has in memory. The rules are this project's own.
 use Rattle.std.specs.Prelude.{◌≡◌, ◌⊎◌, ◌+◌, ◌≤◌, ◌==◌, ℕ, IsTrue, true, false, List, [], ◌∷◌, ◌++◌, max}
-use Rattle.vr_types.specs.Locks.{same_unit}
 use Rattle.vr_types.specs.declared.fault.DeviceFault.TheVariants.{Write}
 use Rattle.vr_types.specs.declared.reply.Reply.{Reply}
 use Rattle.vr_types.specs.declared.request.Request.{Request}
@@ -11,7 +10,7 @@ use Rattle.vr_history.specs.Legal.{is_backout}
 use Rattle.vr_history.specs.Merged.{IsStamped, last_stamp}
 use Rattle.vr_history.specs.declared.entry.Entry.{Entry}
 use Rattle.vr_history.specs.declared.entry.What.TheVariants.{Asked, Faulted, Split, Undone}
-use Rattle.vr_record_file.specs.Now.{FileNow, has_deck, is_undoing, number_of}
+use Rattle.vr_record_file.specs.Now.{FileNow, has_deck, number_of}
 use Rattle.vr_event.specs.declared.act.Act.{Act}
 use Rattle.vr_event.specs.declared.act.Act.TheVariants.{Again, Done}
 
@@ -68,19 +67,3 @@ pub record HasMade (act : Act) (after : ℕ) (unit : UnitOfRecovery) (line : ℕ
   pub numbers : NumbersStay act old new
   pub others : (other : ℕ) → (other == unit.deck) ≡ false
       → number_of new.numbers other ≡ number_of old.numbers other
-
--- ---- units that have begun to undo
-
--- no unit has begun to undo
-abbrev pub IsCalm : List Entry → Type 0
-IsCalm entries = (unit : UnitOfRecovery) → is_undoing unit entries ≡ false
-
--- none but this one, which asks for BACKOUT
-abbrev pub IsCalmBut : UnitOfRecovery → Request → List Entry → Type 0
-IsCalmBut asking request entries = (unit : UnitOfRecovery) → (is_undoing unit entries ≡ false)
-    ⊎ ((same_unit unit asking ≡ true) × IsTrue (is_backout request))
-
--- once the request is entered none has
-abbrev pub CalmBy : Act → UnitOfRecovery → Request → List Entry → Type 0
-CalmBy Done asking request entries = IsCalm entries
-CalmBy (Again given) asking request entries = IsCalmBut asking request entries

@@ -1,6 +1,6 @@
--- What stands behind the blocks of a volume in memory: its parts, its log, its before-images, and
--- the blocks that units of recovery changed; and when these and the blocks are those of a state of
--- the record file. The rules are this project's own.
+-- What a volume keeps in memory of its blocks: its parts, its log, its before-images, and the
+-- blocks that units of recovery changed; and when these and the blocks are those of a state of the
+-- record file. The rules are this project's own.
 use Rattle.std.specs.Prelude.{◌≡◌, ◌≢◌, ◌<◌, ℕ, Bool, false, ◌==◌, List, [], All, Option, Some}
 use Rattle.std.specs.Prelude.{IfSome, None, find, map, option_map}
 use Rattle.std.specs.List.{IsDistinct}

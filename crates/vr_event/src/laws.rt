@@ -5,7 +5,7 @@ ghost use Rattle.vr_types.specs.declared.request.Request.{Request};
 ghost use Rattle.vr_types.specs.declared.unit.Unit as units;
 ghost use Rattle.vr_record_file.specs.Now.{FileNow};
 ghost use Rattle.vr_event.specs.Acting.{IsActed};
-ghost use Rattle.vr_event.specs.Made.{CalmBy, HasMade, IsCalmBut};
+ghost use Rattle.vr_event.specs.Made.{HasMade};
 ghost use Rattle.vr_event.specs.declared.act.Act as acts;
 
 /// An event adds the entry of its request to the history, once, where it is done, and no entry of a
@@ -15,14 +15,6 @@ pub fn event_adds()
         (request : Request) (old new : FileNow)
         → IsActed before now act after unit line request old new
         → HasMade act after unit line request old new }
-{}
-
-/// Once the request of an event is entered no unit has begun to undo, where before none but its own
-/// had, which asks for BACKOUT. Until it is, that stays so.
-pub fn event_calms()
-    ensures { (act : acts.Act) (after : ℕ) (asking : units.Unit) (line : ℕ) (request : Request)
-        (old new : FileNow) → HasMade act after asking line request old new
-        → IsCalmBut asking request old.entries → CalmBy act asking request new.entries }
 {}
 
 /// An event takes room for two entries at most.

@@ -34,7 +34,7 @@ mod weighing;
 
 pub use act::Act;
 pub use changed::UnitBlocks;
-pub use laws::{event_adds, event_calms, event_takes_room};
+pub use laws::{event_adds, event_takes_room};
 pub use no::LookNo;
 pub use parts::Laid;
 pub use preparing::Prepared;

@@ -163,8 +163,8 @@ impl<B: Blocks, P: Part> Volume<B, P> {
             → putting.IsChanging opening self.old.file unit request
             → IsHeld B.seen opening self.new }
         ensures whole { IsWhole B.seen self.new }
-        ensures acted { IsActed (B.faults self.old.blocks) (B.faults self.new.blocks) acts.Done after
-            unit line request self.old.file self.new.file }
+        ensures acted { IsActed (B.faults self.old.blocks) (B.faults self.new.blocks) acts.Done
+            after unit line request self.old.file self.new.file }
         // At every moment, whether it fails or not.
         ensures moments { IsTrue B.tells → (opening : State) → IsHeld B.seen opening self.old
             → putting.IsReadyFor (case_of self.old.file.geometry

@@ -134,8 +134,8 @@ fn refused_in_memory(
     live: bool,
 ) -> Result<Option<Refusal>, OutOfMemory>
     requires { ForSome (option_copied present) (λ bytes. length bytes < 2 ^ 32) }
-    ensures { IfOk result (λ refused. InEachLogged case.now (option_copied present.entry) logged live
-        (λ whole. putting.IsRefusedBy whole refused)) }
+    ensures { IfOk result (λ refused. InEachLogged case.now (option_copied present.entry) logged
+        live (λ whole. putting.IsRefusedBy whole refused)) }
 {
     match refused_by_record(alloc, case, present)? {
         Some(refusal) => Ok(Some(refusal)),
@@ -395,7 +395,8 @@ fn may_change<P: Part>(
     ensures current { IsTrue result → (opening : State) → IsStateOf opening file.now
         → IsOfUnit (state_now opening file.now) unit }
     ensures not_catalog { IsTrue result → (part.0 == 0) ≡ false }
-    ensures at { IsTrue result → putting.AreLaidBy file.now.geometry file.now.catalog store.now.parts
+    ensures at { IsTrue result
+        → putting.AreLaidBy file.now.geometry file.now.catalog store.now.parts
         → putting.HasPlace store.now.parts part.0 place.now }
 {
     unit.deck != 0

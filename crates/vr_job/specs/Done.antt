@@ -56,8 +56,8 @@ pub record HasRunOn {D : Type 0} (tells : Bool) (seen : D → Seen) (faults : D 
   pub run : IsShelfRun tells seen faults job.steps end trace.histories begun new
 
 -- How the run of a job comes to its end, with what the source had left and how often it had failed,
--- before and after: the run doesn't begin, and nothing is read; or the input is no job, or memory ran
--- out; or the job is read and its decks are run.
+-- before and after: the run doesn't begin, and nothing is read; or the input isn't a job, or memory
+-- ran out; or the job is read and its decks are run.
 pub data IsRunDone {D : Type 0} (tells : Bool) (seen : D → Seen) (faults : D → Faults)
     (in_memory lines : Bool) (left left' : Option (List ℕ)) (fails fails' : ℕ) (old new : List D)
     (trace : Trace) (end : End) : Type 0 where

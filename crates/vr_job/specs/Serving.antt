@@ -1,5 +1,5 @@
--- A volume behind the latch of its number, while decks run: what is known of it whenever the latch
--- is free. The rules are this project's own.
+-- A volume that a latch guards, while decks run: what is known of it whenever the latch is free. The
+-- rules are this project's own.
 use Rattle.std.specs.Prelude.{◌≡◌, ℕ, Bool, true, false, IsTrue}
 use Rattle.vr_types.specs.Faults.{Faults}
 use Rattle.vr_types.specs.Seen.{Seen}

@@ -21,7 +21,7 @@ pub(crate) fn narrow(stated: u64) -> u32
     stated.min(u64::from(u32::MAX)) as u32
 }
 
-/// Whether a volume on this device may have so many blocks of log and so many intervals an area.
+/// Whether a volume on this device may have this many blocks of log and this many intervals an area.
 fn is_allowed<D: BlockDevice>(device: &D, log: u32, area: u32) -> bool
     ensures yes { IsTrue result → IsAllowed (geometry_of (D.seen device.now) log area) }
     ensures no { result ≡ false → IsAllowed (geometry_of (D.seen device.now) log area) → ⊥ }
@@ -99,7 +99,7 @@ fn format_each<D: BlockDevice>(
     Ok(())
 }
 
-/// Formats so many devices, 1 to 16, as volumes 0, 1 and on, with so many blocks of log and so many
+/// Formats so many devices, 1 to 16, as volumes 0, 1 and on, with this many blocks of log and this many
 /// intervals an area. `Err` says how the job ends: `Shelf` exactly where there are more or fewer
 /// devices; `Geometry` exactly where a volume may not have that shape on one of them, the first one,
 /// and then none is written to; `DeviceFault` only where a write or the sync of that device failed;

@@ -61,7 +61,7 @@ fn served(alloc: Global, opened: Opened) -> Result<Box<Ready>, EndLine>
     number_parts(alloc, opened)
 }
 
-/// Opens the volume of this number, on so many blocks.
+/// Opens the volume of this number, on this many blocks.
 fn open_whole<B: Blocks>(
     alloc: Global,
     blocks: &mut B,
@@ -90,7 +90,7 @@ fn open_whole<B: Blocks>(
     }
 }
 
-/// Opens the volume of this number, on so many blocks, and numbers its parts.
+/// Opens the volume of this number, on this many blocks, and numbers its parts.
 fn open_parts<B: Blocks>(
     alloc: Global,
     blocks: &mut B,
@@ -148,7 +148,7 @@ fn made<B: Blocks>(alloc: Global, blocks: B, number: u32, found: Box<Ready>) -> 
     Volume::new(alloc, blocks, number, geometry, catalog, parts, log, space)
 }
 
-/// Opens the volume of this number, on so many blocks, for a run of the decks of a job. `Err` says
+/// Opens the volume of this number, on this many blocks, for a run of the decks of a job. `Err` says
 /// how the job ends and hands the blocks back: `Damaged` or `Version` where they are those of no
 /// volume of that number (the block that breaks a rule and the rule, or the version that block 0
 /// states); `DeviceFault` where the device failed; `NoMemory` where memory ran out, where the volume

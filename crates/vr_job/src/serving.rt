@@ -1,5 +1,5 @@
 //! A volume that the threads of decks share: one event of a request, under the volume's latch.
-ghost use Rattle.std.specs.Prelude.{◌≡◌, ◌<◌, ◌≤◌, ◌==◌, ◌+◌, ◌-◌, ◌^◌, [], IsTrue, OnOk};
+ghost use Rattle.std.specs.Prelude.{◌≡◌, ◌<◌, ◌≤◌, ◌==◌, ◌+◌, ◌-◌, ◌^◌, [], IsTrue, OnErr, OnOk};
 ghost use Rattle.std.specs.Prelude.{false, true};
 ghost use Rattle.vr_answer.specs.Scope.{IsDirect};
 ghost use Rattle.vr_event.specs.Volume.{Holds, IsWhole};
@@ -131,6 +131,7 @@ fn serve<B: Blocks, P: Part>(
     ensures follows { Follows B.tells B.seen B.faults volume.old volume.new }
     ensures entered { HasEntered volume.old.number deck line request.now after
         (asked.is_done result) volume.old.file.entries volume.new.file.entries }
+    ensures failed { OnErr result (volume.new.file.entries ≡ volume.old.file.entries) }
     ensures number { volume.new.number ≡ volume.old.number }
 {
     if !is_direct(request.get()) {
@@ -220,6 +221,7 @@ impl<D: BlockDevice> Served for Serving<D> {
         ensures follows { Follows D.tells D.seen D.faults self.old self.new }
         ensures entered { HasEntered self.old.number deck line request.now after
             (asked.is_done result) self.old.file.entries self.new.file.entries }
+        ensures failed { OnErr result (self.new.file.entries ≡ self.old.file.entries) }
     {
         serve(self.alloc, &mut self.volume, deck, line, request, after)
     }

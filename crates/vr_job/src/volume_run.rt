@@ -23,7 +23,7 @@ pub(crate) struct Closed<D: BlockDevice> {
     pub(crate) result: Result<(), Failed>,
 }
 
-/// Opens the volume of this number on so many blocks.
+/// Opens the volume of this number on this many blocks.
 fn open_blocks<D: BlockDevice>(
     alloc: Global,
     blocks: Direct<D>,

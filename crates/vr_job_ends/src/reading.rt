@@ -49,7 +49,7 @@ fn input_line(fault: InputFault) -> EndLine
     }
 }
 
-/// How a job ends whose text is no job.
+/// How a job ends whose text isn't one.
 fn fault_line(fault: JobFault) -> EndLine
     ensures { result ≡ reading.fault_line fault }
 {

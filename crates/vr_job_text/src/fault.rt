@@ -64,7 +64,7 @@ pub struct TextFault {
 /// Why a text gave no job.
 #[derive(Clone, Copy)]
 pub enum JobFault {
-    /// The text is no job, or not one that is run yet.
+    /// The text isn't a job, or not one that is run yet.
     Text(TextFault),
     /// Memory ran out.
     Memory,

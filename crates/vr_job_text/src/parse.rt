@@ -17,7 +17,7 @@ use std::alloc::Global;
 /// The job of a text of at most 64 MiB. Its cards are those of MVS JCL, its orders those of Using
 /// Data Sets; how decks stand in a job is this project's own.
 ///
-/// `Text` is the first fault, exactly where the text is no job that is run; `Memory` may come at any
+/// `Text` is the first fault, exactly where the text isn't a job that is run; `Memory` may come at any
 /// text. Faults of cards are looked for line by line, those of the decks of a step where the step
 /// ends, at the next EXEC card or at the end of the text.
 pub fn parse_job(alloc: Global, text: &[u8]) -> Result<JobText, JobFault>

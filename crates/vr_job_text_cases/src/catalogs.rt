@@ -10,132 +10,46 @@ use vr_types::{Kind, NameFault, PartNo, dataset_name};
 /// relative cluster, a path over that, and a path over nothing.
 pub fn two_catalogs(alloc: Global) -> Result<Vec<Catalog>, Stop> {
     let mut catalogs = Vec::new(alloc);
-    catalogs.push(first_catalog(alloc)?)?;
-    catalogs.push(second_catalog(alloc)?)?;
+    catalogs.push(catalog_of(alloc, &FIRST)?)?;
+    catalogs.push(catalog_of(alloc, &SECOND)?)?;
     Ok(catalogs)
 }
 
+/// A row of a catalog: a name, what it describes, its kind, its part, and the part that it is over,
+/// 0 where there is none.
+type Row = (&'static str, EntryKind, Kind, u32, u32);
+
 /// The catalog of volume 0.
-fn first_catalog(alloc: Global) -> Result<Catalog, Stop> {
-    let mut catalog = Catalog::new(alloc);
-    add(
-        alloc,
-        &mut catalog,
-        "A.KEYED",
-        EntryKind::Cluster,
-        Kind::Keyed,
-        1,
-        0,
-    )?;
-    add(
-        alloc,
-        &mut catalog,
-        "A.INDEX",
-        EntryKind::Alternate,
-        Kind::Keyed,
-        2,
-        1,
-    )?;
-    add(
-        alloc,
-        &mut catalog,
-        "A.PATH",
-        EntryKind::Path,
-        Kind::Keyed,
-        3,
-        2,
-    )?;
-    add(
-        alloc,
-        &mut catalog,
-        "A.OTHER",
-        EntryKind::Path,
-        Kind::Keyed,
-        4,
-        1,
-    )?;
-    add(
-        alloc,
-        &mut catalog,
-        "A.ENTRY",
-        EntryKind::Cluster,
-        Kind::Entry,
-        5,
-        0,
-    )?;
-    add(
-        alloc,
-        &mut catalog,
-        "A.SLOTS",
-        EntryKind::Cluster,
-        Kind::Relative,
-        6,
-        0,
-    )?;
-    add(
-        alloc,
-        &mut catalog,
-        "A.XENTRY",
-        EntryKind::Alternate,
-        Kind::Keyed,
-        7,
-        5,
-    )?;
-    Ok(catalog)
-}
+const FIRST: [Row; 7] = [
+    ("A.KEYED", EntryKind::Cluster, Kind::Keyed, 1, 0),
+    ("A.INDEX", EntryKind::Alternate, Kind::Keyed, 2, 1),
+    ("A.PATH", EntryKind::Path, Kind::Keyed, 3, 2),
+    ("A.OTHER", EntryKind::Path, Kind::Keyed, 4, 1),
+    ("A.ENTRY", EntryKind::Cluster, Kind::Entry, 5, 0),
+    ("A.SLOTS", EntryKind::Cluster, Kind::Relative, 6, 0),
+    ("A.XENTRY", EntryKind::Alternate, Kind::Keyed, 7, 5),
+];
 
 /// The catalog of volume 1.
-fn second_catalog(alloc: Global) -> Result<Catalog, Stop> {
+const SECOND: [Row; 4] = [
+    ("A.KEYED", EntryKind::Cluster, Kind::Entry, 1, 0),
+    ("B.SLOTS", EntryKind::Cluster, Kind::Relative, 2, 0),
+    ("B.PATH", EntryKind::Path, Kind::Keyed, 3, 2),
+    ("B.LOST", EntryKind::Path, Kind::Keyed, 4, 9),
+];
+
+/// The catalog of these rows.
+fn catalog_of(alloc: Global, rows: &[Row]) -> Result<Catalog, Stop> {
     let mut catalog = Catalog::new(alloc);
-    add(
-        alloc,
-        &mut catalog,
-        "A.KEYED",
-        EntryKind::Cluster,
-        Kind::Entry,
-        1,
-        0,
-    )?;
-    add(
-        alloc,
-        &mut catalog,
-        "B.SLOTS",
-        EntryKind::Cluster,
-        Kind::Relative,
-        2,
-        0,
-    )?;
-    add(
-        alloc,
-        &mut catalog,
-        "B.PATH",
-        EntryKind::Path,
-        Kind::Keyed,
-        3,
-        2,
-    )?;
-    add(
-        alloc,
-        &mut catalog,
-        "B.LOST",
-        EntryKind::Path,
-        Kind::Keyed,
-        4,
-        9,
-    )?;
+    for row in rows {
+        catalog.push(entry_of(alloc, *row)?)?;
+    }
     Ok(catalog)
 }
 
-/// Adds an entry to a catalog: what it describes, its kind, its part and the part that it is over.
-fn add(
-    alloc: Global,
-    catalog: &mut Catalog,
-    name: &str,
-    entry_kind: EntryKind,
-    kind: Kind,
-    part: u32,
-    related: u32,
-) -> Result<(), Stop> {
+/// The entry of a row.
+fn entry_of(alloc: Global, row: Row) -> Result<CatEntry, Stop> {
+    let (name, entry_kind, kind, part, related) = row;
     let mut entry = plain_entry(alloc, name)?;
     entry.entry_kind = entry_kind;
     entry.kind = Some(kind);
@@ -145,8 +59,7 @@ fn add(
     } else {
         Some(PartNo(related))
     };
-    catalog.push(entry)?;
-    Ok(())
+    Ok(entry)
 }
 
 /// An entry with a name and what all have in common.

@@ -24,7 +24,7 @@ with_record part range lengths bytes =
     if is_in range (key_of part bytes)
     then with_length lengths (key_of part bytes) (length bytes) else lengths
 
--- each place has so many bytes
+-- each place has this many bytes
 abbrev pub ArePlaces : ℕ → Lengths → Type 0
 ArePlaces key lengths = All (λ (entry : List ℕ × ℕ). length entry.0 ≡ key) lengths
 

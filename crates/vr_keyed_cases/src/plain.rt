@@ -25,7 +25,7 @@ pub fn two(blocks: &[u8], at: usize) -> usize
     byte(blocks, at) as usize * 256 + low as usize
 }
 
-/// So many bytes; none where they pass the end.
+/// This many bytes; none where they pass the end.
 pub fn part(blocks: &[u8], at: usize, count: usize) -> &[u8] {
     blocks.get(at..at.saturating_add(count)).unwrap_or(&[])
 }

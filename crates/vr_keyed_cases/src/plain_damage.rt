@@ -17,12 +17,12 @@ fn four(blocks: &[u8], at: usize) -> usize {
     two(blocks, at.saturating_add(2))
 }
 
-/// Whether so many bytes are all this one.
+/// Whether this many bytes are all this one.
 fn are_all(blocks: &[u8], at: usize, count: usize, wanted: u8) -> bool {
     part(blocks, at, count).iter().all(|byte| *byte == wanted)
 }
 
-/// What is found of four blocks of a part whose records have at most so many bytes.
+/// What is found of four blocks of a part whose records have at most this many bytes.
 pub fn damage_in(blocks: &[u8], most: usize) -> Option<Found> {
     let rule = head_rule(blocks);
     if rule != 0 {

@@ -1,4 +1,4 @@
-//! The ledger of a volume, which lies behind the volume's latch.
+//! The ledger of a volume, which the volume's latch guards.
 ghost use Rattle.std.specs.Prelude.{◌≡◌};
 
 use crate::seat::LedgerSeat;

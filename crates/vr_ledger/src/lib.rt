@@ -1,6 +1,6 @@
 //! The ledger of one volume. Threads take the volume's latch one after another, and what a deck
-//! knows of its own entries in the volume's history has to outlive the latch. Behind the latch lies
-//! a `Ledger`, which knows the whole history; each deck keeps a `Turn`, which knows the deck's
+//! knows of its own entries in the volume's history has to outlive the latch. The latch guards a
+//! `Ledger`, which knows the whole history; each deck keeps a `Turn`, which knows the deck's
 //! entries in it. The ledger stands on `atomic_table`, with one word, the number of the entries,
 //! and on `vr_history` for what an entry is. What a seat at the table knows exists in the proofs
 //! alone: at run time a turn is the deck's number, and a ledger counts entries.

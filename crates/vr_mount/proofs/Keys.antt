@@ -16,7 +16,7 @@ use Rattle.vr_space.specs.Part.{Shape, KeyedShape, IsPlaceOf, Stands, item_of}
 use Rattle.vr_space.specs.Part.{place_length}
 use Rattle.vr_space.proofs.CallerLemmas.{NoneAt, none-record, content_item}
 
--- each place has so many bytes
+-- each place has this many bytes
 abbrev AreKeys : ℕ → Content → Type 0
 AreKeys n [] = Unit {0}
 AreKeys n (entry ∷ content) = (length entry.0 ≡ n) × AreKeys n content

@@ -15,7 +15,7 @@ abbrev pub version_in : Block → Option ℕ
 version_in block = if nat_le 8 (length block) && bytes_eq (take 4 block) mark
     then Some (four_at 4 block) else None
 
--- the shape that the block of a header states, on so many blocks
+-- the shape that the block of a header states, on this many blocks
 abbrev pub stated : ℕ → Block → Geometry
 stated count block = record {
   size = length block;
@@ -24,7 +24,7 @@ stated count block = record {
   area = four_at 20 block;
 }
 
--- The block is the header of a volume of this number and shape, on so many blocks of this size.
+-- The block is the header of a volume of this number and shape, on this many blocks of this size.
 pub record IsHeaderOf (count size number : ℕ) (block : Block) (geometry : Geometry) : Type 0 where
   pub allowed : IsAllowed geometry
   pub blocks_are : geometry.blocks ≡ count

@@ -69,7 +69,7 @@ fn version_in(block: &[u8]) -> Option<u32>
     }
 }
 
-/// The shape that the block of a header states, on so many blocks.
+/// The shape that the block of a header states, on this many blocks.
 fn stated(count: u32, block: &[u8]) -> Geometry
     requires room { 30 ≤ length block.now }
     requires most { length block.now ≤ 32768 }
@@ -83,7 +83,7 @@ fn stated(count: u32, block: &[u8]) -> Geometry
     }
 }
 
-/// The shape of the volume of this number whose header a block is, on so many blocks.
+/// The shape of the volume of this number whose header a block is, on this many blocks.
 #[tactic(auto, using(crate::proofs::Headers::header_states))]
 fn geometry_in(count: u32, number: u32, block: &[u8]) -> Option<Geometry>
     ensures some { IfSome result (IsHeaderOf count (length block.now) number block.now) }
@@ -116,7 +116,7 @@ fn header_of(count: u32, number: u32, block: &[u8]) -> Result<Geometry, HeaderNo
     }
 }
 
-/// Reads the header of a volume of this number from block 0, on so many blocks: its shape, which a
+/// Reads the header of a volume of this number from block 0, on this many blocks: its shape, which a
 /// volume may have and which is that of the blocks.
 ///
 /// `Version`: block 0 begins with `VRMV`, and its version isn't 1. `Damaged`: it isn't the header

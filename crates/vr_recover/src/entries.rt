@@ -86,7 +86,7 @@ fn write_fit<D: BlockDevice>(
     )
 }
 
-/// Formats a device as the volume of this number, with so many blocks of log and so many intervals
+/// Formats a device as the volume of this number, with this many blocks of log and this many intervals
 /// an area: a header, an empty log, a catalog with these entries, and each of them as a cluster
 /// without records. The first entry gets area 1 and each other the next area; the areas that the
 /// entries have don't count. It syncs the device at the end. What a crash leaves before that isn't

@@ -35,7 +35,7 @@ impl Fillers {
         &self.zeros[..length]
     }
 
-    /// So many bytes of X'FF'.
+    /// This many bytes of X'FF'.
     pub(crate) fn highest(&self, length: usize) -> &[u8]
         requires { length ≤ self.now.size }
         ensures { result.now ≡ replicate length 255 }

@@ -53,7 +53,7 @@ pub(crate) fn write_entries<D: BlockDevice>(
     Ok(())
 }
 
-/// Formats a device as the volume of this number, with so many blocks of log and so many intervals
+/// Formats a device as the volume of this number, with this many blocks of log and this many intervals
 /// an area: a header, an empty log, an empty catalog, and on volume 0 the cluster VRM.FIRST with
 /// KEYS(8 0) RECORDSIZE(80 80), without records. It syncs the device at the end. What a crash leaves
 /// before that isn't said.

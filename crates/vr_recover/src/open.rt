@@ -95,7 +95,7 @@ fn open_log<B: Blocks>(
     Ok(found)
 }
 
-/// Reads the header and the log of the volume of this number, on so many blocks, all of which it
+/// Reads the header and the log of the volume of this number, on this many blocks, all of which it
 /// forces.
 fn start<B: Blocks>(
     alloc: Global,
@@ -125,7 +125,7 @@ fn start<B: Blocks>(
     begin_log(alloc, blocks, &geometry)
 }
 
-/// Opens the volume of this number, on so many blocks.
+/// Opens the volume of this number, on this many blocks.
 fn open_numbered<B: Blocks>(
     alloc: Global,
     blocks: &mut B,
@@ -162,7 +162,7 @@ fn open_numbered<B: Blocks>(
     })
 }
 
-/// Opens the volume of this number, on so many blocks. It forces all blocks, reads the header, the
+/// Opens the volume of this number, on this many blocks. It forces all blocks, reads the header, the
 /// log, the catalog and each part that the catalog lays, puts the before-images of units of recovery
 /// back that have no end, ends these units as backed out, and begins the next generation of the log
 /// (backout after a failure, DFSMStvs Planning and Operating Guide). Nothing is put before all of it

@@ -7,7 +7,7 @@ use crate::open_no::OpenNo;
 use std::alloc::Global;
 use vr_types::{Blocks, OutOfMemory};
 
-/// The numbers of so many blocks.
+/// The numbers of this many blocks.
 fn numbers_of(alloc: Global, count: u32) -> Result<Vec<u32>, OutOfMemory>
     ensures below { IfOk result (λ numbers. All (λ n. n < count) numbers.items) }
     ensures all { IfOk result (λ numbers. (n : ℕ) → n < count → Contains numbers.items n) }

@@ -15,7 +15,7 @@ abbrev pub bare_places : ℕ → List Entry
 bare_places zero = []
 bare_places (suc n) = (n, Bare) ∷ bare_places n
 
--- So many frames more, which are empty, and the same blocks.
+-- This many frames more, which are empty, and the same blocks.
 pub record IsTaken (got : ℕ) (old new : Frames) : Type 0 where
   pub held : held_by new ≡ held_by old
   pub empty : empty_count new ≡ empty_count old + got

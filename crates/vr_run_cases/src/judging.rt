@@ -48,7 +48,7 @@ pub fn cases_of(alloc: Global, rest: &str) -> Result<(Case, Case), Stop> {
     Ok((first, then))
 }
 
-/// A deck with keys of so many bytes, beside the lines that add the records that are read.
+/// A deck with keys of this many bytes, beside the lines that add the records that are read.
 fn case_with(alloc: Global, keys: &str, text: &str, added: &str) -> Result<Case, Stop> {
     let keys = keys.parse().ok().ok_or(Stop::Line)?;
     let lines = text_of(alloc, DECK, text)?;

@@ -25,7 +25,7 @@ pub struct PlainFile {
 }
 
 impl PlainFile {
-    /// An empty file with keys of so many bytes.
+    /// An empty file with keys of this many bytes.
     pub fn new(alloc: Global, keys: usize) -> PlainFile {
         PlainFile {
             keys,
@@ -39,7 +39,7 @@ impl PlainFile {
         }
     }
 
-    /// A file with these records, which are committed, and with keys of so many bytes.
+    /// A file with these records, which are committed, and with keys of this many bytes.
     pub fn over(alloc: Global, keys: usize, records: Contents) -> Result<PlainFile, Stop> {
         let now = records.copy(alloc)?;
         Ok(PlainFile {

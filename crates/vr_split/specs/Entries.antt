@@ -7,7 +7,7 @@ use Rattle.vr_split.specs.declared.weights.Entry.{Entry}
 abbrev pub lengths_seen : List Entry → Lengths
 lengths_seen entries = map (λ (entry : Entry). (entry.place.place, entry.longest)) entries
 
--- each entry has room for a place of so many bytes
+-- each entry has room for a place of this many bytes
 abbrev pub HaveBytes : ℕ → List Entry → Type 0
 HaveBytes bytes entries = All (λ (entry : Entry). entry.place.room ≡ bytes) entries
 

@@ -26,7 +26,7 @@ pub enum EndLine {
     ReadFault,
     /// The text is too long.
     InputTooLong,
-    /// The text is no job, for what stands at a line and a column.
+    /// The text isn't a job, for what stands at a line and a column.
     Refused {
         kind: TextKind,
         line: u32,

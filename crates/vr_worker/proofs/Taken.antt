@@ -1,4 +1,4 @@
--- What an event under a latch leaves of the deck's turn and last stamp, and of what lies behind it.
+-- What an event under a latch leaves of the deck's turn and last stamp, and of what the latch guards.
 use Rattle.std.proofs.Common.{◌≡◌, ◌∙◌, ℕ, ◌<◌, ◌≤◌, List, [], ◌∷◌, ◌++◌, All, Contains, Option, Some, None}
 use Rattle.std.proofs.Common.{Bool, refl, sym, ap, subst, arith, map, max, append_assoc}
 use Rattle.std.specs.Prelude.{IfSome}

@@ -1,4 +1,4 @@
--- What lies behind a latch while the decks of a step run, and what is known of it whenever the latch is
+-- What a latch guards while the decks of a step run, and what is known of it whenever the latch is
 -- free. The rules are this project's own.
 use Rattle.std.specs.Prelude.{◌≡◌, ℕ, Bool, List, ◌++◌, All, Contains, IfSome, Option, map}
 use Rattle.atomic_table.specs.Seated.{TableId}

@@ -1,4 +1,4 @@
-//! What lies behind the latch of a volume while the decks of a step run.
+//! What the latch of a volume guards while the decks of a step run.
 ghost use Rattle.std.specs.Prelude.{◌≡◌, ◌==◌, ℕ, List, Option, Contains, IfSome, Some, false};
 ghost use Rattle.std.specs.Prelude.{None, []};
 ghost use Rattle.atomic_table.specs.Seated.{TableId};

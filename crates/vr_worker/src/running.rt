@@ -104,7 +104,7 @@ fn tell_all<V: Served, N: Names<V>>(latched: &mut Latched<V, N>, place: usize, s
     }
 }
 
-/// The volume behind the latch at a place, once the threads have ended.
+/// The volume that the latch at a place guards, once the threads have ended.
 fn take_out<R: Wait, V: Served + Send, N: Names<V>>(
     rt: &R,
     latch: Mutex<Latched<V, N>>,
@@ -126,7 +126,7 @@ fn take_out<R: Wait, V: Served + Send, N: Names<V>>(
     latched.into_volume()
 }
 
-/// The volumes behind the latches, in their order, in room that was made.
+/// The volumes that the latches guard, in their order, in room that was made.
 fn take_all<R: Wait, V: Served + Send, N: Names<V>>(
     rt: &R,
     latches: Vec<Mutex<Latched<V, N>>>,

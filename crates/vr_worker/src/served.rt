@@ -1,5 +1,5 @@
 //! A volume, as the thread of a deck sees it.
-ghost use Rattle.std.specs.Prelude.{◌≡◌, ◌<◌, ◌==◌, ◌^◌, ℕ, List, false};
+ghost use Rattle.std.specs.Prelude.{◌≡◌, ◌==◌, ℕ, List, OnErr, false};
 ghost use Rattle.vr_history.specs.declared.entry.Entry.{Entry};
 ghost use Rattle.vr_trace.specs.Laws.{deck_entries};
 ghost use Rattle.vr_worker.specs.Asked.{HasEntered, MayAsk, is_done};
@@ -32,9 +32,8 @@ pub trait Served: Drop {
         ensures { result.now.entries ≡ entries self.now };
 
     /// One event of a request of a deck, whose last stamp is `after`: whether the request was answered.
-    /// Where it wasn't, a stage of it was done, and the deck asks it again. Nothing is entered where no
-    /// stamps or numbers of units are left (`Stamps`), or no memory (`Memory`, which may come at any
-    /// time).
+    /// Where it wasn't, a stage of it was done, and the deck asks it again. Where no stamps are left
+    /// (`Stamps`), or memory runs out (`Memory`, which may come at any time), nothing is entered.
     fn answer(
         &mut self,
         deck: u32,
@@ -47,5 +46,6 @@ pub trait Served: Drop {
         ensures number { number self.new ≡ number self.old }
         ensures follows { follows self.old self.new }
         ensures entered { HasEntered (number self.old) deck line request.now after (is_done result)
-            (entries self.old) (entries self.new) };
+            (entries self.old) (entries self.new) }
+        ensures failed { OnErr result (entries self.new ≡ entries self.old) };
 }

@@ -50,6 +50,7 @@ pub struct BetweenEvents {
 }
 
 impl BetweenEvents {
+    /// A gate that no deck has passed yet.
     pub fn new() -> BetweenEvents {
         BetweenEvents {
             begun: Count::new(),
@@ -79,6 +80,7 @@ pub struct BothHeld {
 }
 
 impl BothHeld {
+    /// A gate that no deck has passed yet.
     pub fn new() -> BothHeld {
         BothHeld {
             first: Count::new(),

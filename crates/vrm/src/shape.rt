@@ -44,7 +44,7 @@ pub fn shape_of(file: &File) -> io::Result<Shape> {
     Ok(stated(&header, bytes))
 }
 
-/// The shape of a file of so many bytes that begins with these.
+/// The shape of a file of this many bytes that begins with these.
 fn stated(header: &[u8], bytes: u64) -> Shape
     requires { length header.now ≡ 16 }
 {
@@ -59,7 +59,7 @@ fn stated(header: &[u8], bytes: u64) -> Shape
     }
 }
 
-/// As many blocks of this size as so many bytes have room for.
+/// As many blocks of this size as this many bytes have room for.
 fn whole_blocks(bytes: u64, size: u32) -> Shape
     requires { 0 < size }
 {

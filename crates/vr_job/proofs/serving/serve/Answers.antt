@@ -1,4 +1,5 @@
 use Rattle.std.proofs.Common.{Bool, inr, subst, sym}
+use Rattle.vr_event.proofs.CallerLemmas.{on-err}
 use Rattle.vr_worker.specs.Asked.{HasEntered}
 use Rattle.vr_job.specs.Going.{went-then}
 use Rattle.vr_job.proofs.Entering.{err-undone, none-entered}
@@ -24,6 +25,14 @@ returns-in_err-shared-clause-entered g c =
     c.from_residual-in_err-shared.ensures.1))
     (none-entered old.number c.args.deck c.args.line c.args.request.now c.args.after
     old.file.entries new.file.entries c.make_ready.ensures.stays.entries c.requires.may_ask)
+
+pub returns-in_err-make_ready-clause-failed : goal.returns-in_err-make_ready-clause-failed
+returns-in_err-make_ready-clause-failed g c =
+    on-err c.from_residual.result c.make_ready.ensures.stays.entries
+
+pub returns-in_err-shared-clause-failed : goal.returns-in_err-shared-clause-failed
+returns-in_err-shared-clause-failed g c =
+    on-err c.from_residual-in_err-shared.result c.make_ready.ensures.stays.entries
 
 pub returns-clause-follows : goal.returns-clause-follows
 returns-clause-follows g c =

@@ -4,7 +4,7 @@ use Rattle.vr_resident.specs.Held.{over, changed_count}
 use Rattle.vr_resident.specs.Cache.{IsKept, KeepsSeat, IsFlushed, held_by}
 use Rattle.vr_resident.proofs.writing.flush.Given as goal
 
--- so many blocks are written
+-- this many blocks are written
 abbrev pub invariant-loop-written : goal.invariant-loop-written
 invariant-loop-written g l =
     let seen = g.D.BlockDevice.seen in
