@@ -31,7 +31,7 @@ use Rattle.vr_event.specs.declared.act.Act.{Act}
 use Rattle.vr_event.specs.declared.act.Act.TheVariants.{Again, Done}
 use Rattle.vr_event.proofs.CallerLemmas.{acted_made}
 use Rattle.vr_volume.specs.Crashes.{RecoversTo}
-use Rattle.vr_worker.proofs.Taken.{stamped-above}
+use Rattle.vr_worker.proofs.CallerLemmas.{stamped-above}
 use Rattle.vr_worker.specs.Asked.{bound_to}
 use Rattle.vr_job.specs.Crash.{IsCommit, IsLeftBy}
 use Rattle.vr_job.specs.Events.{IsLeftWhile, IsOfEvents, LeavesAtRest, requests_in}

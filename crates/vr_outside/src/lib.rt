@@ -4,11 +4,13 @@
 //! out twice or lost where bytes are reported, that a call fails only where the count of faults
 //! rose, and that a sink which takes nothing of some bytes counts that as a fault. Sources and
 //! sinks in memory fail exactly where their scripts say so; those over a std reader or writer, and a
-//! source over a file of the host, don't report their bytes.
+//! source over a file of the host, don't report their bytes. Gates are here too, which the threads of
+//! decks pass; nothing is known of one but that it returns.
 #![tactic(auto)]
 
 mod file_source;
 mod gate;
+mod holding;
 mod laws;
 mod memory_sink;
 mod memory_source;
@@ -21,6 +23,7 @@ mod whole;
 
 pub use file_source::FileSource;
 pub use gate::{Gate, OpenGate, Spot};
+pub use holding::{BothHeld, Passes};
 pub use laws::{reads_end, reads_join, takes_join};
 pub use memory_sink::MemorySink;
 pub use memory_source::MemorySource;

@@ -1,12 +1,11 @@
 //! A log that is full.
 
-use crate::answers::{Answer, Stop};
-use crate::jobs::{add_lines, add_put, run_text};
-use crate::replies::{entries_of, say_asked};
-use crate::shelf::first_volume;
+use crate::jobs::{add_put, run_text};
+use crate::replies::say_asked;
 use std::alloc::Global;
 use std::sync::Wait;
 use std::thread::Threads;
+use vr_case_volumes::{Answer, Stop, add_lines, entries_of, first_volume};
 use vr_device::MemoryDevice;
 use vr_outside::OpenGate;
 use vr_types::Geometry;

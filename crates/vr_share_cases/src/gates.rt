@@ -1,70 +1,22 @@
-//! Gates that hold a deck until another has passed a spot, for a limited number of turns. So a run
-//! ends at every schedule, and also where no thread could be made.
+//! Gates that hold a deck until another has passed a spot, or it has looked often enough.
 
-use std::sync::atomic::{AtomicU32, Ordering};
-use std::thread;
-use vr_outside::{Gate, Spot};
-
-/// How often a held deck looks whether it may go on.
-const LIMIT: u32 = 20_000_000;
-
-/// How often a spot was passed.
-#[derive(Drop)]
-struct Count {
-    passed: AtomicU32,
-}
-
-impl Count {
-    fn new() -> Count {
-        Count {
-            passed: AtomicU32::new(0),
-        }
-    }
-
-    /// Counts one more.
-    fn raise(&self) {
-        self.passed.fetch_add(1, Ordering::SeqCst);
-    }
-
-    /// Counts one less.
-    fn lower(&self) {
-        self.passed.fetch_sub(1, Ordering::SeqCst);
-    }
-
-    fn shown(&self) -> u32 {
-        self.passed.load(Ordering::SeqCst)
-    }
-
-    fn is_at(&self, wanted: u32) -> bool {
-        self.shown() >= wanted
-    }
-
-    /// Waits until so many are counted, or the limit is reached.
-    fn wait(&self, wanted: u32) {
-        for _ in 0..LIMIT {
-            if self.is_at(wanted) {
-                return;
-            }
-            thread::yield_now();
-        }
-    }
-}
+use vr_outside::{Gate, Passes, Spot};
 
 /// Holds deck 1, with the latch of volume 1, until deck 2 got to that of volume 2 twice; and deck
 /// 2, with the latch of volume 2, until deck 1 got to that of volume 1 once, and the second time
 /// until it did twice.
 #[derive(Drop)]
 pub struct InTurns {
-    first: Count,
-    second: Count,
+    first: Passes,
+    second: Passes,
 }
 
 impl InTurns {
     /// A gate that no deck has passed yet.
     pub fn new() -> InTurns {
         InTurns {
-            first: Count::new(),
-            second: Count::new(),
+            first: Passes::new(),
+            second: Passes::new(),
         }
     }
 }
@@ -78,7 +30,7 @@ impl Gate for InTurns {
             }
             Spot::Holding { deck: 2, volume: 2 } => {
                 self.second.raise();
-                self.first.wait(self.second.shown().min(2));
+                self.first.wait(self.second.count().min(2));
             }
             _ => {}
         }
@@ -90,8 +42,8 @@ impl Gate for InTurns {
 #[derive(Drop)]
 pub struct BetweenEvents {
     events: u32,
-    done: Count,
-    asked: Count,
+    done: Passes,
+    asked: Passes,
 }
 
 impl BetweenEvents {
@@ -99,8 +51,8 @@ impl BetweenEvents {
     pub fn after(events: u32) -> BetweenEvents {
         BetweenEvents {
             events,
-            done: Count::new(),
-            asked: Count::new(),
+            done: Passes::new(),
+            asked: Passes::new(),
         }
     }
 }
@@ -123,55 +75,12 @@ impl Gate for BetweenEvents {
     }
 }
 
-/// Holds deck 1, with the latch of volume 0, and deck 2, with that of volume 1, until both are
-/// there.
-#[derive(Drop)]
-pub struct BothHeld {
-    first: Count,
-    second: Count,
-    met: Count,
-}
-
-impl BothHeld {
-    /// A gate that no deck has passed yet.
-    pub fn new() -> BothHeld {
-        BothHeld {
-            first: Count::new(),
-            second: Count::new(),
-            met: Count::new(),
-        }
-    }
-
-    /// Whether each deck had its latch while the other had the other.
-    pub fn is_met(&self) -> bool {
-        self.met.is_at(2)
-    }
-
-    fn meet(&self, own: &Count, other: &Count) {
-        own.raise();
-        other.wait(1);
-        if other.is_at(1) {
-            self.met.raise();
-        }
-    }
-}
-
-impl Gate for BothHeld {
-    fn pass(&self, at: Spot) {
-        match at {
-            Spot::Holding { deck: 1, volume: 0 } => self.meet(&self.first, &self.second),
-            Spot::Holding { deck: 2, volume: 1 } => self.meet(&self.second, &self.first),
-            _ => {}
-        }
-    }
-}
-
 /// Holds the other decks, with a latch, until the first request of one was answered.
 #[derive(Drop)]
 pub struct OneFirst {
     first: u32,
-    begun: Count,
-    early: Count,
+    begun: Passes,
+    early: Passes,
 }
 
 impl OneFirst {
@@ -179,14 +88,14 @@ impl OneFirst {
     pub fn of(first: u32) -> OneFirst {
         OneFirst {
             first,
-            begun: Count::new(),
-            early: Count::new(),
+            begun: Passes::new(),
+            early: Passes::new(),
         }
     }
 
     /// Whether no other deck was let go before.
     pub fn is_kept(&self) -> bool {
-        self.early.shown() == 0
+        self.early.count() == 0
     }
 
     /// Holds another deck.

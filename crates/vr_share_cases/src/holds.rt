@@ -1,14 +1,15 @@
 //! Decks that gates hold.
 
-use crate::answers::{Answer, Stop, say};
-use crate::gates::{BetweenEvents, BothHeld, InTurns};
-use crate::jobs::{add_lines, add_put, run_lines, run_text};
-use crate::replies::{entries_of, say_asked, say_entries};
-use crate::shelf::{MAXIMUM, SMALL, three_volumes, volume_of};
+use crate::gates::{BetweenEvents, InTurns};
+use crate::jobs::{add_put, run_lines, run_text};
+use crate::replies::{say_asked, say_entries};
 use std::alloc::Global;
 use std::sync::Wait;
 use std::thread::Threads;
+use vr_case_volumes::{Answer, MAXIMUM, SMALL, Stop, add_lines, entries_of, say, three_volumes};
+use vr_case_volumes::volume_of;
 use vr_device::MemoryDevice;
+use vr_outside::BothHeld;
 
 /// Deck 1 adds a record and backs it out; deck 2 asks for it after each of both.
 const HELD_RECORD: [&str; 16] = [

@@ -2,12 +2,12 @@
 ghost use Rattle.std.specs.Prelude.{◌≡◌};
 ghost use Rattle.vr_job_text.specs.Numbers.{AreNumbered};
 
-use crate::answers::{Answer, Stop};
 use std::alloc::Global;
 use std::fmt::Write;
 use std::marker::Model;
 use std::sync::Wait;
 use std::thread::Threads;
+use vr_case_volumes::{Answer, Stop, add_lines};
 use vr_device::MemoryDevice;
 use vr_job::{End, ShelfEnd, run_volumes};
 use vr_job_text::{JobFault, JobText, Step, parse_job};
@@ -53,15 +53,6 @@ impl Job {
     {
         self.text.steps.as_slice()
     }
-}
-
-/// Adds lines to a text.
-pub fn add_lines(text: &mut String, lines: &[&str]) -> Answer {
-    for line in lines {
-        text.push_str(line)?;
-        text.push('\n')?;
-    }
-    Ok(())
 }
 
 /// Adds the line of a PUT with these operands before its record, which has the key of a number and

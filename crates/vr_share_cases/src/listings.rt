@@ -1,13 +1,12 @@
 //! Two decks on two volumes, whose listing is the same at every schedule.
 
-use crate::answers::{Answer, Stop};
 use crate::gates::OneFirst;
-use crate::jobs::add_lines;
-use crate::shelf::{MAXIMUM, SMALL, first_volume, volume_of};
 use std::alloc::Global;
 use std::fmt::Write;
 use std::sync::Wait;
 use std::thread::Threads;
+use vr_case_volumes::{Answer, MAXIMUM, SMALL, Stop, add_lines, first_volume, run_words, source};
+use vr_case_volumes::volume_of;
 use vr_device::MemoryDevice;
 use vr_job::run_job;
 use vr_outside::{Gate, MemorySink, MemorySource, OpenGate};
@@ -35,21 +34,11 @@ fn two_volumes(alloc: Global) -> Result<Vec<MemoryDevice>, Stop> {
     Ok(vec![in alloc; first, one]?)
 }
 
-/// The words by which a job is run on the volumes of a folder.
-fn run_words(alloc: Global) -> Result<Words, Stop> {
-    let mut words = Words::new(alloc);
-    words.push("run")?;
-    words.push("JOB")?;
-    words.push("DIR")?;
-    Ok(words)
-}
-
 /// The text of the job, as a source.
-fn source(alloc: Global) -> Result<Box<MemorySource>, Stop> {
+fn two_puts(alloc: Global) -> Result<Box<MemorySource>, Stop> {
     let mut text = String::new(alloc);
     add_lines(&mut text, &TWO_PUTS)?;
-    let bytes = text.as_bytes().to_vec(alloc)?;
-    Ok(Box::new(alloc, MemorySource::new(bytes, Vec::new(alloc)))?)
+    source(alloc, text.as_str())
 }
 
 /// Runs the job by the top call: its status, and what it printed.
@@ -73,7 +62,7 @@ fn listing<R: Threads + Wait + Sync, G: Gate + Sync>(
     gate: &G,
 ) -> Result<Vec<u8>, Stop> {
     let words = run_words(alloc)?;
-    let mut input = source(alloc)?;
+    let mut input = two_puts(alloc)?;
     let mut output = Box::new(alloc, MemorySink::new(alloc, Vec::new(alloc)))?;
     match print_over(rt, alloc, &words, &mut *input, &mut *output, gate)? {
         0 => Ok(output.taken().to_vec(alloc)?),

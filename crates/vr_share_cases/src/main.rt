@@ -5,21 +5,18 @@
 //! promises is that it is safe; what the lines show is tested.
 #![tactic(auto)]
 
-mod answers;
 mod full_log;
 mod gates;
 mod holds;
 mod jobs;
 mod listings;
 mod replies;
-mod shelf;
-mod verbs;
 
-use crate::answers::{Answer, Stop};
 use std::alloc::{AllocError, Global};
 use std::io;
 use std::sync::Wait;
 use std::thread::Threads;
+use vr_case_volumes::{Answer, Stop};
 
 /// A case, which writes the rest of its line.
 #[derive(Clone, Copy)]

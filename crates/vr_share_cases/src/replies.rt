@@ -1,19 +1,9 @@
 //! Entries of a history, in the words of the listing.
 
-use crate::answers::{Answer, say, say_next};
-use crate::verbs::Verb;
 use std::fmt::Write;
+use vr_case_volumes::{Answer, Verb, say, say_next};
 use vr_history::{Entry, What};
-use vr_trace::Histories;
 use vr_types::{Bytes, Refusal, Reply};
-
-/// The entries of a volume, from 0, in order: none where it isn't there.
-pub fn entries_of(histories: &Histories, volume: usize) -> &[Entry] {
-    match histories.as_slice().get(volume) {
-        Some(history) => history.entries(),
-        None => &[],
-    }
-}
 
 /// Writes the requests of a deck from a line of the job's text on, with their replies.
 pub fn say_asked(out: &mut String, entries: &[Entry], deck: u32, line: u32) -> Answer {

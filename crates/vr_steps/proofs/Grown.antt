@@ -13,7 +13,7 @@ use Rattle.vr_history.specs.Merged.{merged, part_of_deck}
 use Rattle.vr_history.specs.declared.entry.Entry.{Entry}
 use Rattle.vr_job_text.specs.declared.text.Deck.{Deck}
 use Rattle.vr_trace.proofs.CallerLemmas.{deck_asked, deck_part}
-use Rattle.vr_trace.proofs.Volumes.{requests_of_deck}
+use Rattle.vr_trace.proofs.CallerLemmas.{requests_of_deck}
 use Rattle.vr_trace.specs.Laws.{deck_entries, history_at}
 use Rattle.vr_worker.specs.Decks.{AreSince, HasAsked, numbers_of}
 use Rattle.vr_worker.specs.Latched.{IsSince}

@@ -12,7 +12,7 @@ use Rattle.vr_job_text.specs.declared.text.Deck.{Deck}
 use Rattle.vr_trace.specs.Laws.{deck_entries}
 use Rattle.vr_worker.specs.Decks.{AreNew, numbers_of}
 use Rattle.vr_worker.specs.declared.deck.DeckRun.{DeckRun}
-use Rattle.vr_worker.proofs.Places.{all-unmapped}
+use Rattle.vr_worker.proofs.CallerLemmas.{all-unmapped}
 use Rattle.vr_steps.specs.Runs.{AreFresh, AreRuns, DeckAsks, asks_in, asks_of, count_of}
 use Rattle.vr_steps.specs.Runs.{deck_numbers}
 

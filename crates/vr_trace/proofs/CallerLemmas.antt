@@ -10,3 +10,5 @@ pub use Rattle.vr_trace.proofs.Merges.{deck_asked}
 pub use Rattle.vr_trace.proofs.Merges.{deck_grows, requests_grow, deck_stays}
 -- the code of a step is what one of the entries of its decks makes
 pub use Rattle.vr_trace.proofs.Worst.{worst}
+-- a deck's requests are among its entries; the entries of a list of histories, one by one
+pub use Rattle.vr_trace.proofs.Volumes.{entries_again, on_one, requests_of_deck}

@@ -10,7 +10,7 @@ use Rattle.vr_history.specs.declared.entry.Entry.{Entry}
 use Rattle.vr_ledger.specs.Ledger.{LedgerNow}
 use Rattle.vr_ledger.specs.Turn.{TurnNow}
 use Rattle.vr_trace.proofs.CallerLemmas.{deck_asked}
-use Rattle.vr_trace.proofs.Volumes.{requests_of_deck}
+use Rattle.vr_trace.proofs.CallerLemmas.{requests_of_deck}
 use Rattle.vr_trace.specs.Laws.{deck_entries, entries_on, entry_of, history_at}
 use Rattle.vr_worker.specs.Asked.{undoes}
 use Rattle.vr_worker.specs.Deck.{IsRunSeat}

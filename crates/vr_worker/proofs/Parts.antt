@@ -8,7 +8,7 @@ use Rattle.vr_history.specs.declared.entry.Entry.{Entry}
 use Rattle.vr_history.specs.Merged.{Numbered, asked_by, part_of_deck}
 use Rattle.vr_trace.specs.Laws.{entries_on, entry_of, is_on}
 use Rattle.vr_trace.specs.Numbering.{with_volume}
-use Rattle.vr_trace.proofs.Volumes.{entries_again, on_one}
+use Rattle.vr_trace.proofs.CallerLemmas.{entries_again, on_one}
 
 -- a deck's part of both
 pub part-both : (deck : ℕ) (one more : List Numbered)

@@ -10,7 +10,7 @@ use Rattle.vr_history.specs.Merged.{IsStamped, last_stamp, part_of_deck}
 use Rattle.vr_ledger.specs.Turn.{TurnNow}
 use Rattle.vr_trace.specs.Laws.{entry_of}
 use Rattle.vr_trace.specs.Numbering.{with_volume}
-use Rattle.vr_trace.proofs.Volumes.{entries_again}
+use Rattle.vr_trace.proofs.CallerLemmas.{entries_again}
 use Rattle.vr_worker.specs.Asked.{if_done, is_ok}
 use Rattle.vr_worker.specs.Deck.{AreCalm, HasRun}
 use Rattle.vr_worker.specs.Latched.{HasTaken}

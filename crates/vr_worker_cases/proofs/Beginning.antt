@@ -7,7 +7,7 @@ use Rattle.std.proofs.lemmas.List.Elements.{All-cons, All-nil, All-weaker}
 use Rattle.vr_trace.specs.Laws.{deck_entries}
 use Rattle.vr_worker.specs.Decks.{AreNew, numbers_of}
 use Rattle.vr_worker.specs.declared.deck.DeckRun.{DeckRun}
-use Rattle.vr_worker.proofs.Places.{all-unmapped}
+use Rattle.vr_worker.proofs.CallerLemmas.{all-unmapped}
 use Rattle.vr_worker_cases.specs.Start.{AreFirst, first_numbers}
 use Rattle.vr_worker_cases.specs.declared.volume.PlainVolume.{PlainVolume}
 

@@ -1,13 +1,13 @@
 //! Decks that gates hold, and decks with nothing to ask or nobody to ask it of.
 
-use crate::gates::{BetweenEvents, BothHeld};
+use crate::gates::BetweenEvents;
 use crate::steps::{bound, run_none, run_three};
 use crate::volume::PlainVolume;
 use std::alloc::Global;
 use std::sync::Wait;
 use std::thread::Threads;
 use vr_history::{Entry, History, What};
-use vr_outside::OpenGate;
+use vr_outside::{BothHeld, OpenGate};
 use vr_types::OutOfMemory;
 use vr_worker::{RunEnd, RunNo};
 

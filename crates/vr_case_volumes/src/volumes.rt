@@ -111,7 +111,10 @@ pub fn cluster(alloc: Global, name: &str, maximum: u32) -> Result<CatEntry, Stop
     })
 }
 
-/// The most bytes of a record of the clusters of other volumes than 0.
+/// The most bytes of a record of VRM.FIRST, the cluster of a new volume 0.
+pub const FIRST_MAXIMUM: u32 = 80;
+
+/// The most bytes of a record of the clusters of other volumes.
 pub const MAXIMUM: u32 = 120;
 
 /// New volumes 0, 1 and 2 of a shape, with VRM.FIRST, VRM.ONE and VRM.TWO.

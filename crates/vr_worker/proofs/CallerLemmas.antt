@@ -1,0 +1,6 @@
+-- What those cite who run decks over volumes of their own.
+
+-- what is so of each of f's values is so of each element's
+pub use Rattle.vr_worker.proofs.Places.{all-unmapped}
+-- stamps above one are above a lesser one
+pub use Rattle.vr_worker.proofs.Taken.{stamped-above}
