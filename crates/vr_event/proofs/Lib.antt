@@ -46,6 +46,5 @@ pub mod Makes
 pub mod ActedLater
 pub mod Opened
 pub mod Acted
-pub mod Calm
 pub mod CallerLemmas
 pub mod Idle

@@ -1,3 +1,4 @@
+pub mod CallerLemmas
 pub mod Taken
 pub mod Parts
 pub mod Runs
