@@ -41,6 +41,7 @@ use Rattle.vr_job.specs.Serving.{IsServing, StaysServing}
 use Rattle.vr_job.proofs.Crashing.{held-left, left-more}
 use Rattle.vr_job.proofs.Entering.{step-none}
 use Rattle.vr_job.proofs.Faultless.{NoFault, acted-faultless}
+use Rattle.vr_job.proofs.ReadFaults.{acted-reads}
 use Rattle.vr_job.proofs.Undoing.{shows-same}
 
 -- stamps rise on
@@ -103,7 +104,8 @@ module _ {B : Type 0} (seen : B → Seen) (faults : B → Faults) (old new : Vol
         (stamped-more 0 old.file.entries made-in.made before
         (stamped-above (last_stamp 0 old.file.entries) (max (last_stamp 0 old.file.entries) after)
         made-in.made (omega arith) made-in.stamped));
-    reads = acted.reads;
+    reads = acted-reads old.file new.file made-in.made made-in.entries (faults old.blocks)
+        (faults new.blocks) act after unit line request acted;
     writes = acted.writes;
     stops = λ same. (no-fault same).stopped;
     faultless = λ same. (no-fault same).faultless;

@@ -367,6 +367,7 @@ module _ {D : Type 0} (tells : Bool) (seen : D → Seen) (faults : D → Faults)
     cause = λ fault. absurd (open-line-other unopened number line shown
         (λ equal. omega (arith, equal, past)) fault);
     faulted = λ same k entry near. absurd (omega (arith, near));
+    refused_reads = omega arith;
     closed = λ told same ran. absurd cc;
     run = λ told. inr (inr (record {
       none = refl;
@@ -399,6 +400,7 @@ module _ {D : Type 0} (tells : Bool) (seen : D → Seen) (faults : D → Faults)
     cause = λ fault. ⊎_elim (λ same. is.cause (line-is line (DeviceFault number) same))
         (λ same. absurd cc) fault;
     faulted = λ same k entry near. absurd (omega (arith, near));
+    refused_reads = omega (arith, is.never_fall.reads);
     closed = λ told same ran. absurd cc;
     run = λ told. inr (inl (record {
       none = refl;

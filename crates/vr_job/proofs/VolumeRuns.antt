@@ -1,6 +1,7 @@
 -- What the run of a job comes to on one of its volumes, from its opening to the end.
 use Rattle.std.proofs.Common.{◌≡◌, ◌<◌, ◌∙◌, ◌⊎◌, inl, inr, ⊎_elim, ℕ, Bool, true, false, List, []}
-use Rattle.std.proofs.Common.{Result, Ok, Err, None, Option, arith, refl, sym, subst}
+use Rattle.std.proofs.Common.{Result, Ok, Err, None, Option, arith, refl, sym, ap, subst}
+use Rattle.std.proofs.Common.{◌≤◌, ◌+◌, ◌++◌}
 use Rattle.std.specs.Prelude.{IsErr, IsSome, IsTrue, OnOk}
 use Rattle.std.proofs.lemmas.Bool.{true≢false}
 use Rattle.std.proofs.lemmas.List.{append-nil}
@@ -29,6 +30,7 @@ use Rattle.vr_job.specs.Crash.{IsLeftBy}
 use Rattle.vr_job.specs.Faultless.{AreFaultless}
 use Rattle.vr_job.proofs.Faultless.{faultless-none}
 use Rattle.vr_job.specs.Going.{GoesOn, HasRun, WentOn}
+use Rattle.vr_job.specs.ReadFaults.{read_faults}
 use Rattle.vr_job.specs.OpenEnds.{NeverFall}
 use Rattle.vr_job.specs.Opened.{IsOpenHeld}
 use Rattle.vr_job.specs.VolumeRun.{HasEnded, HasFaultCause, IsOpen, IsRun, IsVolumeRun}
@@ -134,6 +136,20 @@ module _ {D : Type 0} (tells : Bool) (seen : D → Seen) (faults : D → Faults)
   ended-faultless : (faults device).writes ≡ (faults first).writes → AreFaultless entries
   ended-faultless same = subst AreFaultless (sym ended.entries_are)
       (on.faultless (none-failed same) (faultless-none volume.file.entries opens_so.begins))
+
+  -- each reply 904 of the run is one that the count of reads rose for
+  ended-reads : (faults first).reads + read_faults entries ≤ (faults device).reads
+  ended-reads = omega (
+    arith,
+    opens_so.never_fall.reads,
+    on.reads,
+    ended.closed.counts.reads,
+    ap read_faults made-alone,
+  )
+    where
+      made-alone : entries ≡ on.made
+      made-alone = ended.entries_are ∙ on.entries
+          ∙ ap (λ (them : List Entry). them ++ on.made) opens_so.begins
 
   ended-going : (faults device).writes ≡ (faults first).writes → end.file.stopped ≡ None
   ended-going same = on.stops (none-failed same) ∙ opens_so.going
@@ -242,6 +258,7 @@ module _ {D : Type 0} (tells : Bool) (seen : D → Seen) (faults : D → Faults)
     never_fall = ended-faults;
     cause = cause;
     faulted = ended-faultless;
+    refused_reads = ended-reads;
     closed = λ told same ran. ended-forced (synced ran) told same;
     run = λ told. inl (ended-run told);
   }

@@ -1,5 +1,5 @@
 -- What goes on of a volume from event to event. The rules are this project's own.
-use Rattle.std.specs.Prelude.{◌≡◌, ◌⊎◌, ◌≤◌, ℕ, Bool, true, IsTrue, List, ◌++◌}
+use Rattle.std.specs.Prelude.{◌≡◌, ◌⊎◌, ◌≤◌, ◌+◌, ℕ, Bool, true, IsTrue, List, ◌++◌}
 use Rattle.std.proofs.Common.{◌∙◌, inl, inr, ⊎_elim, append_assoc, ap, arith, refl, subst, sym}
 use Rattle.vr_types.specs.Faults.{Faults}
 use Rattle.vr_types.specs.Moments.{Guards}
@@ -12,11 +12,12 @@ use Rattle.vr_event.specs.Volume.{IsHeld, IsWhole, VolumeNow}
 use Rattle.vr_job.specs.Crash.{IsLeftBy}
 use Rattle.vr_job.specs.Events.{IsOfEvents}
 use Rattle.vr_job.specs.Faultless.{AreFaultless}
+use Rattle.vr_job.specs.ReadFaults.{read-faults-append, read_faults}
 
 -- What goes on from event to event whether or not the device reports its contents: the volume is
 -- whole, its shape and catalog stay, each deck stays entered, entries are added alone, at stamps
--- that rise, and no count of faults falls. Where no write failed, the volume isn't stopped, and no
--- fault is entered.
+-- that rise, and no count of faults falls. Each reply 904 is one that the count of reads rose for.
+-- Where no write failed, the volume isn't stopped, and no fault is entered.
 pub record GoesOn {B : Type 0} (seen : B → Seen) (faults : B → Faults) (old new : VolumeNow B)
     : Type 0 where
   pub whole : IsWhole seen new
@@ -28,7 +29,7 @@ pub record GoesOn {B : Type 0} (seen : B → Seen) (faults : B → Faults) (old 
   pub made : List Entry
   pub entries : new.file.entries ≡ old.file.entries ++ made
   pub stamped : IsStamped 0 old.file.entries → IsStamped 0 new.file.entries
-  pub reads : (faults old.blocks).reads ≤ (faults new.blocks).reads
+  pub reads : (faults old.blocks).reads + read_faults made ≤ (faults new.blocks).reads
   pub writes : (faults old.blocks).writes ≤ (faults new.blocks).writes
   pub stops : (faults new.blocks).writes ≡ (faults old.blocks).writes
       → new.file.stopped ≡ old.file.stopped
@@ -75,7 +76,12 @@ goes-then {B} seen faults a b c first second = record {
       ∙ ap (λ (entries : List Entry). entries ++ second.made) first.entries
       ∙ append_assoc a.file.entries first.made second.made;
   stamped = λ before. second.stamped (first.stamped before);
-  reads = omega (arith, first.reads, second.reads);
+  reads = omega (
+    arith,
+    first.reads,
+    second.reads,
+    read-faults-append first.made second.made,
+  );
   writes = omega (arith, first.writes, second.writes);
   stops = λ same. second.stops (second-same same) ∙ first.stops (first-same same);
   faultless = λ same before. second.faultless (second-same same)

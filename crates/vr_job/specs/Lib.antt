@@ -1,6 +1,7 @@
 pub mod Crash
 pub mod Events
 pub mod Faultless
+pub mod ReadFaults
 pub mod Going
 pub mod Serving
 pub mod Opened

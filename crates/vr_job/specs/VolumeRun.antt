@@ -1,7 +1,7 @@
 -- What the run of a job comes to on one of its volumes, from its opening to the end. The rules are this
 -- project's own.
 use Rattle.std.specs.Prelude.{◌≡◌, ◌<◌, ◌⊎◌, ℕ, Bool, List, [], None, OnOk, Result, IsErr, IsSome}
-use Rattle.std.specs.Prelude.{IsTrue, false}
+use Rattle.std.specs.Prelude.{◌≤◌, ◌+◌, IsTrue, false}
 use Rattle.vr_types.specs.Blocks.{AllForced, Keeps}
 use Rattle.vr_types.specs.Content.{Content}
 use Rattle.vr_types.specs.Faults.{Faults}
@@ -30,6 +30,7 @@ use Rattle.vr_job.specs.Crash.{IsLeftBy}
 use Rattle.vr_job.specs.Events.{IsOfEvents}
 use Rattle.vr_job.specs.Faultless.{AreFaultless}
 use Rattle.vr_job.specs.Going.{Follows}
+use Rattle.vr_job.specs.ReadFaults.{read_faults}
 use Rattle.vr_job.specs.OpenEnds.{HasEndCause, IsOpenEnd, IsOpenLine, NeverFall}
 use Rattle.vr_job.specs.Opened.{IsOpenHeld}
 
@@ -96,8 +97,9 @@ pub record IsUntouched {D : Type 0} (number : ℕ) (end : End) (entries : List E
   pub lesser : earlier < number
   pub shown : IsOpenLine earlier line
 
--- What the run of a job comes to on the device of the volume of this number, whether or not it reports
--- its contents; and where it does.
+-- What the run of a job comes to on the device of the volume of this number, whether or not it
+-- reports its contents; and where it does. Each reply 904 is one for which the device's count of
+-- failed reads rose: the history has at most as many as it rose by.
 pub record IsVolumeRun {D : Type 0} (tells : Bool) (seen : D → Seen) (faults : D → Faults)
     (number : ℕ) (steps : List Step) (catalog : List CatEntry) (end : End)
     (entries : List Entry) (old new : D) : Type 0 where
@@ -106,6 +108,7 @@ pub record IsVolumeRun {D : Type 0} (tells : Bool) (seen : D → Seen) (faults :
   pub never_fall : NeverFall (faults old) (faults new)
   pub cause : HasFaultCause number (faults old) (faults new) end
   pub faulted : (faults new).writes ≡ (faults old).writes → AreFaultless entries
+  pub refused_reads : (faults old).reads + read_faults entries ≤ (faults new).reads
   pub closed : IsTrue tells → (faults new).writes ≡ (faults old).writes → end ≡ Ran
       → AllForced (seen new).count (seen new).cur (seen new).may
   pub run : IsTrue tells → IsRun tells seen faults number catalog entries old new
