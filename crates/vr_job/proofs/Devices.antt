@@ -9,9 +9,8 @@ use Rattle.std.proofs.lemmas.Option.{slice_get-get_or, slice_get_cases}
 use Rattle.std.proofs.lemmas.List.{length-append}
 use Rattle.std.proofs.lemmas.Option.{slice_get_past, slice_get_read}
 use Rattle.vr_types.specs.Geometry.{IsAllowed}
-use Rattle.vr_types.specs.Image.{Image}
-use Rattle.vr_types.specs.Seen.{Left, Seen}
-use Rattle.vr_recover.specs.Formatted.{IsFormatted, first_entries, geometry_of}
+use Rattle.vr_types.specs.Seen.{Seen}
+use Rattle.vr_recover.specs.Formatted.{geometry_of}
 use Rattle.vr_job.specs.Formats.{AreFormattedTo, IsFresh}
 
 -- an element that was set, and another one
@@ -56,43 +55,27 @@ module _ {D : Type 0} (tells : Bool) (seen : D → Seen) (log area : ℕ) where
   -- one more is formatted
   pub one-more-formatted : (number : ℕ) (old new : List D) (device : D)
       → AreFormattedTo tells seen log area number old new → number < length new
-      → IsFresh tells seen log area number device
+      → (first : D) → first ≡ get_or new number first
+      → IsFresh tells seen log area number first device
       → AreFormattedTo tells seen log area (number + 1) old (set new number device)
-  one-more-formatted number old new device so below fresh = record {
+  one-more-formatted number old new device so below first is fresh = record {
     count = length-set new number device ∙ so.count;
     before = λ at other less there.
         ⊎_elim (λ (same : at ≡ number).
-        subst (λ (at : ℕ). IsFresh tells seen log area at other) (sym same)
-        (subst (λ (one : D). IsFresh tells seen log area number one)
-        (same-some device other (sym (get-set-same new number device below)
-        ∙ subst (λ n. slice_get (set new number device) n ≡ Some other) same there)) fresh))
+        subst (λ (at : ℕ). (was : D) × (slice_get old at ≡ Some was)
+        × IsFresh tells seen log area at was other) (sym same) (
+          first,
+          still-there number old new first so below is,
+          subst (λ (one : D). IsFresh tells seen log area number first one)
+              (same-some device other (sym (get-set-same new number device below)
+              ∙ subst (λ n. slice_get (set new number device) n ≡ Some other) same there)) fresh,
+        ))
         (λ (lower : at < number). so.before at other lower
         (sym (get-set-other new number at device (λ same. omega (arith, same, lower))) ∙ there))
         (eq-or-lt_of_le (omega (arith, less)));
     after = λ at past. get-set-other new number at device (λ same. omega (arith, same, past))
         ∙ so.after at (omega (arith, past));
   }
-
-  -- what is fresh by the shape as it was is so by the shape as it is
-  pub fresh-still : (number : ℕ) (old new : D) → (seen new).count ≡ (seen old).count
-      → (seen new).size ≡ (seen old).size
-      → ((image : Image) → Left (seen new) image
-      → IsFormatted (geometry_of (seen old) log area) number (first_entries number) image)
-      → (image : Image) → Left (seen new) image
-      → IsFormatted (geometry_of (seen new) log area) number (first_entries number) image
-  fresh-still number old new count size fresh image left =
-      subst (λ (blocks : ℕ). IsFormatted (record {
-        size = (seen new).size;
-        blocks = blocks;
-        log = log;
-        area = area;
-      }) number (first_entries number) image) (sym count)
-      (subst (λ (bytes : ℕ). IsFormatted (record {
-        size = bytes;
-        blocks = (seen old).count;
-        log = log;
-        area = area;
-      }) number (first_entries number) image) (sym size) (fresh image left))
 
   -- devices that are allowed up to one, which is
   pub one-more-allowed : (number : ℕ) (devices : List D) (device : D) → number < length devices

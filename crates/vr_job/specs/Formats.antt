@@ -5,8 +5,9 @@ use Rattle.std.specs.Prelude.{slice_set}
 use Rattle.vr_types.specs.Faults.{Faults}
 use Rattle.vr_types.specs.Geometry.{IsAllowed}
 use Rattle.vr_types.specs.Image.{Image}
+use Rattle.vr_types.specs.Regions.{Touches}
 use Rattle.vr_types.specs.Seen.{Left, Seen}
-use Rattle.vr_recover.specs.Formatted.{IsFormatted, first_entries, geometry_of}
+use Rattle.vr_recover.specs.Formatted.{Anything, IsFormatted, IsWritten, first_entries, geometry_of}
 use Rattle.vr_recover.specs.declared.no.FormatNo.{FormatNo}
 use Rattle.vr_recover.specs.declared.no.FormatNo.TheVariants as nos
 use Rattle.vr_trace.specs.declared.ending.EndLine.{EndLine}
@@ -26,17 +27,25 @@ pub record IsForbidden {D : Type 0} (seen : D → Seen) (log area number : ℕ) 
   pub first : (at : ℕ) (other : D) → at < number → slice_get devices at ≡ Some other
       → IsAllowed (geometry_of (seen other) log area)
 
--- Each image that a crash may leave of the device is a volume of this number that was formatted.
-abbrev pub IsFresh : {D : Type 0} → Bool → (D → Seen) → ℕ → ℕ → ℕ → D → Type 0
-IsFresh tells seen log area number device = IsTrue tells → (image : Image) → Left (seen device) image
-    → IsFormatted (geometry_of (seen device) log area) number (first_entries number) image
+-- A device was formatted as the volume of this number: it has as many blocks as before, of the same
+-- size; none but those that a new volume states were written; and each image that a crash may leave of
+-- it is a volume of this number that was formatted.
+pub record IsFresh {D : Type 0} (tells : Bool) (seen : D → Seen) (log area number : ℕ) (old new : D)
+    : Type 0 where
+  pub count : (seen new).count ≡ (seen old).count
+  pub size : (seen new).size ≡ (seen old).size
+  pub written : IsTrue tells
+      → Touches (IsWritten (geometry_of (seen old) log area) (length (first_entries number)))
+      Anything (seen old) (seen new)
+  pub formatted : IsTrue tells → (image : Image) → Left (seen new) image
+      → IsFormatted (geometry_of (seen old) log area) number (first_entries number) image
 
 -- The devices before this one are formatted; it and those after it are as they were.
 pub record AreFormattedTo {D : Type 0} (tells : Bool) (seen : D → Seen) (log area number : ℕ)
     (old new : List D) : Type 0 where
   pub count : length new ≡ length old
   pub before : (at : ℕ) (device : D) → at < number → slice_get new at ≡ Some device
-      → IsFresh tells seen log area at device
+      → (first : D) × (slice_get old at ≡ Some first) × IsFresh tells seen log area at first device
   pub after : (at : ℕ) → number ≤ at → slice_get new at ≡ slice_get old at
 
 -- each device is formatted

@@ -71,7 +71,7 @@ fn format_one<D: BlockDevice>(
 ) -> Result<(), EndLine>
     requires few { number ≤ 99 }
     requires allowed { IsAllowed (geometry_of (D.seen device.old) log area) }
-    ensures fresh { OnOk result (IsFresh D.tells D.seen log area number device.new) }
+    ensures fresh { OnOk result (IsFresh D.tells D.seen log area number device.old device.new) }
     ensures no { IfErr result (IsDeviceNo D.faults number device.old device.new) }
 {
     match format_volume(alloc, device, number, log, area) {
