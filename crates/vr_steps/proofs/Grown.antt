@@ -14,7 +14,7 @@ use Rattle.vr_history.specs.declared.entry.Entry.{Entry}
 use Rattle.vr_job_text.specs.declared.text.Deck.{Deck}
 use Rattle.vr_trace.proofs.CallerLemmas.{deck_asked, deck_part}
 use Rattle.vr_trace.proofs.CallerLemmas.{requests_of_deck}
-use Rattle.vr_trace.specs.Laws.{deck_entries, history_at}
+use Rattle.vr_trace.specs.Laws.{AreRising, deck_entries, history_at, of_deck}
 use Rattle.vr_worker.specs.Decks.{AreSince, HasAsked, numbers_of}
 use Rattle.vr_worker.specs.Latched.{IsSince}
 use Rattle.vr_worker.specs.declared.deck.DeckRun.{DeckRun}
@@ -23,7 +23,7 @@ use Rattle.vr_steps.proofs.Numbering.{IsAlone, none-asks, none-entered, none-or-
 use Rattle.vr_steps.proofs.RunLists.{run-at, run-numbers, runs-many}
 use Rattle.vr_steps.specs.Asks.{all_ask, requests_of}
 use Rattle.vr_steps.specs.Runs.{AreFresh, AreRuns, DeckAsks, HasAskedMore, HaveAsked, asks_in}
-use Rattle.vr_steps.specs.Runs.{asks_of, count_of, deck_numbers}
+use Rattle.vr_steps.specs.Runs.{StayRising, asks_of, count_of, deck_numbers}
 
 -- what is owed where a call is done
 ok-map : {E : Type 0} (result : Result (Unit {0}) E) (P Q : Type 0) → (P → Q) → OnOk result P
@@ -52,43 +52,41 @@ same-mapped {V} {X} f (volume ∷ old) (one ∷ new) count same =
     ∙ ap (λ (them : List X). f volume ∷ them) (same-mapped f old new (omega (arith, count))
     (λ place other near. same (suc place) other (omega (arith, near))))
 
--- a deck's part of the merged history is that of its entries on each volume
-part-of : (number : ℕ) (histories : List (List Entry)) → part_of_deck number (merged histories)
-    ≡ part_of_deck number (merged (map (deck_entries number) histories))
-part-of number histories = requests_of_deck number (merged histories)
-    ∙ ap (part_of_deck number) (deck_part number histories)
-
 module _ {V : Type 0} (entries : V → List Entry) where
-  -- so it is the same where those are
-  same-part : (number : ℕ) (old new : List V) → length new ≡ length old
+  -- a deck's entries in the merged history are the same where those on each volume are
+  same-entries : (number : ℕ) (old new : List V) → length new ≡ length old
       → ((place : ℕ) (volume : V) → place < length old
       → deck_entries number (entries (get_or new place volume))
       ≡ deck_entries number (entries (get_or old place volume)))
-      → part_of_deck number (merged (map entries new))
-      ≡ part_of_deck number (merged (map entries old))
-  same-part number old new count same =
+      → of_deck number (merged (map entries new)) ≡ of_deck number (merged (map entries old))
+  same-entries number old new count same =
       let of : V → List Entry = λ volume. deck_entries number (entries volume) in
-      part-of number (map entries new)
-      ∙ ap (λ (them : List (List Entry)). part_of_deck number (merged them))
-      (map-map (deck_entries number) entries new ∙ same-mapped of old new count same
+      deck_part number (map entries new)
+      ∙ ap merged (map-map (deck_entries number) entries new ∙ same-mapped of old new count same
       ∙ sym (map-map (deck_entries number) entries old))
-      ∙ sym (part-of number (map entries old))
+      ∙ sym (deck_part number (map entries old))
 
-  -- a deck that entered nothing asked nothing
-  pub no-part : (number : ℕ) (volumes : List V)
-      → All (λ (volume : V). deck_entries number (entries volume) ≡ []) volumes
-      → part_of_deck number (merged (map entries volumes)) ≡ []
-  no-part number volumes none = requests_of_deck number (merged (map entries volumes))
-      ∙ ap (part_of_deck number) (deck_asked number (map entries volumes) [] tt
-      (λ volume. sym (nothing-at volume)))
-    where
-      nothing-at : (volume : ℕ)
-          → deck_entries number (history_at (map entries volumes) volume) ≡ []
-      nothing-at volume = elim (cases_lt volume (length (map entries volumes))) [
-        | inl near ↦ All-map (λ (history : List Entry). deck_entries number history ≡ []) entries
-            volumes none volume [] near
-        | inr far ↦ ap (deck_entries number) (get_or_past (map entries volumes) volume [] far)
-      ]
+  module _ (number : ℕ) (volumes : List V)
+      (none : All (λ (volume : V). deck_entries number (entries volume) ≡ []) volumes) where
+    nothing-at : (volume : ℕ) → deck_entries number (history_at (map entries volumes) volume) ≡ []
+    nothing-at volume = elim (cases_lt volume (length (map entries volumes))) [
+      | inl near ↦ All-map (λ (history : List Entry). deck_entries number history ≡ []) entries
+          volumes none volume [] near
+      | inr far ↦ ap (deck_entries number) (get_or_past (map entries volumes) volume [] far)
+    ]
+
+    -- a deck that entered nothing on any volume has no entry in the merged history
+    no-entries : of_deck number (merged (map entries volumes)) ≡ []
+    no-entries = deck_asked number (map entries volumes) [] tt (λ volume. sym (nothing-at volume))
+
+    -- so it asked nothing
+    pub no-part : part_of_deck number (merged (map entries volumes)) ≡ []
+    no-part = requests_of_deck number (merged (map entries volumes))
+        ∙ ap (part_of_deck number) no-entries
+
+    -- and the stamps of its entries rise, as there are none
+    pub none-rising : AreRising (of_deck number (merged (map entries volumes)))
+    none-rising = subst AreRising (sym no-entries) tt
 
   module _ (follows : V → V → Type 0) (catalogs : List (List CatEntry)) (decks : List Deck)
       (runs : List DeckRun) (are : AreRuns catalogs decks runs) (volumes : List V)
@@ -100,7 +98,23 @@ module _ {V : Type 0} (entries : V → List Entry) where
     since-decks = subst (λ (numbers : List ℕ). AreSince entries follows numbers volumes result)
         (run-numbers catalogs decks runs are) since
 
-    -- a number that no deck has asked nothing more
+    -- a number that no deck has entered nothing more
+    same-then : (number : ℕ) → count_of decks number ≡ 0
+        → of_deck number (merged (map entries result))
+        ≡ of_deck number (merged (map entries volumes))
+    same-then number none = same-entries number volumes result since.count (λ place volume near.
+        let it : IsSince entries follows (deck_numbers decks)
+        (get_or volumes place volume) (get_or result place volume) =
+        since-decks.each place volume near in
+        ap (deck_entries number) it.grew
+        ∙ filter-append (λ (entry : Entry). entry.unit.deck == number)
+        (entries (get_or volumes place volume)) it.more
+        ∙ ap (λ (them : List Entry).
+        deck_entries number (entries (get_or volumes place volume)) ++ them)
+        (none-entered decks number it.more none it.own)
+        ∙ append-nil (deck_entries number (entries (get_or volumes place volume))))
+
+    -- so it asked nothing more
     stayed : (number : ℕ) → count_of decks number ≡ 0
         → HasAskedMore end (all_ask (requests_of catalogs) decks number)
         (part_of_deck number (merged (map entries volumes)))
@@ -110,23 +124,23 @@ module _ {V : Type 0} (entries : V → List Entry) where
         none-asks catalogs decks number none in
         record {
           first = [];
-          asked = same-part number volumes result since.count (λ place volume near.
-              let it : IsSince entries follows (deck_numbers decks)
-              (get_or volumes place volume) (get_or result place volume) =
-              since-decks.each place volume near in
-              ap (deck_entries number) it.grew
-              ∙ filter-append (λ (entry : Entry). entry.unit.deck == number)
-              (entries (get_or volumes place volume)) it.more
-              ∙ ap (λ (them : List Entry).
-              deck_entries number (entries (get_or volumes place volume)) ++ them)
-              (none-entered decks number it.more none it.own)
-              ∙ append-nil (deck_entries number (entries (get_or volumes place volume))))
+          asked = requests_of_deck number (merged (map entries result))
+              ∙ ap (part_of_deck number) (same-then number none)
+              ∙ sym (requests_of_deck number (merged (map entries volumes)))
               ∙ sym (append-nil (part_of_deck number (merged (map entries volumes))));
           prefix = (all_ask (requests_of catalogs) decks number, refl);
           whole = ok-always end ([] ≡ all_ask (requests_of catalogs) decks number) (sym nothing);
         }
 
-    -- the deck of the number, as it ran
+    -- the deck of the number runs at its place
+    own-number : (number place : ℕ) → IsAlone catalogs decks number place → (run : DeckRun)
+        → (get_or runs place run).number ≡ number
+    own-number number place it run =
+        let deck : Deck = some-of decks place it.near in
+        ap (λ (asks : DeckAsks). asks.number)
+        (run-at catalogs decks runs are place run deck it.near) ∙ it.own deck
+
+    -- as it ran
     ran : (number place : ℕ) → IsAlone catalogs decks number place
         → HasAskedMore end (all_ask (requests_of catalogs) decks number)
         (part_of_deck number (merged (map entries volumes)))
@@ -139,8 +153,7 @@ module _ {V : Type 0} (entries : V → List Entry) where
         let requests : List Bound = (get_or runs place run).requests.items in
         let at : asks_in (get_or runs place run) ≡ asks_of catalogs (get_or decks place deck) =
         run-at catalogs decks runs are place run deck it.near in
-        let own : (get_or runs place run).number ≡ number =
-        ap (λ (asks : DeckAsks). asks.number) at ∙ it.own deck in
+        let own : (get_or runs place run).number ≡ number = own-number number place it run in
         let all : requests ≡ all_ask (requests_of catalogs) decks number =
         ap (λ (asks : DeckAsks). asks.requests) at ∙ sym (it.asks deck) in
         let has : HasAsked end (map entries result) (get_or runs place run) =
@@ -164,4 +177,21 @@ module _ {V : Type 0} (entries : V → List Entry) where
     have-asked number = elim (none-or-alone catalogs decks number (fresh.once number)) [
       | inl none ↦ stayed number none
       | inr (place, it) ↦ ran number place it
+    ]
+
+    -- at stamps that rise
+    ran-rising : (number place : ℕ) → IsAlone catalogs decks number place
+        → AreRising (of_deck number (merged (map entries result)))
+    ran-rising number place it =
+        let within : place < length runs =
+        omega (arith, it.near, runs-many catalogs decks runs are) in
+        let run : DeckRun = some-of runs place within in
+        subst (λ (n : ℕ). AreRising (of_deck n (merged (map entries result))))
+        (own-number number place it run) (asked place run within).rising
+
+    -- so the stamps of each number rise, where they did before
+    pub stay-rising : StayRising (map entries volumes) (map entries result)
+    stay-rising number rose = elim (none-or-alone catalogs decks number (fresh.once number)) [
+      | inl none ↦ subst AreRising (sym (same-then number none)) rose
+      | inr (place, it) ↦ ran-rising number place it
     ]

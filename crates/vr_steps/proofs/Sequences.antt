@@ -13,14 +13,14 @@ use Rattle.vr_history.specs.Merged.{merged, part_of_deck}
 use Rattle.vr_history.specs.declared.entry.Entry.{Entry}
 use Rattle.vr_job_text.specs.Numbers.{AreNumbered}
 use Rattle.vr_job_text.specs.declared.text.Step.{Step}
-use Rattle.vr_trace.specs.Laws.{deck_entries}
+use Rattle.vr_trace.specs.Laws.{AreRising, deck_entries, of_deck}
 use Rattle.vr_worker.specs.Decks.{ArePlaced, AreSince}
 use Rattle.vr_worker.specs.Latched.{IsSince}
 use Rattle.vr_worker.specs.declared.no.RunNo.{RunNo}
 use Rattle.vr_steps.specs.Asks.{step_asks, steps_ask}
-use Rattle.vr_steps.specs.Runs.{AreFresh, HaveAsked, deck_numbers}
+use Rattle.vr_steps.specs.Runs.{AreFresh, HaveAsked, StayRising, deck_numbers}
 use Rattle.vr_steps.specs.Steps.{AreOfSteps, AreSinceSteps, HasAsked, IsOfStep, IsSinceSteps}
-use Rattle.vr_steps.proofs.Grown.{no-part, same-mapped}
+use Rattle.vr_steps.proofs.Grown.{no-part, none-rising, same-mapped}
 use Rattle.vr_steps.proofs.Numbering.{step-fresh}
 
 -- what is owed where a call is done, where it isn't
@@ -145,7 +145,7 @@ module _ {V : Type 0} (entries : V → List Entry) (follows : V → V → Type 0
 
 -- ---- the volumes and the decks
 
--- after some steps, all their decks asked all that they request
+-- after some steps, all their decks asked all that they request, at stamps that rise along each
 pub record HaveDone {V : Type 0} (number : V → ℕ) (entries : V → List Entry)
     (follows : V → V → Type 0) (catalogs : List (List CatEntry)) (steps : List Step)
     (first now : List V) : Type 0 where
@@ -153,6 +153,7 @@ pub record HaveDone {V : Type 0} (number : V → ℕ) (entries : V → List Entr
   pub since : AreSinceSteps entries follows steps first now
   pub asked : (deck : ℕ) → part_of_deck deck (merged (map entries now))
       ≡ steps_ask catalogs steps deck
+  pub rising : (deck : ℕ) → AreRising (of_deck deck (merged (map entries now)))
 
 module _ {V : Type 0} (number : V → ℕ) (entries : V → List Entry) (follows : V → V → Type 0)
     (stays : (volume : V) → follows volume volume)
@@ -166,6 +167,8 @@ module _ {V : Type 0} (number : V → ℕ) (entries : V → List Entry) (follows
     placed = placed;
     since = since-none entries follows stays first begins;
     asked = λ deck. no-part entries deck first
+        (λ place volume near. ap (deck_entries deck) (begins place volume near));
+    rising = λ deck. none-rising entries deck first
         (λ place volume near. ap (deck_entries deck) (begins place volume near));
   }
 
@@ -181,7 +184,7 @@ module _ {V : Type 0} (number : V → ℕ) (entries : V → List Entry) (follows
     -- what the step's decks asked, by the catalogs that there were at first
     module _ {E : Type 0} (result : Result (Unit {0}) E)
         (asked : HaveAsked (map catalog mid) step.decks result (map entries mid)
-        (map entries now)) where
+        (map entries now)) (stay : StayRising (map entries mid) (map entries now)) where
       asked-first : HaveAsked (map catalog first) step.decks result (map entries mid)
           (map entries now)
       asked-first = subst (λ (catalogs : List (List CatEntry)).
@@ -211,6 +214,7 @@ module _ {V : Type 0} (number : V → ℕ) (entries : V → List Entry) (follows
               ∙ append-nil (step_asks (map catalog first) step deck)),
         );
         whole = err-vacuous given fault (take i steps ≡ steps) fails;
+        rising = λ deck. stay deck (done.rising deck);
       }
 
       -- and where it didn't, all
@@ -228,6 +232,7 @@ module _ {V : Type 0} (number : V → ℕ) (entries : V → List Entry) (follows
             (take i steps) (step ∷ []))
             ∙ ap (λ (them : List Step). steps_ask (map catalog first) them deck)
             (sym (step-more steps i step near at));
+        rising = λ deck. stay deck (done.rising deck);
       }
 
     pub failed-since : AreSinceSteps entries follows steps first now
@@ -244,4 +249,5 @@ module _ {V : Type 0} (number : V → ℕ) (entries : V → List Entry) (follows
         ∙ sym (append-nil (steps_ask (map catalog first) (take i steps) deck));
     prefixes = λ deck. (steps_ask (map catalog first) (take 1 (drop i steps)) deck, refl);
     whole = whole;
+    rising = done.rising;
   }

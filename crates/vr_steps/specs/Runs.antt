@@ -7,7 +7,7 @@ use Rattle.vr_bind.specs.Bound.{bound_requests}
 use Rattle.vr_history.specs.Merged.{merged, part_of_deck}
 use Rattle.vr_history.specs.declared.entry.Entry.{Entry}
 use Rattle.vr_job_text.specs.declared.text.Deck.{Deck}
-use Rattle.vr_trace.specs.Laws.{deck_entries}
+use Rattle.vr_trace.specs.Laws.{AreRising, deck_entries, of_deck}
 use Rattle.vr_worker.specs.declared.deck.DeckRun.{DeckRun}
 use Rattle.vr_steps.specs.Asks.{IsPrefixOf, all_ask, requests_of}
 
@@ -62,3 +62,8 @@ abbrev pub HaveAsked : {E : Type 0} → List (List CatEntry) → List Deck → R
 HaveAsked catalogs decks result old new = (number : ℕ)
     → HasAskedMore result (all_ask (requests_of catalogs) decks number)
     (part_of_deck number (merged old)) (part_of_deck number (merged new))
+
+-- Where the stamps of a number's entries rose over all volumes before the step, they rise after it.
+abbrev pub StayRising : List (List Entry) → List (List Entry) → Type 0
+StayRising old new = (number : ℕ) → AreRising (of_deck number (merged old))
+    → AreRising (of_deck number (merged new))

@@ -8,6 +8,7 @@ use Rattle.vr_history.specs.Merged.{merged, part_of_deck}
 use Rattle.vr_history.specs.declared.entry.Entry.{Entry}
 use Rattle.vr_job_text.specs.declared.text.Deck.{Deck}
 use Rattle.vr_job_text.specs.declared.text.Step.{Step}
+use Rattle.vr_trace.specs.Laws.{AreRising, of_deck}
 use Rattle.vr_steps.specs.Asks.{IsPrefixOf, steps_ask}
 
 -- the numbers of the decks of a step
@@ -39,7 +40,8 @@ pub record AreSinceSteps {V : Type 0} (entries : V → List Entry) (follows : V 
 
 -- The decks of the first of the steps asked all that they request by these catalogs, each request
 -- once and in order; those of the next step, if there is one, each the first of what it requests;
--- and no other deck asked anything. All steps are such where the job came through.
+-- and no other deck asked anything. All steps are such where the job came through. Along each deck,
+-- over all volumes, the stamps of its entries rise.
 pub record HasAsked {E : Type 0} (catalogs : List (List CatEntry)) (steps : List Step)
     (result : Result (Unit {0}) E) (histories : List (List Entry)) : Type 0 where
   pub count : ℕ
@@ -49,3 +51,4 @@ pub record HasAsked {E : Type 0} (catalogs : List (List CatEntry)) (steps : List
   pub prefixes : (deck : ℕ)
       → IsPrefixOf (next deck) (steps_ask catalogs (take 1 (drop count steps)) deck)
   pub whole : OnOk result (take count steps ≡ steps)
+  pub rising : (deck : ℕ) → AreRising (of_deck deck (merged histories))

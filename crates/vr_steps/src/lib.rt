@@ -5,9 +5,9 @@
 //! history. What it asks of a volume is that it serves requests (`Served` of vr_worker) and has a
 //! catalog that stays (`Cataloged`). It promises, for every schedule: the decks of the steps asked
 //! what they request, each request once and in order, up to the step in which memory or stamps ran
-//! out, and of that step each deck the first of its requests; the history of each volume is
-//! entries of those decks, step by step; and each volume that comes back is a later state of the
-//! one that was handed in.
+//! out, and of that step each deck the first of its requests; the stamps of each deck's entries
+//! rise over all volumes; the history of each volume is entries of those decks, step by step; and
+//! each volume that comes back is a later state of the one that was handed in.
 #![tactic(auto)]
 
 mod cataloged;

@@ -1,7 +1,7 @@
 //! The steps of a job, one after another.
 ghost use Rattle.std.specs.Prelude.{◌≡◌, ◌<◌, ◌^◌, [], All, IfOk, IsErrOf, length, map};
 ghost use Rattle.vr_job_text.specs.Numbers.{AreNumbered};
-ghost use Rattle.vr_steps.specs.Runs.{AreFresh, AreRuns, HaveAsked, deck_numbers};
+ghost use Rattle.vr_steps.specs.Runs.{AreFresh, AreRuns, HaveAsked, StayRising, deck_numbers};
 ghost use Rattle.vr_steps.specs.Steps.{AreSinceSteps, HasAsked};
 ghost use Rattle.vr_worker.specs.Decks.{ArePlaced, AreSince, HasUsedUp};
 ghost use Rattle.vr_worker.specs.declared.no.RunNo.TheVariants.{Stamps};
@@ -79,6 +79,8 @@ fn run_step<R: Threads + Wait + Sync, V: Cataloged + Send, G: Gate + Sync>(
         volumes.new.items }
     ensures asked { HaveAsked (map V.catalog volumes.old.items) step.now.decks result
         (map V.entries volumes.old.items) (map V.entries volumes.new.items) }
+    ensures rising { StayRising (map V.entries volumes.old.items)
+        (map V.entries volumes.new.items) }
     ensures stamps { IsErrOf result Stamps → HasUsedUp V.entries volumes.new.items }
 {
     let runs = bind_step(alloc, step, volumes.as_slice())?;

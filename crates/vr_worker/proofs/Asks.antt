@@ -11,7 +11,7 @@ use Rattle.vr_ledger.specs.Ledger.{LedgerNow}
 use Rattle.vr_ledger.specs.Turn.{TurnNow}
 use Rattle.vr_trace.proofs.CallerLemmas.{deck_asked}
 use Rattle.vr_trace.proofs.CallerLemmas.{requests_of_deck}
-use Rattle.vr_trace.specs.Laws.{deck_entries, entries_on, entry_of, history_at}
+use Rattle.vr_trace.specs.Laws.{AreRising, deck_entries, entries_on, entry_of, history_at, of_deck}
 use Rattle.vr_worker.specs.Asked.{undoes}
 use Rattle.vr_worker.specs.Deck.{IsRunSeat}
 use Rattle.vr_worker.specs.Decks.{AreNew, HasAsked, numbers_of}
@@ -47,12 +47,17 @@ fresh-at entries volumes deck fresh volume = elim (cases_lt volume (length (map 
 
 -- a deck's part of the merged history is what it entered, whose stamps rise, and which is all that
 -- each volume has of it
-asked-by : (deck : ℕ) (histories : List (List Entry)) (made : List Numbered)
-    → IsStamped 0 (map entry_of made)
-    → ((volume : ℕ) → entries_on volume made ≡ deck_entries deck (history_at histories volume))
-    → part_of_deck deck (merged histories) ≡ part_of_deck deck made
-asked-by deck histories made rising each = requests_of_deck deck (merged histories)
-    ∙ ap (part_of_deck deck) (deck_asked deck histories made rising each)
+module _ (deck : ℕ) (histories : List (List Entry)) (made : List Numbered)
+    (rising : AreRising made)
+    (each : (volume : ℕ)
+    → entries_on volume made ≡ deck_entries deck (history_at histories volume)) where
+  asked-by : part_of_deck deck (merged histories) ≡ part_of_deck deck made
+  asked-by = requests_of_deck deck (merged histories)
+      ∙ ap (part_of_deck deck) (deck_asked deck histories made rising each)
+
+  -- so the stamps of that part rise
+  rising-by : AreRising (of_deck deck (merged histories))
+  rising-by = subst AreRising (sym (deck_asked deck histories made rising each)) rising
 
 -- nothing, where it entered nothing
 pub none-asked : {V : Type 0} (entries : V → List Entry) (volumes : List V) (deck : DeckRun)
@@ -60,10 +65,14 @@ pub none-asked : {V : Type 0} (entries : V → List Entry) (volumes : List V) (d
     → HasAsked (Err Memory) (map entries volumes) deck
 none-asked entries volumes deck fresh = record {
   count = 0;
-  asked = asked-by deck.number (map entries volumes) [] tt
-      (λ volume. sym (fresh-at entries volumes deck.number fresh volume));
+  asked = asked-by deck.number (map entries volumes) [] tt none-on;
   whole = tt;
+  rising = rising-by deck.number (map entries volumes) [] tt none-on;
 }
+  where
+    none-on : (volume : ℕ) → entries_on volume []
+        ≡ deck_entries deck.number (history_at (map entries volumes) volume)
+    none-on volume = sym (fresh-at entries volumes deck.number fresh volume)
 
 told-at : {V : Type 0} (entries : V → List Entry) (volumes : List V) (seat : Seat)
     → AreTold entries volumes seat → (place : ℕ) → place < length volumes
@@ -156,15 +165,20 @@ module _ {V : Type 0} (entries : V → List Entry) (volumes : List V) (ledgers :
           (omega (arith, length-map result entries, count, far))))
     ]
 
+    -- at stamps that rise
+    made-rising : AreRising run.ran.made
+    made-rising = subst (λ (last : ℕ). IsStamped last (map entry_of run.ran.made)) begun.last
+        run.ran.stamped
+
     pub has-asked : (end : Result (Unit {0}) RunNo) → OnOk end (IsDone new)
         → HasAsked end (map entries result) (deck_of old)
     has-asked end done = record {
       count = run.ran.count;
-      asked = asked-by old.deck (map entries result) run.ran.made
-          (subst (λ (last : ℕ). IsStamped last (map entry_of run.ran.made)) begun.last
-          run.ran.stamped) made-on ∙ run.ran.answers;
+      asked = asked-by old.deck (map entries result) run.ran.made made-rising made-on
+          ∙ run.ran.answers;
       whole = ok-through end new.end (take run.ran.count old.requests.items ≡ old.requests.items)
           done run.ran.whole;
+      rising = rising-by old.deck (map entries result) run.ran.made made-rising made-on;
     }
 
 -- ---- all decks

@@ -3,7 +3,7 @@ use Rattle.std.specs.Prelude.{◌≡◌, ◌<◌, ◌≤◌, ◌^◌, ◌==◌, 
 use Rattle.std.specs.Prelude.{OnOk, get_or, length, map, take, count_by}
 use Rattle.vr_history.specs.Merged.{last_stamp, merged, part_of_deck}
 use Rattle.vr_history.specs.declared.entry.Entry.{Entry}
-use Rattle.vr_trace.specs.Laws.{deck_entries}
+use Rattle.vr_trace.specs.Laws.{AreRising, deck_entries, of_deck}
 use Rattle.vr_worker.specs.Latched.{IsSince}
 use Rattle.vr_worker.specs.declared.deck.DeckRun.{DeckRun}
 use Rattle.vr_worker.specs.declared.no.RunNo.{RunNo}
@@ -38,12 +38,13 @@ pub record AreSince {V : Type 0} (entries : V → List Entry) (follows : V → V
       → IsSince entries follows decks (get_or old place volume) (get_or new place volume)
 
 -- A deck's part of the merged history of the volumes is the first of its requests, each once and in
--- order: all of them, where the step is done.
+-- order: all of them, where the step is done. Over all volumes, the stamps of its entries rise.
 pub record HasAsked (result : Result (Unit {0}) RunNo) (histories : List (List Entry))
     (deck : DeckRun) : Type 0 where
   pub count : ℕ
   pub asked : part_of_deck deck.number (merged histories) ≡ take count deck.requests.items
   pub whole : OnOk result (take count deck.requests.items ≡ deck.requests.items)
+  pub rising : AreRising (of_deck deck.number (merged histories))
 
 -- the last stamp of one of the volumes is 2^62 or more
 pub record HasUsedUp {V : Type 0} (entries : V → List Entry) (volumes : List V) : Type 0 where

@@ -39,7 +39,7 @@ returns-in_err-run_step-clause-asked g c =
     (same g) c.args.volumes.now.items c.args.steps.now c.loop-step.step-index
     c.step-item.result c.loop-step-test.true c.step-item.is c.loop-step.volumes.items
     c.run_step.new.volumes.items c.loop-step.invariant c.in_err-run_step.ensures.since
-    c.run_step.result c.run_step.ensures.asked c.from_residual.result
+    c.run_step.result c.run_step.ensures.asked c.run_step.ensures.rising c.from_residual.result
     c.in_err-run_step.field-0.0 c.from_residual.ensures.1
 
 pub loop-step-preserved : goal.loop-step-preserved
@@ -49,7 +49,8 @@ loop-step-preserved g c =
     (same g) c.args.volumes.now.items c.args.steps.now c.loop-step.step-index
     c.step-item.result c.loop-step-test.true c.step-item.is c.loop-step.volumes.items
     c.run_step.new.volumes.items c.loop-step.invariant c.in_ok-run_step.ensures.since
-    _ c.in_ok-run_step.ensures.asked (λ P has. has) c.in_ok-run_step.ensures.placed
+    _ c.in_ok-run_step.ensures.asked c.in_ok-run_step.ensures.rising (λ P has. has)
+    c.in_ok-run_step.ensures.placed
 
 pub returns-clause-asked : goal.returns-clause-asked
 returns-clause-asked g c =
