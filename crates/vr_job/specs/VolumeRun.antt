@@ -144,13 +144,15 @@ pub record IsNotOpen {D : Type 0} (tells : Bool) (seen : D → Seen) (faults : D
       ⊎ Recovers geometry number image contents)
 
 -- A volume was closed: nothing was put on its device, and no count of faults fell; the device failed to
--- sync only where a count rose; and else a crash leaves what is read, unless the volume had stopped.
+-- sync exactly where the count of writes that failed rose; and else a crash leaves what is read, unless
+-- the volume had stopped.
 pub record IsClosed {D : Type 0} (tells : Bool) (seen : D → Seen) (faults : D → Faults)
     (volume : VolumeNow D) (result : Result (Unit {0}) Failed) (device : D) : Type 0 where
   pub stopped : Bool
   pub has_stopped : IsTrue stopped → IsSome volume.file.stopped
   pub keeps : Keeps tells (seen volume.blocks) (seen device)
   pub counts : NeverFall (faults volume.blocks) (faults device)
+  pub ok : OnOk result (faults device ≡ faults volume.blocks)
   pub fails : IsErr result → (faults volume.blocks).writes < (faults device).writes
   pub forced : IsTrue tells → stopped ≡ false
       → OnOk result (AllForced (seen device).count (seen device).cur (seen device).may)

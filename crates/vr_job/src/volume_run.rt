@@ -77,6 +77,7 @@ fn sync<D: BlockDevice>(device: &mut D) -> Result<(), Failed>
 fn close<D: BlockDevice>(device: &mut D, stopped: bool) -> Result<(), Failed>
     ensures keeps { Keeps D.tells (D.seen device.old) (D.seen device.new) }
     ensures counts { NeverFall (D.faults device.old) (D.faults device.new) }
+    ensures ok { OnOk result (D.faults device.new ≡ D.faults device.old) }
     ensures fails { IsErr result
         → (D.faults device.old).writes < (D.faults device.new).writes }
     ensures forced { IsTrue D.tells → stopped ≡ false → OnOk result (AllForced
