@@ -108,6 +108,7 @@ module _ {D : Type 0} (tells : Bool) (seen : D → Seen) (faults : D → Faults)
     catalog = opening.volume.file.catalog;
     entries = closing.entries;
     device = opening.device;
+    ended = closing.volume.blocks;
     left = closing.left;
   } ∷ volumes-of openings closings
 
@@ -278,20 +279,20 @@ module _ {D : Type 0} (tells : Bool) (seen : D → Seen) (faults : D → Faults)
     owed-closing failing (number + 1) openings closings opens_so.1 since.1 closed.1 fails.1,
   )
 
-  -- the volume of a closing, of which the device failed
+  -- the volume of a closing, of which the device failed, as was counted then
   failed-at : (number at : ℕ) (openings : List (Opening D)) (closings : List (Closing D))
       (one : Closing D) → AreOpen tells seen faults number openings → AreSince openings closings
       → AreClosing tells seen faults closings → slice_get closings at ≡ Some one
       → IsErr one.result
       → (volume : VolumeOf D) × (slice_get (volumes-of openings closings) at ≡ Some volume)
-      × ((faults volume.device).writes < (faults volume.left).writes)
+      × ((faults volume.ended).writes < (faults volume.left).writes)
   failed-at number at openings [] one opens_so since closed there failed = absurd cc
   failed-at number at [] (closing ∷ closings) one opens_so since closed there failed = absurd since
   failed-at number zero (opening ∷ openings) (closing ∷ closings) one opens_so since closed there
       failed = (
         _,
         refl,
-        closing-rose number opening closing opens_so.0 since.0 closed.0
+        closed.0.closed.fails
             (subst (λ (c : Closing D). IsErr c.result) (sym (same-some closing one there)) failed),
       )
   failed-at number (suc at) (opening ∷ openings) (closing ∷ closings) one opens_so since closed there
@@ -336,7 +337,13 @@ module _ {D : Type 0} (tells : Bool) (seen : D → Seen) (faults : D → Faults)
 
   -- a volume that stays as it was
   abbrev untouched : D → VolumeOf D
-  untouched device = record { catalog = []; entries = []; device = device; left = device }
+  untouched device = record {
+    catalog = [];
+    entries = [];
+    device = device;
+    ended = device;
+    left = device;
+  }
 
   untouched-devices : (devices : List D)
       → devices ≡ map (λ (one : VolumeOf D). one.device) (map untouched devices)
@@ -359,11 +366,13 @@ module _ {D : Type 0} (tells : Bool) (seen : D → Seen) (faults : D → Faults)
 
   untouched-run : (line : EndLine) (unopened number : ℕ) (device : D)
       → IsOpenLine unopened line → unopened < number
-      → IsVolumeRun tells seen faults number steps [] (Line line) [] device device
+      → IsVolumeRun tells seen faults number steps [] (Line line) [] device device device
   untouched-run line unopened number device shown past = record {
     stamped = tt;
     of_steps = of-none steps;
     never_fall = record { reads = omega arith; writes = omega arith };
+    never_fall_closing = record { reads = omega arith; writes = omega arith };
+    synced = λ ran. absurd cc;
     cause = λ fault. absurd (open-line-other unopened number line shown
         (λ equal. omega (arith, equal, past)) fault);
     faulted = λ same k entry near. absurd (omega (arith, near));
@@ -392,11 +401,13 @@ module _ {D : Type 0} (tells : Bool) (seen : D → Seen) (faults : D → Faults)
   -- one that was not opened
   unopened-run : (line : EndLine) (number : ℕ) (device left : D)
       → IsNotOpen tells seen faults number device left line
-      → IsVolumeRun tells seen faults number steps [] (Line line) [] device left
+      → IsVolumeRun tells seen faults number steps [] (Line line) [] device left left
   unopened-run line number device left is = record {
     stamped = tt;
     of_steps = of-none steps;
     never_fall = is.never_fall;
+    never_fall_closing = record { reads = omega arith; writes = omega arith };
+    synced = λ ran. absurd cc;
     cause = λ fault. ⊎_elim (λ same. is.cause (line-is line (DeviceFault number) same))
         (λ same. absurd cc) fault;
     faulted = λ same k entry near. absurd (omega (arith, near));
@@ -664,7 +675,7 @@ module _ {D : Type 0} (tells : Bool) (seen : D → Seen) (faults : D → Faults)
         since = each-itself openings closings 0 opened.opens together
 
         one : VolumeOf D
-        one = record { catalog = []; entries = []; device = device; left = left }
+        one = record { catalog = []; entries = []; device = device; ended = left; left = left }
 
         first : List (VolumeOf D)
         first = volumes-of openings closings

@@ -112,12 +112,6 @@ module _ {D : Type 0} (tells : Bool) (seen : D → Seen) (faults : D → Faults)
     writes = omega (arith, opens_so.never_fall.writes, on.writes);
   }
 
-  pub ended-faults : NeverFall (faults first) (faults device)
-  ended-faults = record {
-    reads = omega (arith, so-far.reads, ended.closed.counts.reads);
-    writes = omega (arith, so-far.writes, ended.closed.counts.writes);
-  }
-
   -- where the device failed to sync, its count rose
   pub ended-rose : IsErr result → (faults first).writes < (faults device).writes
   ended-rose failed = omega (arith, so-far.writes, ended.closed.fails failed)
@@ -154,17 +148,18 @@ module _ {D : Type 0} (tells : Bool) (seen : D → Seen) (faults : D → Faults)
   ended-going : (faults device).writes ≡ (faults first).writes → end.file.stopped ≡ None
   ended-going same = on.stops (none-failed same) ∙ opens_so.going
 
-  ended-forced : result ≡ Ok tt → IsTrue tells → (faults device).writes ≡ (faults first).writes
+  -- what was synced is forced, unless the volume had stopped
+  unstopped-forced : result ≡ Ok tt → IsTrue tells → end.file.stopped ≡ None
       → AllForced (seen device).count (seen device).cur (seen device).may
-  ended-forced synced told same = on-ok result _ synced
+  unstopped-forced synced told goes = on-ok result _ synced
       (ended.closed.forced told (not-stopped ended.closed.stopped end.file.stopped
-      ended.closed.has_stopped (ended-going same)))
+      ended.closed.has_stopped goes))
 
   ended-stamped : IsStamped 0 entries
   ended-stamped = subst (IsStamped 0) (sym ended.entries_are)
       (on.stamped (subst (IsStamped 0) (sym opens_so.begins) tt))
 
-  module _ (told : IsTrue tells) where
+  module _ (by : End) (synced : by ≡ Ran → result ≡ Ok tt) (told : IsTrue tells) where
     held : IsOpenHeld seen number (seen first) volume
     held = opens_so.held told
 
@@ -210,7 +205,8 @@ module _ {D : Type 0} (tells : Bool) (seen : D → Seen) (faults : D → Faults)
         (λ image is. inr is))
 
     abbrev Ran-as : ℕ → List Entry → Type 0
-    Ran-as n es = IsRun tells seen faults n volume.file.catalog es first device
+    Ran-as n es =
+        IsRun tells seen faults n volume.file.catalog by es first end.blocks device
 
     at-end : Ran-as end.number end.file.entries
     at-end = record {
@@ -230,7 +226,6 @@ module _ {D : Type 0} (tells : Bool) (seen : D → Seen) (faults : D → Faults)
           ⊎ Recovers volume.file.geometry number image held.contents) (λ (image : Image).
           Left old image ⊎ Recovers end.file.geometry end.number image held.contents) opened
           (λ image is. ⊎_elim (λ before. inl before) (λ recovers. inr (as-end image recovers)) is);
-      ended = end.blocks;
       events = run.events;
       closes = ended.closed.keeps;
       goes = λ same. sym run.held.file.now.stopped ∙ ended-going same;
@@ -241,6 +236,7 @@ module _ {D : Type 0} (tells : Bool) (seen : D → Seen) (faults : D → Faults)
           (stored-left end.number end.store (state_now opening end.file) (seen end.blocks)
           (run.held.stored stops) image
           (keeps-left tells (seen end.blocks) (seen device) image told ended.closed.keeps left));
+      forced = λ ran goes. unstopped-forced (synced ran) told (run.held.file.now.stopped ∙ goes);
     }
 
     ended-run : Ran-as number entries
@@ -250,15 +246,18 @@ module _ {D : Type 0} (tells : Bool) (seen : D → Seen) (faults : D → Faults)
   -- a volume that was opened, run and closed, by how the job ended
   pub volume-run : (by : End) → (by ≡ Ran → result ≡ Ok tt)
       → HasFaultCause number (faults first) (faults device) by
-      → IsVolumeRun tells seen faults number steps volume.file.catalog by entries first device
+      → IsVolumeRun tells seen faults number steps volume.file.catalog by entries first end.blocks
+      device
   volume-run by synced cause = record {
     stamped = ended-stamped;
     of_steps = subst (Rattle.vr_steps.specs.Steps.AreOfSteps steps) (sym ended.entries_are)
         ended.of_steps;
-    never_fall = ended-faults;
+    never_fall = so-far;
+    never_fall_closing = ended.closed.counts;
+    synced = λ ran. on-ok result _ (synced ran) ended.closed.ok;
     cause = cause;
     faulted = ended-faultless;
     refused_reads = ended-reads;
-    closed = λ told same ran. ended-forced (synced ran) told same;
-    run = λ told. inl (ended-run told);
+    closed = λ told same ran. unstopped-forced (synced ran) told (ended-going same);
+    run = λ told. inl (ended-run by synced told);
   }

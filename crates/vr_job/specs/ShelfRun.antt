@@ -27,11 +27,14 @@ abbrev pub run_end : Result (Unit {0}) RunNo → End
 run_end (Ok value) = Ran
 run_end (Err fault) = Line (run_line fault)
 
--- A volume of a run: its catalog, its history, and its device before and after.
+-- A volume of a run: its catalog, its history, and its device before, as the requests left it, and as it
+-- came back once it was closed. One that was not opened is left by no request: it has ended as it came
+-- back.
 pub record VolumeOf (D : Type 0) : Type 0 where
   pub catalog : List CatEntry
   pub entries : List Entry
   pub device : D
+  pub ended : D
   pub left : D
 
 -- Each volume was run, the first of them having this number.
@@ -40,7 +43,7 @@ abbrev pub AreVolumeRuns : {D : Type 0} → Bool → (D → Seen) → (D → Fau
 AreVolumeRuns tells seen faults steps end number [] = Unit {0}
 AreVolumeRuns tells seen faults steps end number (volume ∷ volumes) =
     IsVolumeRun tells seen faults number steps volume.catalog end volume.entries volume.device
-    volume.left
+    volume.ended volume.left
     × AreVolumeRuns tells seen faults steps end (number + 1) volumes
 
 -- the volume of this number
@@ -53,13 +56,13 @@ AreEmpty [] = Unit {0}
 AreEmpty (volume ∷ volumes) = (volume.entries ≡ []) × AreEmpty volumes
 
 -- How a job ends, by what its requests came to: as they did; or all were answered and the device of a
--- volume failed to sync as it was closed, which was counted; or a volume was not opened, and none was
--- asked.
+-- volume failed to sync as it was closed, which was counted then; or a volume was not opened, and none
+-- was asked.
 pub data IsShelfEnd {D : Type 0} (tells : Bool) (seen : D → Seen) (faults : D → Faults)
     (volumes : List (VolumeOf D)) (by : Result (Unit {0}) RunNo) (end : End) : Type 0 where
   AsAsked : end ≡ run_end by → IsShelfEnd tells seen faults volumes by end
   ByClosing : IsOk by → (number : ℕ) (volume : VolumeOf D) → IsAt number volume volumes
-      → end ≡ Unsynced number → (faults volume.device).writes < (faults volume.left).writes
+      → end ≡ Unsynced number → (faults volume.ended).writes < (faults volume.left).writes
       → IsShelfEnd tells seen faults volumes by end
   ByOpening : (number : ℕ) (volume : VolumeOf D) (line : EndLine) → IsAt number volume volumes
       → end ≡ Line line → IsOpenLine number line

@@ -40,11 +40,12 @@ use Rattle.vr_job.specs.Opened.{IsOpenHeld}
 -- catalog; the history is legal from its opening; and each image of each moment is one that a crash left
 -- before, or is left by the history. From the end of its opening on the run is events, in each of which
 -- an image recovers to what is committed by the history before it, perhaps with the unit whose COMMIT it
--- enters; then nothing more is put. As long as the device counted no write that failed, the volume wasn't
--- stopped, and each image that a crash may leave at the end recovers to what is committed by all of the
--- history.
+-- enters; so the requests left it ended, and then nothing more is put. As long as the device counted no
+-- write that failed, the volume wasn't stopped, and each image that a crash may leave at the end recovers
+-- to what is committed by all of the history. Where the job came through, a crash leaves what is read,
+-- unless the volume had stopped, whatever the device counted.
 pub record IsRun {D : Type 0} (tells : Bool) (seen : D → Seen) (faults : D → Faults) (number : ℕ)
-    (catalog : List CatEntry) (entries : List Entry) (old new : D) : Type 0 where
+    (catalog : List CatEntry) (end : End) (entries : List Entry) (old ended new : D) : Type 0 where
   pub geometry : Geometry
   pub contents : ℕ → Content
   pub owned : List Owned
@@ -56,7 +57,6 @@ pub record IsRun {D : Type 0} (tells : Bool) (seen : D → Seen) (faults : D →
   pub opened : D
   pub opens : Guards (seen old) (seen opened) (λ image. Left (seen old) image
       ⊎ Recovers geometry number image contents)
-  pub ended : D
   pub events : IsOfEvents seen geometry number (opening_state contents owned) opened ended entries
   pub closes : Keeps tells (seen ended) (seen new)
   pub goes : (faults new).writes ≡ (faults old).writes
@@ -64,6 +64,8 @@ pub record IsRun {D : Type 0} (tells : Bool) (seen : D → Seen) (faults : D →
   pub kept : (state_of geometry (opening_state contents owned) entries).stopped ≡ None
       → (image : Image) → Left (seen new) image → RecoversTo geometry number
       (state_of geometry (opening_state contents owned) entries) [] image
+  pub forced : end ≡ Ran → (state_of geometry (opening_state contents owned) entries).stopped ≡ None
+      → AllForced (seen new).count (seen new).cur (seen new).may
 
 -- how a job ends by a fault of the device of this volume
 abbrev pub IsFaultEnd : ℕ → End → Type 0
@@ -97,21 +99,25 @@ pub record IsUntouched {D : Type 0} (number : ℕ) (end : End) (entries : List E
   pub lesser : earlier < number
   pub shown : IsOpenLine earlier line
 
--- What the run of a job comes to on the device of the volume of this number, whether or not it
--- reports its contents; and where it does. Each reply 904 is one for which the device's count of
--- failed reads rose: the history has at most as many as it rose by.
+-- What the run of a job comes to on the device of the volume of this number, whether or not it reports
+-- its contents; and where it does. No count of faults falls, up to where the requests ended and from
+-- there on as the volume was closed; and a job comes through only where none rose as it was closed, so
+-- that no sync that fails then is hidden. Each reply 904 is one for which the device's count of failed
+-- reads rose: the history has at most as many as it rose by.
 pub record IsVolumeRun {D : Type 0} (tells : Bool) (seen : D → Seen) (faults : D → Faults)
     (number : ℕ) (steps : List Step) (catalog : List CatEntry) (end : End)
-    (entries : List Entry) (old new : D) : Type 0 where
+    (entries : List Entry) (old ended new : D) : Type 0 where
   pub stamped : IsStamped 0 entries
   pub of_steps : AreOfSteps steps entries
-  pub never_fall : NeverFall (faults old) (faults new)
+  pub never_fall : NeverFall (faults old) (faults ended)
+  pub never_fall_closing : NeverFall (faults ended) (faults new)
+  pub synced : end ≡ Ran → faults new ≡ faults ended
   pub cause : HasFaultCause number (faults old) (faults new) end
   pub faulted : (faults new).writes ≡ (faults old).writes → AreFaultless entries
   pub refused_reads : (faults old).reads + read_faults entries ≤ (faults new).reads
   pub closed : IsTrue tells → (faults new).writes ≡ (faults old).writes → end ≡ Ran
       → AllForced (seen new).count (seen new).cur (seen new).may
-  pub run : IsTrue tells → IsRun tells seen faults number catalog entries old new
+  pub run : IsTrue tells → IsRun tells seen faults number catalog end entries old ended new
       ⊎ IsUnopened number end entries (seen old) (seen new)
       ⊎ IsUntouched number end entries old new
 
