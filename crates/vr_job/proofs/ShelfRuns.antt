@@ -2,7 +2,7 @@
 use Rattle.std.proofs.Common.{◌≡◌, ◌∙◌, ◌<◌, ◌≤◌, ◌+◌, ◌^◌, inl, inr, ⊎_elim, ℕ, zero, suc, Bool}
 use Rattle.std.proofs.Common.{List, [], ◌∷◌, ◌++◌, Result, Ok, Err, Some, None, Option, arith, refl}
 use Rattle.std.proofs.Common.{sym, ap, subst, get_or, length, map}
-use Rattle.std.specs.Prelude.{Contains, IsErr, IsOk, is_ok, slice_get}
+use Rattle.std.specs.Prelude.{Contains, IsErr, IsOk, IsTrue, is_ok, slice_get}
 use Rattle.std.proofs.lemmas.List.{append-nil, map-append}
 use Rattle.vr_types.specs.Faults.{Faults}
 use Rattle.vr_types.specs.Seen.{Seen}
@@ -27,7 +27,7 @@ use Rattle.vr_job.specs.Shelf.{IsClosing, IsRest, IsUnsynced, Opening, catalog_o
 use Rattle.vr_job.specs.ShelfRun.{AreEmpty, AreVolumeRuns, AsAsked, ByClosing, ByOpening, IsShelfEnd, IsShelfRun}
 use Rattle.vr_job.specs.ShelfRun.{VolumeOf, run_end, run_line}
 use Rattle.vr_job.specs.VolumeRun.{HasFaultCause, IsFaultEnd, IsNotOpen}
-use Rattle.vr_job.specs.VolumeRun.{IsOpen, IsVolumeRun}
+use Rattle.vr_job.specs.VolumeRun.{IsOpen, IsUnopened, IsVolumeRun}
 use Rattle.vr_job.proofs.Devices.{same-some}
 use Rattle.vr_job.proofs.VolumeRuns.{ended-rose, volume-run}
 
@@ -398,7 +398,18 @@ module _ {D : Type 0} (tells : Bool) (seen : D → Seen) (faults : D → Faults)
     untouched-runs line unopened (number + 1) devices shown (omega (arith, past)),
   )
 
-  -- one that was not opened
+  -- one that was not opened: what is said of it, and of its run
+  unopened-is : (line : EndLine) (number : ℕ) (device left : D) → IsTrue tells
+      → IsNotOpen tells seen faults number device left line
+      → IsUnopened number (Line line) [] (seen device) (seen left)
+  unopened-is line number device left told is = record {
+    none = refl;
+    line = line;
+    end_is = refl;
+    shown = is.shown told;
+    moments = is.any_moment told;
+  }
+
   unopened-run : (line : EndLine) (number : ℕ) (device left : D)
       → IsNotOpen tells seen faults number device left line
       → IsVolumeRun tells seen faults number steps [] (Line line) [] device left left
@@ -413,13 +424,7 @@ module _ {D : Type 0} (tells : Bool) (seen : D → Seen) (faults : D → Faults)
     faulted = λ same k entry near. absurd (omega (arith, near));
     refused_reads = omega (arith, is.never_fall.reads);
     closed = λ told same ran. absurd cc;
-    run = λ told. inr (inl (record {
-      none = refl;
-      line = line;
-      end_is = refl;
-      shown = is.shown told;
-      moments = is.any_moment told;
-    }));
+    run = λ told. inr (inl (unopened-is line number device left told is));
   }
 
   -- ---- lists of volumes
@@ -647,7 +652,8 @@ module _ {D : Type 0} (tells : Bool) (seen : D → Seen) (faults : D → Faults)
           (sym fault.line.1 ∙ line-is end StampsUsedUp used));
       ends = ByOpening (length openings) one end
           (subst (λ (n : ℕ). slice_get all n ≡ Some one) (as-many openings closings since)
-          (next-is first (map untouched after) one)) refl fault.line fault.shown all-empty;
+          (next-is first (map untouched after) one)) refl fault.line
+          (λ told. unopened-is end (length openings) device left told fault) all-empty;
     }
       where
         openings : List (Opening D)

@@ -15,8 +15,8 @@ use Rattle.vr_trace.specs.declared.ending.EndLine.{EndLine}
 use Rattle.vr_trace.specs.declared.ending.EndLine.TheVariants.{NoMemory, StampsUsedUp}
 use Rattle.vr_worker.specs.declared.no.RunNo.{RunNo}
 use Rattle.vr_worker.specs.declared.no.RunNo.TheVariants as nos
-use Rattle.vr_job.specs.OpenEnds.{IsOpenEnd, IsOpenLine}
-use Rattle.vr_job.specs.VolumeRun.{IsVolumeRun}
+use Rattle.vr_job.specs.OpenEnds.{IsOpenLine}
+use Rattle.vr_job.specs.VolumeRun.{IsUnopened, IsVolumeRun}
 
 -- how a job ends whose requests weren't all answered
 abbrev pub run_line : RunNo → EndLine
@@ -27,9 +27,8 @@ abbrev pub run_end : Result (Unit {0}) RunNo → End
 run_end (Ok value) = Ran
 run_end (Err fault) = Line (run_line fault)
 
--- A volume of a run: its catalog, its history, and its device before, as the requests left it, and as it
--- came back once it was closed. One that was not opened is left by no request: it has ended as it came
--- back.
+-- A volume of a run: its catalog, its history, and its device before, as the requests left it before
+-- it was closed (of a volume that was not opened, as it came back), and as it came back.
 pub record VolumeOf (D : Type 0) : Type 0 where
   pub catalog : List CatEntry
   pub entries : List Entry
@@ -55,9 +54,9 @@ abbrev pub AreEmpty : {D : Type 0} → List (VolumeOf D) → Type 0
 AreEmpty [] = Unit {0}
 AreEmpty (volume ∷ volumes) = (volume.entries ≡ []) × AreEmpty volumes
 
--- How a job ends, by what its requests came to: as they did; or all were answered and the device of a
--- volume failed to sync as it was closed, which was counted then; or a volume was not opened, and none
--- was asked.
+-- How a job ends, by what its requests came to: as they did; or all were answered and the device of
+-- a volume failed to sync as it was closed, which was counted then; or a volume was not opened, which
+-- its blocks show where they are reported, and none was asked.
 pub data IsShelfEnd {D : Type 0} (tells : Bool) (seen : D → Seen) (faults : D → Faults)
     (volumes : List (VolumeOf D)) (by : Result (Unit {0}) RunNo) (end : End) : Type 0 where
   AsAsked : end ≡ run_end by → IsShelfEnd tells seen faults volumes by end
@@ -66,7 +65,8 @@ pub data IsShelfEnd {D : Type 0} (tells : Bool) (seen : D → Seen) (faults : D 
       → IsShelfEnd tells seen faults volumes by end
   ByOpening : (number : ℕ) (volume : VolumeOf D) (line : EndLine) → IsAt number volume volumes
       → end ≡ Line line → IsOpenLine number line
-      → (IsTrue tells → IsOpenEnd number (seen volume.device) line)
+      → (IsTrue tells → IsUnopened number end volume.entries (seen volume.device)
+      (seen volume.left))
       → AreEmpty volumes → IsShelfEnd tells seen faults volumes by end
 
 -- The decks of the job asked what they request by the catalogs of the volumes; each volume was run; as
