@@ -27,8 +27,8 @@ abbrev pub run_end : Result (Unit {0}) RunNo → End
 run_end (Ok value) = Ran
 run_end (Err fault) = Line (run_line fault)
 
--- A volume of a run: its catalog, its history, and its device before, as the requests left it before
--- it was closed (of a volume that was not opened, as it came back), and as it came back.
+-- A volume of a run: its catalog, its history, and its device before, as the requests left it
+-- before it was closed (of a volume that was not opened, as it came back), and as it came back.
 pub record VolumeOf (D : Type 0) : Type 0 where
   pub catalog : List CatEntry
   pub entries : List Entry
@@ -55,8 +55,8 @@ AreEmpty [] = Unit {0}
 AreEmpty (volume ∷ volumes) = (volume.entries ≡ []) × AreEmpty volumes
 
 -- How a job ends, by what its requests came to: as they did; or all were answered and the device of
--- a volume failed to sync as it was closed, which was counted then; or a volume was not opened, which
--- its blocks show where they are reported, and none was asked.
+-- a volume failed to sync as it was closed, which was counted then; or a volume was not opened,
+-- which its blocks show where they are reported, and none was asked.
 pub data IsShelfEnd {D : Type 0} (tells : Bool) (seen : D → Seen) (faults : D → Faults)
     (volumes : List (VolumeOf D)) (by : Result (Unit {0}) RunNo) (end : End) : Type 0 where
   AsAsked : end ≡ run_end by → IsShelfEnd tells seen faults volumes by end

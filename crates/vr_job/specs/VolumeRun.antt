@@ -36,14 +36,15 @@ use Rattle.vr_job.specs.Opened.{IsOpenHeld}
 
 -- ---- what a run says of a volume
 
--- The volume was opened: the blocks were one's of this number, which recovered to contents with this
--- catalog; the history is legal from its opening; and each image of each moment is one that a crash
--- left before, or is left by the history. From the end of its opening on the run is events, in each of
--- which an image recovers to what is committed by the history before it, perhaps with the unit whose
--- COMMIT it enters; so it came to what the requests left, and then nothing more is put. As long as the
--- device counted no write that failed, the volume wasn't stopped, and each image that a crash may leave
--- at the end recovers to what is committed by all of the history. Where the job came through, a crash
--- leaves what is read, unless the volume had stopped: whatever the device has counted.
+-- The volume was opened: the blocks were one's of this number, which recovered to contents with
+-- this catalog; the history is legal from its opening; and each image of each moment is one that a
+-- crash left before, or is left by the history. From the end of its opening on the run is events,
+-- in each of which an image recovers to what is committed by the history before it, perhaps with
+-- the unit whose COMMIT it enters; so it came to what the requests left, and then nothing more is
+-- put. As long as the device counted no write that failed, the volume wasn't stopped, and each
+-- image that a crash may leave at the end recovers to what is committed by all of the history.
+-- Where the job came through, a crash leaves what is read, unless the volume had stopped: whatever
+-- the device has counted.
 pub record IsRun {D : Type 0} (tells : Bool) (seen : D → Seen) (faults : D → Faults) (number : ℕ)
     (catalog : List CatEntry) (end : End) (entries : List Entry) (old ended new : D) : Type 0 where
   pub geometry : Geometry
@@ -99,11 +100,11 @@ pub record IsUntouched {D : Type 0} (number : ℕ) (end : End) (entries : List E
   pub lesser : earlier < number
   pub shown : IsOpenLine earlier line
 
--- What the run of a job comes to on the device of the volume of this number, before, as the requests
--- left it, and as it came back, whether or not it reports its contents; and where it does. No count of
--- faults falls up to what the requests left, nor from there on as the volume is closed; and a job
--- comes through only where none rose then, so that no sync that failed is hidden. Each reply 904 is one
--- for which the count of failed reads rose: the history has at most as many as it rose by.
+-- What the run of a job comes to on the device of the volume of this number, before, as the
+-- requests left it, and as it came back, whether or not it reports its contents; and where it does.
+-- No count of faults falls up to what the requests left, nor from there on as the volume is closed;
+-- and a job comes through only where none rose then, so that no sync that failed is hidden. Each reply
+-- 904 is one for which the count of failed reads rose: the history has at most as many as it rose by.
 pub record IsVolumeRun {D : Type 0} (tells : Bool) (seen : D → Seen) (faults : D → Faults)
     (number : ℕ) (steps : List Step) (catalog : List CatEntry) (end : End)
     (entries : List Entry) (old ended new : D) : Type 0 where
@@ -149,9 +150,9 @@ pub record IsNotOpen {D : Type 0} (tells : Bool) (seen : D → Seen) (faults : D
       → Guards (seen old) (seen new) (λ image. Left (seen old) image
       ⊎ Recovers geometry number image contents)
 
--- A volume was closed: nothing was put on its device, and no count of faults fell; the device failed
--- to sync exactly where the count of writes that failed rose; and else a crash leaves what is read,
--- unless the volume had stopped.
+-- A volume was closed: nothing was put on its device, and no count of faults fell; the device
+-- failed to sync exactly where the count of writes that failed rose; and else a crash leaves what
+-- is read, unless the volume had stopped.
 pub record IsClosed {D : Type 0} (tells : Bool) (seen : D → Seen) (faults : D → Faults)
     (volume : VolumeNow D) (result : Result (Unit {0}) Failed) (device : D) : Type 0 where
   pub stopped : Bool
