@@ -16,6 +16,7 @@ use Rattle.vr_recover.specs.declared.open_no.OpenNo.TheVariants as opens
 use Rattle.vr_steps.specs.Steps.{AreOfSteps, AreSinceSteps, HasAsked, IsSinceSteps}
 use Rattle.vr_job_ends.specs.declared.job_end.End.{End}
 use Rattle.vr_job_ends.specs.declared.job_end.End.TheVariants.{Line, Ran, Unsynced}
+use Rattle.vr_trace.specs.Laws.{AreRising, of_deck}
 use Rattle.vr_trace.specs.declared.ending.EndLine.{EndLine}
 use Rattle.vr_trace.specs.declared.ending.EndLine.TheVariants.{DeviceFault, StampsUsedUp}
 use Rattle.vr_worker.specs.declared.no.RunNo.{RunNo}
@@ -519,6 +520,8 @@ module _ {D : Type 0} (tells : Bool) (seen : D → Seen) (faults : D → Faults)
     asked = λ deck. ap (λ them. part_of_deck deck (in_order them)) (none-numbered 0 volumes empty);
     prefixes = λ deck. (_, refl);
     whole = tt;
+    rising = λ deck. subst (λ them. AreRising (of_deck deck (in_order them)))
+        (sym (none-numbered 0 volumes empty)) tt;
   }
 
   -- ---- the whole
