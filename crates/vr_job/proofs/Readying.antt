@@ -32,10 +32,13 @@ use Rattle.vr_recover.specs.Opening.{IsHandedOut, IsOpenedBy as IsOpenedWith, sh
 use Rattle.vr_recover.specs.Undone.{IsPastLog, IsReady as IsReadyPart}
 use Rattle.vr_recover.proofs.CallerLemmas.{laid-cases, shape-number}
 use Rattle.vr_recover.specs.Opening.{IsRefused}
+use Rattle.vr_recover.specs.OpenNo.{IsToldNo}
 use Rattle.vr_recover.specs.declared.open_no.OpenNo.{OpenNo}
 use Rattle.vr_recover.specs.declared.open_no.OpenNo.TheVariants as nos
 use Rattle.vr_trace.specs.declared.ending.EndLine.{EndLine}
+use Rattle.vr_trace.specs.declared.ending.EndLine.TheVariants.{Damaged, DeviceFault, NoMemory, Version}
 use Rattle.vr_job.specs.OpenEnds.{IsDamage, IsFault, IsMemory, IsOpenEnd, IsVersion, open_line}
+use Rattle.vr_job.specs.OpenEnds.{SaysOfBlocks}
 use Rattle.std.proofs.lemmas.List.{append-nil}
 use Rattle.vr_types.specs.Image.{Image}
 use Rattle.vr_types.specs.Seen.{Left}
@@ -405,6 +408,33 @@ pub end-shown : (number : ℕ) (old : Seen) (why : OpenNo) (end : EndLine)
     → end ≡ open_line number why → IsRefused number old why → IsOpenEnd number old end
 end-shown number old why end same is =
     subst (IsOpenEnd number old) (sym same) (end-by number old why is)
+
+-- out of memory, and a fault of the device, say nothing of the blocks
+pub memory-silent : (number : ℕ) (end : EndLine) → end ≡ NoMemory → SaysOfBlocks number end → ⊥
+memory-silent number end none says = ⊎_elim
+    (λ (damaged : (block : ℕ) × (rule : ℕ) × (end ≡ Damaged number block rule)).
+    let same = damaged.2 in absurd cc)
+    (λ (version : (found : ℕ) × (end ≡ Version number found)). let same = version.1 in absurd cc)
+    says
+
+fault-silent : (number : ℕ) (end : EndLine) → end ≡ DeviceFault number → SaysOfBlocks number end → ⊥
+fault-silent number end fault says = ⊎_elim
+    (λ (damaged : (block : ℕ) × (rule : ℕ) × (end ≡ Damaged number block rule)).
+    let same = damaged.2 in absurd cc)
+    (λ (version : (found : ℕ) × (end ≡ Version number found)). let same = version.1 in absurd cc)
+    says
+
+told-by : (number : ℕ) (why : OpenNo) → SaysOfBlocks number (open_line number why) → IsToldNo why
+told-by number (nos.Damaged block rule) says = tt
+told-by number (nos.Version found) says = tt
+told-by number nos.Read says = fault-silent number (DeviceFault number) refl says
+told-by number nos.Write says = fault-silent number (DeviceFault number) refl says
+told-by number nos.Memory says = memory-silent number NoMemory refl says
+
+-- a line that says something of the blocks is that of an answer which does
+pub says-told : (number : ℕ) (why : OpenNo) (end : EndLine) → end ≡ open_line number why
+    → SaysOfBlocks number end → IsToldNo why
+says-told number why end same says = told-by number why (subst (SaysOfBlocks number) same says)
 
 -- ---- the beginning of a run
 

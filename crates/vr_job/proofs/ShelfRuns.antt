@@ -402,12 +402,13 @@ module _ {D : Type 0} (tells : Bool) (seen : D → Seen) (faults : D → Faults)
   -- one that was not opened: what is said of it, and of its run
   unopened-is : (line : EndLine) (number : ℕ) (device left : D) → IsTrue tells
       → IsNotOpen tells seen faults number device left line
-      → IsUnopened number (Line line) [] (seen device) (seen left)
+      → IsUnopened tells number (Line line) [] (seen device) (seen left)
   unopened-is line number device left told is = record {
     none = refl;
     line = line;
     end_is = refl;
     shown = is.shown told;
+    kept = is.kept;
     moments = is.any_moment told;
   }
 

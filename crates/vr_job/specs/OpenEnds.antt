@@ -20,6 +20,11 @@ open_line number nos.Memory = NoMemory
 abbrev pub IsOpenLine : ℕ → EndLine → Type 0
 IsOpenLine number end = (no : OpenNo) × (end ≡ open_line number no)
 
+-- a line that says what is wrong with the blocks of a volume of this number
+abbrev pub SaysOfBlocks : ℕ → EndLine → Type 0
+SaysOfBlocks number end = ((block : ℕ) × (rule : ℕ) × (end ≡ Damaged number block rule))
+    ⊎ ((found : ℕ) × (end ≡ Version number found))
+
 -- A line by which a volume of this number is refused, by the blocks as they were: it is damaged, or
 -- of another version, or there is no memory, or its device failed.
 pub data IsOpenEnd (number : ℕ) (old : Seen) (end : EndLine) : Type 0 where

@@ -65,7 +65,7 @@ pub data IsShelfEnd {D : Type 0} (tells : Bool) (seen : D → Seen) (faults : D 
       → IsShelfEnd tells seen faults volumes by end
   ByOpening : (number : ℕ) (volume : VolumeOf D) (line : EndLine) → IsAt number volume volumes
       → end ≡ Line line → IsOpenLine number line
-      → (IsTrue tells → IsUnopened number end volume.entries (seen volume.device)
+      → (IsTrue tells → IsUnopened tells number end volume.entries (seen volume.device)
       (seen volume.left))
       → AreEmpty volumes → IsShelfEnd tells seen faults volumes by end
 

@@ -30,8 +30,8 @@ use Rattle.vr_job.specs.Crash.{IsLeftBy}
 use Rattle.vr_job.specs.Events.{IsOfEvents}
 use Rattle.vr_job.specs.Faultless.{AreFaultless}
 use Rattle.vr_job.specs.Going.{Follows}
+use Rattle.vr_job.specs.OpenEnds.{HasEndCause, IsOpenEnd, IsOpenLine, NeverFall, SaysOfBlocks}
 use Rattle.vr_job.specs.ReadFaults.{read_faults}
-use Rattle.vr_job.specs.OpenEnds.{HasEndCause, IsOpenEnd, IsOpenLine, NeverFall}
 use Rattle.vr_job.specs.Opened.{IsOpenHeld}
 
 -- ---- what a run says of a volume
@@ -78,16 +78,18 @@ HasFaultCause number before now end = IsFaultEnd number end
     → (before.reads < now.reads) ⊎ (before.writes < now.writes)
 
 -- It was not opened, and the job ended by that: nothing was asked, and each image of each moment is one
--- that a crash left before, or recovers to what the blocks recovered to.
-pub record IsUnopened (number : ℕ) (end : End) (entries : List Entry) (old new : Seen) : Type 0
-  where
-    pub none : entries ≡ []
-    pub line : EndLine
-    pub end_is : end ≡ Line line
-    pub shown : IsOpenEnd number old line
-    pub moments : (geometry : Geometry) (contents : ℕ → Content)
-        → IsVolume number geometry contents old
-        → Guards old new (λ image. Left old image ⊎ Recovers geometry number image contents)
+-- that a crash left before, or recovers to what the blocks recovered to. Where its blocks are refused
+-- for what they are, they were left as they were.
+pub record IsUnopened (tells : Bool) (number : ℕ) (end : End) (entries : List Entry)
+    (old new : Seen) : Type 0 where
+  pub none : entries ≡ []
+  pub line : EndLine
+  pub end_is : end ≡ Line line
+  pub shown : IsOpenEnd number old line
+  pub kept : SaysOfBlocks number line → Keeps tells old new
+  pub moments : (geometry : Geometry) (contents : ℕ → Content)
+      → IsVolume number geometry contents old
+      → Guards old new (λ image. Left old image ⊎ Recovers geometry number image contents)
 
 -- It was left as it was, since a volume of a lesser number was not opened.
 pub record IsUntouched {D : Type 0} (number : ℕ) (end : End) (entries : List Entry)
@@ -119,7 +121,7 @@ pub record IsVolumeRun {D : Type 0} (tells : Bool) (seen : D → Seen) (faults :
   pub closed : IsTrue tells → (faults new).writes ≡ (faults old).writes → end ≡ Ran
       → AllForced (seen new).count (seen new).cur (seen new).may
   pub run : IsTrue tells → IsRun tells seen faults number catalog end entries old ended new
-      ⊎ IsUnopened number end entries (seen old) (seen new)
+      ⊎ IsUnopened tells number end entries (seen old) (seen new)
       ⊎ IsUntouched number end entries old new
 
 -- ---- what is known as it is opened, run and closed
@@ -138,12 +140,14 @@ pub record IsOpen {D : Type 0} (tells : Bool) (seen : D → Seen) (faults : D �
       → Guards (seen device) (seen volume.blocks) (λ image. Left (seen device) image
       ⊎ Recovers geometry number image contents)
 
--- The volume of this number was not opened on a device.
+-- The volume of this number was not opened on a device. Where its blocks are refused for what they
+-- are, they were left as they were.
 pub record IsNotOpen {D : Type 0} (tells : Bool) (seen : D → Seen) (faults : D → Faults) (number : ℕ)
     (old new : D) (end : EndLine) : Type 0 where
   pub never_fall : NeverFall (faults old) (faults new)
   pub line : IsOpenLine number end
   pub shown : IsTrue tells → IsOpenEnd number (seen old) end
+  pub kept : SaysOfBlocks number end → Keeps tells (seen old) (seen new)
   pub cause : HasEndCause number (faults old) (faults new) end
   pub any_moment : IsTrue tells → (geometry : Geometry) (contents : ℕ → Content)
       → IsVolume number geometry contents (seen old)

@@ -1,5 +1,6 @@
 //! The opening of a volume for a run.
 ghost use Rattle.std.specs.Prelude.{◌≡◌, ◌⊎◌, [], ℕ, IfErr, IfOk, IsTrue, None, OnOk, map};
+ghost use Rattle.vr_types.specs.Blocks.{Keeps};
 ghost use Rattle.vr_types.specs.Content.{Content};
 ghost use Rattle.vr_types.specs.Moments.{Guards};
 ghost use Rattle.vr_types.specs.Seen.{Left};
@@ -14,6 +15,7 @@ ghost use Rattle.vr_recover.specs.Opening.{IsHandedOut, IsOpened, IsVolume};
 ghost use Rattle.vr_job.specs.Going.{HasRun};
 ghost use Rattle.vr_job.specs.OpenEnds as ends;
 ghost use Rattle.vr_job.specs.OpenEnds.{HasEndCause, IsOpenEnd, IsOpenLine, NeverFall};
+ghost use Rattle.vr_job.specs.OpenEnds.{SaysOfBlocks};
 ghost use Rattle.vr_job.specs.Opened.{IsOpenHeld, IsReady, IsReadyFrom, laid_now, opened_now};
 
 use crate::numbering::{Ready, number_parts};
@@ -80,6 +82,8 @@ fn open_whole<B: Blocks>(
         Left (B.seen blocks.old) image ⊎ Recovers geometry number image contents) }
     ensures line { IfErr result (IsOpenLine number) }
     ensures refused { IsTrue B.tells → IfErr result (IsOpenEnd number (B.seen blocks.old)) }
+    ensures kept { IfErr result (λ end. SaysOfBlocks number end
+        → Keeps B.tells (B.seen blocks.old) (B.seen blocks.new)) }
     ensures faults { NeverFall (B.faults blocks.old) (B.faults blocks.new) }
     ensures cause { IfErr result
         (HasEndCause number (B.faults blocks.old) (B.faults blocks.new)) }
@@ -111,6 +115,8 @@ fn open_parts<B: Blocks>(
         Left (B.seen blocks.old) image ⊎ Recovers geometry number image contents) }
     ensures line { IfErr result (IsOpenLine number) }
     ensures refused { IsTrue B.tells → IfErr result (IsOpenEnd number (B.seen blocks.old)) }
+    ensures kept { IfErr result (λ end. SaysOfBlocks number end
+        → Keeps B.tells (B.seen blocks.old) (B.seen blocks.new)) }
     ensures faults { NeverFall (B.faults blocks.old) (B.faults blocks.new) }
     ensures cause { IfErr result
         (HasEndCause number (B.faults blocks.old) (B.faults blocks.new)) }
@@ -179,6 +185,9 @@ pub fn open<B: Blocks + Drop>(
     ensures line { IfErr result (λ back. IsOpenLine number back.1) }
     ensures refused { IsTrue B.tells → IfErr result (λ back.
         IsOpenEnd number (B.seen blocks) back.1) }
+    // Blocks that are refused for what they are were left as they were.
+    ensures kept { IfErr result (λ back. SaysOfBlocks number back.1
+        → Keeps B.tells (B.seen blocks) (B.seen back.0)) }
     ensures faults { IfOk result (λ volume.
         NeverFall (B.faults blocks) (B.faults volume.blocks)) }
     ensures faults_back { IfErr result (λ back. NeverFall (B.faults blocks) (B.faults back.0)) }

@@ -11,6 +11,7 @@ returns-in-Err-clause-not_open g c =
       never_fall = c.in-Err.ensures.faults_back;
       line = c.in-Err.ensures.line;
       shown = c.in-Err.ensures.refused;
+      kept = c.in-Err.ensures.kept;
       cause = c.in-Err.ensures.cause;
       any_moment = c.in-Err.ensures.any_moment_back;
     })

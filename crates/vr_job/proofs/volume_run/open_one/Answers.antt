@@ -6,6 +6,7 @@ use Rattle.vr_volume.specs.Volume.{Recovers}
 use Rattle.vr_recover.specs.declared.open_no.OpenNo.TheVariants.{Memory}
 use Rattle.vr_job.specs.OpenEnds.{IsMemory}
 use Rattle.vr_job.specs.VolumeRun.{IsNotOpen}
+use Rattle.vr_job.proofs.Readying.{memory-silent}
 use Rattle.vr_trace.specs.declared.ending.EndLine.TheVariants.{NoMemory}
 use Rattle.vr_job.proofs.volume_run.open_one.Goals as goal
 
@@ -19,6 +20,7 @@ returns-in-Err-clause-not_open g c =
       never_fall = record { reads = omega arith; writes = omega arith };
       line = (Memory, refl);
       shown = λ told. IsMemory refl;
+      kept = λ says. absurd (memory-silent c.args.number NoMemory refl says);
       cause = λ same. absurd cc;
       any_moment = λ told geometry contents is. guards-start (D.seen first)
           (λ (image : Image). Left (D.seen first) image
