@@ -312,7 +312,7 @@ module _ (geometry : Geometry) (entries : List CatEntry) (owned : List Owned) (l
     records = handed.records;
     sound = handed.sound;
     clusters = clusters;
-    count = handed.owners_are.count;
+    owners = handed.owners_are;
     owned = handed-owned;
   }
 

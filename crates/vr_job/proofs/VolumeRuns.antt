@@ -21,7 +21,9 @@ use Rattle.vr_job_text.specs.declared.text.Step.{Step}
 use Rattle.vr_job_ends.specs.declared.job_end.End.{End}
 use Rattle.vr_job_ends.specs.declared.job_end.End.TheVariants.{Ran}
 use Rattle.vr_record_file.specs.Now.{state_now}
+use Rattle.vr_event.specs.Opening.{owned_in}
 use Rattle.vr_event.specs.Volume.{IsWhole, VolumeNow}
+use Rattle.vr_mount.specs.Areas.{AreOwners}
 use Rattle.vr_event.proofs.CallerLemmas.{stored-left}
 use Rattle.vr_recover.specs.Opening.{IsVolume}
 use Rattle.vr_volume.specs.Crashes.{RecoversTo}
@@ -171,7 +173,7 @@ module _ {D : Type 0} (tells : Bool) (seen : D → Seen) (faults : D → Faults)
     old = seen first
 
     abbrev opening : State
-    opening = opening_state held.contents held.owned
+    opening = opening_state held.contents (owned_in held.owners)
 
     run : HasRun seen opening volume.blocks end
     run = went.run told opening volume.blocks held.run
@@ -198,8 +200,8 @@ module _ {D : Type 0} (tells : Bool) (seen : D → Seen) (faults : D → Faults)
         (guards-weaken old (seen volume.blocks) (λ (image : Image). Left old image
         ⊎ Recovers volume.file.geometry number image held.contents) MayLeave opened
         (λ image is. ⊎_elim (λ before. inl before)
-        (λ recovers. inr (left-first end.file.geometry end.number held.contents held.owned
-        end.file.entries image (as-end image recovers))) is))
+        (λ recovers. inr (left-first end.file.geometry end.number held.contents
+        (owned_in held.owners) end.file.entries image (as-end image recovers))) is))
         (guards-weaken (seen volume.blocks) (seen end.blocks)
         (IsLeftBy end.file.geometry end.number opening end.file.entries) MayLeave run.left
         (λ image is. inr is))
@@ -212,12 +214,14 @@ module _ {D : Type 0} (tells : Bool) (seen : D → Seen) (faults : D → Faults)
     at-end = record {
       geometry = end.file.geometry;
       contents = held.contents;
-      owned = held.owned;
+      owners = held.owners;
       volume = subst (λ (g : Geometry). IsVolume end.number g held.contents old)
           (sym same-geometry)
           (subst (λ (n : ℕ). IsVolume n volume.file.geometry held.contents old) (sym same-number)
           held.volume_is);
       catalog_is = held.catalog_is;
+      owners_are = subst (λ (g : Geometry). AreOwners g volume.file.catalog held.owners)
+          (sym same-geometry) held.owners_are;
       legal = run.held.file.legal;
       moments = guards-keeps tells old (seen end.blocks) (seen device) MayLeave each-moment
           ended.closed.keeps told;

@@ -1,9 +1,8 @@
 -- A volume that was opened, as a run takes it: its parts have their numbers, and it is held from its
 -- opening. The rules are this project's own.
-use Rattle.std.specs.Prelude.{◌≡◌, ℕ, List, [], Option, false, length, true}
+use Rattle.std.specs.Prelude.{◌≡◌, ℕ, List, [], Option, false, true}
 use Rattle.std.specs.List.{AllByRecursion}
 use Rattle.vr_types.specs.Content.{Content}
-use Rattle.vr_types.specs.Geometry.{area_count}
 use Rattle.vr_types.specs.Seen.{Seen}
 use Rattle.vr_types.specs.declared.geometry.Geometry.{Geometry}
 use Rattle.vr_types.specs.declared.unit.PartNo.{PartNo}
@@ -14,6 +13,7 @@ use Rattle.vr_history.specs.Effects.{has_part, parts_laid}
 use Rattle.vr_history.specs.State.{Owned as OwnedArea, opening_state}
 use Rattle.vr_keyed.specs.Owned.{Owned}
 use Rattle.vr_log.specs.LogNow.{LogNow}
+use Rattle.vr_mount.specs.Areas.{AreOwners}
 use Rattle.vr_space.specs.Part.{part_no}
 use Rattle.vr_event.specs.Opening.{IsOpened, opened_store, owned_in}
 use Rattle.vr_event.specs.Store.{IsSet, PartNow, shape_among}
@@ -42,7 +42,8 @@ opened_now keyed = record {
 }
 
 -- Whatever the blocks have: what was opened is that of a set volume, and its catalog has
--- key-sequenced clusters alone.
+-- key-sequenced clusters alone. An area is owned by the part that the catalog lays in it, and by no
+-- other, and else it is free.
 pub record IsReady (geometry : Geometry) (catalog : List CatEntry) (parts : List PartNow)
     (log : LogNow) (space : List (Option PartNo)) (now : Seen) : Type 0 where
   pub set : IsSet (opened_store log parts space) now
@@ -51,7 +52,7 @@ pub record IsReady (geometry : Geometry) (catalog : List CatEntry) (parts : List
   pub records : log.records ≡ []
   pub sound : log.broken ≡ false
   pub clusters : AreKeyedClusters catalog
-  pub count : length space ≡ area_count geometry
+  pub owners : AreOwners geometry catalog space
   pub owned : AllByRecursion (λ (area : OwnedArea). has_part (parts_laid catalog) area.part ≡ true)
       (owned_in space)
 
@@ -64,11 +65,13 @@ pub record IsReadyFrom (number : ℕ) (geometry : Geometry) (catalog : List CatE
   pub opened : IsOpened number log parts contents new
 
 -- It is held from its opening, with contents to which the blocks recovered before, and each image
--- that a crash may leave of it now recovers to them.
+-- that a crash may leave of it now recovers to them. An area is owned by the part that its catalog
+-- lays in it, and by no other, and else it is free.
 pub record IsOpenHeld {B : Type 0} (seen : B → Seen) (number : ℕ) (old : Seen)
     (volume : VolumeNow B) : Type 0 where
   pub contents : ℕ → Content
-  pub owned : List OwnedArea
+  pub owners : List (Option PartNo)
   pub volume_is : IsVolume number volume.file.geometry contents old
   pub catalog_is : volume.file.catalog ≡ entries_in (contents 0)
-  pub run : HasRun seen (opening_state contents owned) volume.blocks volume
+  pub owners_are : AreOwners volume.file.geometry volume.file.catalog owners
+  pub run : HasRun seen (opening_state contents (owned_in owners)) volume.blocks volume

@@ -1,7 +1,7 @@
 -- What the run of a job comes to on one of its volumes, from its opening to the end. The rules are this
 -- project's own.
 use Rattle.std.specs.Prelude.{◌≡◌, ◌<◌, ◌⊎◌, ℕ, Bool, List, [], None, OnOk, Result, IsErr, IsSome}
-use Rattle.std.specs.Prelude.{◌≤◌, ◌+◌, IsTrue, false}
+use Rattle.std.specs.Prelude.{◌≤◌, ◌+◌, IsTrue, Option, false}
 use Rattle.vr_types.specs.Blocks.{AllForced, Keeps}
 use Rattle.vr_types.specs.Content.{Content}
 use Rattle.vr_types.specs.Faults.{Faults}
@@ -10,14 +10,17 @@ use Rattle.vr_types.specs.Moments.{Guards}
 use Rattle.vr_types.specs.Seen.{Left, Seen}
 use Rattle.vr_types.specs.declared.fault.Failed.{Failed}
 use Rattle.vr_types.specs.declared.geometry.Geometry.{Geometry}
+use Rattle.vr_types.specs.declared.unit.PartNo.{PartNo}
 use Rattle.vr_catalog.specs.Catalog.{entries_in}
 use Rattle.vr_catalog.specs.declared.entry.CatEntry.{CatEntry}
 use Rattle.vr_history.specs.Legal.{IsLegal, state_of}
 use Rattle.vr_history.specs.Merged.{IsStamped}
-use Rattle.vr_history.specs.State.{Owned, opening_state}
+use Rattle.vr_history.specs.State.{opening_state}
 use Rattle.vr_history.specs.declared.entry.Entry.{Entry}
 use Rattle.vr_job_text.specs.declared.text.Step.{Step}
+use Rattle.vr_event.specs.Opening.{owned_in}
 use Rattle.vr_event.specs.Volume.{IsWhole, VolumeNow}
+use Rattle.vr_mount.specs.Areas.{AreOwners}
 use Rattle.vr_recover.specs.Opening.{IsVolume}
 use Rattle.vr_steps.specs.Steps.{AreOfSteps}
 use Rattle.vr_job_ends.specs.declared.job_end.End.{End}
@@ -37,7 +40,8 @@ use Rattle.vr_job.specs.Opened.{IsOpenHeld}
 -- ---- what a run says of a volume
 
 -- The volume was opened: the blocks were one's of this number, which recovered to contents with
--- this catalog; the history is legal from its opening; and each image of each moment is one that a
+-- this catalog; an area is owned by the part that the catalog lays in it, and by no other, and else
+-- it is free; the history is legal from its opening; and each image of each moment is one that a
 -- crash left before, or is left by the history. From the end of its opening on the run is events,
 -- in each of which an image recovers to what is committed by the history before it, perhaps with
 -- the unit whose COMMIT it enters; so it came to what the requests left, and then nothing more is
@@ -49,23 +53,26 @@ pub record IsRun {D : Type 0} (tells : Bool) (seen : D → Seen) (faults : D →
     (catalog : List CatEntry) (end : End) (entries : List Entry) (old ended new : D) : Type 0 where
   pub geometry : Geometry
   pub contents : ℕ → Content
-  pub owned : List Owned
+  pub owners : List (Option PartNo)
   pub volume : IsVolume number geometry contents (seen old)
   pub catalog_is : catalog ≡ entries_in (contents 0)
-  pub legal : IsLegal geometry (opening_state contents owned) entries
+  pub owners_are : AreOwners geometry catalog owners
+  pub legal : IsLegal geometry (opening_state contents (owned_in owners)) entries
   pub moments : Guards (seen old) (seen new) (λ image. Left (seen old) image
-      ⊎ IsLeftBy geometry number (opening_state contents owned) entries image)
+      ⊎ IsLeftBy geometry number (opening_state contents (owned_in owners)) entries image)
   pub opened : D
   pub opens : Guards (seen old) (seen opened) (λ image. Left (seen old) image
       ⊎ Recovers geometry number image contents)
-  pub events : IsOfEvents seen geometry number (opening_state contents owned) opened ended entries
+  pub events : IsOfEvents seen geometry number (opening_state contents (owned_in owners)) opened
+      ended entries
   pub closes : Keeps tells (seen ended) (seen new)
   pub goes : (faults new).writes ≡ (faults old).writes
-      → (state_of geometry (opening_state contents owned) entries).stopped ≡ None
-  pub kept : (state_of geometry (opening_state contents owned) entries).stopped ≡ None
+      → (state_of geometry (opening_state contents (owned_in owners)) entries).stopped ≡ None
+  pub kept : (state_of geometry (opening_state contents (owned_in owners)) entries).stopped ≡ None
       → (image : Image) → Left (seen new) image → RecoversTo geometry number
-      (state_of geometry (opening_state contents owned) entries) [] image
-  pub forced : end ≡ Ran → (state_of geometry (opening_state contents owned) entries).stopped ≡ None
+      (state_of geometry (opening_state contents (owned_in owners)) entries) [] image
+  pub forced : end ≡ Ran
+      → (state_of geometry (opening_state contents (owned_in owners)) entries).stopped ≡ None
       → AllForced (seen new).count (seen new).cur (seen new).may
 
 -- how a job ends by a fault of the device of this volume

@@ -47,7 +47,7 @@ returns-clause-run g c told contents catalog opened =
     let of-parts = subst (λ (p : List PartNow). IsOpened c.args.number t.log p contents now)
     (sym (ap (λ (r : Ready). map laid_now r.parts.items) (same g c))) of-log in
     let held = c.new.ensures.held told contents (same-catalog g c ∙ catalog) is.clusters
-    is.geometry_is is.records is.sound is.count is.owned of-parts in
+    is.geometry_is is.records is.sound is.owners.count is.owned of-parts in
     let whole = c.new.ensures.whole is.set is.geometry_is is.laid in
     let run = opening-run g.B.Blocks.seen (opening_state contents (owned_in t.space)) c.new.result
     c.new.ensures.entries c.new.ensures.stopped whole held

@@ -1,10 +1,12 @@
-use Rattle.std.proofs.Common.{◌∙◌, ◌⊎◌, subst, sym}
+use Rattle.std.proofs.Common.{◌∙◌, ◌⊎◌, List, subst, sym}
 use Rattle.vr_types.specs.Image.{Image}
 use Rattle.vr_types.specs.Moments.{Guards}
 use Rattle.vr_types.specs.Seen.{Left}
 use Rattle.vr_types.specs.declared.geometry.Geometry.{Geometry}
+use Rattle.vr_catalog.specs.declared.entry.CatEntry.{CatEntry}
 use Rattle.vr_event.specs.Opening.{owned_in}
 use Rattle.vr_history.specs.State.{opening_state}
+use Rattle.vr_mount.specs.Areas.{AreOwners}
 use Rattle.vr_recover.specs.Opening.{IsVolume}
 use Rattle.vr_volume.specs.Volume.{Recovers}
 use Rattle.vr_job.specs.Going.{HasRun}
@@ -15,10 +17,14 @@ returns-in-Ok-clause-held g c told =
     let from = c.in-Ok.ensures.from told in
     record {
       contents = from.0;
-      owned = owned_in c.in-Ok.found.value.space;
+      owners = c.in-Ok.found.value.space;
       volume_is = subst (λ (geometry : Geometry). IsVolume c.args.number geometry from.0
           (g.B.Blocks.seen c.args.blocks)) (sym c.made.ensures.geometry) from.1.volume;
       catalog_is = c.made.ensures.catalog ∙ from.1.catalog_is;
+      owners_are = subst (λ (geometry : Geometry). AreOwners geometry c.made.result.file.catalog
+          c.in-Ok.found.value.space) (sym c.made.ensures.geometry)
+          (subst (λ (entries : List CatEntry). AreOwners c.in-Ok.found.value.geometry entries
+          c.in-Ok.found.value.space) (sym c.made.ensures.catalog) c.in-Ok.ensures.ready.owners);
       run = subst (λ (blocks : g.row.B.Denot). HasRun g.B.Blocks.seen
           (opening_state from.0 (owned_in c.in-Ok.found.value.space)) blocks c.made.result)
           (sym c.made.ensures.blocks)
