@@ -157,9 +157,9 @@ fn made<B: Blocks>(alloc: Global, blocks: B, number: u32, found: Box<Ready>) -> 
 /// Opens the volume of this number, on this many blocks, for a run of the decks of a job. `Err` says
 /// how the job ends and hands the blocks back: `Damaged` or `Version` where they are those of no
 /// volume of that number (the block that breaks a rule and the rule, or the version that block 0
-/// states); `DeviceFault` where the device failed; `NoMemory` where memory ran out, where the volume
-/// is one that `open_volume` of `vr_recover` answers so, or where its catalog has other data sets
-/// than key-sequenced clusters, which aren't served yet.
+/// states), and then nothing was put; `DeviceFault` where the device failed; `NoMemory` where memory
+/// ran out, where the volume is one that `open_volume` of `vr_recover` answers so, or where its
+/// catalog has other data sets than key-sequenced clusters, which aren't served yet.
 pub fn open<B: Blocks + Drop>(
     alloc: Global,
     mut blocks: B,
