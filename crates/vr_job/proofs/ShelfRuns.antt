@@ -378,7 +378,6 @@ module _ {D : Type 0} (tells : Bool) (seen : D → Seen) (faults : D → Faults)
         (λ equal. omega (arith, equal, past)) fault);
     faulted = λ same k entry near. absurd (omega (arith, near));
     refused_reads = omega arith;
-    closed = λ told same ran. absurd cc;
     run = λ told. inr (inr (record {
       none = refl;
       same = refl;
@@ -425,7 +424,6 @@ module _ {D : Type 0} (tells : Bool) (seen : D → Seen) (faults : D → Faults)
         (λ same. absurd cc) fault;
     faulted = λ same k entry near. absurd (omega (arith, near));
     refused_reads = omega (arith, is.never_fall.reads);
-    closed = λ told same ran. absurd cc;
     run = λ told. inr (inl (unopened-is line number device left told is));
   }
 

@@ -262,6 +262,5 @@ module _ {D : Type 0} (tells : Bool) (seen : D → Seen) (faults : D → Faults)
     cause = cause;
     faulted = ended-faultless;
     refused_reads = ended-reads;
-    closed = λ told same ran. unstopped-forced (synced ran) told (ended-going same);
     run = λ told. inl (ended-run by synced told);
   }

@@ -125,8 +125,6 @@ pub record IsVolumeRun {D : Type 0} (tells : Bool) (seen : D → Seen) (faults :
   pub cause : HasFaultCause number (faults old) (faults new) end
   pub faulted : (faults new).writes ≡ (faults old).writes → AreFaultless entries
   pub refused_reads : (faults old).reads + read_faults entries ≤ (faults new).reads
-  pub closed : IsTrue tells → (faults new).writes ≡ (faults old).writes → end ≡ Ran
-      → AllForced (seen new).count (seen new).cur (seen new).may
   pub run : IsTrue tells → IsRun tells seen faults number catalog end entries old ended new
       ⊎ IsUnopened tells number end entries (seen old) (seen new)
       ⊎ IsUntouched number end entries old new
