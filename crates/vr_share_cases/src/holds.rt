@@ -6,8 +6,9 @@ use crate::replies::{say_asked, say_entries};
 use std::alloc::Global;
 use std::sync::Wait;
 use std::thread::Threads;
-use vr_case_volumes::{Answer, MAXIMUM, SMALL, Stop, add_lines, entries_of, say, three_volumes};
-use vr_case_volumes::volume_of;
+use vr_case_volumes::{
+    Answer, MAXIMUM, SMALL, Stop, add_lines, entries_of, say, three_volumes, volume_of,
+};
 use vr_device::MemoryDevice;
 use vr_outside::BothHeld;
 

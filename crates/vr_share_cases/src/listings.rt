@@ -5,8 +5,9 @@ use std::alloc::Global;
 use std::fmt::Write;
 use std::sync::Wait;
 use std::thread::Threads;
-use vr_case_volumes::{Answer, MAXIMUM, SMALL, Stop, add_lines, first_volume, run_words, source};
-use vr_case_volumes::volume_of;
+use vr_case_volumes::{
+    Answer, MAXIMUM, SMALL, Stop, add_lines, first_volume, run_words, source, volume_of,
+};
 use vr_device::MemoryDevice;
 use vr_job::run_job;
 use vr_outside::{Gate, MemorySink, MemorySource, OpenGate};

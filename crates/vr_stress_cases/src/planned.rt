@@ -151,11 +151,7 @@ impl Plan {
     /// Adds a PUT of a record that no other turn puts, of the longest or up to 20 bytes shorter.
     fn add_record(&mut self, place: Where, update: &str, number: u32) -> Answer {
         let Where { deck, volume, key } = place;
-        let maximum = if volume == 0 {
-            FIRST_MAXIMUM
-        } else {
-            MAXIMUM
-        };
+        let maximum = if volume == 0 { FIRST_MAXIMUM } else { MAXIMUM };
         write!(
             self.text,
             "PUT F{volume}{update} DATA=C'{key:08}{deck:02}{number:02}"
