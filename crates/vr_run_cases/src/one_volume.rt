@@ -1,4 +1,5 @@
 //! A job that is run on a shelf of one device.
+ghost use Rattle.std.specs.Prelude.{◌≤◌, IfOk, length};
 
 use crate::answers::Stop;
 use crate::numbered::Job;
@@ -36,6 +37,13 @@ fn volume_end(end: ShelfEnd<MemoryDevice>) -> Result<VolumeEnd, Stop> {
     }
 }
 
+/// A shelf of one device.
+fn shelf_of(alloc: Global, device: MemoryDevice) -> Result<Vec<MemoryDevice>, Stop>
+    ensures { IfOk result (λ shelf. length shelf.items ≤ 16) }
+{
+    Ok(Vec::from_array(alloc, [device])?)
+}
+
 /// Runs a job on a device, as volume 0.
 pub fn run_job<R: Threads + Wait + Sync>(
     rt: &R,
@@ -43,8 +51,7 @@ pub fn run_job<R: Threads + Wait + Sync>(
     device: MemoryDevice,
     job: &Job,
 ) -> Result<VolumeEnd, Stop> {
-    let mut shelf = Vec::new(alloc);
-    shelf.push(device)?;
+    let shelf = shelf_of(alloc, device)?;
     match run_volumes(rt, alloc, shelf, job.steps(), &OpenGate) {
         Ok(end) => volume_end(end),
         Err(_) => Err(Stop::Memory),
