@@ -8,7 +8,7 @@ use vr_model::{FileState, OwnedArea, PartContent, PlacedItem, Stored, is_legal};
 use vr_types::{Bytes, Geometry, NAME_LIMIT, Place};
 
 /// Whether entries are a legal history of a new volume of a shape with this one cluster, whose
-/// records have at most so many bytes.
+/// records have at most this many bytes.
 pub fn is_legal_of(
     alloc: Global,
     shape: Geometry,
