@@ -3,7 +3,7 @@
 use vr_types::{Items, PartNo, Place};
 
 /// An alternate index: its part, KEYS(length offset) in bytes of the base record, and UNIQUEKEY.
-#[derive(Clone, Copy, Debug, PartialEq, Eq, Hash)]
+#[derive(Clone, Copy, PartialEq, Eq, Hash)]
 pub struct AltDef {
     pub part: PartNo,
     pub length: u16,
@@ -15,7 +15,7 @@ pub struct AltDef {
 pub type AltList = Items<AltDef>;
 
 /// A pair that an alternate index gets or loses: its part, and the place of the pair there.
-#[derive(Debug, Drop)]
+#[derive(Drop)]
 pub struct PairChange {
     pub part: PartNo,
     pub place: Place,

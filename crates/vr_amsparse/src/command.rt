@@ -61,7 +61,7 @@ pub struct BuildCommand {
 }
 
 /// How PRINT shows a record.
-#[derive(Clone, Copy, Debug, PartialEq, Eq)]
+#[derive(Clone, Copy, PartialEq, Eq)]
 pub enum PrintForm {
     Character,
     Hex,
@@ -85,14 +85,14 @@ pub struct ListCommand {
 }
 
 /// A code that IF tests and SET sets: the last command's, or the greatest of the step.
-#[derive(Clone, Copy, Debug, PartialEq, Eq)]
+#[derive(Clone, Copy, PartialEq, Eq)]
 pub enum CodeVariable {
     LastCode,
     MaxCode,
 }
 
 /// How IF compares a code with its number.
-#[derive(Clone, Copy, Debug, PartialEq, Eq)]
+#[derive(Clone, Copy, PartialEq, Eq)]
 pub enum Comparison {
     Equal,
     NotEqual,
@@ -103,7 +103,7 @@ pub enum Comparison {
 }
 
 /// IF: what has to hold for the branch of THEN.
-#[derive(Clone, Copy, Debug, PartialEq, Eq)]
+#[derive(Clone, Copy, PartialEq, Eq)]
 pub struct Condition {
     pub variable: CodeVariable,
     pub comparison: Comparison,
@@ -111,7 +111,7 @@ pub struct Condition {
 }
 
 /// SET. A number above 16 counts as 16.
-#[derive(Clone, Copy, Debug, PartialEq, Eq)]
+#[derive(Clone, Copy, PartialEq, Eq)]
 pub struct Setting {
     pub variable: CodeVariable,
     pub code: u8,
@@ -134,14 +134,14 @@ pub enum Command {
 }
 
 /// A branch of IF.
-#[derive(Clone, Copy, Debug, PartialEq, Eq)]
+#[derive(Clone, Copy, PartialEq, Eq)]
 pub enum Branch {
     Then,
     Else,
 }
 
 /// The branch that a command stands in: of which IF, by its place in the list, and which branch.
-#[derive(Clone, Copy, Debug, PartialEq, Eq)]
+#[derive(Clone, Copy, PartialEq, Eq)]
 pub struct Within {
     pub node: usize,
     pub branch: Branch,

@@ -5,7 +5,7 @@ use crate::small::{Ask, Keeps, Key, Name, Small};
 
 /// What is answered: done, with the place and whether with its record, or refused, by the number
 /// that the listing shows, with the number that a refusal by the log shows.
-#[derive(Clone, Copy, Debug, PartialEq, Eq)]
+#[derive(Clone, Copy, PartialEq, Eq)]
 pub enum PlainReply {
     Done { place: Option<Key>, record: bool },
     Refused { code: u32 },

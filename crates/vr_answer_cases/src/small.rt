@@ -2,14 +2,14 @@
 //! of two bytes at each key or none, one lock or none, and what a file holds.
 
 /// A key.
-#[derive(Clone, Copy, Debug, PartialEq, Eq)]
+#[derive(Clone, Copy, PartialEq, Eq)]
 pub enum Key {
     A,
     B,
 }
 
 /// A request. A record is its key, where it has room for it, and then zeros.
-#[derive(Clone, Copy, Debug, PartialEq, Eq)]
+#[derive(Clone, Copy, PartialEq, Eq)]
 pub enum Ask {
     Get {
         key: Key,
@@ -35,7 +35,7 @@ pub enum Ask {
 }
 
 /// The read integrity.
-#[derive(Clone, Copy, Debug, PartialEq, Eq)]
+#[derive(Clone, Copy, PartialEq, Eq)]
 pub enum Keeps {
     Nothing,
     Consistent,
@@ -43,7 +43,7 @@ pub enum Keeps {
 }
 
 /// Whether the request's file can be opened.
-#[derive(Clone, Copy, Debug, PartialEq, Eq)]
+#[derive(Clone, Copy, PartialEq, Eq)]
 pub enum Name {
     Known,
     Unknown,
@@ -52,7 +52,7 @@ pub enum Name {
 }
 
 /// The one lock.
-#[derive(Clone, Copy, Debug, PartialEq, Eq)]
+#[derive(Clone, Copy, PartialEq, Eq)]
 pub struct OneLock {
     pub key: Key,
     pub own: bool,
@@ -60,7 +60,7 @@ pub struct OneLock {
 }
 
 /// A state and a request.
-#[derive(Clone, Copy, Debug, PartialEq, Eq)]
+#[derive(Clone, Copy, PartialEq, Eq)]
 pub struct Small {
     pub ask: Ask,
     pub has_a: bool,

@@ -16,7 +16,7 @@ use vr_space::{Layout, LentRange, entry_at, entry_count, read_block};
 use vr_types::{Blocks, DeviceFault};
 
 /// The first block of a part that breaks a rule, and the least rule that it breaks.
-#[derive(Clone, Copy, Debug, PartialEq, Eq)]
+#[derive(Clone, Copy, PartialEq, Eq)]
 pub struct Damage {
     pub block: u32,
     pub rule: Rule,

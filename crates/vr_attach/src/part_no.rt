@@ -5,7 +5,7 @@ ghost use Rattle.vr_attach.specs.declared.part_no.PartNo2.TheVariants.{Fault, Me
 use vr_types::{DeviceFault, OutOfMemory};
 
 /// Why a part could not be attached.
-#[derive(Clone, Copy, Debug, PartialEq, Eq)]
+#[derive(Clone, Copy, PartialEq, Eq)]
 pub enum PartNo2 {
     /// The blocks stand for no content: the first of the walk that breaks a rule, and the number of
     /// the least rule that it breaks, as `Rule` has it.

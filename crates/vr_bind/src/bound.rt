@@ -6,7 +6,7 @@ use std::marker::Model;
 use vr_types::{Bound, OutOfMemory};
 
 /// The requests of a deck, in order.
-#[derive(Debug, Drop)]
+#[derive(Drop)]
 pub struct DeckRequests {
     requests: Vec<Bound>,
 }

@@ -9,7 +9,7 @@ use std::marker::Model;
 use vr_types::{OutOfMemory, Position};
 
 /// The position of a file of a deck. The slot numbers the deck's files from 0.
-#[derive(Debug, Drop)]
+#[derive(Drop)]
 struct FilePosition {
     deck: u32,
     slot: u32,
@@ -18,7 +18,7 @@ struct FilePosition {
 
 /// The positions of the files of all decks on a volume, by deck and slot. A file that was never set
 /// counts as one that stands at its start and holds nothing.
-#[derive(Debug, Drop)]
+#[derive(Drop)]
 pub struct Positions {
     files: Vec<FilePosition>,
 }

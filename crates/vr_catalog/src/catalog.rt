@@ -9,7 +9,7 @@ use std::marker::Model;
 use vr_types::{Name, OutOfMemory, PartNo};
 
 /// The entries of a catalog, in the order of their names.
-#[derive(Debug, Drop)]
+#[derive(Drop)]
 pub struct Catalog {
     entries: Vec<CatEntry>,
 }

@@ -4,7 +4,7 @@ use crate::entry::CatEntry;
 use vr_types::{Items, Name};
 
 /// A change of one catalog record, at the place that is the entry's name.
-#[derive(Debug, Drop)]
+#[derive(Drop)]
 pub enum Change {
     Add(CatEntry),
     Update(CatEntry),

@@ -5,7 +5,7 @@ use vr_types::{Kind, Name};
 
 /// What clusters and alternate indexes are defined with. KEYS of a cluster that isn't key-sequenced
 /// counts for nothing.
-#[derive(Debug, Drop)]
+#[derive(Drop)]
 pub struct DataOptions {
     /// KEYS, in bytes.
     pub key_length: u16,
@@ -30,7 +30,7 @@ pub struct DataOptions {
 }
 
 /// What DEFINE adds. `related` is the name in RELATE or PATHENTRY.
-#[derive(Debug, Drop)]
+#[derive(Drop)]
 pub enum NewEntry {
     Cluster {
         kind: Kind,
@@ -48,14 +48,14 @@ pub enum NewEntry {
 }
 
 /// DEFINE: the name of the new entry, and what it is.
-#[derive(Debug, Drop)]
+#[derive(Drop)]
 pub struct Define {
     pub name: Name,
     pub what: NewEntry,
 }
 
 /// ALTER: the name of an entry, and what it gets.
-#[derive(Debug, Drop)]
+#[derive(Drop)]
 pub struct Alter {
     pub name: Name,
     pub new_name: Option<Name>,

@@ -8,7 +8,7 @@ ghost use Rattle.vr_ci.specs.Reading.{AreLent, IsShown, IsNextBatch, value_in, m
 use std::marker::Model;
 
 /// The records that are left of an RDF or pair, and where it begins.
-#[derive(Clone, Copy, Debug)]
+#[derive(Clone, Copy)]
 struct Batch {
     end: usize,
     left: usize,
@@ -18,7 +18,7 @@ struct Batch {
 
 /// Records with their live marks, from the left end of a block. Contracts see the items that are
 /// still to come.
-#[derive(Debug, Drop)]
+#[derive(Drop)]
 pub struct Records<'a> {
     bytes: &'a [u8],
     low: usize,

@@ -10,7 +10,7 @@ use vr_types::is_block_size;
 
 /// A block that is a control interval. Contracts see its value: shape, items and busy flag. A
 /// segment is one item, and an end of file has none.
-#[derive(Debug, Drop)]
+#[derive(Drop)]
 pub struct CiView<'a> {
     bytes: &'a [u8],
     shape: Shape,

@@ -10,7 +10,7 @@ ghost use Rattle.vr_ci_match.specs.Fault.{HasZeroCidf};
 use crate::compare::number_apart;
 
 /// The control interval definition field.
-#[derive(Clone, Copy, Debug)]
+#[derive(Clone, Copy)]
 pub struct Cidf {
     /// Where the free space begins.
     pub displacement: usize,

@@ -1,7 +1,7 @@
 //! Why a block is not a control interval.
 
 /// What is wrong with a block, and at which byte of it. The causes are tried in this order.
-#[derive(Clone, Copy, Debug, PartialEq, Eq)]
+#[derive(Clone, Copy, PartialEq, Eq)]
 pub enum CiFault {
     /// The length is not an allowed block size; `at` is 0. `vr_ci` tests it: `match_block` never
     /// answers it.

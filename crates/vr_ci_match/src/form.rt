@@ -4,7 +4,7 @@ ghost use Rattle.std.specs.Prelude.{◌≡◌, ◌+◌, ◌-◌, ◌*◌, ◌/�
 ghost use Rattle.vr_ci_match.specs.Layout.{slot_length};
 
 /// How a control interval of records spells them.
-#[derive(Clone, Copy, Debug, PartialEq, Eq)]
+#[derive(Clone, Copy, PartialEq, Eq)]
 pub enum Form {
     /// Records of any lengths; neighbouring live records of one length share a pair of RDFs.
     Plain,
@@ -34,7 +34,7 @@ pub enum Piece {
 }
 
 /// What a control interval holds.
-#[derive(Clone, Copy, Debug, PartialEq, Eq)]
+#[derive(Clone, Copy, PartialEq, Eq)]
 pub enum Shape {
     /// Records, or slots.
     Records,

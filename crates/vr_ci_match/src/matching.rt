@@ -19,7 +19,7 @@ use crate::rdf::{Rdf, unit_before};
 use crate::tally::Tally;
 
 /// What a block was found to hold, and where its RDFs begin.
-#[derive(Clone, Copy, Debug)]
+#[derive(Clone, Copy)]
 pub struct Found {
     pub shape: Shape,
     pub count: usize,

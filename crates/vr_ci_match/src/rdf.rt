@@ -12,7 +12,7 @@ use crate::compare::number_apart;
 use crate::form::{Form, Piece};
 
 /// What one RDF says, or two that are paired.
-#[derive(Clone, Copy, Debug)]
+#[derive(Clone, Copy)]
 pub enum Rdf {
     /// One record of this length, live or withdrawn.
     Single {

@@ -5,7 +5,7 @@ ghost use Rattle.vr_device.specs.declared.image_no.ImageNo.TheVariants.{Memory};
 use vr_types::OutOfMemory;
 
 /// Why no image could be made.
-#[derive(Clone, Copy, Debug, PartialEq, Eq)]
+#[derive(Clone, Copy, PartialEq, Eq)]
 pub enum ImageNo {
     /// The first block for which the choice has no number, or one past the block's contents. The
     /// number of blocks, where the choice is too long.

@@ -23,7 +23,7 @@ use vr_space::Part;
 use vr_types::{Blocks, Find, Refusal, Request, SharedRequest, Unit};
 
 /// Which event a request is.
-#[derive(Clone, Copy, Debug)]
+#[derive(Clone, Copy)]
 enum Event {
     /// A GET of the record at a place.
     Get,

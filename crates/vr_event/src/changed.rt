@@ -10,7 +10,7 @@ use std::alloc::Global;
 use vr_types::{OutOfMemory, Unit};
 
 /// The blocks that a unit changed and that were not forced since.
-#[derive(Debug, Drop)]
+#[derive(Drop)]
 pub struct UnitBlocks {
     pub unit: Unit,
     pub blocks: Vec<u32>,

@@ -48,7 +48,7 @@ use vr_types::{
 };
 
 /// What a GET comes to before it is entered.
-#[derive(Debug, Drop)]
+#[derive(Drop)]
 pub(crate) enum Outcome {
     /// It is refused.
     Refused(Refusal),

@@ -5,7 +5,7 @@ ghost use Rattle.vr_event.specs.declared.no.LookNo.TheVariants.{Fault, Memory};
 use vr_types::{DeviceFault, OutOfMemory};
 
 /// Why a record could not be copied.
-#[derive(Clone, Copy, Debug, PartialEq, Eq)]
+#[derive(Clone, Copy, PartialEq, Eq)]
 pub enum LookNo {
     /// A fault of the device.
     Fault(DeviceFault),

@@ -5,7 +5,7 @@ ghost use Rattle.std.specs.List.{position};
 use vr_types::PartNo;
 
 /// A part with its number.
-#[derive(Debug, Drop)]
+#[derive(Drop)]
 pub struct Laid<P> {
     pub number: PartNo,
     pub part: P,

@@ -21,7 +21,7 @@ use vr_types::{Blocks, OutOfMemory, PartNo, Place, Unit, bytes};
 
 /// What a change of a place takes: its record of the log, whether what is kept of the place is new,
 /// and whether the log has the place already.
-#[derive(Debug, Drop)]
+#[derive(Drop)]
 pub struct Prepared {
     pub rec: LogRecord,
     pub first: bool,

@@ -32,7 +32,7 @@ use vr_space::Part;
 use vr_types::{Blocks, LockNames, OutOfMemory, PartNo, Place, Unit};
 
 /// Why a change isn't made.
-#[derive(Clone, Copy, Debug, PartialEq, Eq)]
+#[derive(Clone, Copy, PartialEq, Eq)]
 pub(crate) enum PutNo {
     /// Out of memory, and nothing is changed.
     Memory,

@@ -37,7 +37,7 @@ use vr_types::{
 };
 
 /// What a PUT or an ERASE comes to before it is made.
-#[derive(Debug, Drop)]
+#[derive(Drop)]
 pub(crate) enum Weighed {
     /// It is refused.
     Refused(Refusal),

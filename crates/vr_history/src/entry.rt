@@ -6,7 +6,7 @@ use vr_types::{AreaNo, DeviceFault, OutOfMemory, PartNo, Place, Reply, SharedReq
 
 /// An entry of a volume's history: what an event did, for which unit of recovery, and at which line
 /// of the job text. Stamps rise within a history. Line 0 is that of what no line asked for.
-#[derive(Debug, Drop)]
+#[derive(Drop)]
 pub struct Entry {
     pub stamp: u64,
     pub unit: Unit,
@@ -30,7 +30,7 @@ impl Entry {
 
 /// What an entry reports: a request, which it shares with its deck, with the reply; a before-image
 /// put back; an area claimed; an interval split; or a device fault that stopped the volume.
-#[derive(Debug, Drop)]
+#[derive(Drop)]
 pub enum What {
     Asked {
         request: SharedRequest,

@@ -8,7 +8,7 @@ use std::marker::Model;
 use vr_types::OutOfMemory;
 
 /// The entries that were made on a volume, in order. Their stamps rise.
-#[derive(Debug, Drop)]
+#[derive(Drop)]
 pub struct History {
     entries: Vec<Entry>,
 }

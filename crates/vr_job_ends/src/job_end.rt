@@ -4,7 +4,7 @@ use vr_job_text::JobText;
 use vr_trace::{EndLine, Histories};
 
 /// How a job came to its end.
-#[derive(Clone, Copy, Debug, PartialEq, Eq)]
+#[derive(Clone, Copy, PartialEq, Eq)]
 pub enum End {
     /// Its steps ran.
     Ran,

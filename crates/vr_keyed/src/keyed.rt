@@ -27,7 +27,7 @@ use vr_types::{Blocks, DeviceFault, OutOfMemory, PartNo, Place, PlaceBuffer, Spa
 /// A key-sequenced part of one area on blocks (DFSMS Using Data Sets, key-sequenced data sets): its
 /// head is a sequence-set record, and its records stand in control intervals. It has the buffers
 /// that its calls need, so that none of them takes memory.
-#[derive(Debug, Drop)]
+#[derive(Drop)]
 pub struct Keyed {
     layout: Layout,
     split: CiSplit,

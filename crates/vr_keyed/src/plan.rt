@@ -25,7 +25,7 @@ use vr_types::{Blocks, DeviceFault, Place};
 
 /// The interval that is to be cut, the free one that gets the upper records, and whether the first
 /// is the last of the part.
-#[derive(Clone, Copy, Debug)]
+#[derive(Clone, Copy)]
 pub struct Target {
     pub old: u16,
     pub into: u16,
@@ -34,7 +34,7 @@ pub struct Target {
 
 /// What a split begins with: its intervals, and the number of the greatest place that stays below
 /// the cut.
-#[derive(Clone, Copy, Debug)]
+#[derive(Clone, Copy)]
 pub struct Plan {
     pub target: Target,
     pub number: usize,

@@ -28,7 +28,7 @@ use vr_types::{Blocks, DeviceFault, Place, StageKind};
 
 /// A split of a control interval under way: the interval that is cut, the one that gets the upper
 /// records, and the stage that is next.
-#[derive(Clone, Copy, Debug, PartialEq, Eq)]
+#[derive(Clone, Copy, PartialEq, Eq)]
 pub struct UnderWay {
     pub old: u16,
     pub into: u16,

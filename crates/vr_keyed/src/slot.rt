@@ -11,7 +11,7 @@ use vr_space::{FoundEntry, Layout};
 use vr_types::{OutOfMemory, PlaceBuffer, empty_place};
 
 /// The interval of a place, as it was met: the range of its entry, its block, and what that had.
-#[derive(Debug, Drop)]
+#[derive(Drop)]
 pub(crate) struct Slot {
     pub(crate) place: PlaceBuffer,
     /// Whether the range has no low place.

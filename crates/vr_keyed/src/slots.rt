@@ -9,7 +9,7 @@ use vr_space::Layout;
 use vr_types::OutOfMemory;
 
 /// The intervals of the last two places that were met, the last one first.
-#[derive(Debug, Drop)]
+#[derive(Drop)]
 pub(crate) struct Slots {
     pub(crate) first: Slot,
     pub(crate) second: Slot,

@@ -15,7 +15,7 @@ use vr_ci::{CiView, CiWriter};
 use vr_space::Layout;
 
 /// Places above the low one, where there is one, and up to the high one, with it or without.
-#[derive(Clone, Copy, Debug)]
+#[derive(Clone, Copy)]
 pub(crate) struct Stretch<'a> {
     pub(crate) low: Option<&'a [u8]>,
     pub(crate) high: &'a [u8],

@@ -21,7 +21,7 @@ const REQUESTS: u32 = 10;
 pub const CALLS: u32 = 33;
 
 /// A call on a table.
-#[derive(Clone, Copy, Debug, PartialEq, Eq)]
+#[derive(Clone, Copy, PartialEq, Eq)]
 pub enum Call {
     /// A unit asks for names, of which 0 to 4 says which.
     Ask {

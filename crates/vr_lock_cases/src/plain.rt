@@ -4,7 +4,7 @@
 use std::alloc::{AllocError, Global};
 
 /// A lock: on which name, of which unit, and whether it is exclusive.
-#[derive(Clone, Copy, Debug, PartialEq, Eq)]
+#[derive(Clone, Copy, PartialEq, Eq)]
 pub struct PlainLock {
     pub name: u8,
     pub unit: u8,

@@ -5,7 +5,7 @@ ghost use Rattle.vr_locks.specs.declared.no.LockNo.TheVariants.{Memory};
 use vr_types::{LockName, Mode, OutOfMemory, Unit};
 
 /// Why a unit doesn't get the names that it asks for.
-#[derive(Debug, Drop, PartialEq, Eq)]
+#[derive(Drop, PartialEq, Eq)]
 pub enum LockNo {
     /// A lock of another unit stands in the way: its holder, its name and its mode.
     Held {

@@ -7,7 +7,7 @@ use std::marker::Model;
 use vr_types::OutOfMemory;
 
 /// What a log says: its generation, 0 where it was never written, and its records in order.
-#[derive(Debug, Drop)]
+#[derive(Drop)]
 pub struct LogContent {
     generation: u64,
     records: Vec<LogRecord>,

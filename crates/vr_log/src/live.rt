@@ -8,7 +8,7 @@ use std::marker::Model;
 use vr_types::{OutOfMemory, Unit};
 
 /// The units of recovery that are live, the first of them first, in room that was reserved.
-#[derive(Debug, Drop)]
+#[derive(Drop)]
 pub(crate) struct Live {
     units: Vec<Unit>,
 }

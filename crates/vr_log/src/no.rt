@@ -6,7 +6,7 @@ use vr_types::DeviceFault;
 
 /// `Full`: the bytes in use and those that the record needs are more than the log has. `Write` and
 /// `Read` are faults of the device.
-#[derive(Clone, Copy, Debug, PartialEq, Eq)]
+#[derive(Clone, Copy, PartialEq, Eq)]
 pub enum LogNo {
     Full { used: u64, need: u64, size: u64 },
     Write,

@@ -5,7 +5,7 @@ ghost use Rattle.vr_log.specs.declared.read_no.LogReadNo.TheVariants.{Fault, Mem
 use vr_types::{DeviceFault, OutOfMemory};
 
 /// Why a log could not be read back, or blocks past its end not be cleared.
-#[derive(Clone, Copy, Debug, PartialEq, Eq)]
+#[derive(Clone, Copy, PartialEq, Eq)]
 pub enum LogReadNo {
     /// The blocks spell no log: the first of them that is misspelled.
     Damaged { block: u32 },

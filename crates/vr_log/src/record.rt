@@ -5,7 +5,7 @@ use std::alloc::Global;
 use vr_types::{Bytes, OutOfMemory, PartNo, Place, Unit};
 
 /// How a unit of recovery ended.
-#[derive(Clone, Copy, Debug, PartialEq, Eq, Hash)]
+#[derive(Clone, Copy, PartialEq, Eq, Hash)]
 pub enum EndKind {
     Committed,
     BackedOut,
@@ -13,7 +13,7 @@ pub enum EndKind {
 
 /// A record of the log: a before-image, which is what was at a place of a part before the unit
 /// first changed it, or the end of a unit.
-#[derive(Debug, Drop)]
+#[derive(Drop)]
 pub enum LogRecord {
     Before {
         unit: Unit,
@@ -53,7 +53,7 @@ impl LogRecord {
 }
 
 /// A before-image without its unit: the part, the place, and the record that was there, if any.
-#[derive(Debug, Drop)]
+#[derive(Drop)]
 pub struct Before {
     pub part: PartNo,
     pub place: Place,
@@ -74,7 +74,7 @@ impl Before {
 }
 
 /// Where a record begins in the log: the block, and the byte in it.
-#[derive(Clone, Copy, Debug, PartialEq, Eq, Hash)]
+#[derive(Clone, Copy, PartialEq, Eq, Hash)]
 pub struct LogPlace {
     pub block: u32,
     pub at: u32,

@@ -40,7 +40,7 @@ use vr_types::{Blocks, DeviceFault, put_eight, put_four};
 
 /// The block of the log to which the next bytes go: its content so far, its index, the bytes used
 /// of it, and the number of blocks of the log. `begun` once a block of the log was forced.
-#[derive(Debug, Drop)]
+#[derive(Drop)]
 pub(crate) struct Tail {
     pub(crate) generation: u64,
     pub(crate) block: Vec<u8>,

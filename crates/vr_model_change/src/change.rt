@@ -112,7 +112,7 @@ pub fn place_changed(
 }
 
 /// What stands at a place of a part from now on, if anything.
-#[derive(Debug, Drop)]
+#[derive(Drop)]
 pub struct PlaceChange {
     pub part: u32,
     pub place: Place,
@@ -202,7 +202,7 @@ pub fn old_record(
 }
 
 /// How a change moves the pair of one alternate index.
-#[derive(Debug, Drop)]
+#[derive(Drop)]
 pub struct KeyMove {
     pub alternate: AlternateIndex,
     pub place: Place,

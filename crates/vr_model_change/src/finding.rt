@@ -21,7 +21,7 @@ use vr_types::{Bytes, Find, OutOfMemory, Place, Request, Stand, Unit, bytes};
 
 /// A record that a read may find: where it comes in the order of the read, its place in the base,
 /// and its bytes.
-#[derive(Debug, Drop)]
+#[derive(Drop)]
 pub struct FoundRecord {
     pub at: Place,
     pub base: Place,

@@ -16,7 +16,7 @@ use vr_model_state::{FileState, base_of, is_live, is_logged, prepended};
 use vr_types::{Bytes, OutOfMemory, Place, Request, Unit, bytes};
 
 /// A place that a change logs, with the record that stood there.
-#[derive(Debug, Drop)]
+#[derive(Drop)]
 pub struct LogImage {
     pub part: u32,
     pub place: Place,

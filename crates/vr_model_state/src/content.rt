@@ -17,7 +17,7 @@ use vr_types::{Bytes, OutOfMemory, Place};
 
 /// What is at a place: a record, or the length of an added entry-sequenced record that was backed
 /// out.
-#[derive(Debug, Drop)]
+#[derive(Drop)]
 pub enum Stored {
     Standing(Bytes),
     Withdrawn(u64),
@@ -46,7 +46,7 @@ impl Stored {
 }
 
 /// A place, and what is there.
-#[derive(Debug, Drop)]
+#[derive(Drop)]
 pub struct PlacedItem {
     place: Place,
     item: Stored,
@@ -96,7 +96,7 @@ impl PlacedItem {
 }
 
 /// The content of a part: its items with their places, in order.
-#[derive(Debug, Drop)]
+#[derive(Drop)]
 pub struct PartContent {
     placed: Vec<PlacedItem>,
 }

@@ -5,7 +5,7 @@ use std::marker::Model;
 use vr_types::Geometry;
 
 /// A geometry that a volume may have.
-#[derive(Debug, Drop)]
+#[derive(Drop)]
 pub struct Shape {
     geometry: Geometry,
 }

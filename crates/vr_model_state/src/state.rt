@@ -10,7 +10,7 @@ use std::marker::Model;
 use vr_types::{Geometry, LockName, Mode, OutOfMemory, Place, Position, Stand, Unit};
 
 /// A lock: on what, of which unit of recovery, and how it is held.
-#[derive(Debug, Drop)]
+#[derive(Drop)]
 pub struct HeldLock {
     pub name: LockName,
     pub unit: Unit,
@@ -39,7 +39,7 @@ impl HeldLock {
 }
 
 /// What stood at a place of a cluster before a unit first changed it.
-#[derive(Debug, Drop)]
+#[derive(Drop)]
 pub struct KeptImage {
     pub unit: Unit,
     pub part: u32,
@@ -88,7 +88,7 @@ pub fn copy_of_stored(alloc: Global, stored: &Option<Stored>) -> Result<Option<S
 }
 
 /// A place for which the log has a before record of a unit.
-#[derive(Debug, Drop)]
+#[derive(Drop)]
 pub struct LoggedPlace {
     pub unit: Unit,
     pub part: u32,
@@ -121,7 +121,7 @@ impl LoggedPlace {
 }
 
 /// An area, and the part that has it.
-#[derive(Debug, Drop)]
+#[derive(Drop)]
 pub struct OwnedArea {
     pub area: u32,
     pub part: u32,
@@ -148,7 +148,7 @@ impl OwnedArea {
 }
 
 /// Where a file of a deck stands, and what it holds for update.
-#[derive(Debug, Drop)]
+#[derive(Drop)]
 pub struct FilePosition {
     pub deck: u32,
     pub slot: u32,
@@ -173,7 +173,7 @@ impl FilePosition {
 /// unit, the areas that are owned, and the stamp of the write fault that stopped it. Of several
 /// contents of one part, positions of one file or numbers of one deck the first counts; a part
 /// without one is empty, a file without one stands at its start, and a deck's first unit is 1.
-#[derive(Debug, Drop)]
+#[derive(Drop)]
 pub struct FileState {
     pub shape: Shape,
     pub contents: Vec<(u32, PartContent)>,

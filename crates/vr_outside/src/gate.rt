@@ -1,7 +1,7 @@
 //! Gates, which a deck's thread passes as it runs.
 
 /// Where a deck's thread passes a gate.
-#[derive(Clone, Copy, Debug, PartialEq, Eq)]
+#[derive(Clone, Copy, PartialEq, Eq)]
 pub enum Spot {
     /// Between two events of the request at a line of the deck, with no latch held.
     Between { deck: u32, line: u32 },
@@ -17,7 +17,7 @@ pub trait Gate {
 }
 
 /// A gate that holds nobody.
-#[derive(Clone, Copy, Debug, PartialEq, Eq)]
+#[derive(Clone, Copy, PartialEq, Eq)]
 pub struct OpenGate;
 
 impl Gate for OpenGate {

@@ -1,7 +1,7 @@
 //! What a command asks for.
 
 /// What words ask for. Their texts are borrowed.
-#[derive(Debug, Clone, Copy, PartialEq, Eq)]
+#[derive(Clone, Copy, PartialEq, Eq)]
 pub enum Plan<'a> {
     /// `run JOB DIR`, and `trace JOB DIR`, which also prints the history: the job is run over the
     /// volumes of a directory. `-` as the job is standard input, and as the directory one volume

@@ -9,7 +9,7 @@ use crate::file::RecordFile;
 use vr_types::OutOfMemory;
 
 /// A deck with the number of its current unit of recovery.
-#[derive(Clone, Copy, Debug)]
+#[derive(Clone, Copy)]
 pub struct DeckNumber {
     pub deck: u32,
     pub number: u32,

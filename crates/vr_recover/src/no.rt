@@ -3,7 +3,7 @@ use std::alloc::AllocError;
 use vr_types::{Failed, OutOfMemory};
 
 /// Why a volume was not formatted.
-#[derive(Clone, Copy, Debug, PartialEq, Eq)]
+#[derive(Clone, Copy, PartialEq, Eq)]
 pub enum FormatNo {
     /// A volume may not have that shape on that device. Nothing was written.
     Geometry,

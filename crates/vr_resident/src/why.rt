@@ -3,7 +3,7 @@ use vr_device::BlockDevice;
 use vr_frames::FrameSeat;
 
 /// Why no resident blocks were made.
-#[derive(Clone, Copy, Debug, PartialEq, Eq)]
+#[derive(Clone, Copy, PartialEq, Eq)]
 pub enum ResidentWhy {
     /// After `got` frames, fewer than 16, the pool had no further one home.
     NoFrames { got: u32 },

@@ -5,7 +5,7 @@ use crate::entry::{SeqEntry, split_entry};
 use std::marker::Model;
 
 /// Gives the entries that are left, in ascending order of their high places, each in constant time.
-#[derive(Debug, Drop)]
+#[derive(Drop)]
 pub struct SeqEntries<'a> {
     pub(crate) bytes: &'a [u8],
     pub(crate) left: usize,

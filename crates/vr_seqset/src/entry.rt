@@ -8,7 +8,7 @@ use std::marker::Model;
 use vr_types::two_at;
 
 /// An entry, borrowed from its block: the intervals that hold its records, and its high place.
-#[derive(Debug, Drop)]
+#[derive(Drop)]
 pub struct SeqEntry<'a> {
     numbers: &'a [u8],
     high: &'a [u8],

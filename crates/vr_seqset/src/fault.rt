@@ -3,7 +3,7 @@ ghost use Rattle.std.specs.Prelude.{◌≡◌};
 
 /// The first rule that a block breaks. The rules are tried in this order, whichever byte is the
 /// first that is wrong.
-#[derive(Clone, Copy, Debug, PartialEq, Eq)]
+#[derive(Clone, Copy, PartialEq, Eq)]
 pub enum SeqFault {
     /// Byte 0 is not `S`, or not `R` in a roster.
     Kind = 1,

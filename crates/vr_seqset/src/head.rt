@@ -1,7 +1,7 @@
 //! What a sequence-set record says beside its entries.
 
 /// What a sequence-set record says beside its entries, for a record that is to be written.
-#[derive(Clone, Copy, Debug)]
+#[derive(Clone, Copy)]
 pub struct SeqHead<'h> {
     /// Whether it is the first of its part's chain.
     pub first: bool,

@@ -10,7 +10,7 @@ use vr_types::{are_zeros, area_field, area_of, four_at, is_block_size, two_at};
 
 /// The roster of an area of an entry-sequenced or relative data set (DFSMS Using Data Sets). A
 /// clause sees what it says.
-#[derive(Debug, Drop)]
+#[derive(Drop)]
 pub struct RosterView<'a> {
     block: &'a [u8],
 }

@@ -17,7 +17,7 @@ use vr_types::{area_of, four_at, two_at};
 /// The sequence-set record of a keyed area (the lowest level of the index of a key-sequenced data
 /// set, DFSMS Using Data Sets). A clause sees what the record says. All that is read is lent out of
 /// the block, and nothing is copied.
-#[derive(Debug, Drop)]
+#[derive(Drop)]
 pub struct SeqView<'a> {
     block: &'a [u8],
 }

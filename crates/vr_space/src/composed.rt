@@ -29,7 +29,7 @@ use crate::room::Room;
 use vr_types::{Blocks, DeviceFault, Place, Space};
 
 /// What one turn did for a record that is to be set.
-#[derive(Clone, Copy, Debug, PartialEq, Eq)]
+#[derive(Clone, Copy, PartialEq, Eq)]
 pub enum Turn {
     /// It was set.
     Set,

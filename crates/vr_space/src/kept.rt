@@ -28,7 +28,7 @@ pub trait Kept {
 }
 
 /// Keeps nothing.
-#[derive(Clone, Copy, Debug, PartialEq, Eq)]
+#[derive(Clone, Copy, PartialEq, Eq)]
 pub struct NoneKept;
 
 impl Kept for NoneKept {

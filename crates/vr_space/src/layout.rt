@@ -12,7 +12,7 @@ use vr_types::PartNo;
 /// of its head, the intervals of an area, the bytes of a block, the length and offset of the key,
 /// and the longest record, which has room in an interval of its own. Each of its blocks has a
 /// number of 32 bits.
-#[derive(Debug, Drop)]
+#[derive(Drop)]
 pub struct Layout {
     pub part: PartNo,
     pub head: u32,

@@ -35,7 +35,7 @@ use crate::part::Part;
 use vr_types::{Blocks, DeviceFault, Place, Space};
 
 /// A record and its place.
-#[derive(Clone, Copy, Debug)]
+#[derive(Clone, Copy)]
 pub struct NewRecord<'a> {
     pub place: &'a Place,
     pub bytes: &'a [u8],

@@ -6,7 +6,7 @@ ghost use Rattle.vr_space.specs.Lent.{range_lent};
 ghost use Rattle.vr_space.specs.Room as room;
 
 /// A range of places: above the low one, where there is one, and up to the high one.
-#[derive(Clone, Copy, Debug)]
+#[derive(Clone, Copy)]
 pub struct LentRange<'a> {
     pub low: Option<&'a [u8]>,
     pub high: &'a [u8],

@@ -2,7 +2,7 @@
 use vr_types::StageKind;
 
 /// Whether a record has room at its place.
-#[derive(Clone, Copy, Debug, PartialEq, Eq)]
+#[derive(Clone, Copy, PartialEq, Eq)]
 pub enum Room {
     /// It may be set.
     Ready,

@@ -22,7 +22,7 @@ use vr_seqset::SeqView;
 
 /// The entry of a head whose range holds a place: its number, its interval, its range, and whether
 /// it is the last.
-#[derive(Clone, Copy, Debug)]
+#[derive(Clone, Copy)]
 pub struct FoundEntry<'a> {
     pub number: usize,
     pub interval: u16,

@@ -2,7 +2,7 @@
 use vr_types::Place;
 
 /// Where a search for the next place begins.
-#[derive(Clone, Copy, Debug)]
+#[derive(Clone, Copy)]
 pub enum Whence<'a> {
     /// At the first place.
     Start,

@@ -29,7 +29,7 @@ use vr_types::{Blocks, DeviceFault, OutOfMemory, PlaceBuffer, StageKind, empty_p
 /// Splits of the control intervals of a keyed part of one area (DFSMS Using Data Sets, control
 /// interval splits), one at a time, each in three stages. What is read and made goes through
 /// buffers of its own, so that no call but `ci_split` takes memory.
-#[derive(Debug, Drop)]
+#[derive(Drop)]
 pub struct CiSplit {
     layout: Layout,
     next: Option<StageKind>,

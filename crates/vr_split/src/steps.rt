@@ -22,7 +22,7 @@ use vr_types::{Blocks, DeviceFault, StageKind};
 
 /// The interval that is split, the free one that gets the upper records, and the greatest place
 /// that stays below the cut.
-#[derive(Clone, Copy, Debug)]
+#[derive(Clone, Copy)]
 pub(crate) struct Halving<'a> {
     pub old: u16,
     pub into: u16,

@@ -34,14 +34,14 @@ use std::marker::Model;
 use vr_types::{OutOfMemory, PlaceBuffer, empty_place};
 
 /// A place, and the length of the longest record there; or room for one.
-#[derive(Debug, Drop)]
+#[derive(Drop)]
 struct Entry {
     place: PlaceBuffer,
     longest: u32,
 }
 
 /// Places with the length of the longest record at each, ascending, in room that was taken once.
-#[derive(Debug, Drop)]
+#[derive(Drop)]
 pub struct Weights {
     entries: Vec<Entry>,
     used: usize,

@@ -13,7 +13,7 @@ use vr_types::{Bytes, OutOfMemory};
 const QUOTE: u8 = b'\'';
 
 /// Why a text is not a literal. Offsets are in bytes.
-#[derive(Clone, Copy, Debug, PartialEq, Eq)]
+#[derive(Clone, Copy, PartialEq, Eq)]
 pub enum LiteralFault {
     /// The text isn't `C'..'` or `X'..'`, or a quote closes it before its end, or none does.
     Unclosed,

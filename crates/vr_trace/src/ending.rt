@@ -9,7 +9,7 @@ use vr_types::{Bytes, OutOfMemory};
 
 /// Which text of a job is at fault: its cards, or a deck, each with the number of the fault; or a
 /// text that is right in form and asks for what isn't run.
-#[derive(Clone, Copy, Debug, PartialEq, Eq)]
+#[derive(Clone, Copy, PartialEq, Eq)]
 pub enum TextKind {
     Card { number: u32 },
     Deck { number: u32 },
@@ -18,7 +18,7 @@ pub enum TextKind {
 
 /// How a job ends that prints one line in place of a listing, or after it. Volumes are numbered
 /// from 0.
-#[derive(Clone, Copy, Debug, PartialEq, Eq)]
+#[derive(Clone, Copy, PartialEq, Eq)]
 pub enum EndLine {
     /// The words are no command.
     NoCommand,

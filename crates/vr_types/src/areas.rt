@@ -21,7 +21,7 @@ use std::alloc::Global;
 use std::marker::Model;
 
 /// The owner of each area of a volume, which is a part or none. An area without an owner is free.
-#[derive(Debug, Drop)]
+#[derive(Drop)]
 pub struct Space {
     owners: Vec<Option<PartNo>>,
 }

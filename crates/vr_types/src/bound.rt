@@ -6,7 +6,7 @@ use crate::shared_request::SharedRequest;
 
 /// A request of a deck with its volume and its line. The COMMIT that is added at a deck's end has
 /// line 0.
-#[derive(Debug, Drop)]
+#[derive(Drop)]
 pub struct Bound {
     pub volume: u32,
     pub line: u32,

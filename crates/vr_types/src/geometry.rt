@@ -4,7 +4,7 @@ ghost use Rattle.vr_types.specs.BlockSize.{IsBlockSize};
 
 /// The shape of a volume: block 0, the log, and then areas of a head block and their intervals. A
 /// call that takes blocks beside a geometry wants that `size` and `blocks` are theirs.
-#[derive(Clone, Copy, Debug, PartialEq, Eq)]
+#[derive(Clone, Copy, PartialEq, Eq)]
 pub struct Geometry {
     /// The bytes of a block.
     pub size: u32,

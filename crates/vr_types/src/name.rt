@@ -16,7 +16,7 @@ pub const NAME_LIMIT: usize = 44;
 const QUALIFIER_LIMIT: usize = 8;
 
 /// The name of a data set, 1 to 44 bytes in capitals: qualifiers joined by dots.
-#[derive(Debug, Drop)]
+#[derive(Drop)]
 pub struct Name {
     bytes: Vec<u8>,
 }
@@ -32,7 +32,7 @@ impl Model for Name {
 }
 
 /// Why a text is not the name of a data set. Offsets and lengths are in bytes.
-#[derive(Clone, Copy, Debug, PartialEq, Eq, Hash)]
+#[derive(Clone, Copy, PartialEq, Eq, Hash)]
 pub enum NameFault {
     /// The text is empty.
     Empty,

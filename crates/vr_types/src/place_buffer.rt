@@ -7,7 +7,7 @@ use std::alloc::Global;
 use std::marker::Model;
 
 /// A place with room for others, for calls that give place after place and take no memory.
-#[derive(Debug, Drop)]
+#[derive(Drop)]
 pub struct PlaceBuffer {
     bytes: Vec<u8>,
     room: u32,

@@ -8,7 +8,7 @@ use std::marker::Model;
 use std::sync::Arc;
 
 /// A request that several owners share. It stands in memory once, and clauses see the request.
-#[derive(Debug, Drop)]
+#[derive(Drop)]
 pub struct SharedRequest {
     request: Arc<Request, Global>,
 }

@@ -8,7 +8,7 @@ use std::alloc::Global;
 use vr_types::{Bytes, OutOfMemory, PartNo, Place, bytes};
 
 /// What was at a place of a part before a unit of recovery first changed it: the record, or none.
-#[derive(Debug, Drop)]
+#[derive(Drop)]
 pub struct Before {
     pub part: PartNo,
     pub place: Place,

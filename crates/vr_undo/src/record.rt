@@ -16,7 +16,7 @@ use vr_types::{OutOfMemory, PartNo, Place, Unit};
 /// What is kept of a unit of recovery for one place. The log has `logged`. The unit may put `kept`
 /// back: it is none for the place of an alternate index, and once it was put back. `logged` is none
 /// where the log had one of the place already, of a change that was put back.
-#[derive(Debug, Drop)]
+#[derive(Drop)]
 pub(crate) struct KeptRecord {
     pub(crate) unit: Unit,
     pub(crate) logged: Option<Before>,

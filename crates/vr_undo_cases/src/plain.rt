@@ -5,7 +5,7 @@ use std::alloc::Global;
 use vr_types::OutOfMemory;
 
 /// A before-image: the call that made it, its unit, part and place, and how long the record was.
-#[derive(Clone, Copy, Debug, PartialEq, Eq)]
+#[derive(Clone, Copy, PartialEq, Eq)]
 pub struct Row {
     pub call: u32,
     pub unit: u32,

@@ -5,7 +5,7 @@ ghost use Rattle.vr_worker.specs.declared.no.RunNo.TheVariants.{Memory};
 use vr_types::OutOfMemory;
 
 /// Why the decks of a step ended before all of their requests were answered.
-#[derive(Clone, Copy, Debug, PartialEq, Eq)]
+#[derive(Clone, Copy, PartialEq, Eq)]
 pub enum RunNo {
     /// A last stamp reached 2^62.
     Stamps,
