@@ -1,5 +1,5 @@
 -- What a change of one base record does to the pairs of the alternate indexes over it, as Using
--- Data Sets tells of upgrading them. Their order is this project's own.
+-- Data Sets describes upgrading them. Their order is this project's own.
 use Rattle.std.specs.Prelude.{ℕ, Bool, false, true, if◌then◌else◌, List, [], ◌∷◌, ◌++◌, Option}
 use Rattle.std.specs.Prelude.{◌==◌}
 use Rattle.std.specs.Prelude.{bytes_eq, filter}

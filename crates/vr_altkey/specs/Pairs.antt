@@ -1,4 +1,4 @@
--- The pairs of an alternate index, as Using Data Sets tells of alternate keys and their pointers:
+-- The pairs of an alternate index, as Using Data Sets describes alternate keys and their pointers:
 -- one pointer for each base record that is long enough for the field. That each is a record of its
 -- own, and their order, are this project's own.
 use Rattle.std.specs.Prelude.{ℕ, ◌+◌, nat_le, if◌then◌else◌, List, [], ◌++◌, length, take, drop}

@@ -1,4 +1,4 @@
--- The command that given parameters make, with its defaults, and what it has to have. The commands and
+-- The command that given parameters make, with its defaults, and what it requires. The commands and
 -- their defaults are those of Access Method Services Commands; that LOG is UNDO is this project's own.
 use Rattle.std.specs.Prelude.{ℕ, Bool, true, ◌&&◌, if◌then◌else◌, List, Option}
 use Rattle.std.specs.Prelude.{Some, None, is_some}
@@ -216,7 +216,7 @@ verify_command tokens given = commands.Verify (name_for tokens given slots.Name)
 abbrev pub examine_command : List Token → List Given → Command
 examine_command tokens given = commands.Examine (name_for tokens given slots.Name)
 
--- what a command has to have
+-- what a command requires
 abbrev pub has : List Given → Slot → Bool
 has given slot = is_some (given_in given slot)
 

@@ -65,7 +65,7 @@ pub enum Act {
     Finish(Section),
     /// The condition of IF has ended.
     Condition,
-    /// The command has ended before what it has to have.
+    /// The command ended before a parameter that it requires.
     Missing,
     /// The token is at fault.
     Bad(AmsCause),

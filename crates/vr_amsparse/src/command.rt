@@ -26,7 +26,7 @@ pub enum Source {
 }
 
 /// The first record: the first of all, the first whose key isn't below this one, or the one after
-/// so many.
+/// a number of them.
 #[derive(Drop)]
 pub enum From {
     Start,

@@ -3,8 +3,8 @@
 use vr_amsparse_grammar::AmsCause;
 
 /// The first fault of a command text: its cause, and the line and the column where it is. Most are
-/// told at the token at which they are seen, where the text ends too early at its end; a parameter
-/// that is missing is told at the first word of its command, a DO without END at the DO.
+/// reported at the token at which they are seen, where the text ends too early at its end; a
+/// missing parameter at the first word of its command, a DO without END at the DO.
 #[derive(Clone, Copy, PartialEq, Eq)]
 pub struct CommandFault {
     pub cause: AmsCause,

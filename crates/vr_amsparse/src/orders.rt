@@ -158,7 +158,7 @@ fn has(given: &[Given], slot: Slot) -> bool
     given_for(given, slot).is_some()
 }
 
-/// Whether the command that ends with this list has what it has to have.
+/// Whether the command that ends with this list has each parameter that it requires.
 pub(crate) fn has_all(section: Section, given: &[Given]) -> bool
     ensures { result ≡ has_all section given.now }
 {

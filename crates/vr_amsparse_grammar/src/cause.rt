@@ -15,7 +15,7 @@ pub enum AmsCause {
     ParameterTwice,
     /// A parameter was given before that excludes this one.
     ParametersExclude,
-    /// The command lacks a parameter that it has to have.
+    /// The command lacks a required parameter.
     ParameterMissing,
     /// Not a name, or not one that may stand there.
     BadName,

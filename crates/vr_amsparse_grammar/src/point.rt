@@ -35,7 +35,7 @@ pub enum Move {
     Give(Given, Point),
     /// The command ends, with the parameters of this list last.
     End(Section),
-    /// The command ends before what it has to have: told at its first word.
+    /// The command ends before a required parameter: reported at its first word.
     Missing,
     /// The token is at fault.
     Bad(AmsCause),

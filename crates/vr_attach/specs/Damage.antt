@@ -71,7 +71,7 @@ pub record EndsPart (part : Keyed) (s : SequenceSet) : Type 0 where
   pub last : (before : List Entry) (entry : Entry) → s.entries ≡ before ++ entry ∷ []
       → entry.high ≡ replicate part.key 255
 
--- Which rules a head breaks, in area `area` of so many. What isn't spelled names no area. An area
+-- Which rules a head breaks, in area `area` of `areas`. What isn't spelled names no area. An area
 -- number of the catalog is no matter of the head.
 abbrev pub HeadBreaks : Keyed → ℕ → ℕ → Block → Rule → Type 0
 HeadBreaks part area areas top rules.AreaNumber =
@@ -147,7 +147,7 @@ pub record IsBadHead (part : Keyed) (area areas : ℕ) (image : Image) (n : ℕ)
     pub block : n ≡ part.head
     pub rule_is : IsLeastBroken (HeadBreaks part area areas (block_at image part.head)) rule
 
--- The part, whose area is `area` of so many, stands for no content: block n is the first that
+-- The part, whose area is `area` of `areas`, stands for no content: block n is the first that
 -- breaks a rule, and this is the least that it breaks.
 abbrev pub IsDamagedAt : Keyed → ℕ → ℕ → Image → ℕ → Rule → Type 0
 IsDamagedAt part area areas image n rule =

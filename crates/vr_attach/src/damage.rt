@@ -101,7 +101,8 @@ fn damage_under<B: Blocks>(
 
 /// The first block of a part that breaks a rule, and the least rule that it breaks: its head, or
 /// the interval of an entry. None where the blocks stand for a content. The part's area is the one
-/// of this number, of so many of the volume. It reads each block once, the head into a buffer.
+/// of this number, and the volume has `areas` of them. It reads each block once, the head into a
+/// buffer.
 pub fn first_damage<B: Blocks>(
     blocks: &mut B,
     layout: &Layout,

@@ -11,7 +11,7 @@ use crate::rule::Rule;
 use vr_seqset::{SeqEntries, SeqView};
 use vr_space::Layout;
 
-/// Whether an area is one of so many, where there is one.
+/// Whether an area, where there is one, is below this number of areas.
 fn is_there(area: Option<u32>, areas: u32) -> bool
     ensures { IsTrue result ↔ IfSome area (λ area. area < areas) }
 {
@@ -21,7 +21,7 @@ fn is_there(area: Option<u32>, areas: u32) -> bool
     }
 }
 
-/// Whether each area that a record names is one of so many.
+/// Whether each area that a record names is below this number of areas.
 fn names_areas(view: &SeqView<'_>, areas: u32) -> bool
     ensures { IsTrue result ↔ NamesAreas areas view.now }
 {
@@ -96,7 +96,7 @@ fn record_rule(layout: &Layout, area: u32, areas: u32, view: &SeqView<'_>) -> Op
     None
 }
 
-/// The least rule that a head breaks, in area `area` of so many.
+/// The least rule that a head breaks, in area `area` of a volume with `areas` areas.
 pub(crate) fn head_rule(layout: &Layout, area: u32, areas: u32, top: &[u8]) -> Option<Rule>
     requires { length top.now ≡ layout.now.size }
     ensures { MatchOption result (IsHead layout.now top.now)

@@ -19,7 +19,7 @@ file_in (requests.EndReq file) = Some file
 file_in requests.Commit = None
 file_in requests.Backout = None
 
--- one of so many volumes, where there are any
+-- one of this many volumes, where there are any
 abbrev pub IsThere : ℕ → ℕ → Type 0
 IsThere count volume = 1 ≤ count → volume < count
 

@@ -1,5 +1,5 @@
 -- Where each file of each deck stands for sequential reading, and which record it holds for update,
--- as Using Data Sets tells it of positioning and of GET for update.
+-- as Using Data Sets describes it for positioning and of GET for update.
 use Rattle.std.specs.Prelude.{◌≡◌, ℕ, Bool, ◌<◌, ◌≤◌, ◌⊎◌, ◌==◌, ◌&&◌, ◌-◌, if◌then◌else◌, List, []}
 use Rattle.std.specs.Prelude.{◌∷◌, length, map, Option, Some, None, unwrap_or, slice_index_or}
 use Rattle.std.specs.Prelude.{vec_len, vec_capacity}

@@ -1,6 +1,6 @@
 -- The deck that lines say, or their first fault: line by line, and word by word from the left. What
--- is missing is told last. The requests are those of Using Data Sets; how a deck is written is this
--- project's own.
+-- is missing is reported last. The requests are those of Using Data Sets; how a deck is written is
+-- this project's own.
 use Rattle.std.specs.Prelude.{◌≡◌, ℕ, ◌+◌, Bool, not, ◌&&◌, ◌||◌, ◌==◌, nat_le, nat_lt, List, []}
 use Rattle.std.specs.Prelude.{◌∷◌, ◌++◌, length, slice_index, bytes_eq, Option, Some, None, Result, Ok, Err}
 use Rattle.std.specs.Prelude.{if◌then◌else◌, is_some}
@@ -185,7 +185,7 @@ with_line deck number text =
     if is_long text then Err causes.UnknownOperand else (if is_comment text then Ok deck else
     with_line_words deck number (words text))
 
--- a fault is told with the number of its line
+-- a fault is reported with the number of its line
 abbrev pub told_at : ℕ → Result DeckText DeckCause → Result DeckText LineFault
 told_at number (Err cause) = Err (record { line = number; cause = cause })
 told_at number (Ok deck) = Ok deck

@@ -105,7 +105,7 @@ with_words rows (Err cause) words = Err cause
 with_words rows (Ok given) [] = Ok given
 with_words rows (Ok given) (word ∷ words) = with_words rows (with_word rows given word) words
 
--- what is missing is told last
+-- what is missing is reported last
 abbrev pub complete : Settles → Result Given DeckCause → Result Given DeckCause
 complete needs (Err cause) = Err cause
 complete needs (Ok given) = if covers given.settles needs then Ok given else Err causes.Operands

@@ -60,7 +60,7 @@ fn take_lines(alloc: Global, deck: &mut DeckText, lines: &Lines) -> Result<(), D
     Ok(())
 }
 
-/// Takes a line into a deck, and tells a fault with the number of the line.
+/// Takes a line into a deck, and reports a fault with the number of the line.
 fn take_numbered(
     alloc: Global,
     deck: &mut DeckText,

@@ -1,4 +1,4 @@
--- The past of a device in memory, from which the images of every moment are told.
+-- The past of a device in memory, which gives the images of every moment.
 use Rattle.std.specs.Prelude.{◌<◌, ◌≡◌, ℕ, List, [], ◌∷◌, ◌++◌, ◌==◌, length, take, slice_get}
 use Rattle.std.specs.Prelude.{slice_index, Option, Some, None, if◌then◌else◌}
 use Rattle.vr_types.specs.Image.{Block, Image, IsImage, block_at}

@@ -52,8 +52,8 @@ abbrev pub NumbersStay : Act → FileNow → FileNow → Type 0
 NumbersStay Done old new = Unit {0}
 NumbersStay (Again given) old new = new.numbers ≡ old.numbers
 
--- The entries that an event added, by what it came to. Their stamps rise above those of the history and
--- above the one that was handed in; and the numbers of other decks' units stay.
+-- The entries that an event added, by how it ended. Their stamps rise above those of the history
+-- and above the one that was handed in; and the numbers of other decks' units stay.
 pub record HasMade (act : Act) (after : ℕ) (unit : UnitOfRecovery) (line : ℕ) (request : Request)
     (old new : FileNow) : Type 0 where
   pub made : List Entry

@@ -43,7 +43,7 @@ pub record Holds {B : Type 0} (seen : B → Seen) (volume : VolumeNow B) : Type 
   pub opening : State
   pub held : IsHeld seen opening volume
 
--- What is told of a volume once a write has failed, before that is entered: its history, and the
+-- What is known of a volume once a write has failed, before that is entered: its history, and the
 -- areas that no part has.
 pub record IsFileHeld {B : Type 0} (opening : State) (volume : VolumeNow B) : Type 0 where
   pub file : IsStateOf opening volume.file

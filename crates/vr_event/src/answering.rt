@@ -38,7 +38,7 @@ impl<P: Part> Store<P> {
 impl<B: Blocks, P: Part> Volume<B, P> {
     /// The first refusal of a direct request of a deck by what is in memory: `NoFile`, `Stopped`,
     /// `NotAllowed`, `BadLength`, and `NoGet` where an update or an erase finds nothing held. None
-    /// of them looks at locks or at the log, so it is told of neither. It takes no memory, and the
+    /// of them looks at locks or at the log, so neither is a parameter. It takes no memory, and the
     /// refusal moves no file.
     pub fn refused_early(&self, alloc: Global, unit: Unit, request: &Request) -> Option<Refusal>
         ensures value { IsTrue B.tells → (opening : State) → IsHeld B.seen opening self.now

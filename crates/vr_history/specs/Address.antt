@@ -68,7 +68,7 @@ next_address size content new = next_after size content new (last_item content)
 abbrev pub slots_in : ℕ → ℕ → ℕ
 slots_in size length = (size - 4) / (length + 3)
 
--- the last interval that a record at a place takes: none is told of a key-sequenced data set, where
+-- the last interval that a record at a place takes: none for a key-sequenced data set, where
 -- the layout decides
 abbrev pub interval_needed : Kind → ℕ → ℕ → List ℕ → ℕ → Option ℕ
 interval_needed Keyed size maximum place length = None

@@ -20,8 +20,8 @@ use Rattle.vr_history.specs.State.{areas_of}
 abbrev pub free_areas : Case → ℕ
 free_areas case = area_count case.geometry - length case.state.owned
 
--- the areas that the place of a changed record needs beside those that its part has: none is told
--- of a key-sequenced data set, where the layout decides
+-- the areas that the place of a changed record needs beside those that its part has: none for
+-- a key-sequenced data set, where the layout decides
 abbrev pub need_at : Case → Definition → List ℕ → List ℕ → Option ℕ
 need_at case definition place bytes =
     option_map (areas_needed case.geometry.area (areas_of case.state (base_of case)))

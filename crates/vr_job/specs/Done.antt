@@ -22,7 +22,7 @@ pub record IsNothing (trace : Trace) : Type 0 where
 
 -- ---- formats
 
--- how a format of so many volumes comes to its end
+-- how a format of this many volumes ends
 pub data IsFormatDone {D : Type 0} (tells : Bool) (seen : D → Seen) (faults : D → Faults)
     (count log area : ℕ) (old new : List D) (end : End) : Type 0 where
   AllFormatted : end ≡ Line (Formatted count) → length old ≡ count → AreAllowed seen log area old
@@ -74,7 +74,7 @@ pub data IsRunDone {D : Type 0} (tells : Bool) (seen : D → Seen) (faults : D �
 
 -- ---- what a job comes to
 
--- How it is shown that a job came to its end so: as it did, or memory ran out as it was printed.
+-- What is shown of how a job ended: as it did, or that memory ran out as it was printed.
 abbrev pub IsShownAs : End → End → Type 0
 IsShownAs end shown = (shown ≡ end) ⊎ ((shown ≡ Line NoMemory) × TakesMemory end)
 
@@ -84,7 +84,7 @@ pub record IsNoCommand {D : Type 0} (old new : List D) (trace : Trace) : Type 0 
   pub end_is : trace.end ≡ Line NoCommand
   pub shelf : new ≡ old
 
--- they ask for so many volumes to be formatted
+-- they ask for this many volumes to be formatted
 pub record IsFormatJob {D : Type 0} (tells : Bool) (seen : D → Seen) (faults : D → Faults)
     (count log area : ℕ) (old new : List D) (trace : Trace) : Type 0 where
   pub nothing : IsNothing trace

@@ -51,7 +51,7 @@ pub(crate) fn not_run<D: BlockDevice>(alloc: Global, line: EndLine, shelf: Vec<D
     }
 }
 
-/// Formats the devices as so many volumes, with numbers as the command states them.
+/// Formats the devices as this many volumes, with numbers as the command states them.
 fn format_all<D: BlockDevice>(
     alloc: Global,
     shelf: &mut Vec<D>,
@@ -77,7 +77,7 @@ fn format_all<D: BlockDevice>(
     )
 }
 
-/// Formats the devices as so many volumes, and tells how that came to its end.
+/// Formats the devices as this many volumes, and says how that ended.
 pub(crate) fn format_shelf<D: BlockDevice>(
     alloc: Global,
     mut shelf: Vec<D>,

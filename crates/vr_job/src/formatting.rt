@@ -99,11 +99,11 @@ fn format_each<D: BlockDevice>(
     Ok(())
 }
 
-/// Formats so many devices, 1 to 16, as volumes 0, 1 and on, with this many blocks of log and this many
-/// intervals an area. `Err` says how the job ends: `Shelf` exactly where there are more or fewer
-/// devices; `Geometry` exactly where a volume may not have that shape on one of them, the first one,
-/// and then none is written to; `DeviceFault` only where a write or the sync of that device failed;
-/// `NoMemory` where memory ran out.
+/// Formats this many devices, 1 to 16, as volumes 0, 1 and on, with this many blocks of log and
+/// this many intervals an area. `Err` says how the job ends: `Shelf` exactly where there are more
+/// or fewer devices; `Geometry` exactly where a volume may not have that shape on one of them, the
+/// first one, and then none is written to; `DeviceFault` only where a write or the sync of that
+/// device failed; `NoMemory` where memory ran out.
 pub(crate) fn format_devices<D: BlockDevice>(
     alloc: Global,
     devices: &mut [D],

@@ -75,7 +75,7 @@ pub fn run_job<R: Threads + Wait + Sync, S: Source, K: Sink, D: BlockDevice + Se
     // What was printed, and the status, are those of the trace.
     ensures status { IsStatus (K.faults output.old) (K.faults output.new) result.trace
         result.status }
-    // Of a job whose steps ran it is 8 at most, or 28, so it tells how each other job ended.
+    // Of a job whose steps ran it is 8 at most, or 28, so it says how each other job ended.
     ensures ran { result.trace.end ≡ Ran → (result.status ≤ 8) ⊎ (result.status ≡ 28) }
     ensures printed { IsPrinted (K.taken output.old) (K.taken output.new) (K.faults output.old)
         (K.faults output.new) (printed_of result.trace) }

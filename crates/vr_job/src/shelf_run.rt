@@ -45,7 +45,7 @@ struct Room<D: BlockDevice> {
     histories: Vec<History>,
 }
 
-/// Room for so many volumes.
+/// Room for this many volumes.
 fn make_room<D: BlockDevice>(alloc: Global, count: usize) -> Result<Room<D>, OutOfMemory>
     ensures volumes { IfOk result (λ room. (room.volumes.items ≡ [])
         × (count ≤ vec_capacity room.volumes)) }

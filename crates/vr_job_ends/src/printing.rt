@@ -152,7 +152,7 @@ fn print_made<D, K: Sink>(
         result.status }
     ensures printed { IsPrinted (K.taken output.old) (K.taken output.new) (K.faults output.old)
         (K.faults output.new) (ends.printed_of result.trace) }
-    // Of a job that came through, no failure of the sink is hidden.
+    // Where the job came through, a failure of the sink shows in the status.
     ensures told { IsThrough result.trace.end → result.status ≢ 28
         → Takes (K.taken output.old) (K.taken output.new) (ends.printed_of result.trace) }
     ensures trace { result.trace ≡ record trace { end = result.trace.end } }
@@ -191,7 +191,7 @@ pub fn print_end<D, K: Sink>(
         result.status }
     ensures printed { IsPrinted (K.taken output.old) (K.taken output.new) (K.faults output.old)
         (K.faults output.new) (ends.printed_of result.trace) }
-    // Of a job that came through, no failure of the sink is hidden.
+    // Where the job came through, a failure of the sink shows in the status.
     ensures told { IsThrough result.trace.end → result.status ≢ 28
         → Takes (K.taken output.old) (K.taken output.new) (ends.printed_of result.trace) }
     ensures trace { result.trace ≡ record trace { end = result.trace.end } }

@@ -1,6 +1,6 @@
 -- The decks of a step. They are read in the order of the text, so that the first fault there is
--- told, and kept in the order of their numbers. Orders that a deck may have and that aren't run yet
--- are told too, each at its line; where a line has another fault, that one is told.
+-- reported, and kept in the order of their numbers. Orders that a deck may have and that aren't run
+-- yet are reported too, each at its line; where a line has another fault, that one is reported.
 use Rattle.std.specs.Prelude.{ℕ, Bool, true, false, not, nat_lt, List, [], ◌∷◌, filter, find, insert}
 use Rattle.std.specs.Prelude.{Option, Some, None, is_some, Result, Ok, Err}
 use Rattle.std.specs.List.{prefix_len}
@@ -62,7 +62,7 @@ orders_of (Ok deck) = deck.orders
 abbrev pub orders_before : List Line → ℕ → List Order
 orders_before lines number = orders_of (deck_of (lines_before lines number))
 
--- an order that isn't run is told before a fault on a later line
+-- an order that isn't run is reported before a fault on a later line
 abbrev pub first_fault : LineFault → Option ℕ → TextFault
 first_fault fault None = deck_fault fault.line fault.cause
 first_fault fault (Some line) = form_fault line

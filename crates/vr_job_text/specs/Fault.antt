@@ -28,7 +28,7 @@ wrong cause column = record { cause = cause; column = column }
 abbrev pub card_fault : ℕ → CardFault → TextFault
 card_fault line fault = record { kind = Card fault.cause; line = line; column = fault.column }
 
--- a fault of a deck is told at its line, in column 1
+-- a fault of a deck is reported at its line, in column 1
 abbrev pub deck_fault : ℕ → DeckCause → TextFault
 deck_fault line cause = record { kind = Deck cause; line = line; column = 1 }
 

@@ -1,7 +1,7 @@
 -- The job that a text says, or its first fault. Lines are read in order, and the fault of a card is
--- told as its line is read; the text of a step is read where the step ends, at the next EXEC card or
--- at the end of the text. The cards are those of MVS JCL; how decks stand in a job is this project's
--- own.
+-- reported as its line is read; the text of a step is read where the step ends, at the next EXEC
+-- card or at the end of the text. The cards are those of MVS JCL; how decks stand in a job is this
+-- project's own.
 use Rattle.std.specs.Prelude.{◌≡◌, ℕ, ◌+◌, ◌==◌, Bool, not, ◌&&◌, nat_le, List, [], ◌∷◌, ◌++◌, length}
 use Rattle.std.specs.Prelude.{codes, bytes_eq, sum_by, Option, Some, None, Result, Ok, Err}
 use Rattle.std.specs.Prelude.{if◌then◌else◌}

@@ -26,8 +26,8 @@ pub record IsAttachedTo (part : Keyed) (keyed : Owned) : Type 0 where
   pub met : keyed.met ≡ []
   pub put : keyed.put ≡ []
 
--- The blocks of the part, whose area is `area` of so many, are damaged: this block is the first that
--- breaks a rule, and this is the number of the least rule that it breaks.
+-- The blocks of the part, whose area is `area` of `areas`, are damaged: this block is the first
+-- that breaks a rule, and this is the number of the least rule that it breaks.
 pub record IsRuleShown (part : Keyed) (area areas : ℕ) (image : Image) (block number : ℕ) : Type 0
   where
     pub rule : Rule

@@ -32,8 +32,9 @@ fn layout_for(geometry: &Geometry, entry: &CatEntry, area: AreaNo, length: u16) 
 }
 
 impl Keyed {
-    /// The part of a layout, as its blocks stand: with no split under way, and nothing met. Its area
-    /// is the one of this number, of so many of the volume. The answers are those of `attach`.
+    /// The part of a layout, as its blocks stand: with no split under way, and nothing met. Its
+    /// area is the one of this number, and the volume has `areas` of them. The answers are those of
+    /// `attach`.
     pub fn attach_layout<B: Blocks>(
         alloc: Global,
         blocks: &mut B,

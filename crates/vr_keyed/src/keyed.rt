@@ -118,7 +118,7 @@ impl Keyed {
     }
 
     /// The first damage of the part's blocks, if there is one. The part's area is the one of this
-    /// number, of so many of the volume.
+    /// number, and the volume has `areas` of them.
     pub(crate) fn first_damage<B: Blocks>(
         &mut self,
         blocks: &mut B,
@@ -138,7 +138,7 @@ impl Keyed {
     }
 
     /// Whether each interval of the part has room for what is kept for its range, beside its
-    /// records: what a volume that is opened has to have before its before-images are put back. It
+    /// records: what the volume needs before its before-images can be put back. It
     /// reads the head and each interval of an entry once.
     pub fn has_rooms<B: Blocks, K: Kept>(
         &mut self,

@@ -46,7 +46,8 @@ impl LockMaps {
         }
     }
 
-    /// Takes the numbers of a request that came to nothing back from under its names and its unit.
+    /// Removes the lock numbers of a request that failed from the lists of its names and of its
+    /// unit.
     fn forget(&mut self, unit: Unit, names: &[LockName], first: u64)
         requires kept { IsConsistent self.old self.old.next }
         requires within { first + length names.now ≤ self.old.next }

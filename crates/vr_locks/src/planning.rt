@@ -79,7 +79,7 @@ impl LockMaps {
         Ok(steps)
     }
 
-    /// Takes a number that no lock has back from under a name and a unit.
+    /// Removes a number that no lock has from the lists of a name and of a unit.
     pub(crate) fn forget_one(&mut self, unit: Unit, name: &LockName, number: u64)
         requires kept { IsConsistent self.old self.old.next }
         requires unused { lock_at self.old number ≡ None }

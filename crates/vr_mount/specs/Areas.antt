@@ -27,7 +27,7 @@ abbrev pub AreOn : Geometry → List CatEntry → Type 0
 AreOn geometry entries = (part : ℕ) (shape : Shape) → shape_in geometry entries part ≡ Some shape
     → EndsBefore geometry.blocks shape
 
--- the area that an entry lays is one of so many
+-- the area that an entry lays is below this number of areas
 abbrev pub IsBelow : ℕ → CatEntry → Type 0
 IsBelow areas entry = IfSome (laid_area entry) (λ area. area < areas)
 

@@ -1,5 +1,5 @@
--- The numbers of entries that are told apart: those of their parts, and of the areas that they lay.
--- The rules are this project's own.
+-- The numbers of entries that have to be distinct: those of their parts, and of the areas that they
+-- lay. The rules are this project's own.
 use Rattle.std.specs.Prelude.{ℕ, List, ◌∷◌, Option, Some, None, nat_eq}
 use Rattle.std.specs.List.{AllByRecursion, IsDistinct, filter_map}
 use Rattle.std.specs.Prelude.{◌≡◌, false}

@@ -25,7 +25,7 @@ pub fn are_apart(catalog: &Catalog) -> bool
     are_told_apart(catalog.as_slice(), Which::Area)
 }
 
-/// Whether the area that an entry lays, if it lays one, is one of so many.
+/// Whether the area that an entry lays, if it lays one, is below this number of areas.
 fn is_below(entry: &CatEntry, areas: u32) -> bool
     ensures { IsTrue result ↔ IsBelow areas entry.now }
 {
@@ -50,7 +50,7 @@ pub fn are_on(geometry: &Geometry, catalog: &Catalog) -> bool
     0 < areas && are_below(catalog.as_slice(), areas)
 }
 
-/// Marks the area that an entry lays as its part's.
+/// Marks the area that an entry lays as owned by its part.
 fn mark_one(owners: &mut Space, entry: &CatEntry)
     requires { IsBelow (length owners.old) entry.now }
     ensures { owners.new ≡ marked area_of part_of owners.old entry.now }

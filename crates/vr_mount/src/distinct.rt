@@ -1,4 +1,4 @@
-//! Whether the numbers of entries are told apart.
+//! Whether the numbers of entries are distinct.
 ghost use Rattle.std.specs.Prelude.{◌≡◌, ◌↔◌, IsTrue};
 ghost use Rattle.std.specs.List.{IsDistinct};
 ghost use Rattle.std.specs.Prelude.{nat_eq};

@@ -39,13 +39,13 @@ impl Passes {
         self.passed.load(Ordering::SeqCst)
     }
 
-    /// Whether so many are counted.
+    /// Whether this many are counted.
     pub fn is_at(&self, wanted: u32) -> bool {
         self.count() >= wanted
     }
 
-    /// Waits until so many are counted, or it has looked 20,000,000 times. It lets other threads run
-    /// each time.
+    /// Waits until this many are counted, or it has looked 20,000,000 times. It lets other threads
+    /// run each time.
     pub fn wait(&self, wanted: u32) {
         for _ in 0..LIMIT {
             if self.is_at(wanted) {

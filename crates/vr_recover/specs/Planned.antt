@@ -98,13 +98,13 @@ pub record IsCluster (geometry : Geometry) (entry : CatEntry) : Type 0 where
   pub head : HasHead (cluster_keyed geometry 0 entry)
   pub most : entry.maximum + 7 ≤ geometry.size
 
--- the first clusters, so many, have no record
+-- the first clusters, this many, have no record
 abbrev pub AreEmpty : Geometry → List CatEntry → ℕ → Image → Type 0
 AreEmpty geometry clusters n image = (at : ℕ) (entry : CatEntry) → at < n
     → slice_get clusters at ≡ Some entry
     → StandsFor (KeyedShape (cluster_keyed geometry (at + 1) entry)) image []
 
--- the areas of so many clusters
+-- the areas of this many clusters
 abbrev pub InClusters : Geometry → ℕ → ℕ → Type 0
 InClusters geometry clusters n =
     (head_block geometry 1 ≤ n) × (n < head_block geometry (clusters + 1))

@@ -64,7 +64,7 @@ impl Laid {
     }
 }
 
-/// A part of a layout, whose area is the one of this number, of so many, as its blocks stand.
+/// The part of a layout as its blocks stand, in the area of this number; the volume has `areas`.
 fn attach_part<B: Blocks>(
     alloc: Global,
     blocks: &mut B,
@@ -93,7 +93,7 @@ fn attach_part<B: Blocks>(
     }
 }
 
-/// Attaches the part of a layout, whose area is the one of this number, of so many, and adds it.
+/// Attaches the part of a layout, in the area of this number, and adds it; the volume has `areas`.
 pub(crate) fn add_part<B: Blocks>(
     alloc: Global,
     blocks: &mut B,

@@ -19,7 +19,7 @@ fn numbers_of(alloc: Global, count: u32) -> Result<Vec<u32>, OutOfMemory>
     Ok(numbers)
 }
 
-/// Forces all blocks, of which there are so many: a crash leaves what is read.
+/// Forces all blocks, `count` of them: a crash leaves what is read.
 pub(crate) fn sync_all<B: Blocks>(alloc: Global, blocks: &mut B, count: u32) -> Result<(), OpenNo>
     requires { (B.seen blocks.old).count ≡ count }
     ensures forced { IsTrue B.tells → OnOk result (AllForced (B.seen blocks.new).count

@@ -160,9 +160,10 @@ impl<D: BlockDevice> Resident<D> {
         let _ = &self.device;
     }
 
-    /// Writes so many changed blocks, or all where there are fewer, the least recently used first,
-    /// and answers how many. It doesn't sync. `Write` comes where a write of the device failed: the
-    /// blocks that were written before are not changed any more, and the others still are.
+    /// Writes this many changed blocks, or all where there are fewer, the least recently used
+    /// first, and answers how many. It doesn't sync. `Write` comes where a write of the device
+    /// failed: the blocks that were written before are not changed any more, and the others still
+    /// are.
     pub fn flush_turn(&mut self, most: u32) -> Result<u32, DeviceFault>
         ensures flushed { IfOk result (λ k. IsFlushed k self.old.frames self.new.frames) }
         ensures count { IfOk result (λ k. k

@@ -82,7 +82,7 @@ pub(crate) fn force<D: BlockDevice>(
     }
 }
 
-/// Writes so many changed blocks, or all where there are fewer, the least recently used first.
+/// Writes this many changed blocks, or all where there are fewer, the least recently used first.
 pub(crate) fn flush<D: BlockDevice>(
     device: &mut D,
     frames: &mut Frames,

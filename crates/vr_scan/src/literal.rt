@@ -59,7 +59,7 @@ pub(crate) fn take_word(cursor: &mut Cursor, draft: &mut Draft) -> Result<(), Ou
     Ok(())
 }
 
-/// The first character, where a word goes on with it.
+/// The next character, where it belongs to the word that is being read.
 fn word_character(cursor: &Cursor) -> Option<Mark>
     ensures { IsNextOfWord cursor.now result }
 {

@@ -163,8 +163,8 @@ IsFirm shape now place = (item : Option (List ℕ)) → MayHold shape now.may pl
 
 -- ---- what calls answer
 
--- what stands in the way of a record of this length at this place, with so many free areas and with
--- this kept
+-- what stands in the way of a record of this length at this place, with this many free areas and
+-- with this kept
 abbrev pub room_of : Shape → Option SplitNow → Image → ℕ → Lengths → List ℕ → ℕ → Room
 room_of (KeyedShape part) split image free kept place n = keyed_room part split image kept place n
 

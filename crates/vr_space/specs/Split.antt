@@ -21,7 +21,7 @@ pub record SplitNow : Type 0 where
   pub cut : List ℕ
   pub stage : StageKind
 
--- the least number from n on, of so many, that isn't among these
+-- the least of this many numbers from n on that isn't among these
 abbrev pub free_from : ℕ → ℕ → List ℕ → Option ℕ
 free_from zero n used = None
 free_from (suc k) n used = if list_any (nat_eq n) used then free_from k (suc n) used else Some n

@@ -4,7 +4,7 @@
 use Rattle.std.specs.Prelude.{ℕ, ◌+◌, ◌*◌, ◌<◌, ◌≤◌, length, take}
 use Rattle.vr_space.specs.Room.{Lengths, weight}
 
--- so many first places have half of the weight at least
+-- the first places, this many, have half of the weight at least
 abbrev pub HaveHalf : Lengths → ℕ → Type 0
 HaveHalf lengths n = weight lengths ≤ 2 * weight (take n lengths)
 

@@ -11,7 +11,7 @@ lengths_seen entries = map (λ (entry : Entry). (entry.place.place, entry.longes
 abbrev pub HaveBytes : ℕ → List Entry → Type 0
 HaveBytes bytes entries = All (λ (entry : Entry). entry.place.room ≡ bytes) entries
 
--- so many first entries are used, at ascending places, and each has room for a place
+-- the first entries, this many, are used, at ascending places, and each has room for a place
 pub record AreReady (entries : List Entry) (used bytes : ℕ) : Type 0 where
   pub within : used ≤ length entries
   pub few : length entries < 2 ^ 31

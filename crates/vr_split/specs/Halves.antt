@@ -32,7 +32,7 @@ pub record IsBusyCopy (part : Keyed) (block bytes : Block) : Type 0 where
   pub records : records_of part bytes ≡ records_of part block
   pub busy : is_busy bytes ≡ true
 
--- so many first keys come before a range that begins at the low place
+-- the first keys, this many, come before a range that begins at the low place
 abbrev pub AreBefore : List (List ℕ) → Option (List ℕ) → ℕ → Type 0
 AreBefore keys None n = n ≡ 0
 AreBefore keys (Some low) n = AreUpTo keys low n

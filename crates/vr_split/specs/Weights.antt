@@ -13,7 +13,7 @@ pub record LengthsRoom : Type 0 where
   pub count : ℕ
   pub bytes : ℕ
 
--- so many places are below this one, and the others at it or past it
+-- this many places are below this one, and the others at it or past it
 pub record IsPosition (lengths : Lengths) (place : List ℕ) (n : ℕ) : Type 0 where
   pub within : n ≤ length lengths
   pub below : All (λ (entry : List ℕ × ℕ). place_cmp entry.0 place ≡ Less) (take n lengths)

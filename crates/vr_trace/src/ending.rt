@@ -51,7 +51,7 @@ pub enum EndLine {
     Geometry {
         volume: u32,
     },
-    /// There are so many devices, and that isn't allowed.
+    /// There are this many devices, and that isn't allowed.
     Shelf {
         devices: u64,
     },

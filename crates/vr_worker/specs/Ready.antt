@@ -76,7 +76,7 @@ volume_at [] place = None
 volume_at (volume ∷ volumes) zero = Some volume
 volume_at (volume ∷ volumes) (suc place) = volume_at volumes place
 
--- a turn at the ledger of each of so many volumes
+-- a turn at the ledger of each of this many volumes
 pub record HasTurns (tables : ℕ → TableId) (count : ℕ) (seat : Seat) : Type 0 where
   pub turns : AreTurns tables seat.deck seat.turns.items
   pub many : length seat.turns.items ≡ count

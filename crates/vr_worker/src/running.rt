@@ -25,7 +25,7 @@ struct Room<V: Served, N: Names<V>> {
     back: Vec<V>,
 }
 
-/// Room for so many volumes.
+/// Room for this many volumes.
 fn make_room<V: Served, N: Names<V>>(alloc: Global, count: usize) -> Result<Room<V, N>, OutOfMemory>
     ensures latches { IfOk result (λ room. (room.latches.items ≡ [])
         × (count ≤ vec_capacity room.latches)) }

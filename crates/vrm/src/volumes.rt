@@ -31,8 +31,8 @@ pub fn open_volumes<R: AllocGlobal + Files<File = File>>(
     Ok(shelf)
 }
 
-/// New files for so many volumes of this shape. Where no volume may have the shape, the files that
-/// are there are opened instead, and stay as they are.
+/// New files for this many volumes of this shape. Where no volume may have the shape, the files
+/// that are there are opened instead, and stay as they are.
 pub fn new_volumes<R: AllocGlobal + Files<File = File>>(
     rt: &R,
     dir: &str,
