@@ -13,7 +13,7 @@ use Rattle.vr_job_text.specs.declared.text.Step.{Step}
 use Rattle.vr_event.specs.Volume.{VolumeNow}
 use Rattle.vr_recover.specs.declared.open_no.OpenNo.{OpenNo}
 use Rattle.vr_recover.specs.declared.open_no.OpenNo.TheVariants as opens
-use Rattle.vr_steps.specs.Steps.{AreOfSteps, AreSinceSteps, HasAsked, IsSinceSteps}
+use Rattle.vr_worker.specs.Steps.{AreOfSteps, AreSinceSteps, HasAsked, IsSinceSteps}
 use Rattle.vr_job_ends.specs.declared.job_end.End.{End}
 use Rattle.vr_job_ends.specs.declared.job_end.End.TheVariants.{Line, Ran, Unsynced}
 use Rattle.vr_trace.specs.Laws.{AreRising, of_deck}

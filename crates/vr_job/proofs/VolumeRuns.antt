@@ -254,7 +254,7 @@ module _ {D : Type 0} (tells : Bool) (seen : D → Seen) (faults : D → Faults)
       device
   volume-run by synced cause = record {
     stamped = ended-stamped;
-    of_steps = subst (Rattle.vr_steps.specs.Steps.AreOfSteps steps) (sym ended.entries_are)
+    of_steps = subst (Rattle.vr_worker.specs.Steps.AreOfSteps steps) (sym ended.entries_are)
         ended.of_steps;
     never_fall = so-far;
     never_fall_closing = ended.closed.counts;

@@ -8,7 +8,7 @@ use Rattle.vr_catalog.specs.declared.entry.CatEntry.{CatEntry}
 use Rattle.vr_history.specs.Merged.{last_stamp}
 use Rattle.vr_history.specs.declared.entry.Entry.{Entry}
 use Rattle.vr_job_text.specs.declared.text.Step.{Step}
-use Rattle.vr_steps.specs.Steps.{HasAsked}
+use Rattle.vr_worker.specs.Steps.{HasAsked}
 use Rattle.vr_job_ends.specs.declared.job_end.End.{End}
 use Rattle.vr_job_ends.specs.declared.job_end.End.TheVariants.{Line, Ran, Unsynced}
 use Rattle.vr_trace.specs.declared.ending.EndLine.{EndLine}

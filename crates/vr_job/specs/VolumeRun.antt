@@ -22,7 +22,7 @@ use Rattle.vr_event.specs.Opening.{owned_in}
 use Rattle.vr_event.specs.Volume.{IsWhole, VolumeNow}
 use Rattle.vr_mount.specs.Areas.{AreOwners}
 use Rattle.vr_recover.specs.Opening.{IsVolume}
-use Rattle.vr_steps.specs.Steps.{AreOfSteps}
+use Rattle.vr_worker.specs.Steps.{AreOfSteps}
 use Rattle.vr_job_ends.specs.declared.job_end.End.{End}
 use Rattle.vr_job_ends.specs.declared.job_end.End.TheVariants.{Line, Ran, Unsynced}
 use Rattle.vr_trace.specs.declared.ending.EndLine.{EndLine}

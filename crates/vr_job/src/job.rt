@@ -2,8 +2,8 @@
 ghost use Rattle.std.specs.Prelude.{◌≡◌, ◌≢◌, ◌≤◌, ◌⊎◌, ℕ, Bool, List, None, Some, bytes_eq};
 ghost use Rattle.std.specs.Prelude.{codes};
 ghost use Rattle.vr_outside.specs.Told.{Takes};
-ghost use Rattle.vr_plan.specs.Asked.{Format, Run};
-ghost use Rattle.vr_plan.specs.Command.{plan_of};
+ghost use Rattle.vr_job_ends.specs.Asked.{Format, Run};
+ghost use Rattle.vr_job_ends.specs.Command.{plan_of};
 ghost use Rattle.vr_job_ends.specs.Ends.{IsPrinted, IsStatus, IsThrough, printed_of};
 ghost use Rattle.vr_job_ends.specs.declared.job_end.End.TheVariants.{Ran};
 ghost use Rattle.vr_job.specs.Done.{IsFormatDone, IsFormatJob, IsNoCommand, IsNothing, IsRunDone};
@@ -14,9 +14,8 @@ use std::alloc::Global;
 use std::sync::Wait;
 use std::thread::Threads;
 use vr_device::BlockDevice;
-use vr_job_ends::{JobEnd, print_end};
+use vr_job_ends::{JobEnd, Plan, plan, print_end};
 use vr_outside::{Gate, Sink, Source};
-use vr_plan::{Plan, plan};
 use vr_trace::EndLine;
 use vr_types::Words;
 

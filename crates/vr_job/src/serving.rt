@@ -20,9 +20,8 @@ use vr_event::{Act, Volume};
 use vr_history::History;
 use vr_keyed::Keyed;
 use vr_space::Part;
-use vr_steps::Cataloged;
 use vr_types::{Blocks, OutOfMemory, SharedRequest, Unit};
-use vr_worker::{RunNo, Served};
+use vr_worker::{Cataloged, RunNo, Served};
 
 /// The least stamp with which no event begins.
 const STAMP_LIMIT: u64 = 1 << 62;

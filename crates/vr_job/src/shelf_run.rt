@@ -21,10 +21,9 @@ use vr_history::History;
 use vr_job_ends::End;
 use vr_job_text::Step;
 use vr_outside::Gate;
-use vr_steps::run_steps;
 use vr_trace::{EndLine, Histories};
 use vr_types::{Failed, OutOfMemory};
-use vr_worker::RunNo;
+use vr_worker::{RunNo, run_steps};
 
 /// What a run leaves: the devices in their order, the histories of their volumes, and how the job
 /// ended.

@@ -1,1 +1,5 @@
 pub mod Readings
+mod Commands
+mod Lists
+mod Numerals
+pub mod CallerLemmas

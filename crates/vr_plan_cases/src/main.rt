@@ -1,5 +1,5 @@
-//! Cases of `vr_plan` from a text table: words with what they ask for, and all short lists of words
-//! beside a plain, slow program. It stands on `vr_plan` and `vr_types`. Each line of its input has a
+//! Cases of the words of the program (`plan` of `vr_job_ends`) from a text table: words with what they ask for, and all short lists of words
+//! beside a plain, slow program. It stands on `vr_job_ends` and `vr_types`. Each line of its input has a
 //! question, ` -> ` and the answer that is wanted. It prints each line whose answer differs, and at
 //! the end how many lines there were and how many differ; the status is 1 where one differs. What it
 //! promises is that it is safe and ends: what the answers show is tested, and its whole output is

@@ -1,5 +1,5 @@
 //! What words ask for, plainly and slowly: each word is looked at by itself, by its place, and then
-//! what all of them say together. It shares no code with `vr_plan`.
+//! what all of them say together. It shares no code with `vr_job_ends`.
 
 use crate::answers::Answer;
 use std::fmt::Write;

@@ -1,8 +1,8 @@
-//! What `vr_plan` answers.
+//! What `vr_job_ends` answers.
 
 use crate::answers::Answer;
 use std::fmt::Write;
-use vr_plan::{Plan, plan};
+use vr_job_ends::{Plan, plan};
 use vr_types::Words;
 
 /// Writes what words ask for.

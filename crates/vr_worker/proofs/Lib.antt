@@ -11,3 +11,7 @@ pub mod Told
 pub mod Sending
 pub mod Volumes
 pub mod Asks
+pub mod Numbering
+pub mod RunLists
+pub mod Grown
+pub mod Sequences

@@ -1,5 +1,5 @@
 //! One request of a deck, asked at the latch of its volume event by event until it is answered.
-ghost use Rattle.std.specs.Prelude.{◌≡◌, ◌==◌, Contains, false};
+ghost use Rattle.std.specs.Prelude.{◌≡◌, ◌≢◌, ◌==◌, Contains, false};
 ghost use Rattle.vr_worker.specs.Asked.{MayAsk, is_done, is_ok};
 ghost use Rattle.vr_worker.specs.Latched.{HasTaken};
 
@@ -11,9 +11,11 @@ use vr_ledger::Turn;
 use vr_outside::{Gate, Spot};
 use vr_types::SharedRequest;
 
-/// Never returns. Latches are in the order of their volumes, so this isn't reached; no type says at
+/// Never returns. It may be called only where a latch guards a volume of another number than the one
+/// that is looked for. Latches are in the order of their volumes, so there is none; no type says at
 /// which place of a list a latch is.
-pub(crate) fn stay<R: Wait>(rt: &R)
+pub(crate) fn stay<R: Wait>(rt: &R, guarded: u32, wanted: usize)
+    requires other { guarded ≢ wanted }
     ensures { ⊥ }
 {
     for _ in rt.forever() {}
@@ -40,8 +42,9 @@ fn event<R: Wait, V: Served + Send, N: Names<V>, G: Gate>(
         turn.new }
 {
     let mut held = latch.lock(rt);
-    if held.number() != volume {
-        stay(rt);
+    let guarded = held.number();
+    if guarded != volume {
+        stay(rt, guarded, volume as usize);
     }
     gate.pass(Spot::Holding {
         deck: turn.deck(),

@@ -119,8 +119,9 @@ fn take_out<R: Wait, V: Served + Send, N: Names<V>>(
     ensures seats { AreSameSeats seats.old seats.new }
 {
     let mut latched = latch.into_inner();
-    if latched.number() as usize != place {
-        stay(rt);
+    let guarded = latched.number();
+    if guarded as usize != place {
+        stay(rt, guarded, place);
     }
     tell_all(&mut latched, place, seats);
     latched.into_volume()

@@ -1,6 +1,6 @@
 //! The program: it makes the source, the sink and the devices that its words name, hands them to the
-//! top call (vr_job), and ends with that call's status. It stands on vr_job, on vr_plan for the
-//! words, on vr_device for the volumes, and on vr_outside for the two ends and the gate.
+//! top call (vr_job), and ends with that call's status. It stands on vr_job, on vr_job_ends for
+//! the words, on vr_device for the volumes, and on vr_outside for the two ends and the gate.
 #![tactic(auto)]
 
 mod shape;
@@ -18,8 +18,8 @@ use std::sync::Wait;
 use std::thread::Threads;
 use vr_device::{BlockDevice, MemoryDevice, memory_device};
 use vr_job::run_job;
+use vr_job_ends::{Plan, plan};
 use vr_outside::{FileSource, OpenGate, Source, StdSink, StdSource, SteadySource};
-use vr_plan::{Plan, plan};
 use vr_types::{Geometry, OutOfMemory, Words};
 
 /// The status where the program's own memory is refused.

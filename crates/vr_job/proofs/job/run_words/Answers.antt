@@ -1,8 +1,8 @@
 use Rattle.std.proofs.Common.{◌≡◌, ◌∙◌, Bool, List, ℕ, Some, ap, codes, subst, sym}
 use Rattle.std.specs.Prelude.{bytes_eq}
-use Rattle.vr_plan.specs.Asked.{Format, Run, asked_of}
-use Rattle.vr_plan.specs.declared.command.Plan.{Plan}
-use Rattle.vr_plan.proofs.CallerLemmas.{asks_plan}
+use Rattle.vr_job_ends.specs.Asked.{Format, Run, asked_of}
+use Rattle.vr_job_ends.specs.declared.command.Plan.{Plan}
+use Rattle.vr_job_ends.proofs.CallerLemmas.{asks_plan}
 use Rattle.vr_job.specs.Done.{IsRunDone}
 use Rattle.vr_job.proofs.job.run_words.Goals as goal
 

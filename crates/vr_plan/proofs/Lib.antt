@@ -1,4 +1,0 @@
-mod Commands
-mod Lists
-mod Numerals
-pub mod CallerLemmas

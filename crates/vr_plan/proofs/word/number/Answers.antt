@@ -1,8 +1,0 @@
-use Rattle.std.proofs.Common.{arith}
-use Rattle.vr_plan.proofs.Numerals.{number_read}
-use Rattle.vr_plan.proofs.word.number.Goals as goal
-
-pub returns : goal.returns
-returns c =
-    number_read _ _ (omega (arith, c.if-word-gt-DIGIT_LIMIT.false)) c.number.ensures.value
-    c.number.ensures.none

@@ -1,4 +1,0 @@
-pub mod Numbering
-pub mod RunLists
-pub mod Grown
-pub mod Sequences

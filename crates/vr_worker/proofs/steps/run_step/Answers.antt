@@ -1,0 +1,55 @@
+use Rattle.std.proofs.Common.{List, Vec, map, subst, sym}
+use Rattle.std.specs.Global.{Global}
+use Rattle.vr_worker.specs.Decks.{AreNew, AreSince, numbers_of}
+use Rattle.vr_worker.specs.Runs.{AreRuns}
+use Rattle.vr_worker.proofs.Grown.{have-asked, since-decks, stay-rising}
+use Rattle.vr_worker.proofs.RunLists.{runs-new}
+use Rattle.vr_worker.proofs.steps.run_step.Goals as goal
+
+pub run_decks-end-requires-clause-decks : goal.run_decks-end-requires-clause-decks
+run_decks-end-requires-clause-decks g c κs within =
+    let runs = c.in_ok-runs.runs.items in
+    subst (λ (them : Vec g.row.V.Denot Global). AreNew g.V.Served.entries runs them.items)
+    (sym c.replace-taken.ensures.value)
+    (runs-new (map g.V.Cataloged.catalog c.as_slice.result.now) c.args.step.now.decks runs
+    c.in_ok-runs.ensures g.V.Served.entries c.args.volumes.now.items c.requires.fresh)
+
+pub returns-clause-since : goal.returns-clause-since
+returns-clause-since g c =
+    let V = g.V.Served in
+    let runs = c.in_ok-runs.runs.items in
+    let end = c.run_decks-end.result in
+    since-decks V.entries V.follows (map g.V.Cataloged.catalog c.as_slice.result.now)
+    c.args.step.now.decks runs c.in_ok-runs.ensures c.args.volumes.now.items c.requires.fresh
+    end.volumes.items (subst (λ (them : Vec g.row.V.Denot Global).
+    AreSince V.entries V.follows (numbers_of runs) them.items end.volumes.items)
+    c.replace-taken.ensures.value c.run_decks-end.ensures.since) end.result
+    c.run_decks-end.ensures.asked
+
+pub returns-clause-asked : goal.returns-clause-asked
+returns-clause-asked g c =
+    let V = g.V.Served in
+    let runs = c.in_ok-runs.runs.items in
+    let end = c.run_decks-end.result in
+    have-asked V.entries V.follows (map g.V.Cataloged.catalog c.args.volumes.now.items)
+    c.args.step.now.decks runs (subst (λ (them : List g.row.V.Denot).
+    AreRuns (map g.V.Cataloged.catalog them) c.args.step.now.decks runs) c.as_slice.ensures.value
+    c.in_ok-runs.ensures) c.args.volumes.now.items c.requires.fresh end.volumes.items
+    (subst (λ (them : Vec g.row.V.Denot Global).
+    AreSince V.entries V.follows (numbers_of runs) them.items end.volumes.items)
+    c.replace-taken.ensures.value c.run_decks-end.ensures.since) end.result
+    c.run_decks-end.ensures.asked
+
+pub returns-clause-rising : goal.returns-clause-rising
+returns-clause-rising g c =
+    let V = g.V.Served in
+    let runs = c.in_ok-runs.runs.items in
+    let end = c.run_decks-end.result in
+    stay-rising V.entries V.follows (map g.V.Cataloged.catalog c.args.volumes.now.items)
+    c.args.step.now.decks runs (subst (λ (them : List g.row.V.Denot).
+    AreRuns (map g.V.Cataloged.catalog them) c.args.step.now.decks runs) c.as_slice.ensures.value
+    c.in_ok-runs.ensures) c.args.volumes.now.items c.requires.fresh end.volumes.items
+    (subst (λ (them : Vec g.row.V.Denot Global).
+    AreSince V.entries V.follows (numbers_of runs) them.items end.volumes.items)
+    c.replace-taken.ensures.value c.run_decks-end.ensures.since) end.result
+    c.run_decks-end.ensures.asked

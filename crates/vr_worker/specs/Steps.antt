@@ -1,0 +1,54 @@
+-- What the steps of a job leave of the volumes, and what their decks asked. The rules are this
+-- project's own.
+use Rattle.std.specs.Prelude.{◌≡◌, ◌<◌, ℕ, List, [], ◌∷◌, ◌++◌, All, Contains, Result, OnOk}
+use Rattle.std.specs.Prelude.{drop, get_or, length, map, take}
+use Rattle.vr_types.specs.declared.bound.Bound.{Bound}
+use Rattle.vr_catalog.specs.declared.entry.CatEntry.{CatEntry}
+use Rattle.vr_history.specs.Merged.{merged, part_of_deck}
+use Rattle.vr_history.specs.declared.entry.Entry.{Entry}
+use Rattle.vr_job_text.specs.declared.text.Deck.{Deck}
+use Rattle.vr_job_text.specs.declared.text.Step.{Step}
+use Rattle.vr_trace.specs.Laws.{AreRising, of_deck}
+use Rattle.vr_worker.specs.Asks.{IsPrefixOf, steps_ask}
+
+-- the numbers of the decks of a step
+abbrev pub numbers_in : Step → List ℕ
+numbers_in step = map (λ (deck : Deck). deck.number) step.decks
+
+-- an entry is of one of the decks of a step
+abbrev pub IsOfStep : Step → Entry → Type 0
+IsOfStep step entry = Contains (numbers_in step) entry.unit.deck
+
+-- The entries are those of the decks of these steps, one step after another.
+abbrev pub AreOfSteps : List Step → List Entry → Type 0
+AreOfSteps [] entries = entries ≡ []
+AreOfSteps (step ∷ steps) entries = (first : List Entry) × (rest : List Entry)
+    × (entries ≡ first ++ rest) × All (IsOfStep step) first × AreOfSteps steps rest
+
+-- The volume is a later state of this one, and its history is that of the decks of these steps.
+pub record IsSinceSteps {V : Type 0} (entries : V → List Entry) (follows : V → V → Type 0)
+    (steps : List Step) (first now : V) : Type 0 where
+  pub is_later : follows first now
+  pub of_steps : AreOfSteps steps (entries now)
+
+-- so is each volume since the one at its place
+pub record AreSinceSteps {V : Type 0} (entries : V → List Entry) (follows : V → V → Type 0)
+    (steps : List Step) (old new : List V) : Type 0 where
+  pub count : length new ≡ length old
+  pub each : (place : ℕ) (volume : V) → place < length old
+      → IsSinceSteps entries follows steps (get_or old place volume) (get_or new place volume)
+
+-- The decks of the first of the steps asked all that they request by these catalogs, each request
+-- once and in order; those of the next step, if there is one, each the first of what it requests;
+-- and no other deck asked anything. All steps are such where the job came through. Along each deck,
+-- over all volumes, the stamps of its entries rise.
+pub record HasAsked {E : Type 0} (catalogs : List (List CatEntry)) (steps : List Step)
+    (result : Result (Unit {0}) E) (histories : List (List Entry)) : Type 0 where
+  pub count : ℕ
+  pub next : ℕ → List Bound
+  pub asked : (deck : ℕ) → part_of_deck deck (merged histories)
+      ≡ steps_ask catalogs (take count steps) deck ++ next deck
+  pub prefixes : (deck : ℕ)
+      → IsPrefixOf (next deck) (steps_ask catalogs (take 1 (drop count steps)) deck)
+  pub whole : OnOk result (take count steps ≡ steps)
+  pub rising : (deck : ℕ) → AreRising (of_deck deck (merged histories))

@@ -1,0 +1,120 @@
+//! The steps of a job, one after another.
+ghost use Rattle.std.specs.Prelude.{◌≡◌, ◌<◌, ◌^◌, [], All, IfOk, IsErrOf, length, map};
+ghost use Rattle.vr_job_text.specs.Numbers.{AreNumbered};
+ghost use Rattle.vr_worker.specs.Runs.{AreFresh, AreRuns, HaveAsked, StayRising, deck_numbers};
+ghost use Rattle.vr_worker.specs.Steps.{AreSinceSteps, HasAsked};
+ghost use Rattle.vr_worker.specs.Decks.{ArePlaced, AreSince, HasUsedUp};
+ghost use Rattle.vr_worker.specs.declared.no.RunNo.TheVariants.{Stamps};
+
+use crate::cataloged::Cataloged;
+use crate::deck::DeckRun;
+use crate::decks::run_decks;
+use crate::no::RunNo;
+use std::alloc::Global;
+use std::mem;
+use std::sync::Wait;
+use std::thread::Threads;
+use vr_bind::bind;
+use vr_catalog::Catalog;
+use vr_job_text::{Deck, Step};
+use vr_outside::Gate;
+use vr_types::OutOfMemory;
+
+/// The catalogs of volumes, from volume 0 on.
+fn catalogs_of<V: Cataloged>(alloc: Global, volumes: &[V]) -> Result<Vec<&Catalog>, OutOfMemory>
+    ensures { IfOk result (λ catalogs. map (λ c. c.now) catalogs.items
+        ≡ map V.catalog volumes.now) }
+{
+    let mut catalogs = Vec::new(alloc);
+    for volume in volumes {
+        catalogs.push(volume.catalog())?;
+    }
+    Ok(catalogs)
+}
+
+/// The decks of a step as they run, each with its requests by these catalogs.
+fn bind_all(
+    alloc: Global,
+    decks: &[Deck],
+    catalogs: &[&Catalog],
+) -> Result<Vec<DeckRun>, OutOfMemory>
+    requires { length catalogs.now < 2 ^ 32 }
+    ensures { IfOk result (λ runs. AreRuns (map (λ c. c.now) catalogs.now) decks.now runs.items) }
+{
+    let mut runs = Vec::new(alloc);
+    for deck in decks {
+        let requests = bind(alloc, &deck.text, catalogs)?;
+        runs.push(DeckRun {
+            number: deck.number,
+            requests: requests.into_vec(),
+        })?;
+    }
+    Ok(runs)
+}
+
+/// The decks of a step as they run, each with its requests by the catalogs of the volumes.
+fn bind_step<V: Cataloged>(
+    alloc: Global,
+    step: &Step,
+    volumes: &[V],
+) -> Result<Vec<DeckRun>, OutOfMemory>
+    requires { length volumes.now < 2 ^ 32 }
+    ensures { IfOk result (λ runs. AreRuns (map V.catalog volumes.now) step.now.decks runs.items) }
+{
+    let catalogs = catalogs_of(alloc, volumes)?;
+    bind_all(alloc, step.decks.as_slice(), catalogs.as_slice())
+}
+
+/// Runs the decks of a step over the volumes.
+fn run_step<R: Threads + Wait + Sync, V: Cataloged + Send, G: Gate + Sync>(
+    rt: &R,
+    alloc: Global,
+    volumes: &mut Vec<V>,
+    step: &Step,
+    gate: &G,
+) -> Result<(), RunNo>
+    requires placed { ArePlaced V.number volumes.old.items }
+    requires fresh { AreFresh V.entries step.now.decks volumes.old.items }
+    requires few { length volumes.old.items < 2 ^ 32 }
+    ensures placed { ArePlaced V.number volumes.new.items }
+    ensures since { AreSince V.entries V.follows (deck_numbers step.now.decks) volumes.old.items
+        volumes.new.items }
+    ensures asked { HaveAsked (map V.catalog volumes.old.items) step.now.decks result
+        (map V.entries volumes.old.items) (map V.entries volumes.new.items) }
+    ensures rising { StayRising (map V.entries volumes.old.items)
+        (map V.entries volumes.new.items) }
+    ensures stamps { IsErrOf result Stamps → HasUsedUp V.entries volumes.new.items }
+{
+    let runs = bind_step(alloc, step, volumes.as_slice())?;
+    let taken = mem::replace(volumes, Vec::new(alloc));
+    let end = run_decks(rt, alloc, runs, taken, gate);
+    *volumes = end.volumes;
+    end.result
+}
+
+/// Runs the decks of the steps over the volumes, which have no history yet, one step after
+/// another, to the end or until stamps or memory run out. Each deck is bound over the catalogs of
+/// all volumes as its step begins, and runs on a thread of its own where one can be made.
+pub fn run_steps<R: Threads + Wait + Sync, V: Cataloged + Send, G: Gate + Sync>(
+    rt: &R,
+    alloc: Global,
+    volumes: &mut Vec<V>,
+    steps: &[Step],
+    gate: &G,
+) -> Result<(), RunNo>
+    requires placed { ArePlaced V.number volumes.old.items }
+    requires begins { All (λ (volume : V). V.entries volume ≡ []) volumes.old.items }
+    requires numbered { AreNumbered steps.now }
+    requires few { length volumes.old.items < 2 ^ 32 }
+    ensures placed { ArePlaced V.number volumes.new.items }
+    ensures since { AreSinceSteps V.entries V.follows steps.now volumes.old.items
+        volumes.new.items }
+    ensures asked { HasAsked (map V.catalog volumes.old.items) steps.now result
+        (map V.entries volumes.new.items) }
+    ensures stamps { IsErrOf result Stamps → HasUsedUp V.entries volumes.new.items }
+{
+    for step in steps {
+        run_step(rt, alloc, volumes, step, gate)?;
+    }
+    Ok(())
+}
