@@ -3,7 +3,7 @@
 use vr_types::{Items, PartNo, Place};
 
 /// An alternate index: its part, KEYS(length offset) in bytes of the base record, and UNIQUEKEY.
-#[derive(Clone, Copy, PartialEq, Eq, Hash)]
+#[derive(Clone, Copy, PartialEq, Eq)]
 pub struct AltDef {
     pub part: PartNo,
     pub length: u16,

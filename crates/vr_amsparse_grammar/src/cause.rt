@@ -3,7 +3,7 @@ ghost use Rattle.std.specs.Prelude.{◌≡◌};
 ghost use Rattle.vr_amsparse_grammar.specs.Cause.{cause_number};
 
 /// The causes for which a command text is refused, numbered from 1 in this order.
-#[derive(Clone, Copy, PartialEq, Eq, Hash)]
+#[derive(Clone, Copy, PartialEq, Eq)]
 pub enum AmsCause {
     /// The word is no command.
     UnknownCommand,

@@ -3,7 +3,7 @@ ghost use Rattle.std.specs.Prelude.{◌≡◌};
 ghost use Rattle.vr_attach.specs.Damage.{rule_number};
 
 /// A rule that a block of a keyed part may break. They are this project's own.
-#[derive(Clone, Copy, PartialEq, Eq, Hash)]
+#[derive(Clone, Copy, PartialEq, Eq)]
 pub enum Rule {
     /// Each area that a head names is one of the volume's.
     AreaNumber,

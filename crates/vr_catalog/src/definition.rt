@@ -10,7 +10,7 @@ use vr_types::Kind;
 
 /// What DEFINE CLUSTER of Access Method Services states of the records of a cluster: INDEXED,
 /// NONINDEXED or NUMBERED; SPANNED; KEYS(length offset) and the maximum of RECORDSIZE, in bytes.
-#[derive(Clone, Copy, PartialEq, Eq, Hash)]
+#[derive(Clone, Copy, PartialEq, Eq)]
 pub struct Definition {
     pub kind: Kind,
     pub spanned: bool,

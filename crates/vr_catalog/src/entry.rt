@@ -7,7 +7,7 @@ use std::alloc::Global;
 use vr_types::{AreaNo, Kind, Name, OutOfMemory, PartNo};
 
 /// What an entry describes.
-#[derive(Clone, Copy, PartialEq, Eq, Hash)]
+#[derive(Clone, Copy, PartialEq, Eq)]
 pub enum EntryKind {
     Cluster,
     Alternate,
@@ -16,21 +16,21 @@ pub enum EntryKind {
 
 /// FREESPACE: the parts of a hundred of each control interval and of each control area that loading
 /// leaves free.
-#[derive(Clone, Copy, PartialEq, Eq, Hash)]
+#[derive(Clone, Copy, PartialEq, Eq)]
 pub struct FreeSpace {
     pub interval: u8,
     pub area: u8,
 }
 
 /// SHAREOPTIONS: across regions, and across systems.
-#[derive(Clone, Copy, PartialEq, Eq, Hash)]
+#[derive(Clone, Copy, PartialEq, Eq)]
 pub struct ShareOptions {
     pub regions: u8,
     pub systems: u8,
 }
 
 /// The unit in which space was asked for, if it was.
-#[derive(Clone, Copy, PartialEq, Eq, Hash)]
+#[derive(Clone, Copy, PartialEq, Eq)]
 pub enum SpaceUnit {
     Unstated,
     Cylinders,

@@ -3,7 +3,7 @@ ghost use Rattle.std.specs.Prelude.{◌≡◌};
 ghost use Rattle.vr_catalog.specs.Fault.{fault_number, fault_code};
 
 /// Why a command on a catalog is refused, each with the number that its report shows.
-#[derive(Clone, Copy, PartialEq, Eq, Hash)]
+#[derive(Clone, Copy, PartialEq, Eq)]
 pub enum CatFault {
     /// 1: the new name is in use.
     NameTaken,

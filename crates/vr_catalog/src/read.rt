@@ -28,7 +28,7 @@ use std::alloc::Global;
 use vr_types::{AreaNo, Kind, Name, NameFault, OutOfMemory, PartNo, dataset_name, four_at, two_at};
 
 /// Why bytes give no entry.
-#[derive(Clone, Copy, PartialEq, Eq, Hash)]
+#[derive(Clone, Copy, PartialEq, Eq)]
 pub enum EntryNo {
     /// They spell none.
     Misspelled,

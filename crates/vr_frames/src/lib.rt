@@ -20,8 +20,6 @@ mod laws;
 mod opening;
 mod seat;
 mod shared;
-#[cfg(test)]
-mod tests;
 mod view;
 
 pub use frame::Frame;

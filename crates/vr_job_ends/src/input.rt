@@ -16,7 +16,7 @@ pub const TEXT_LIMIT: usize = 1 << 26;
 const FIRST_PIECE: usize = 1 << 16;
 
 /// Why an input wasn't read to its end.
-#[derive(Clone, Copy, PartialEq, Eq, Hash)]
+#[derive(Clone, Copy, PartialEq, Eq)]
 pub enum InputFault {
     /// The source failed.
     Read,

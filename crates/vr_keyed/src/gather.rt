@@ -196,7 +196,7 @@ fn gather_kept<K: Kept>(
 /// Weighs what stands in the range of an interval, what is kept for its places, and a record of
 /// this length at a place. False where there is no room for that many, since what stands and what
 /// is kept has none in the interval.
-pub fn gather_lengths<K: Kept>(
+pub(crate) fn gather_lengths<K: Kept>(
     layout: &Layout,
     range: &LentRange<'_>,
     block: &[u8],

@@ -18,7 +18,6 @@ mod slots;
 mod stretch;
 mod writing;
 
-pub use gather::{fits, gather_lengths};
+pub use gather::fits;
 pub use keyed::{Keyed, keyed_part};
-pub use plan::{Target, cut_at, target_in};
 pub use room::{UnderWay, least_free};

@@ -42,7 +42,7 @@ pub struct Plan {
 
 /// The number of the greatest place that stays below the cut, for a record at a place. None where
 /// there are not two places, or this is not one of them.
-pub fn cut_at(weights: &Weights, place: &[u8], last: bool) -> Option<usize>
+pub(crate) fn cut_at(weights: &Weights, place: &[u8], last: bool) -> Option<usize>
     ensures { MatchOption result (HasNoCut weights.now.lengths place.now)
         (IsCutAt weights.now.lengths place.now last) }
 {
@@ -55,7 +55,7 @@ pub fn cut_at(weights: &Weights, place: &[u8], last: bool) -> Option<usize>
 
 /// The interval of a place, under a head, and one that is free. None where no entry leads to the
 /// place, or no interval is free, or the block is no head.
-pub fn target_in(layout: &Layout, top: &[u8], place: &[u8]) -> Option<Target>
+pub(crate) fn target_in(layout: &Layout, top: &[u8], place: &[u8]) -> Option<Target>
     ensures target { IsHead layout.now top.now → MatchOption result
         (HasNoTarget layout.now top.now place.now) (IsTargetAt layout.now top.now place.now) }
     // Whatever the block has.

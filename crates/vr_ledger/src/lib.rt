@@ -13,8 +13,6 @@
 mod crossing;
 mod ledger;
 mod seat;
-#[cfg(test)]
-mod tests;
 mod turn;
 mod view;
 

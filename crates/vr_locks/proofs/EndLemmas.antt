@@ -2,6 +2,7 @@
 use Rattle.std.proofs.Common.{◌≡◌, ℕ, ◌<◌, Bool, true, false, cond, not, ◌||◌, nat_eq, List, []}
 use Rattle.std.proofs.Common.{Option, None, Some, AllPairs, refl, sym, ap, ◌∙◌, arith, ⊎_elim, inl}
 use Rattle.std.proofs.Common.{inr}
+use Rattle.std.specs.HashMap.{get}
 use Rattle.std.specs.List.{list_any}
 use Rattle.std.proofs.lemmas.Bool.{cases_Bool, cases_eq, eq-eqb, ne_eqb, not-true}
 use Rattle.std.proofs.lemmas.Map.Entries.{option_filter}
@@ -11,6 +12,7 @@ use Rattle.vr_types.specs.LockName.{lock_name_eq}
 use Rattle.vr_types.specs.Locks.{Lock, same_unit}
 use Rattle.vr_locks.specs.declared.maps.LockMaps.{LockMaps}
 use Rattle.vr_locks.specs.Maps.{IsConsistent, lock_at, locks_in, of_name, of_unit}
+use Rattle.vr_locks.specs.Filed.{AreUsed}
 use Rattle.vr_locks.specs.Listed.{IsFiled, listed}
 use Rattle.vr_locks.specs.Locked.{without_unit}
 use Rattle.vr_locks.proofs.ListedLemmas.{listed-filter}
@@ -95,14 +97,17 @@ module _ (old new : LockMaps) (unit : units.Unit) (numbers : List ℕ)
         [ true ↦ λ i j d less within. elim within [ ] | false ↦ kept.units.rising q ]);
   }
 
-  pub ended-kept : IsConsistent new new.next
-  ended-kept = record {
+  pub ended-kept : AreUsed (get lock_name_eq new.names) → AreUsed (get same_unit new.units)
+      → IsConsistent new new.next
+  ended-kept names_used units_used = record {
     names = names;
     units = units-left;
     below = λ n above. left n ∙ ap (option_filter stays) (kept.below n (omega arith));
     sound = λ m n a b less there_a there_b. kept.sound m n a b less (was m a there_a).0
         (was n b there_b).0;
     room = omega arith;
+    used_names = names_used;
+    used_units = units_used;
   }
 
   pub ended-locks : locks_in new ≡ without_unit unit (locks_in old)

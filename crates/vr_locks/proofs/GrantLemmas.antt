@@ -14,7 +14,7 @@ use Rattle.vr_types.specs.declared.unit.Unit as units
 use Rattle.vr_types.specs.LockName.{lock_name_eq}
 use Rattle.vr_types.specs.Locks.{Lock, conflicts, is_exclusive, same_unit, stands_against}
 use Rattle.vr_locks.specs.declared.maps.LockMaps.{LockMaps}
-use Rattle.vr_locks.specs.Filed.{numbers_in}
+use Rattle.vr_locks.specs.Filed.{AreUsed, numbers_in}
 use Rattle.vr_locks.specs.Maps.{IsConsistent, KeepsFiled, lock_at, locks_in, of_name, of_unit}
 use Rattle.vr_locks.specs.Listed.{AreBelow, AreSound, listed}
 use Rattle.vr_locks.specs.Locked.{is_own, raise, with_lock}
@@ -194,6 +194,9 @@ module _ (unit : units.Unit) (mode : Mode) (name : LockName) where
             ∙ ap (option_map change) (kept.below n (omega (arith, filed.next)));
         sound = raised-sound;
         room = omega arith;
+        used_names = subst (λ map. AreUsed (get lock_name_eq map)) (sym filed.names)
+            kept.used_names;
+        used_units = subst (λ map. AreUsed (get same_unit map)) (sym filed.units) kept.used_units;
       }
 
       raised-free : (other : LockName) → NoneAgainst old unit mode other
@@ -327,6 +330,9 @@ module _ (unit : units.Unit) (mode : Mode) (name : LockName) where
             ∙ kept.below n (omega (arith, filed.next));
         sound = put-sound;
         room = omega arith;
+        used_names = subst (λ map. AreUsed (get lock_name_eq map)) (sym filed.names)
+            kept.used_names;
+        used_units = subst (λ map. AreUsed (get same_unit map)) (sym filed.units) kept.used_units;
       }
 
       put-free : (other : LockName) → NoneAgainst old unit mode other

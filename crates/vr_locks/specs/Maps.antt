@@ -6,7 +6,7 @@ use Rattle.vr_types.specs.declared.unit.Unit as units
 use Rattle.vr_types.specs.Locks.{Lock, same_unit}
 use Rattle.vr_types.specs.LockName.{lock_name_eq}
 use Rattle.vr_locks.specs.declared.maps.LockMaps.{LockMaps}
-use Rattle.vr_locks.specs.Filed.{numbers_in}
+use Rattle.vr_locks.specs.Filed.{AreUsed, numbers_in}
 use Rattle.vr_locks.specs.Listed.{listed, IsFiled, AreSound, AreBelow}
 
 -- the lock with a number
@@ -26,13 +26,15 @@ abbrev pub locks_in : LockMaps → List Lock
 locks_in maps = listed (lock_at maps) maps.next
 
 -- Every lock is filed under its name and its unit, no number from `bound` on is in use, and the
--- locks go together.
+-- locks go together. A name or a unit has an entry only while a number is filed under it.
 pub record IsConsistent (maps : LockMaps) (bound : ℕ) : Type 0 where
   pub names : IsFiled lock_name_eq (λ (lock : Lock). lock.name) (lock_at maps) bound (of_name maps)
   pub units : IsFiled same_unit (λ (lock : Lock). lock.unit) (lock_at maps) bound (of_unit maps)
   pub below : AreBelow (lock_at maps) bound
   pub sound : AreSound (lock_at maps)
   pub room : bound ≤ maps.next
+  pub used_names : AreUsed (get lock_name_eq maps.names)
+  pub used_units : AreUsed (get same_unit maps.units)
 
 -- the numbers under names and under units are those of before
 pub record KeepsFiled (old new : LockMaps) : Type 0 where

@@ -1,8 +1,10 @@
 //! The end of a unit of recovery.
 ghost use Rattle.std.specs.Prelude.{◌≡◌, ◌⊎◌, ℕ, None, cond, nat_eq, not};
+ghost use Rattle.std.specs.HashMap.{get};
 ghost use Rattle.std.specs.List.{filter, list_any};
 ghost use Rattle.vr_types.specs.LockName.{lock_name_eq};
 ghost use Rattle.vr_types.specs.Locks.{Lock};
+ghost use Rattle.vr_locks.specs.Filed.{AreUsed};
 ghost use Rattle.vr_locks.specs.Locked.{without_unit};
 ghost use Rattle.vr_locks.specs.Listed.{IsFiled};
 ghost use Rattle.vr_locks.specs.Maps.{IsConsistent, lock_at, locks_in, of_name};
@@ -14,6 +16,8 @@ use vr_types::{LockName, Unit};
 impl LockMaps {
     /// Takes away the lock with a number, if there is one, and the number from under its name.
     fn drop_lock(&mut self, number: u64)
+        requires { AreUsed (get lock_name_eq self.old.names) }
+        ensures used { AreUsed (get lock_name_eq self.new.names) }
         ensures locks { (n : ℕ) → lock_at self.new n
             ≡ cond (nat_eq number n) None (lock_at self.old n) }
         ensures names { (q : LockName) → (of_name self.new q ≡ of_name self.old q)
@@ -30,6 +34,8 @@ impl LockMaps {
     fn drop_locks(&mut self, numbers: &[u64])
         requires names { IsFiled lock_name_eq (λ (lock : Lock). lock.name)
             (lock_at self.old) self.old.next (of_name self.old) }
+        requires used { AreUsed (get lock_name_eq self.old.names) }
+        ensures used { AreUsed (get lock_name_eq self.new.names) }
         ensures locks { (n : ℕ) → lock_at self.new n
             ≡ cond (list_any (nat_eq n) numbers.now) None (lock_at self.old n) }
         ensures names { IsFiled lock_name_eq (λ (lock : Lock). lock.name)

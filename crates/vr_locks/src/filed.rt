@@ -2,7 +2,7 @@
 ghost use Rattle.std.specs.Prelude.{◌≡◌, ℕ, List, [], ◌∷◌, ◌++◌, not, nat_eq, cond, OnOk, OnErr};
 ghost use Rattle.std.specs.HashMap.{get};
 ghost use Rattle.std.specs.List.{filter};
-ghost use Rattle.vr_locks.specs.Filed.{numbers_in};
+ghost use Rattle.vr_locks.specs.Filed.{AreUsed, numbers_in};
 
 use std::alloc::Global;
 use std::collections::HashMap;
@@ -27,6 +27,8 @@ pub(crate) fn file<K: Eq + Hash + Drop>(
     key: K,
     number: u64,
 ) -> Result<(), OutOfMemory>
+    requires { AreUsed (get K.eq map.old) }
+    ensures used { AreUsed (get K.eq map.new) }
     ensures ok { OnOk result ((q : K) →
         let old = numbers_in (get K.eq map.old q) in
         numbers_in (get K.eq map.new q) ≡ cond (K.eq key q) (old ++ number ∷ []) old) }
@@ -52,7 +54,9 @@ fn drop_from(numbers: &mut Vec<u64>, number: u64)
 
 /// Takes a number away from under a key, and the key too where it has no other.
 pub(crate) fn drop_number<K: Eq + Hash + Drop>(map: &mut HashMap<K, Vec<u64>>, key: &K, number: u64)
-    ensures { (q : K) →
+    requires { AreUsed (get K.eq map.old) }
+    ensures used { AreUsed (get K.eq map.new) }
+    ensures numbers { (q : K) →
         let old = numbers_in (get K.eq map.old q) in
         numbers_in (get K.eq map.new q)
         ≡ cond (K.eq key.now q) (filter (λ n. not (nat_eq n number)) old) old }
@@ -72,6 +76,8 @@ pub(crate) fn take_numbers<K: Eq + Hash + Drop>(
     map: &mut HashMap<K, Vec<u64>>,
     key: &K,
 ) -> Vec<u64>
+    requires { AreUsed (get K.eq map.old) }
+    ensures used { AreUsed (get K.eq map.new) }
     ensures numbers { result.items ≡ numbers_in (get K.eq map.old key.now) }
     ensures others { (q : K) → numbers_in (get K.eq map.new q)
         ≡ cond (K.eq key.now q) [] (numbers_in (get K.eq map.old q)) }

@@ -1,5 +1,5 @@
 -- A before-image, off the bytes that begin with it.
-use Rattle.std.proofs.Common.{◌≡◌, ℕ, ◌+◌, ◌-◌, ◌^◌, ◌<◌, ◌≤◌, List, [], ◌∷◌, ◌++◌, length, take}
+use Rattle.std.proofs.Common.{◌≡◌, ⊎_elim, inl, ℕ, ◌+◌, ◌-◌, ◌^◌, ◌<◌, ◌≤◌, List, [], ◌∷◌, ◌++◌, length, take}
 use Rattle.std.proofs.Common.{drop, Option, None, IfSome, get_or, sym, ap}
 use Rattle.std.proofs.Common.{subst, ◌∙◌, arith}
 use Rattle.std.proofs.lemmas.List.{append-nil, append_assoc, length-append, length-take}
@@ -15,8 +15,7 @@ use Rattle.vr_log.specs.declared.record.LogRecord.TheVariants.{Before, End}
 use Rattle.vr_log.specs.Damage.{IsMisspelled}
 use Rattle.vr_log.specs.Decoding.{IsOldCut, IsOldWrong, IsOld, IsWhole}
 use Rattle.vr_log.specs.Records.{record_bytes, unit_bytes, old_bytes, HasFields, IsCut}
-use Rattle.vr_log.proofs.RecordBytes.{begins, zeros_to, long-to, bytes-to, first-more, cut-less}
-use Rattle.vr_log.proofs.RecordBytes.{misspelled-by, length-none}
+use Rattle.vr_log.proofs.RecordBytes.{begins, misspelled-by}
 use Rattle.vr_log.proofs.Lives.{length-before}
 use Rattle.vr_log.proofs.Unique.{two-both, four-both, known-both, end-number}
 
@@ -105,26 +104,9 @@ module _ (bytes rest : List ℕ) (deck number part p : ℕ)
     was = was;
   }
 
-  -- the place isn't whole, or nothing follows it
-  pub cut-place : length rest ≤ p → IsCut bytes
-  cut-place short =
-      let zeros = zeros_to p rest in
-      let place = rest ++ zeros in
-      let long : length place ≡ p = long-to p rest short in
-      record {
-        whole = Before the_unit the_part place None;
-        fields = fields-of place None long tt;
-        missing = zeros ++ old_bytes None;
-        some = omega (arith, length-append zeros (old_bytes None), length-none);
-        begins = built (zeros ++ old_bytes None) place [] None long
-            (sym (append_assoc rest zeros (old_bytes None))
-            ∙ ap (λ (l : List ℕ). place ++ l) (sym (append-nil (old_bytes None))))
-            ∙ append-nil (record_bytes (Before the_unit the_part place None));
-      }
-
   module _ (place tail : List ℕ) (long : length place ≡ p) (split : rest ≡ place ++ tail) where
     pub cut-old : IsOldCut tail → IsCut bytes
-    cut-old cut = record {
+    cut-old cut = inl (record {
       whole = Before the_unit the_part place cut.old;
       fields = fields-of place cut.old long cut.was;
       missing = cut.missing;
@@ -133,7 +115,7 @@ module _ (bytes rest : List ℕ) (deck number part p : ℕ)
           (ap (λ (l : List ℕ). l ++ cut.missing) split ∙ append_assoc place tail cut.missing
           ∙ ap (λ (l : List ℕ). place ++ l) (cut.begins ∙ sym (append-nil (old_bytes cut.old))))
           ∙ append-nil (record_bytes (Before the_unit the_part place cut.old));
-    }
+    })
 
     pub whole-old : (old : Option (List ℕ)) (count : ℕ) → IsOld tail old count
         → IsWhole bytes (Before the_unit the_part place old) (15 + p + count)
@@ -184,21 +166,10 @@ module _ (bytes rest : List ℕ) (deck number part p : ℕ)
         let e = known-both place q _ _ (long ∙ d.0) d.1 in
         wrong.none r x y e.1
 
-    pub wrong-old : IsOldWrong tail → IsMisspelled bytes
-    wrong-old wrong = misspelled-by bytes (no-before wrong)
-
--- not even the length of the place
-pub short-head : (bytes : List ℕ) → IsBytes bytes → 0 < length bytes → length bytes < 15
-    → get_or bytes 0 0 ≡ 1 → IsCut bytes
-short-head bytes fits some short first =
-    let more = zeros_to 15 bytes in
-    let b = bytes ++ more in
-    let size : length b ≡ 15 = long-to 15 bytes (omega (arith, short)) in
-    cut-less bytes more
-    (cut-place b (drop 15 b) (four_at 1 b) (four_at 5 b) (four_at 9 b) (two_at 13 b)
-    (head-of b (bytes-to 15 bytes fits) (omega (arith, size))
-    (first-more bytes more some ∙ first))
-    (omega (arith, length-drop 15 b, size)))
+    pub wrong-old : IsOldWrong tail → 20 + two_at 13 bytes ≤ length bytes → IsMisspelled bytes
+    wrong-old wrong enough = misspelled-by bytes (no-before wrong) (λ short. ⊎_elim
+        (λ (few : length bytes < 15). omega (arith, few, enough))
+        (λ (few : length bytes < 20 + two_at 13 bytes). omega (arith, few, enough)) short.short)
 
 -- the place, and what follows it
 pub split-place : (bytes : List ℕ) (p : ℕ)
@@ -240,6 +211,13 @@ module _ (bytes : List ℕ) (n : ℕ) (fits : IsBytes bytes) (long : 15 ≤ leng
   read-wrong wrong =
       wrong-old bytes (drop 15 bytes) (four_at 1 bytes) (four_at 5 bytes) (four_at 9 bytes) n head
       (take n (drop 15 bytes)) Tail place-long split wrong
+      (omega (
+        arith,
+        is,
+        wrong.long,
+        length-take (length bytes - (15 + n)) (drop (15 + n) bytes),
+        length-drop (15 + n) bytes,
+      ))
 
   pub read-whole : (old : Option (List ℕ)) (count all : ℕ) (rec : LogRecord)
       → rec ≡ Before (record { deck = four_at 1 bytes; number = four_at 5 bytes })

@@ -23,13 +23,13 @@ no_unit = record { deck = 0; number = 0 }
 -- nothing is a cut of any record
 pub none-cut : IsCut []
 unfolding record_bytes
-none-cut = record {
+none-cut = inl (record {
   whole = End no_unit Committed;
   fields = record { deck = omega arith; number = omega arith };
   missing = 2 ∷ unit_bytes no_unit;
   some = omega arith;
   begins = refl;
-}
+})
 
 pub All-none : {X : Type 0} (P : X → Type 0) → All P []
 All-none P i d below = absurd (omega (arith, below))
@@ -59,7 +59,7 @@ split-drop p rest q more same long =
 
 cut-of : (r : LogRecord) (p rest more : List ℕ) → HasFields r → p ++ rest ≡ record_bytes r ++ more
     → length p < length (record_bytes r) → IsCut p
-cut-of r p rest more fields same short = record {
+cut-of r p rest more fields same short = inl (record {
   whole = r;
   fields = fields;
   missing = drop (length p) (record_bytes r);
@@ -68,7 +68,7 @@ cut-of r p rest more fields same short = record {
       ++ drop (length p) (record_bytes r))
       (split-take p rest (record_bytes r) more same (omega (arith, short)))
       ∙ take-append-drop (length p) (record_bytes r);
-}
+})
 
 -- one more record before those that are spelled
 more-spelled : (r : LogRecord) (rs : List LogRecord) (forced : ℕ) (p tail : List ℕ) → HasFields r

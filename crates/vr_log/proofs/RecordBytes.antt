@@ -1,14 +1,15 @@
 -- One record, off the bytes that begin with it.
-use Rattle.std.proofs.Common.{◌≡◌, inl, inr, ℕ, zero, suc, ◌+◌, ◌-◌, ◌<◌, ◌≤◌, List, []}
+use Rattle.std.proofs.Common.{◌≡◌, ◌⊎◌, ⊎_elim, inl, inr, ℕ, zero, suc, ◌+◌, ◌-◌, ◌<◌, ◌≤◌, List, []}
 use Rattle.std.proofs.Common.{◌∷◌, ◌++◌, length, take, drop, Option, Some, None, get_or}
 use Rattle.std.proofs.Common.{replicate, refl, sym, ap, subst, ◌∙◌, arith}
+use Rattle.std.specs.Int.{w16, from_be_bytes}
 use Rattle.std.proofs.lemmas.Bool.{cases_lt}
 use Rattle.std.proofs.lemmas.List.{append-nil, append_assoc, length-append, length-take}
-use Rattle.std.proofs.lemmas.List.{length-drop}
+use Rattle.std.proofs.lemmas.List.{length-drop, take-append-le, drop-append-le}
 use Rattle.std.proofs.lemmas.List.{length-replicate, take-append-drop, drop-drop}
 use Rattle.std.proofs.lemmas.List.{nil_from_length, get_or_append_left, get_or-take}
 use Rattle.std.proofs.lemmas.List.{replicate-append-replicate}
-use Rattle.vr_types.specs.Fields.{IsBytes, AreZeros, four, four_at}
+use Rattle.vr_types.specs.Fields.{IsBytes, AreZeros, four, two_at, four_at}
 use Rattle.vr_types.proofs.CallerLemmas.{cut_four, four_below, length-four}
 use Rattle.vr_types.proofs.CallerLemmas.{zeros_are}
 use Rattle.vr_log.specs.declared.record.EndKind.{EndKind}
@@ -18,6 +19,7 @@ use Rattle.vr_log.specs.declared.record.LogRecord.TheVariants.{Before, End}
 use Rattle.vr_log.specs.Damage.{IsMisspelled}
 use Rattle.vr_log.specs.Decoding.{IsOldCut, IsOldWrong, IsOld, IsWhole}
 use Rattle.vr_log.specs.Records.{record_bytes, unit_bytes, old_bytes, end_number, HasFields, IsCut}
+use Rattle.vr_log.specs.Records.{IsBegun, IsShort}
 use Rattle.vr_log.proofs.Lives.{length-ended}
 
 -- ---- bytes
@@ -60,22 +62,43 @@ bytes-to n bytes fits =
 
 -- ---- cut and misspelled
 
-pub cut-less : (bytes more : List ℕ) → IsCut (bytes ++ more) → IsCut bytes
-cut-less bytes more cut = record {
-  whole = cut.whole;
-  fields = cut.fields;
-  missing = more ++ cut.missing;
-  some = omega (arith, cut.some, length-append more cut.missing);
-  begins = sym (append_assoc bytes more cut.missing) ∙ cut.begins;
+-- two bytes that stand before the others
+two-more : (bytes more : List ℕ) → 15 ≤ length bytes
+    → two_at 13 (bytes ++ more) ≡ two_at 13 bytes
+unfolding two_at
+two-more bytes more long =
+    ap (λ (l : List ℕ). from_be_bytes w16 l)
+    (ap (λ (l : List ℕ). take 2 l) (drop-append-le 13 bytes more (omega (arith, long)))
+    ∙ take-append-le 2 (drop 13 bytes) more (omega (arith, length-drop 13 bytes, long)))
+
+-- bytes that are too few for a before-image are so too where more of them are left out
+pub short-less : (bytes more : List ℕ) → 0 < length bytes → IsShort (bytes ++ more)
+    → IsShort bytes
+short-less bytes more some is = record {
+  some = some;
+  kind = sym (first-more bytes more some) ∙ is.kind;
+  short = elim (cases_lt (length bytes) 15) [
+    | inl few ↦ inl few
+    | inr long ↦ inr (fewer long is.short)
+  ];
 }
+  where
+    fewer : 15 ≤ length bytes
+        → (length (bytes ++ more) < 15) ⊎ (length (bytes ++ more) < 20 + two_at 13 (bytes ++ more))
+        → length bytes < 20 + two_at 13 bytes
+    fewer long (inl few) = omega (arith, few, long, length-append bytes more)
+    fewer long (inr few) = omega (arith, few, length-append bytes more, two-more bytes more long)
 
 pub misspelled-by : (bytes : List ℕ) → ((rec : LogRecord) (x y : List ℕ) → HasFields rec
-    → bytes ++ x ≡ record_bytes rec ++ y → ⊥) → IsMisspelled bytes
-misspelled-by bytes none = record {
+    → bytes ++ x ≡ record_bytes rec ++ y → ⊥) → (IsShort bytes → ⊥) → IsMisspelled bytes
+misspelled-by bytes none long = record {
   no_record = λ rec rest fields same. none rec [] rest fields (append-nil bytes ∙ same);
-  no_cut = λ cut. none cut.whole cut.missing [] cut.fields
-      (cut.begins ∙ sym (append-nil (record_bytes cut.whole)));
+  no_cut = λ cut. ⊎_elim not-begun long cut;
 }
+  where
+    not-begun : IsBegun bytes → ⊥
+    not-begun begun = none begun.whole begun.missing [] begun.fields
+        (begun.begins ∙ sym (append-nil (record_bytes begun.whole)))
 
 abbrev IsKind : ℕ → Type 0
 IsKind n = (1 ≤ n) × (n ≤ 3)
@@ -92,6 +115,7 @@ pub no-kind : (bytes : List ℕ) → 0 < length bytes → (IsKind (get_or bytes 
 no-kind bytes some none =
     misspelled-by bytes (λ rec x y fields same. none (subst IsKind
     (sym (ap (λ (l : List ℕ). get_or l 0 0) same) ∙ first-more bytes x some) (kind-of rec y)))
+    (λ short. none (omega (arith, short.kind), omega (arith, short.kind)))
 
 -- ---- ends of units
 
@@ -126,7 +150,7 @@ end-cut k bytes fits some short first =
     (first-more bytes (zeros_to 9 bytes) some ∙ first) in
     let none : drop 9 b ≡ [] =
     nil_from_length (drop 9 b) (omega (arith, length-drop 9 b, long)) in
-    record {
+    inl (record {
       whole = End (record { deck = four_at 1 b; number = four_at 5 b }) k;
       fields = whole.fields;
       missing = zeros_to 9 bytes;
@@ -136,20 +160,9 @@ end-cut k bytes fits some short first =
           (End (record { deck = four_at 1 b; number = four_at 5 b }) k) ++ l) none
           ∙ append-nil (record_bytes
           (End (record { deck = four_at 1 b; number = four_at 5 b }) k));
-    }
+    })
 
 -- ---- old records
-
--- nothing yet
-pub old-none : (bytes : List ℕ) → length bytes ≡ 0 → IsOldCut bytes
-unfolding old_bytes
-old-none bytes none = record {
-  old = None;
-  was = tt;
-  missing = old_bytes None;
-  some = omega arith;
-  begins = ap (λ (l : List ℕ). l ++ old_bytes None) (nil_from_length bytes none);
-}
 
 abbrev IsFlag : ℕ → Type 0
 IsFlag n = n ≤ 1
@@ -159,11 +172,12 @@ unfolding old_bytes
 flag-of None y = omega arith
 flag-of (Some b) y = omega arith
 
-pub no-flag : (bytes : List ℕ) → 0 < length bytes → (IsFlag (get_or bytes 0 0) → ⊥)
+pub no-flag : (bytes : List ℕ) → 5 ≤ length bytes → (IsFlag (get_or bytes 0 0) → ⊥)
     → IsOldWrong bytes
-no-flag bytes some none = record {
+no-flag bytes long none = record {
+  long = long;
   none = λ old x y same. none (subst IsFlag (sym (ap (λ (l : List ℕ). get_or l 0 0) same)
-      ∙ first-more bytes x some) (flag-of old y));
+      ∙ first-more bytes x (omega (arith, long))) (flag-of old y));
 }
 
 zero-four : (i d : ℕ) → i < 4 → get_or (four 0) i d ≡ 0
@@ -201,10 +215,13 @@ absent-none n bytes most some first bad (Some b) x y same =
       ap (λ (l : List ℕ). get_or l 0 0) same,
     )
 
-pub absent-wrong : (n : ℕ) (bytes : List ℕ) → n ≤ 4 → 0 < length bytes → get_or bytes 0 0 ≡ 0
-    → (AreZeros (take n (drop 1 bytes)) → ⊥) → IsOldWrong bytes
-absent-wrong n bytes most some first bad =
-    record { none = absent-none n bytes most some first bad }
+pub absent-wrong : (bytes : List ℕ) → 5 ≤ length bytes → get_or bytes 0 0 ≡ 0
+    → (AreZeros (take 4 (drop 1 bytes)) → ⊥) → IsOldWrong bytes
+absent-wrong bytes long first bad =
+    record {
+      long = long;
+      none = absent-none 4 bytes (omega arith) (omega (arith, long)) first bad;
+    }
 
 five-zeros : (bytes : List ℕ) → length bytes ≡ 5 → get_or bytes 0 0 ≡ 0
     → AreZeros (drop 1 bytes) → bytes ≡ old_bytes None
@@ -218,30 +235,6 @@ five-zeros bytes long first zeros =
 pub length-none : length (old_bytes None) ≡ 5
 unfolding old_bytes four
 length-none = refl
-
-absent-zeros : (bytes : List ℕ) → 0 < length bytes → length bytes ≤ 5 → get_or bytes 0 0 ≡ 0
-    → AreZeros (drop 1 bytes) → bytes ++ zeros_to 5 bytes ≡ old_bytes None
-unfolding old_bytes four
-absent-zeros bytes some short first zeros =
-    let n = length (drop 1 bytes) in
-    let long : n + (5 - length bytes) ≡ 4 = omega (arith, length-drop 1 bytes, some, short) in
-    ap (λ (l : List ℕ). l ++ zeros_to 5 bytes) (begins bytes 0 some first)
-    ∙ ap (λ (l : List ℕ). 0 ∷ (l ++ zeros_to 5 bytes)) (zeros_are (drop 1 bytes) zeros)
-    ∙ ap (λ (l : List ℕ). 0 ∷ l) (zeros-both n (5 - length bytes))
-    ∙ ap (λ (m : ℕ). 0 ∷ replicate {A = ℕ} m 0) long
-  where
-    zeros-both : (n m : ℕ) → replicate {A = ℕ} n 0 ++ replicate m 0 ≡ replicate (n + m) 0
-    zeros-both n m = replicate-append-replicate n m 0
-
-pub absent-cut : (bytes : List ℕ) → 0 < length bytes → length bytes < 5 → get_or bytes 0 0 ≡ 0
-    → AreZeros (drop 1 bytes) → IsOldCut bytes
-absent-cut bytes some short first zeros = record {
-  old = None;
-  was = tt;
-  missing = zeros_to 5 bytes;
-  some = omega (arith, short, length-replicate {A = ℕ} (5 - length bytes) 0);
-  begins = absent-zeros bytes some (omega (arith, short)) first zeros;
-}
 
 pub absent-whole : (bytes : List ℕ) → 5 ≤ length bytes → get_or bytes 0 0 ≡ 0
     → AreZeros (take 4 (drop 1 bytes)) → IsOld bytes None 5
@@ -319,42 +312,3 @@ present-cut bytes fits long short first =
           ∙ ap (λ (l : List ℕ). 1 ∷ (four (length b) ++ l)) (sym (append-nil b))
           ∙ sym (old-some b []) ∙ append-nil (old_bytes (Some b));
     }
-
-old-less : (bytes more : List ℕ) → IsOldCut (bytes ++ more) → IsOldCut bytes
-old-less bytes more cut = record {
-  old = cut.old;
-  was = cut.was;
-  missing = more ++ cut.missing;
-  some = omega (arith, cut.some, length-append more cut.missing);
-  begins = sym (append_assoc bytes more cut.missing) ∙ cut.begins;
-}
-
-whole-cut : (bytes more : List ℕ) (old : Option (List ℕ)) (count : ℕ) → 0 < length more
-    → IsOld (bytes ++ more) old count → length (bytes ++ more) ≡ count → IsOldCut bytes
-whole-cut bytes more old count some whole long =
-    let none : drop count (bytes ++ more) ≡ [] =
-    nil_from_length (drop count (bytes ++ more))
-    (omega (arith, length-drop count (bytes ++ more), long)) in
-    record {
-      old = old;
-      was = whole.was;
-      missing = more;
-      some = some;
-      begins = whole.is ∙ ap (λ (l : List ℕ). old_bytes old ++ l) none ∙ append-nil (old_bytes old);
-    }
-
--- not even its length
-pub present-short : (bytes : List ℕ) → IsBytes bytes → 0 < length bytes → length bytes < 5
-    → get_or bytes 0 0 ≡ 1 → IsOldCut bytes
-present-short bytes fits some short first =
-    let more = zeros_to 5 bytes in
-    let b = bytes ++ more in
-    let is : IsBytes b = bytes-to 5 bytes fits in
-    let size : length b ≡ 5 = long-to 5 bytes (omega (arith, short)) in
-    let one : get_or b 0 0 ≡ 1 = first-more bytes more some ∙ first in
-    elim (cases_lt (length b) (5 + four_at 1 b)) [
-      | inl less ↦ old-less bytes more (present-cut b is (omega (arith, size)) less one)
-      | inr all ↦ whole-cut bytes more (Some (take (four_at 1 b) (drop 5 b))) (5 + four_at 1 b)
-          (omega (arith, short, length-replicate {A = ℕ} (5 - length bytes) 0))
-          (present-whole b is (omega (arith, size)) all one) (omega (arith, all, size))
-    ]

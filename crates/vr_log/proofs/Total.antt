@@ -5,7 +5,7 @@ use Rattle.std.proofs.Common.{Option}
 use Rattle.std.proofs.Common.{Some, None, get_or, nat_eq, nat_le, refl, sym, ap, subst, ◌∙◌, arith}
 use Rattle.std.proofs.Common.{true≢false}
 use Rattle.std.proofs.lemmas.Bool.{cases_lt, cases_eq}
-use Rattle.std.proofs.lemmas.List.{append_assoc, length-drop}
+use Rattle.std.proofs.lemmas.List.{append_assoc, length-drop, length-take}
 use Rattle.std.proofs.lemmas.List.{take_all, nil_from_length}
 use Rattle.std.proofs.lemmas.List.Elements.{All-append}
 use Rattle.vr_types.specs.Fields.{IsBytes, AreZeros, two_at, four_at}
@@ -21,11 +21,10 @@ use Rattle.vr_log.specs.Decoding.{IsOldCut, IsOldWrong, IsOld, IsWhole}
 use Rattle.vr_log.specs.LogBlock.{generation_in, index_in, used_in, payload_in, is_next, room_of}
 use Rattle.vr_log.specs.Records.{HasFields, record_bytes, bytes_of, IsCut, SpellsRecords}
 use Rattle.vr_log.specs.Spells.{joined, bytes_from, log_bytes, Fits, Spells}
-use Rattle.vr_log.proofs.BeforeBytes.{head-of, short-head, cut-place, read-cut, read-wrong}
-use Rattle.vr_log.proofs.BeforeBytes.{read-whole}
+use Rattle.vr_log.proofs.BeforeBytes.{read-cut, read-whole, read-wrong}
 use Rattle.vr_log.proofs.Codec.{none-cut, All-none, All-one}
-use Rattle.vr_log.proofs.RecordBytes.{no-kind, end-whole, end-cut, old-none, no-flag, absent-wrong}
-use Rattle.vr_log.proofs.RecordBytes.{absent-cut, absent-whole, present-short, present-cut}
+use Rattle.vr_log.proofs.RecordBytes.{no-kind, end-whole, end-cut, no-flag, absent-wrong}
+use Rattle.vr_log.proofs.RecordBytes.{absent-whole, present-cut}
 use Rattle.vr_log.proofs.RecordBytes.{present-whole, IsBytes-append}
 
 -- all zeros, or not
@@ -48,55 +47,38 @@ Old : List ℕ → Type 0
 Old bytes = ((old : Option (List ℕ)) × (count : ℕ) × IsOld bytes old count)
     ⊎ (IsOldCut bytes ⊎ IsOldWrong bytes)
 
-absent-or : (bytes : List ℕ) → 0 < length bytes → get_or bytes 0 0 ≡ 0 → Old bytes
+absent-or : (bytes : List ℕ) → 5 ≤ length bytes → get_or bytes 0 0 ≡ 0 → Old bytes
 unfolding Old
-absent-or bytes some first =
-    elim (cases_lt (length bytes) 5) [
-      | inl short ↦
-          let n = length bytes - 1 in
-          let all : take n (drop 1 bytes) ≡ drop 1 bytes =
-          take_all n (drop 1 bytes) (omega (arith, length-drop 1 bytes)) in
-          ⊎_elim (λ (zeros : AreZeros (take n (drop 1 bytes))). inr (inl
-          (absent-cut bytes some short first (subst AreZeros all zeros))))
-          (λ (other : AreZeros (take n (drop 1 bytes))
-          → ⊥). inr (inr (absent-wrong n bytes (omega (arith, short)) some first other)))
-          (zeros-or (take n (drop 1 bytes)))
-      | inr long ↦
-          ⊎_elim (λ (zeros : AreZeros (take 4 (drop 1 bytes))). inl
-          (None, 5, absent-whole bytes long first zeros))
-          (λ (other : AreZeros (take 4 (drop 1 bytes))
-          → ⊥). inr (inr (absent-wrong 4 bytes (omega arith) some first other)))
-          (zeros-or (take 4 (drop 1 bytes)))
-    ]
+absent-or bytes long first =
+    ⊎_elim
+    (λ (zeros : AreZeros (take 4 (drop 1 bytes))). inl
+    (None, 5, absent-whole bytes long first zeros))
+    (λ (other : AreZeros (take 4 (drop 1 bytes))
+    → ⊥). inr (inr (absent-wrong bytes long first other)))
+    (zeros-or (take 4 (drop 1 bytes)))
 
-present-or : (bytes : List ℕ) → IsBytes bytes → 0 < length bytes → get_or bytes 0 0 ≡ 1
+present-or : (bytes : List ℕ) → IsBytes bytes → 5 ≤ length bytes → get_or bytes 0 0 ≡ 1
     → Old bytes
 unfolding Old
-present-or bytes fits some first =
-    elim (cases_lt (length bytes) 5) [
-      | inl short ↦ inr (inl (present-short bytes fits some short first))
-      | inr long ↦ elim (cases_lt (length bytes) (5 + four_at 1 bytes)) [
-        | inl less ↦ inr (inl (present-cut bytes fits long less first))
-        | inr all ↦ inl (
-          Some (take (four_at 1 bytes) (drop 5 bytes)),
-          5 + four_at 1 bytes,
-          present-whole bytes fits long all first,
-        )
-      ]
+present-or bytes fits long first =
+    elim (cases_lt (length bytes) (5 + four_at 1 bytes)) [
+      | inl less ↦ inr (inl (present-cut bytes fits long less first))
+      | inr all ↦ inl (
+        Some (take (four_at 1 bytes) (drop 5 bytes)),
+        5 + four_at 1 bytes,
+        present-whole bytes fits long all first,
+      )
     ]
 
-old-or : (bytes : List ℕ) → IsBytes bytes → Old bytes
+old-or : (bytes : List ℕ) → IsBytes bytes → 5 ≤ length bytes → Old bytes
 unfolding Old
-old-or bytes fits =
-    elim (cases_lt 0 (length bytes)) [
-      | inr none ↦ inr (inl (old-none bytes (omega (arith, none))))
-      | inl some ↦ elim (cases_eq (get_or bytes 0 0) 0) [
-        | inl is ↦ absent-or bytes some is
-        | inr more ↦ elim (cases_eq (get_or bytes 0 0) 1) [
-          | inl is ↦ present-or bytes fits some is
-          | inr other ↦ inr (inr (no-flag bytes some (λ flag. flag-two (get_or bytes 0 0) more
-              other flag)))
-        ]
+old-or bytes fits long =
+    elim (cases_eq (get_or bytes 0 0) 0) [
+      | inl is ↦ absent-or bytes long is
+      | inr more ↦ elim (cases_eq (get_or bytes 0 0) 1) [
+        | inl is ↦ present-or bytes fits long is
+        | inr other ↦ inr (inr (no-flag bytes long (λ flag. flag-two (get_or bytes 0 0) more
+            other flag)))
       ]
     ]
   where
@@ -116,14 +98,13 @@ before-or : (bytes : List ℕ) → IsBytes bytes → 0 < length bytes → get_or
 unfolding Found Old
 before-or bytes fits some first =
     elim (cases_lt (length bytes) 15) [
-      | inl short ↦ inr (inl (short-head bytes fits some short first))
+      | inl short ↦ inr (inl (inr (record { some = some; kind = first; short = inl short })))
       | inr long ↦
           let n = two_at 13 bytes in
-          elim (cases_lt (15 + n) (length bytes)) [
-            | inr cut ↦ inr (inl (cut-place bytes (drop 15 bytes) (four_at 1 bytes)
-                (four_at 5 bytes) (four_at 9 bytes) n (head-of bytes fits long first)
-                (omega (arith, cut, length-drop 15 bytes))))
-            | inl within ↦
+          elim (cases_lt (length bytes) (20 + n)) [
+            | inl cut ↦ inr (inl (inr
+                (record { some = some; kind = first; short = inr cut })))
+            | inr within ↦
                 let tail = take (length bytes - (15 + n)) (drop (15 + n) bytes) in
                 let room : 15 + n ≤ length bytes = omega (arith, within) in
                 ⊎_elim
@@ -140,7 +121,13 @@ before-or bytes fits some first =
                 (λ (wrong : IsOldWrong tail). inr
                 (read-wrong bytes n fits long first refl room wrong)) part))
                 (old-or tail (IsBytes-take (length bytes - (15 + n)) (drop (15 + n) bytes)
-                (IsBytes-drop (15 + n) bytes fits)))
+                (IsBytes-drop (15 + n) bytes fits))
+                (omega (
+                  arith,
+                  within,
+                  length-take (length bytes - (15 + n)) (drop (15 + n) bytes),
+                  length-drop (15 + n) bytes,
+                )))
           ]
     ]
 

@@ -1,5 +1,5 @@
 -- Bytes spell one list of records at most, and blocks one log.
-use Rattle.std.proofs.Common.{◌≡◌, inl, inr, ℕ, ◌+◌, ◌-◌, ◌^◌, ◌<◌, ◌≤◌, List, [], ◌∷◌, ◌++◌}
+use Rattle.std.proofs.Common.{◌≡◌, ⊎_elim, inl, inr, ℕ, ◌+◌, ◌-◌, ◌^◌, ◌<◌, ◌≤◌, List, [], ◌∷◌, ◌++◌}
 use Rattle.std.proofs.Common.{length, take, drop, All, Option, Some, None, get_or, replicate, refl}
 use Rattle.std.proofs.Common.{sym, ap, subst, ◌∙◌, arith}
 use Rattle.std.proofs.lemmas.List.{append-nil, append_assoc, append_cancel_left, length-append}
@@ -21,7 +21,9 @@ use Rattle.vr_log.specs.declared.record.EndKind.TheVariants.{Committed, BackedOu
 use Rattle.vr_log.specs.declared.record.LogRecord.{LogRecord}
 use Rattle.vr_log.specs.declared.record.LogRecord.TheVariants.{Before, End}
 use Rattle.vr_log.specs.Records.{record_bytes, bytes_of, unit_bytes, old_bytes, end_number}
-use Rattle.vr_log.specs.Records.{HasFields, IsUnit, IsBefore, IsCut, SpellsRecords}
+use Rattle.vr_log.specs.Records.{HasFields, IsUnit, IsBefore, IsBegun, IsShort, IsCut}
+use Rattle.vr_log.specs.Records.{SpellsRecords}
+use Rattle.vr_log.proofs.Lives.{length-before}
 
 pub two-both : (a b : ℕ) (x y : List ℕ) → a < 2 ^ 16 → b < 2 ^ 16 → two a ++ x ≡ two b ++ y
     → (a ≡ b) × (x ≡ y)
@@ -127,9 +129,8 @@ abbrev pub BeginsNone : List ℕ → Type 0
 BeginsNone bytes = (r : LogRecord) (more : List ℕ) → HasFields r → bytes ≡ record_bytes r ++ more
     → ⊥
 
--- a record that isn't whole begins with none
-pub cut-none : (cut : List ℕ) → IsCut cut → BeginsNone cut
-cut-none cut is r more fields same =
+begun-none : (cut : List ℕ) → IsBegun cut → BeginsNone cut
+begun-none cut is r more fields same =
     let begins : record_bytes r ++ (more ++ is.missing) ≡ record_bytes is.whole ++ [] =
     sym (append_assoc (record_bytes r) more is.missing)
     ∙ ap (λ (l : List ℕ). l ++ is.missing) (sym same) ∙ is.begins
@@ -147,6 +148,37 @@ cut-none cut is r more fields same =
       ap
           (λ (w : LogRecord). length (record_bytes w)) one,
     )
+
+-- the flag and the length of an old record are five bytes
+old-five : (old : Option (List ℕ)) → 5 ≤ length (old_bytes old)
+unfolding old_bytes four
+old-five None = omega arith
+old-five (Some bytes) = omega arith
+
+-- the length that a before-image says of its place
+said-place : (unit : UnitOfRecovery) (part : PartNo) (place more : List ℕ)
+    (old : Option (List ℕ)) → length place < 2 ^ 16
+    → two_at 13 (record_bytes (Before unit part place old) ++ more) ≡ length place
+unfolding record_bytes unit_bytes four two two_at
+said-place unit part place more old below = two_at-two (length place) [] below
+
+short-none : (cut : List ℕ) → IsShort cut → BeginsNone cut
+unfolding record_bytes
+short-none cut is (End unit kind) more fields same =
+    omega (arith, end-number kind, is.kind, ap (λ (l : List ℕ). get_or l 0 0) same)
+short-none cut is (Before unit part place old) more fields same =
+    let said : two_at 13 cut ≡ length place =
+    ap (λ (l : List ℕ). two_at 13 l) same ∙ said-place unit part place more old fields.at_place in
+    let long : length cut ≡ 15 + length place + length (old_bytes old) + length more =
+    ap length same ∙ length-append (record_bytes (Before unit part place old)) more
+    ∙ ap (λ (n : ℕ). n + length more) (length-before unit part place old) in
+    ⊎_elim (λ (few : length cut < 15). omega (arith, few, long))
+    (λ (few : length cut < 20 + two_at 13 cut). omega (arith, few, said, long, old-five old))
+    is.short
+
+-- a record that isn't whole begins with none
+pub cut-none : (cut : List ℕ) → IsCut cut → BeginsNone cut
+cut-none cut is = ⊎_elim (begun-none cut) (short-none cut) is
 
 -- bytes are those of one list of records, up to bytes that begin with none
 pub ends_one : (one other : List LogRecord) (cut rest : List ℕ) → All HasFields one

@@ -10,7 +10,7 @@ use Rattle.std.proofs.Math.Nat.{mul-le-mul_right}
 use Rattle.std.proofs.Math.Seq.{take-append-add, take-nil}
 use Rattle.std.proofs.lemmas.Bool.{cases_lt, eqb-true, leb-true}
 use Rattle.std.proofs.lemmas.List.{length-append, length-drop, length-take, take-append-drop}
-use Rattle.std.proofs.lemmas.List.{take_all}
+use Rattle.std.proofs.lemmas.List.{nil_from_length, take_all}
 use Rattle.std.proofs.lemmas.Nat.{div-add-mod'}
 use Rattle.vr_types.specs.Fields.{AreZeros}
 use Rattle.vr_types.specs.Geometry.{IsAllowed}
@@ -21,11 +21,13 @@ use Rattle.vr_log.specs.Clearing.{IsStale}
 use Rattle.vr_log.specs.Content.{Content}
 use Rattle.vr_log.specs.LogBlock.{generation_in, index_in, is_next, payload_in, room_of, used_in}
 use Rattle.vr_log.specs.LogNow.{last_index}
-use Rattle.vr_log.specs.Records.{IsCut, SpellsRecords, bytes_of}
+use Rattle.vr_log.specs.Records.{IsBegun, IsCut, IsShort, SpellsRecords, bytes_of}
 use Rattle.vr_log.specs.Spells.{Fits, Spells, bytes_from, joined, log_bytes}
 use Rattle.vr_log.specs.Standing.{InLog}
 use Rattle.vr_log.specs.declared.record.LogRecord.{LogRecord}
+use Rattle.vr_log.proofs.Codec.{none-cut}
 use Rattle.vr_log.proofs.Leaving.{next-has}
+use Rattle.vr_log.proofs.RecordBytes.{short-less}
 use Rattle.vr_log.proofs.Settled.{deep, last-low}
 use Rattle.vr_log.proofs.Unique.{zeros-generation}
 
@@ -35,9 +37,8 @@ unfolding payload_in
 length-payload block =
     omega (arith, length-take (used_in block) (drop 16 block), length-drop 16 block)
 
--- what is left of a record that isn't whole, cut once more
-cut-more : (n : ℕ) (bytes : List ℕ) → IsCut bytes → IsCut (take n bytes)
-cut-more n bytes is = record {
+begun-more : (n : ℕ) (bytes : List ℕ) → IsBegun bytes → IsBegun (take n bytes)
+begun-more n bytes is = record {
   whole = is.whole;
   fields = is.fields;
   missing = drop n bytes ++ is.missing;
@@ -45,6 +46,17 @@ cut-more n bytes is = record {
   begins = sym (append_assoc (take n bytes) (drop n bytes) is.missing)
       ∙ ap (λ (x : List ℕ). x ++ is.missing) (take-append-drop n bytes) ∙ is.begins;
 }
+
+-- what is left of a record that isn't whole, cut once more
+cut-more : (n : ℕ) (bytes : List ℕ) → IsCut bytes → IsCut (take n bytes)
+cut-more n bytes (inl begun) = inl (begun-more n bytes begun)
+cut-more n bytes (inr short) =
+    elim (cases_lt 0 (length (take n bytes))) [
+      | inl some ↦ inr (short-less (take n bytes) (drop n bytes) some
+          (subst IsShort (sym (take-append-drop n bytes)) short))
+      | inr none ↦ subst IsCut
+          (sym (nil_from_length (take n bytes) (omega (arith, none)))) none-cut
+    ]
 
 module _ (room generation last : ℕ) (old new : Image)
     (same : (index : ℕ) → index ≢ last → block_at new (1 + index) ≡ block_at old (1 + index))

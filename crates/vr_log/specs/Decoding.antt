@@ -20,8 +20,10 @@ pub record IsOldCut (bytes : List ℕ) : Type 0 where
   pub some : 0 < length missing
   pub begins : bytes ++ missing ≡ old_bytes old
 
--- whatever follows these bytes, no old record begins with them or they with it
+-- Their flag and length are there, and whatever follows these bytes, no old record begins with them
+-- or they with it.
 pub record IsOldWrong (bytes : List ℕ) : Type 0 where
+  pub long : 5 ≤ length bytes
   pub none : (old : Option (List ℕ)) (x y : List ℕ) → bytes ++ x ≡ old_bytes old ++ y → ⊥
 
 -- the bytes begin with those of the old record

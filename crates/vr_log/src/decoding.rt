@@ -11,7 +11,9 @@ use vr_types::{
     Bytes, OutOfMemory, PartNo, Unit, are_zeros, bytes as copied, four_at, place, two_at,
 };
 
-/// What bytes begin with: a record of that many of them, one that isn't whole, or none.
+/// What bytes begin with: a record of that many of them, one that isn't whole, or none. A
+/// before-image whose flag and length of the old record aren't all there isn't whole, whatever
+/// stands of these.
 #[derive(Drop)]
 pub(crate) enum Found {
     Whole { rec: LogRecord, count: usize },
@@ -19,8 +21,8 @@ pub(crate) enum Found {
     Misspelled,
 }
 
-/// What the bytes after the place of a before-image begin with: that there was no record, a record
-/// of that many bytes, one of the two that isn't whole, or neither.
+/// What the five or more bytes after the place of a before-image begin with: that there was no
+/// record, a record of that many bytes, one that isn't whole, or neither.
 #[derive(Clone, Copy)]
 enum OldFound {
     Absent,
@@ -71,7 +73,7 @@ fn read_before(alloc: Global, bytes: &[u8]) -> Result<Found, OutOfMemory>
         return Ok(Found::Cut);
     }
     let end = 15 + two_at(bytes, 13) as usize;
-    if bytes.len() <= end {
+    if bytes.len() < end + 5 {
         return Ok(Found::Cut);
     }
     match old_found(&bytes[end..]) {
@@ -123,11 +125,9 @@ fn before(
 
 /// What was at the place of a before-image.
 fn old_found(bytes: &[u8]) -> OldFound
+    requires { 5 ≤ length bytes.now }
     ensures { IsOldFound bytes.now result }
 {
-    if bytes.is_empty() {
-        return OldFound::Broken;
-    }
     match bytes[0] {
         0 => absent(bytes),
         1 => present(bytes),
@@ -137,29 +137,23 @@ fn old_found(bytes: &[u8]) -> OldFound
 
 /// That there was no record, which four zeros follow.
 fn absent(bytes: &[u8]) -> OldFound
-    requires some { 0 < length bytes.now }
+    requires long { 5 ≤ length bytes.now }
     requires first { slice_index bytes.now 0 ≡ 0 }
     ensures { IsOldFound bytes.now result }
 {
-    let end = bytes.len().min(5);
-    if !are_zeros(&bytes[1..end]) {
-        return OldFound::Wrong;
+    if are_zeros(&bytes[1..5]) {
+        OldFound::Absent
+    } else {
+        OldFound::Wrong
     }
-    if bytes.len() < 5 {
-        return OldFound::Broken;
-    }
-    OldFound::Absent
 }
 
 /// A record, after its length.
 fn present(bytes: &[u8]) -> OldFound
-    requires some { 0 < length bytes.now }
+    requires long { 5 ≤ length bytes.now }
     requires first { slice_index bytes.now 0 ≡ 1 }
     ensures { IsOldFound bytes.now result }
 {
-    if bytes.len() < 5 {
-        return OldFound::Broken;
-    }
     let length = four_at(bytes, 1) as usize;
     if bytes.len() < 5 + length {
         return OldFound::Broken;

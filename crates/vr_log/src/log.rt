@@ -1,6 +1,6 @@
 //! The undo log.
 ghost use Rattle.std.specs.Prelude.{◌≡◌, ◌<◌, ◌≤◌, ◌+◌, [], ◌∷◌, ◌++◌, length, All, Contains, ℕ};
-ghost use Rattle.std.specs.Prelude.{◌*◌, IsTrue, false, IfOk};
+ghost use Rattle.std.specs.Prelude.{◌*◌, IsTrue, true, false, IfOk};
 ghost use Rattle.std.specs.Prelude.{OnOk, OnErr, IfErr, if◌then◌else◌};
 ghost use Rattle.vr_types.specs.Blocks.{Keeps};
 ghost use Rattle.vr_types.specs.Faults.{HasWriteCause};
@@ -140,7 +140,8 @@ impl UndoLog {
     }
 
     /// Forces the records that were appended, in one sync; where none was since the last time,
-    /// nothing is done. `Write` is the device's.
+    /// nothing is done. `Write` is the device's, and the log is broken then: what stands of its
+    /// blocks isn't known.
     pub fn force<B: Blocks>(&mut self, blocks: &mut B) -> Result<(), DeviceFault>
         requires sound { self.old.broken ≡ false }
         requires shape { IsOf self.old.geometry (B.seen blocks.old) }
@@ -150,6 +151,7 @@ impl UndoLog {
         ensures moments { IsTrue B.tells → Touches (InLog self.old.geometry) (HasLog self.old)
             (B.seen blocks.old) (B.seen blocks.new) }
         ensures keeps { Keeps B.tells (B.seen blocks.old) (B.seen blocks.new) }
+        ensures broken { OnErr result (self.new.broken ≡ true) }
         ensures idle { IsForced self.old → (self.new ≡ self.old) × (blocks.new ≡ blocks.old) }
         ensures cause { HasWriteCause (B.faults blocks.old) (B.faults blocks.new) result }
     {

@@ -5,7 +5,7 @@ use std::alloc::Global;
 use vr_types::{Bytes, OutOfMemory, PartNo, Place, Unit};
 
 /// How a unit of recovery ended.
-#[derive(Clone, Copy, PartialEq, Eq, Hash)]
+#[derive(Clone, Copy, PartialEq, Eq)]
 pub enum EndKind {
     Committed,
     BackedOut,
@@ -74,7 +74,7 @@ impl Before {
 }
 
 /// Where a record begins in the log: the block, and the byte in it.
-#[derive(Clone, Copy, PartialEq, Eq, Hash)]
+#[derive(Clone, Copy, PartialEq, Eq)]
 pub struct LogPlace {
     pub block: u32,
     pub at: u32,

@@ -3,7 +3,7 @@
 use vr_types::{DeviceFault, OutOfMemory};
 
 /// Why block 0 gives no shape.
-#[derive(Clone, Copy, PartialEq, Eq, Hash)]
+#[derive(Clone, Copy, PartialEq, Eq)]
 pub enum HeaderNo {
     /// It is not the header of a volume of that number, of any shape that the device has room for.
     Damaged,
@@ -30,7 +30,7 @@ impl From<DeviceFault> for HeaderNo {
 }
 
 /// Why the records of a part are not listed.
-#[derive(Clone, Copy, PartialEq, Eq, Hash)]
+#[derive(Clone, Copy, PartialEq, Eq)]
 pub enum ListNo {
     /// A fault of the device.
     Fault(DeviceFault),

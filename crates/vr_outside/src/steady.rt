@@ -83,7 +83,7 @@ impl Source for SteadySource {
 
 /// A sink that takes everything and never fails. It keeps nothing, since keeping takes memory, and
 /// so it doesn't report what it took.
-#[derive(Clone, Copy, Default, PartialEq, Eq, Hash)]
+#[derive(Clone, Copy, Default, PartialEq, Eq)]
 pub struct SteadySink;
 
 impl Sink for SteadySink {

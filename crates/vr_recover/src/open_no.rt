@@ -2,7 +2,7 @@
 use vr_types::{DeviceFault, OutOfMemory};
 
 /// Why a volume is not opened.
-#[derive(Clone, Copy, PartialEq, Eq, Hash)]
+#[derive(Clone, Copy, PartialEq, Eq)]
 pub enum OpenNo {
     /// The blocks are those of no volume of that number: a block that breaks a rule, and the rule.
     /// 1: the header, block 0. 2: the log. 3 to 11: a part, by the numbers of `vr_attach`. 17: the

@@ -3,7 +3,7 @@
 use vr_types::OutOfMemory;
 
 /// What is wrong with a text, in the order of the numbers that a listing shows, from 1.
-#[derive(Clone, Copy, PartialEq, Eq, Hash)]
+#[derive(Clone, Copy, PartialEq, Eq)]
 pub enum FormCause {
     /// A comment is not closed. Its place is where it begins.
     OpenComment,
@@ -18,7 +18,7 @@ pub enum FormCause {
 
 /// The first thing that is wrong with a text, and its place: the line's number in the job text, and
 /// the column, from 1.
-#[derive(Clone, Copy, PartialEq, Eq, Hash)]
+#[derive(Clone, Copy, PartialEq, Eq)]
 pub struct FormFault {
     pub cause: FormCause,
     pub line: u32,
@@ -26,7 +26,7 @@ pub struct FormFault {
 }
 
 /// Why a text gave no tokens.
-#[derive(Clone, Copy, PartialEq, Eq, Hash)]
+#[derive(Clone, Copy, PartialEq, Eq)]
 pub enum ScanFault {
     /// The text has none.
     Form(FormFault),

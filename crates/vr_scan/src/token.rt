@@ -6,7 +6,7 @@ ghost use Rattle.vr_scan.specs.TokensHeld.{tokens_of, AreWithin};
 use std::marker::Model;
 
 /// What a token is.
-#[derive(Clone, Copy, PartialEq, Eq, Hash)]
+#[derive(Clone, Copy, PartialEq, Eq)]
 pub enum TokenKind {
     /// A name, a number or a keyword, in capitals.
     Word,

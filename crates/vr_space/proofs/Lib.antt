@@ -6,7 +6,6 @@ pub mod UnderWay
 pub mod Searching
 pub mod Adding
 pub mod Intervals
-pub mod Composing
 pub mod Rising
 pub mod Rooms
 pub mod Keeping

@@ -8,4 +8,3 @@ pub mod UnderWay
 pub mod Met
 pub mod Part
 pub mod Search
-pub mod Composed

@@ -26,24 +26,3 @@ pub trait Kept {
             (λ place. first_allowed from.entry (places_kept (kept self.now part))
             ≡ Some place.now) };
 }
-
-/// Keeps nothing.
-#[derive(Clone, Copy, PartialEq, Eq)]
-pub struct NoneKept;
-
-impl Kept for NoneKept {
-    ghost use Rattle.std.specs.Prelude.{[]};
-    ghost use Rattle.vr_space.specs.Room.{none_ascend};
-
-    ghost kept = { λ kept part. [] };
-
-    ghost ascend = { λ kept part. none_ascend };
-
-    fn longest(&self, _part: PartNo, _place: &Place) -> Option<u32> {
-        None
-    }
-
-    fn next_kept(&self, _part: PartNo, _from: Whence<'_>) -> Option<&Place> {
-        None
-    }
-}

@@ -17,7 +17,5 @@ mod steps;
 mod weights;
 
 pub use cut::plan_cut;
-pub use records::write_records;
 pub use split::{CiSplit, ci_split};
-pub use stages::{clean_interval, copy_interval, switch_head};
 pub use weights::{Weights, empty_weights};

@@ -8,7 +8,13 @@ use vr_ci::{CiView, CiWriter, Form};
 
 /// Writes the records from one number up to another of an interval into a block of its size, busy
 /// or not. It answers false where there are no such records, and says nothing of the block then.
-pub fn write_records(bytes: &[u8], from: usize, to: usize, busy: bool, out: &mut [u8]) -> bool
+pub(crate) fn write_records(
+    bytes: &[u8],
+    from: usize,
+    to: usize,
+    busy: bool,
+    out: &mut [u8],
+) -> bool
     requires { length out.old ≡ length bytes.now }
     ensures { (value : Interval) → IsInterval Plain bytes.now value
         → value.shape ≡ shapes.Records → from ≤ to → to ≤ length value.items

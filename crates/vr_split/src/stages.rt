@@ -20,7 +20,11 @@ ghost use Rattle.vr_split.specs.Switching.{
 use vr_types::{Blocks, DeviceFault, settle};
 
 /// Writes the head with the two entries, and forces it.
-pub fn switch_head<B: Blocks>(blocks: &mut B, head: u32, top: &[u8]) -> Result<(), DeviceFault>
+pub(crate) fn switch_head<B: Blocks>(
+    blocks: &mut B,
+    head: u32,
+    top: &[u8],
+) -> Result<(), DeviceFault>
     requires below { head < (B.seen blocks.old).count }
     requires whole { length top.now ≡ (B.seen blocks.old).size }
     ensures keeps { IsTrue B.tells → (part : Keyed) (kept : Lengths) → part.head ≡ head
@@ -44,7 +48,11 @@ pub fn switch_head<B: Blocks>(blocks: &mut B, head: u32, top: &[u8]) -> Result<(
 
 /// Writes an interval without the records that went to another. What it had is stable, and whatever
 /// a crash leaves of it has the records of the places that lead there; so it need not be forced.
-pub fn clean_interval<B: Blocks>(blocks: &mut B, n: u32, lower: &[u8]) -> Result<(), DeviceFault>
+pub(crate) fn clean_interval<B: Blocks>(
+    blocks: &mut B,
+    n: u32,
+    lower: &[u8],
+) -> Result<(), DeviceFault>
     requires below { n < (B.seen blocks.old).count }
     requires whole { length lower.now ≡ (B.seen blocks.old).size }
     ensures keeps { IsTrue B.tells → (part : Keyed) (kept : Lengths) → IsIntervalBlock part n
@@ -112,7 +120,7 @@ fn rewrite<B: Blocks>(blocks: &mut B, n: u32, whole: &[u8], beside: u32) -> Resu
 
 /// The first stage: the upper records go to a free interval, and the old one is written whole and
 /// busy; both are forced.
-pub fn copy_interval<B: Blocks>(
+pub(crate) fn copy_interval<B: Blocks>(
     blocks: &mut B,
     into: u32,
     upper: &[u8],

@@ -49,7 +49,7 @@ pub use position::{Position, Stand};
 pub use reply::{Refusal, Reply};
 pub use request::{FileRef, Find, Request};
 pub use script::Script;
-pub use settling::{copy_block, settle};
+pub use settling::settle;
 pub use shared_request::SharedRequest;
 pub use sqlite_items::Items;
 pub use unit::{AreaNo, Integrity, Kind, Mode, PartNo, StageKind, Unit};

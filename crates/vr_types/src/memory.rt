@@ -6,7 +6,7 @@ use std::error::Error;
 use std::fmt;
 
 /// Memory ran out. The call that answers it changed nothing that its contract doesn't name.
-#[derive(Clone, Copy, Debug, PartialEq, Eq, Hash)]
+#[derive(Clone, Copy, Debug, PartialEq, Eq)]
 pub struct OutOfMemory;
 
 impl fmt::Display for OutOfMemory {

@@ -32,7 +32,7 @@ impl Model for Name {
 }
 
 /// Why a text is not the name of a data set. Offsets and lengths are in bytes.
-#[derive(Clone, Copy, PartialEq, Eq, Hash)]
+#[derive(Clone, Copy, PartialEq, Eq)]
 pub enum NameFault {
     /// The text is empty.
     Empty,

@@ -9,7 +9,7 @@ use std::alloc::Global;
 /// A file of a deck. `slot` numbers the deck's files from 0, so two files on one cluster have
 /// positions of their own. `path` is there where the file is opened by a path over an alternate
 /// index. `known` is false where no catalog has the name; `kind` is the base's, and `Keyed` there.
-#[derive(Clone, Copy, Debug, PartialEq, Eq, Hash)]
+#[derive(Clone, Copy, Debug, PartialEq, Eq)]
 pub struct FileRef {
     pub volume: u32,
     pub slot: u32,

@@ -10,15 +10,15 @@ pub struct Unit {
 
 /// The number of a part of a volume: a cluster, an alternate index or a path. Part 0 is the
 /// catalog.
-#[derive(Clone, Copy, Debug, PartialEq, Eq, PartialOrd, Ord, Hash)]
+#[derive(Clone, Copy, Debug, PartialEq, Eq, PartialOrd, Ord)]
 pub struct PartNo(pub u32);
 
 /// The number of an area of a volume, from 0.
-#[derive(Clone, Copy, Debug, PartialEq, Eq, PartialOrd, Ord, Hash)]
+#[derive(Clone, Copy, Debug, PartialEq, Eq, PartialOrd, Ord)]
 pub struct AreaNo(pub u32);
 
 /// How a lock is held.
-#[derive(Clone, Copy, Debug, PartialEq, Eq, Hash)]
+#[derive(Clone, Copy, Debug, PartialEq, Eq)]
 pub enum Mode {
     Shared,
     Exclusive,
@@ -26,7 +26,7 @@ pub enum Mode {
 
 /// The read integrity of a request: no read integrity, consistent read, or consistent read
 /// explicit.
-#[derive(Clone, Copy, Debug, PartialEq, Eq, Hash)]
+#[derive(Clone, Copy, Debug, PartialEq, Eq)]
 pub enum Integrity {
     Nri,
     Cr,
@@ -34,7 +34,7 @@ pub enum Integrity {
 }
 
 /// The kind of a cluster: key-sequenced, entry-sequenced or relative.
-#[derive(Clone, Copy, Debug, PartialEq, Eq, Hash)]
+#[derive(Clone, Copy, Debug, PartialEq, Eq)]
 pub enum Kind {
     Keyed,
     Entry,
@@ -43,7 +43,7 @@ pub enum Kind {
 
 /// A stage of a request that takes several events: those of a split of a control interval, of a
 /// split of a control area, the extension of a data set, an undo, and a force.
-#[derive(Clone, Copy, Debug, PartialEq, Eq, Hash)]
+#[derive(Clone, Copy, Debug, PartialEq, Eq)]
 pub enum StageKind {
     CiCopy,
     CiSwitch,

@@ -6,13 +6,15 @@
 //! show is tested.
 #![tactic(auto)]
 
+mod frames;
 mod gates;
 mod holds;
+mod ledgers;
 mod parts;
 mod steps;
 mod volume;
 
-use std::alloc::AllocError;
+use std::alloc::{AllocError, Global};
 use std::io;
 use std::sync::Wait;
 use std::thread::Threads;
@@ -43,7 +45,26 @@ fn print_all<R: Threads + Wait + Sync + Print + AllocGlobal>(rt: &R) -> io::Resu
     let end = holds::no_requests(rt, alloc).map_err(no_memory)?;
     println!(rt; "no requests: {end}")?;
     let end = holds::no_volume(rt, alloc).map_err(no_memory)?;
-    println!(rt; "no such volume: {end}")
+    println!(rt; "no such volume: {end}")?;
+    print_frames(rt, alloc)?;
+    print_ledger(rt, alloc)
+}
+
+/// Prints whether four threads at one pool found in their frames what they wrote, and how many
+/// frames came home, of pools of some frames, of none and of frames of no bytes.
+fn print_frames<R: Threads + Sync + Print>(rt: &R, alloc: Global) -> io::Result<()> {
+    for (frames, size) in [(3, 64), (0, 4096), (2, 0)] {
+        let (found, home) = frames::four(rt, alloc, frames, size).map_err(no_memory)?;
+        let marks = if found { "found" } else { "lost" };
+        println!(rt; "four threads, {frames} frames of {size} bytes: marks {marks}, {home} home")?;
+    }
+    Ok(())
+}
+
+/// Prints the decks that take turns at a ledger.
+fn print_ledger<R: Print>(rt: &R, alloc: Global) -> io::Result<()> {
+    let (one, other) = ledgers::two_decks_take_turns(alloc).map_err(no_memory)?;
+    println!(rt; "turns at a ledger: {one}, {other}")
 }
 
 fn no_memory(_fault: OutOfMemory) -> io::Error {

@@ -1,23 +1,21 @@
 use Rattle.std.proofs.Common.{◌+◌, ◌-◌, List, ℕ, length, take, drop, Some, None, refl, ap}
-use Rattle.std.proofs.Common.{◌∙◌, arith}
-use Rattle.std.proofs.lemmas.List.{length-drop}
-use Rattle.vr_types.specs.Fields.{two_at, four_at}
+use Rattle.std.proofs.Common.{◌∙◌, arith, inl, inr}
+use Rattle.vr_types.specs.Fields.{four_at}
 use Rattle.vr_log.specs.declared.record.LogRecord.TheVariants.{Before}
-use Rattle.vr_log.proofs.BeforeBytes.{head-of, short-head, cut-place, read-cut, read-whole}
-use Rattle.vr_log.proofs.BeforeBytes.{read-wrong, old-is}
+use Rattle.vr_log.proofs.BeforeBytes.{read-cut, read-whole, read-wrong, old-is}
 use Rattle.vr_log.proofs.decoding.read_before.Goals as goal
 
 pub returns-then-bytes-lt15 : goal.returns-then-bytes-lt15
 returns-then-bytes-lt15 c =
-    short-head c.args.bytes.now (λ i. omega (arith, c.type_inv.bytes i)) c.requires.some
-    (omega arith) c.requires.first
+    inr (record { some = c.requires.some; kind = c.requires.first; short = inl (omega arith) })
 
 pub returns-then-bytes-end : goal.returns-then-bytes-end
 returns-then-bytes-end c =
-    let b = c.args.bytes.now in
-    cut-place b (drop 15 b) (four_at 1 b) (four_at 5 b) (four_at 9 b) (two_at 13 b)
-    (head-of b (λ i. omega (arith, c.type_inv.bytes i)) (omega arith) c.requires.first)
-    (omega (arith, length-drop 15 b, c.two_at.ensures))
+    inr (record {
+      some = c.requires.some;
+      kind = c.requires.first;
+      short = inr (omega (arith, c.two_at.ensures));
+    })
 
 pub returns-in_ok-rec-in-Absent : goal.returns-in_ok-rec-in-Absent
 returns-in_ok-rec-in-Absent c =

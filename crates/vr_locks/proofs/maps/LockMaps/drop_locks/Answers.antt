@@ -25,5 +25,6 @@ loop-number-preserved c =
           (filed-less c.loop-number.invariant.names (of_name c.drop_lock.new.self)
           (lock_at c.drop_lock.new.self) (get_or numbers i 0)
           c.drop_lock.ensures.locks c.drop_lock.ensures.names);
+      used = c.drop_lock.ensures.used;
       units = c.drop_lock.ensures.units ∙ c.loop-number.invariant.units;
     }

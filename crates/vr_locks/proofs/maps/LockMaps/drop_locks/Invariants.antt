@@ -1,8 +1,10 @@
 use Rattle.std.proofs.Common.{◌≡◌, ℕ, None, cond, nat_eq, take}
+use Rattle.std.specs.HashMap.{get}
 use Rattle.std.specs.List.{list_any}
 use Rattle.vr_types.specs.LockName.{lock_name_eq}
 use Rattle.vr_types.specs.Locks.{Lock}
 use Rattle.vr_locks.specs.Maps.{lock_at, of_name}
+use Rattle.vr_locks.specs.Filed.{AreUsed}
 use Rattle.vr_locks.specs.Listed.{IsFiled}
 use Rattle.vr_locks.proofs.maps.LockMaps.drop_locks.Given as goal
 
@@ -14,5 +16,6 @@ invariant-loop-number l = record {
       (lock_at l.fn.self n);
   names : IsFiled lock_name_eq (λ (lock : Lock). lock.name) (lock_at l.self) l.self.next
       (of_name l.self);
+  used : AreUsed (get lock_name_eq l.self.names);
   units : l.self.units ≡ l.fn.self.units;
 }

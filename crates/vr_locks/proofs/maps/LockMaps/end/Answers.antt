@@ -1,7 +1,7 @@
-use Rattle.std.proofs.Common.{ap, ◌∙◌}
+use Rattle.std.proofs.Common.{ap, subst, sym, ◌∙◌}
 use Rattle.std.specs.HashMap.{get}
 use Rattle.vr_types.specs.Locks.{same_unit}
-use Rattle.vr_locks.specs.Filed.{numbers_in}
+use Rattle.vr_locks.specs.Filed.{AreUsed, numbers_in}
 use Rattle.vr_locks.proofs.EndLemmas.{ended-kept, ended-locks}
 use Rattle.vr_locks.proofs.maps.LockMaps.end.Goals as goal
 
@@ -24,3 +24,6 @@ returns-clause-kept c =
     (λ q. ap (λ map. numbers_in (get same_unit map q)) c.drop_locks.ensures.units
     ∙ c.take_numbers-numbers.ensures.others q)
     c.drop_locks.ensures.next
+    c.drop_locks.ensures.used
+    (subst (λ map. AreUsed (get same_unit map)) (sym c.drop_locks.ensures.units)
+    c.take_numbers-numbers.ensures.used)

@@ -19,6 +19,8 @@ returns-in_err-file-clause-kept c =
       below = λ n above. c.requires.kept.below n (omega arith);
       sound = c.requires.kept.sound;
       room = omega arith;
+      used_names = c.requires.kept.used_names;
+      used_units = c.file.ensures.used;
     }
 
 pub returns-in_err-file-clause-others : goal.returns-in_err-file-clause-others
@@ -38,6 +40,8 @@ returns-in_err-file-2-clause-kept c =
       below = λ n above. c.requires.kept.below n (omega arith);
       sound = c.requires.kept.sound;
       room = omega arith;
+      used_names = c.file-2.ensures.used;
+      used_units = c.file.ensures.used;
     }
 
 pub returns-in_err-file-2-clause-others : goal.returns-in_err-file-2-clause-others
@@ -62,6 +66,8 @@ returns-clause-kept c =
       below = λ n above. c.requires.kept.below n (omega arith);
       sound = c.requires.kept.sound;
       room = omega arith;
+      used_names = c.file-2.ensures.used;
+      used_units = c.file.ensures.used;
     }
 
 pub returns-clause-others : goal.returns-clause-others

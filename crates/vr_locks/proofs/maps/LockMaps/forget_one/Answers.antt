@@ -21,15 +21,17 @@ returns-clause-kept c =
           (λ n. unused-less at c.args.number n c.requires.unused)
           (λ q. kept-or-cut (lock_name_eq c.args.name.now q)
           (filter (λ (n : ℕ). not (nat_eq n c.args.number)) (of_name c.args.self.now q))
-          (of_name c.args.self.now q) (names_new q) (c.drop_number.ensures q));
+          (of_name c.args.self.now q) (names_new q) (c.drop_number.ensures.numbers q));
       units = filed-less c.requires.kept.units units_new at c.args.number
           (λ n. unused-less at c.args.number n c.requires.unused)
           (λ q. kept-or-cut (same_unit c.args.unit q)
           (filter (λ (n : ℕ). not (nat_eq n c.args.number)) (of_unit c.args.self.now q))
-          (of_unit c.args.self.now q) (units_new q) (c.drop_number-2.ensures q));
+          (of_unit c.args.self.now q) (units_new q) (c.drop_number-2.ensures.numbers q));
       below = c.requires.kept.below;
       sound = c.requires.kept.sound;
       room = c.requires.kept.room;
+      used_names = c.drop_number.ensures.used;
+      used_units = c.drop_number-2.ensures.used;
     }
 
 pub returns-clause-others : goal.returns-clause-others
@@ -41,12 +43,12 @@ returns-clause-others c = λ n other apart filed.
           number-kept c.requires.kept.names names_new c.args.number n apart
           (λ r. kept-or-cut (lock_name_eq c.args.name.now r)
           (filter (λ (j : ℕ). not (nat_eq j c.args.number)) (of_name c.args.self.now r))
-          (of_name c.args.self.now r) (names_new r) (c.drop_number.ensures r)) q
+          (of_name c.args.self.now r) (names_new r) (c.drop_number.ensures.numbers r)) q
           ∙ filed.name_alone q;
       unit_alone = λ q.
           number-kept c.requires.kept.units units_new c.args.number n apart
           (λ r. kept-or-cut (same_unit c.args.unit r)
           (filter (λ (j : ℕ). not (nat_eq j c.args.number)) (of_unit c.args.self.now r))
-          (of_unit c.args.self.now r) (units_new r) (c.drop_number-2.ensures r)) q
+          (of_unit c.args.self.now r) (units_new r) (c.drop_number-2.ensures.numbers r)) q
           ∙ filed.unit_alone q;
     }

@@ -6,7 +6,7 @@ use Rattle.vr_history.proofs.CallerLemmas.{last_stamp-append}
 use Rattle.vr_ledger.specs.Entries.{IsOf}
 use Rattle.vr_ledger.specs.Ledger.{LedgerNow}
 use Rattle.vr_ledger.specs.Turn.{TurnNow}
-use Rattle.vr_ledger.proofs.tests.two_decks_take_turns.Goals as goal
+use Rattle.vr_worker_cases.proofs.ledgers.two_decks_take_turns.Goals as goal
 
 pub push-requires-clause-rises : goal.push-requires-clause-rises
 push-requires-clause-rises g c =

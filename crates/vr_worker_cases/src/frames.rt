@@ -1,12 +1,13 @@
-//! Four threads at one pool. No plain program computes what threads do, so this test stands in for
-//! one.
+//! Four threads at one pool of frames. No plain program computes what threads do, so this stands in
+//! for one.
 ghost use Rattle.std.specs.Prelude.{◌≡◌, ◌+◌, []};
 ghost use Rattle.vr_frames.specs.Frames.{frames_of, parts_of, IsSeatOf};
 
-use super::*;
-use std::test::Fail;
+use std::alloc::Global;
 use std::thread;
 use std::thread::Threads;
+use vr_frames::{FrameSeat, Pool, pool};
+use vr_types::OutOfMemory;
 
 /// The takes of each thread.
 const TURNS: u32 = 4000;
@@ -80,12 +81,13 @@ fn two<R: Threads + Sync>(
 
 /// Four threads at a pool of that many frames: whether each found its marks, and how many frames
 /// came home.
-fn four<R: Threads + Sync + AllocGlobal>(
+pub fn four<R: Threads + Sync>(
     rt: &R,
+    alloc: Global,
     frames: u32,
     size: u32,
-) -> Result<(bool, u32), Fail> {
-    let (pool, mut a) = pool(rt.alloc(), frames, size)?;
+) -> Result<(bool, u32), OutOfMemory> {
+    let (pool, mut a) = pool(alloc, frames, size)?;
     let shared = &pool;
     let b = shared.split(&mut a);
     let c = shared.split(&mut a);
@@ -105,16 +107,4 @@ fn four<R: Threads + Sync + AllocGlobal>(
     );
     shared.join(&mut seat, rest);
     Ok((found && also, pool.close(seat)))
-}
-
-#[test]
-fn four_threads_find_their_marks_and_every_frame_comes_home(rt: HostRuntime) -> Result<(), Fail> {
-    for (frames, size) in [(3, 64), (0, 4096), (2, 0)] {
-        assert_eq!(rt;
-            four(&rt, frames, size)?,
-            (true, frames),
-            "{frames} frames of {size} bytes"
-        );
-    }
-    Ok(())
 }
