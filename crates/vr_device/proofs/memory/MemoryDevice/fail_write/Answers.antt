@@ -8,8 +8,8 @@ pub invariant_of-self : goal.invariant_of-self
 invariant_of-self c =
     let event = failed c.args.n c.args.from.now in
     record {
-      sized = sized-event c.args.self.now.held.value.past c.fail.new.self event
-          (c.in-Ok.ensures.ok
+      sized = sized-event c.args.self.now.held.value.past c.deref_mut-in-Ok.result.now.past event
+          (ap (λ (held : Held). held.past) c.deref_mut-in-Ok.ensures.value ∙ c.in-Ok.ensures.ok
           ∙ ap (λ (held : Held). with_event held.past event) c.deref_mut.ensures.value)
           (c.requires.block, c.requires.whole) c.args.self.now.sized;
     }
