@@ -6,10 +6,10 @@ use Rattle.vr_device.specs.DeviceCalls.{DeviceCalls, IsToFail, counted, write_fa
 use Rattle.vr_device.specs.declared.memory.MemoryDevice.{MemoryDevice}
 
 abbrev pub past_in : MemoryDevice → Past
-past_in device = device.past
+past_in device = device.held.value.past
 
 abbrev pub calls_in : MemoryDevice → DeviceCalls
-calls_in device = device.calls
+calls_in device = device.held.value.calls
 
 -- A write was set to fail. A crash may leave its bytes.
 pub record IsFailedWrite (old new : MemoryDevice) (n : ℕ) (bytes : Block) : Type 0 where

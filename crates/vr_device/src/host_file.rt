@@ -3,15 +3,15 @@ ghost use Rattle.std.specs.Prelude.{◌≡◌};
 
 use crate::block_file::BlockFile;
 use crate::file_device::FileDevice;
-use std::fs::{File, Files, OpenOptions};
-use std::os::unix::fs::FileExt;
+use crate::locked_file::LockedFile;
+use std::fs::{File, Files};
 use vr_types::Failed;
 
-/// One file of the host. It reports no content, since no contract can say what a file holds. A file
-/// that is missing, or shorter than its blocks, is one whose calls fail.
+/// One file of the host. It reports no content, since no contract can say what a file holds. Where
+/// there is none that can be opened and locked, or it is shorter than its blocks, its calls fail.
 #[derive(Drop)]
 pub struct HostFile {
-    file: Option<File>,
+    file: Option<LockedFile>,
     size: u32,
     blocks: u32,
 }
@@ -34,16 +34,16 @@ impl BlockFile for HostFile {
 
     fn read_at(&mut self, start: u64, into: &mut [u8]) -> Result<(), Failed> {
         let file = self.file.as_ref();
-        done(file.is_some_and(|f| f.read_exact_at(into, start).is_ok()))
+        done(file.is_some_and(|f| f.read_at(start, into).is_ok()))
     }
 
     fn write_at(&mut self, start: u64, from: &[u8]) -> Result<(), Failed> {
         let file = self.file.as_ref();
-        done(file.is_some_and(|f| f.write_all_at(from, start).is_ok()))
+        done(file.is_some_and(|f| f.write_at(start, from).is_ok()))
     }
 
     fn sync(&mut self) -> Result<(), Failed> {
-        done(self.file.as_ref().is_some_and(|f| f.sync_data().is_ok()))
+        done(self.file.as_ref().is_some_and(|f| f.sync().is_ok()))
     }
 }
 
@@ -53,8 +53,27 @@ fn done(is_done: bool) -> Result<(), Failed> {
 }
 
 impl FileDevice<HostFile> {
-    /// Makes the file new, with this many zero blocks of this size in bytes. What was there is
-    /// gone.
+    /// A device of this many blocks of this size in bytes over a file, which stays as it is. Where
+    /// there is none, or it has fewer bytes than these blocks, every call fails.
+    pub fn over_file(file: Option<LockedFile>, size: u32, blocks: u32) -> FileDevice<HostFile>
+        ensures count { (⟦<HostFile as BlockFile>⟧.seen result.file).count ≡ blocks }
+        ensures size { (⟦<HostFile as BlockFile>⟧.seen result.file).size ≡ size }
+    {
+        let file = file.filter(|f| f.holds(size as u64 * blocks as u64));
+        FileDevice::over(HostFile { file, size, blocks }, size, blocks)
+    }
+
+    /// The same over a file that is first made zero blocks. What was there is gone.
+    pub fn over_cleared(file: Option<LockedFile>, size: u32, blocks: u32) -> FileDevice<HostFile>
+        ensures count { (⟦<HostFile as BlockFile>⟧.seen result.file).count ≡ blocks }
+        ensures size { (⟦<HostFile as BlockFile>⟧.seen result.file).size ≡ size }
+    {
+        let file = file.filter(|f| f.clear(size as u64 * blocks as u64).is_ok());
+        FileDevice::over(HostFile { file, size, blocks }, size, blocks)
+    }
+
+    /// Opens the file of this path, which is made where there is none, and makes it this many zero
+    /// blocks of this size in bytes, once it is locked. What was there is gone.
     pub fn create<R: Files<File = File>>(
         rt: &R,
         path: &str,
@@ -64,14 +83,10 @@ impl FileDevice<HostFile> {
         ensures count { (⟦<HostFile as BlockFile>⟧.seen result.file).count ≡ blocks }
         ensures size { (⟦<HostFile as BlockFile>⟧.seen result.file).size ≡ size }
     {
-        let mut how = OpenOptions::new();
-        how.read(true).write(true).create(true).truncate(true);
-        let file = how.open(rt, path).ok();
-        let file = file.filter(|f| f.set_len(size as u64 * blocks as u64).is_ok());
-        FileDevice::over(HostFile { file, size, blocks }, size, blocks)
+        FileDevice::over_cleared(LockedFile::open_or_create(rt, path).ok(), size, blocks)
     }
 
-    /// Opens the file of this many blocks, which stays as it is.
+    /// Opens the file of this path, of this many blocks, which stays as it is.
     pub fn open<R: Files<File = File>>(
         rt: &R,
         path: &str,
@@ -81,15 +96,6 @@ impl FileDevice<HostFile> {
         ensures count { (⟦<HostFile as BlockFile>⟧.seen result.file).count ≡ blocks }
         ensures size { (⟦<HostFile as BlockFile>⟧.seen result.file).size ≡ size }
     {
-        let mut how = OpenOptions::new();
-        how.read(true).write(true);
-        let file = how.open(rt, path).ok();
-        let file = file.filter(|f| holds(f, size as u64 * blocks as u64));
-        FileDevice::over(HostFile { file, size, blocks }, size, blocks)
+        FileDevice::over_file(LockedFile::open(rt, path).ok(), size, blocks)
     }
-}
-
-/// Whether the file has at least this many bytes.
-fn holds(file: &File, bytes: u64) -> bool {
-    file.metadata().is_ok_and(|about| bytes <= about.len())
 }

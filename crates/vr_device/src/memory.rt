@@ -15,9 +15,16 @@ use vr_types::{Failed, OutOfMemory};
 /// from 2^64 - 1 on share that number.
 #[derive(Drop)]
 pub struct MemoryDevice {
+    /// In a box, so that a program that holds devices by value drops each by one call.
+    held: Box<Held>,
+    ghost sized: { IsSized held.value.past },
+}
+
+/// What a device in memory holds.
+#[derive(Drop)]
+pub(crate) struct Held {
     past: Past,
     calls: DeviceCalls,
-    ghost sized: { IsSized past },
 }
 
 impl BlockDevice for MemoryDevice {
@@ -49,11 +56,11 @@ impl BlockDevice for MemoryDevice {
     ghost sized = { λ d n block told below may. d.sized.whole n block below may };
 
     fn blocks(&self) -> u32 {
-        self.past.count()
+        self.held.past.count()
     }
 
     fn size(&self) -> u32 {
-        self.past.size()
+        self.held.past.size()
     }
 
     fn read(&mut self, n: u32, into: &mut [u8]) -> Result<(), Failed>
@@ -65,11 +72,11 @@ impl BlockDevice for MemoryDevice {
         ensures ok { OnOk result (calls_in self.new ≡ counted (calls_in self.old)) }
         ensures err { OnErr result (calls_in self.new ≡ read_failed (counted (calls_in self.old))) }
     {
-        if self.calls.begin() {
-            self.calls.fail_read();
+        if self.held.calls.begin() {
+            self.held.calls.fail_read();
             return Err(Failed);
         }
-        self.past.read(n, into);
+        self.held.past.read(n, into);
         Ok(())
     }
 
@@ -83,13 +90,13 @@ impl BlockDevice for MemoryDevice {
         ensures err { OnErr result
             (IsFailedWrite self.old self.new n from.now ⊎ IsRefused self.old self.new) }
     {
-        if self.calls.begin() {
+        if self.held.calls.begin() {
             return Err(self.fail_write(n, from));
         }
-        match self.past.write(n, from) {
+        match self.held.past.write(n, from) {
             Ok(()) => Ok(()),
             Err(OutOfMemory) => {
-                self.calls.refuse();
+                self.held.calls.refuse();
                 Err(Failed)
             }
         }
@@ -102,14 +109,14 @@ impl BlockDevice for MemoryDevice {
         ensures scripted { IsToFail (calls_in self.old) → IsFailedSync self.old self.new }
         ensures err { OnErr result (IsFailedSync self.old self.new ⊎ IsRefused self.old self.new) }
     {
-        if self.calls.begin() {
-            self.calls.fail_write();
+        if self.held.calls.begin() {
+            self.held.calls.fail_write();
             return Err(Failed);
         }
-        match self.past.sync() {
+        match self.held.past.sync() {
             Ok(()) => Ok(()),
             Err(OutOfMemory) => {
-                self.calls.refuse();
+                self.held.calls.refuse();
                 Err(Failed)
             }
         }
@@ -125,12 +132,19 @@ impl MemoryDevice {
     ghost use Rattle.vr_device.specs.Memory.{past_in, calls_in};
 
     /// A device of this past, to which these calls are made.
-    pub(crate) fn over(past: Past, calls: DeviceCalls) -> MemoryDevice
+    pub(crate) fn over(
+        alloc: Global,
+        past: Past,
+        calls: DeviceCalls,
+    ) -> Result<MemoryDevice, OutOfMemory>
         requires { IsSized past }
-        ensures past { past_in result ≡ past }
-        ensures calls { calls_in result ≡ calls }
+        ensures past { IfOk result (λ d. past_in d ≡ past) }
+        ensures calls { IfOk result (λ d. calls_in d ≡ calls) }
     {
-        MemoryDevice { past, calls }
+        match Box::new(alloc, Held { past, calls }) {
+            Ok(held) => Ok(MemoryDevice { held }),
+            Err(_) => Err(OutOfMemory),
+        }
     }
 
     /// Makes every call from that number on fail.
@@ -138,21 +152,21 @@ impl MemoryDevice {
         ensures past { past_in self.new ≡ past_in self.old }
         ensures calls { calls_in self.new ≡ stopped call (calls_in self.old) }
     {
-        self.calls.stop(call);
+        self.held.calls.stop(call);
     }
 
     /// The number of reads, writes and syncs so far, those that failed among them, up to 2^64 - 1.
     pub fn calls(&self) -> u64
         ensures { result ≡ (calls_in self.now).script.next }
     {
-        self.calls.made()
+        self.held.calls.made()
     }
 
     /// The number of writes and syncs that failed out of memory, up to 2^64 - 1.
     pub fn refused(&self) -> u64
         ensures { result ≡ shown_of (calls_in self.now).refused }
     {
-        self.calls.refused()
+        self.held.calls.refused()
     }
 
     /// The device that a crash leaves now, when each block holds the content of its list that the
@@ -170,13 +184,13 @@ impl MemoryDevice {
             past_in d ≡ unwritten (past_in self.now).size (past_in d).start) }
         ensures calls { IfOk result (λ d. calls_in d ≡ uncalled []) }
     {
-        if let Some(block) = self.past.misfit(choice) {
+        if let Some(block) = self.held.past.misfit(choice) {
             return Err(ImageNo::Choice { block });
         }
-        let size = self.past.size();
-        let start = self.past.chosen(alloc, choice)?;
+        let size = self.held.past.size();
+        let start = self.held.past.chosen(alloc, choice)?;
         let past = Past::new(alloc, size, start)?;
-        Ok(MemoryDevice::over(past, DeviceCalls::new(Vec::new(alloc))))
+        Ok(MemoryDevice::over(alloc, past, DeviceCalls::new(Vec::new(alloc)))?)
     }
 
     /// A write that fails: its bytes join what a crash may leave, if there is memory for them.
@@ -188,9 +202,9 @@ impl MemoryDevice {
             ⊎ ((past_in self.new ≡ past_in self.old)
             × (calls_in self.new ≡ write_refused (calls_in self.old))) }
     {
-        match self.past.fail(n, from) {
-            Ok(()) => self.calls.fail_write(),
-            Err(OutOfMemory) => self.calls.refuse(),
+        match self.held.past.fail(n, from) {
+            Ok(()) => self.held.calls.fail_write(),
+            Err(OutOfMemory) => self.held.calls.refuse(),
         }
         Failed
     }

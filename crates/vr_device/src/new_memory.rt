@@ -26,5 +26,5 @@ pub fn memory_device(
     let start = zero_blocks(alloc, blocks, size)?;
     let failing = fails.to_vec(alloc)?;
     let past = Past::new(alloc, size, start)?;
-    Ok(MemoryDevice::over(past, DeviceCalls::new(failing)))
+    MemoryDevice::over(alloc, past, DeviceCalls::new(failing))
 }

@@ -1,12 +1,15 @@
 //! The program: it makes the source, the sink and the devices that its words name, hands them to the
-//! top call (vr_job), and ends with that call's status. It stands on vr_job, on vr_job_ends for
-//! the words, on vr_device for the volumes, and on vr_outside for the two ends and the gate.
+//! top call (vr_job), and ends with that call's status. It stands on vr_job, on vr_job_ends for the
+//! words, on vr_device for the volumes, and on vr_outside for the two ends. Its gate shows on a
+//! terminal how far the job is.
 #![tactic(auto)]
 
+mod progress;
 mod shape;
 mod volumes;
 mod words;
 
+use crate::progress::{Listing, Progress};
 use crate::volumes::{new_volumes, open_volumes};
 use crate::words::words_of;
 use std::alloc::Global;
@@ -19,7 +22,7 @@ use std::thread::Threads;
 use vr_device::{BlockDevice, MemoryDevice, memory_device};
 use vr_job::run_job;
 use vr_job_ends::{Plan, plan};
-use vr_outside::{FileSource, OpenGate, Source, StdSink, StdSource, SteadySource};
+use vr_outside::{FileSource, Source, StdSink, StdSource, SteadySource};
 use vr_types::{Geometry, OutOfMemory, Words};
 
 /// The status where the program's own memory is refused.
@@ -33,7 +36,10 @@ const MEMORY_BLOCKS: u32 = 2048;
 
 fn main(rt: HostRuntime) -> ExitCode {
     let _numbers = keep_numbers(&rt);
-    ExitCode::from(run(&rt).unwrap_or(NO_MEMORY))
+    let progress = Progress::new(rt.stderr());
+    let status = run(&rt, &progress).unwrap_or(NO_MEMORY);
+    progress.clear();
+    ExitCode::from(status)
 }
 
 /// Takes the numbers of those standard streams that are closed, as long as the files are kept. The
@@ -51,12 +57,13 @@ fn keep_numbers<R: Files>(rt: &R) -> [io::Result<R::File>; 3] {
 /// error.
 fn run<R: Threads + Wait + Sync + Env + Input + Print + AllocGlobal + Files<File = File>>(
     rt: &R,
+    progress: &Progress,
 ) -> Result<u8, OutOfMemory> {
     let words = words_of(rt)?;
     match plan(&words) {
-        None => Ok(run_nothing(rt, &words)),
-        Some(Plan::Run { job, dir, .. }) if dir == "-" => run_in_memory(rt, &words, job),
-        Some(Plan::Run { job, dir, .. }) => run_in_directory(rt, &words, job, dir),
+        None => Ok(run_nothing(rt, progress, &words)),
+        Some(Plan::Run { job, dir, .. }) if dir == "-" => run_in_memory(rt, progress, &words, job),
+        Some(Plan::Run { job, dir, .. }) => run_in_directory(rt, progress, &words, job, dir),
         Some(
             Plan::Format {
                 dir,
@@ -66,71 +73,87 @@ fn run<R: Threads + Wait + Sync + Env + Input + Print + AllocGlobal + Files<File
                 log,
                 area,
             },
-        ) => format(rt, &words, dir, count, geometry(size, blocks, log, area)),
+        ) => format(
+            rt,
+            progress,
+            &words,
+            dir,
+            count,
+            geometry(size, blocks, log, area),
+        ),
     }
 }
 
 /// Hands over words that are no command, with an empty shelf.
-fn run_nothing<R: Threads + Wait + Sync + Print + AllocGlobal>(rt: &R, words: &Words) -> u8 {
+fn run_nothing<R: Threads + Wait + Sync + Print + AllocGlobal>(
+    rt: &R,
+    progress: &Progress,
+    words: &Words,
+) -> u8 {
     let shelf: Vec<MemoryDevice> = Vec::new(rt.alloc());
-    end(rt, words, empty_source(rt.alloc()), shelf)
+    end(rt, progress, words, empty_source(rt.alloc()), shelf)
 }
 
 /// Formats new files as volumes.
 fn format<R: Threads + Wait + Sync + Print + AllocGlobal + Files<File = File>>(
     rt: &R,
+    progress: &Progress,
     words: &Words,
     dir: &str,
     count: u32,
     shape: Geometry,
 ) -> Result<u8, OutOfMemory> {
     let shelf = new_volumes(rt, dir, count, shape)?;
-    Ok(end(rt, words, empty_source(rt.alloc()), shelf))
+    Ok(end(rt, progress, words, empty_source(rt.alloc()), shelf))
 }
 
 /// Runs a job over the volumes of a directory.
 fn run_in_directory<R: Threads + Wait + Sync + Input + Print + AllocGlobal + Files<File = File>>(
     rt: &R,
+    progress: &Progress,
     words: &Words,
     job: &str,
     dir: &str,
 ) -> Result<u8, OutOfMemory> {
     let shelf = open_volumes(rt, dir)?;
-    Ok(run_over(rt, words, job, shelf))
+    Ok(run_over(rt, progress, words, job, shelf))
 }
 
 /// Runs a job over one volume in memory.
 fn run_in_memory<R: Threads + Wait + Sync + Input + Print + AllocGlobal + Files<File = File>>(
     rt: &R,
+    progress: &Progress,
     words: &Words,
     job: &str,
 ) -> Result<u8, OutOfMemory> {
     let mut shelf = Vec::new(rt.alloc());
     shelf.push(memory_device(rt.alloc(), MEMORY_SIZE, MEMORY_BLOCKS, &[])?)?;
-    Ok(run_over(rt, words, job, shelf))
+    Ok(run_over(rt, progress, words, job, shelf))
 }
 
 /// Runs a job over these devices: that of standard input for `-`, else that of a file.
 fn run_over<
     R: Threads + Wait + Sync + Input + Print + AllocGlobal + Files<File = File>,
     D: BlockDevice + Send,
->(rt: &R, words: &Words, job: &str, shelf: Vec<D>) -> u8 {
+>(rt: &R, progress: &Progress, words: &Words, job: &str, shelf: Vec<D>) -> u8 {
     if job == "-" {
-        end(rt, words, StdSource::new(rt.reader()), shelf)
+        end(rt, progress, words, StdSource::new(rt.reader()), shelf)
     } else {
-        end(rt, words, FileSource::open(rt, job), shelf)
+        progress.begin();
+        end(rt, progress, words, FileSource::open(rt, job), shelf)
     }
 }
 
-/// Hands all over to the top call, with standard output as the sink and a gate that holds nobody,
-/// and answers its status.
+/// Hands all over to the top call, with standard output as the sink and a gate that holds nobody
+/// and shows how far the job is, and answers its status.
 fn end<R: Threads + Wait + Sync + Print + AllocGlobal, S: Source + Drop, D: BlockDevice + Send>(
     rt: &R,
+    progress: &Progress,
     words: &Words,
     mut input: S,
     shelf: Vec<D>,
 ) -> u8 {
-    let mut output = StdSink::new(io::writer(rt));
+    let mut output = StdSink::new(Listing::new(rt, progress));
     run_job(
         rt,
         rt.alloc(),
@@ -138,7 +161,7 @@ fn end<R: Threads + Wait + Sync + Print + AllocGlobal, S: Source + Drop, D: Bloc
         &mut input,
         &mut output,
         shelf,
-        &OpenGate,
+        progress,
     )
     .status
 }

@@ -1,9 +1,8 @@
 //! The size and the number of the blocks of a volume's file.
 ghost use Rattle.std.specs.Prelude.{◌≡◌, ◌<◌, length};
 
-use std::fs::File;
 use std::io;
-use std::os::unix::fs::FileExt;
+use vr_device::LockedFile;
 use vr_types::{four_at, is_block_size};
 
 /// The bytes of a block where a file doesn't state their number: the fewest that there may be.
@@ -33,14 +32,15 @@ pub fn unread() -> Shape {
 /// The shape of a file: blocks of the size that its header states, as many as the header states, or
 /// as the file has where these are more, so that the header of a longer file isn't that of its
 /// volume. Where the file has no header of version 1 with a size that a block may have, its blocks
-/// have the least size, and it isn't a volume. `Err` is the host's: the file can't be read.
-pub fn shape_of(file: &File) -> io::Result<Shape> {
-    let bytes = file.metadata()?.len();
+/// have the least size, and it isn't a volume. `Err` is the host's: the file's length or its header
+/// can't be read.
+pub fn shape_of(file: &LockedFile) -> io::Result<Shape> {
+    let bytes = file.length()?;
     if bytes < STATED as u64 {
         return Ok(whole_blocks(bytes, LEAST_SIZE));
     }
     let mut header = [0u8; 16];
-    file.read_exact_at(&mut header, 0)?;
+    file.read_at(0, &mut header)?;
     Ok(stated(&header, bytes))
 }
 

@@ -4,7 +4,7 @@ use crate::shape::{Shape, shape_of, unread};
 use std::alloc::Global;
 use std::fs::{File, Files};
 use std::io::ErrorKind;
-use vr_device::{FileDevice, HostFile};
+use vr_device::{FileDevice, HostFile, LockedFile};
 use vr_types::{Geometry, OutOfMemory};
 
 /// A volume's file, as a device.
@@ -15,7 +15,8 @@ pub type Volume = FileDevice<HostFile>;
 const NAME_LIMIT: u32 = 17;
 
 /// The volumes that are there: those from `vol00` on up to the first name that isn't there, each of
-/// the shape that its header states.
+/// the shape that its header states. One that can't be opened is the last: of two programs that begin
+/// at once, the one that locks the first file then gets the others too.
 pub fn open_volumes<R: AllocGlobal + Files<File = File>>(
     rt: &R,
     dir: &str,
@@ -23,16 +24,20 @@ pub fn open_volumes<R: AllocGlobal + Files<File = File>>(
     let mut shelf = Vec::new(rt.alloc());
     for number in 0..NAME_LIMIT {
         let path = volume_path(rt.alloc(), dir, number)?;
-        match open_volume(rt, path.as_str()) {
-            Some(volume) => shelf.push(volume)?,
-            None => break,
+        match LockedFile::open(rt, path.as_str()) {
+            Ok(file) => shelf.push(volume_over(file))?,
+            Err(error) if is_absent(error.kind()) => break,
+            Err(_) => {
+                shelf.push(over_nothing(unread()))?;
+                break;
+            }
         }
     }
     Ok(shelf)
 }
 
-/// New files for this many volumes of this shape. Where no volume may have the shape, the files
-/// that are there are opened instead, and stay as they are.
+/// New files for this many volumes of this shape, each made and locked before it is cleared. Where no
+/// volume may have the shape, no file is opened. After one that can't be opened none is.
 pub fn new_volumes<R: AllocGlobal + Files<File = File>>(
     rt: &R,
     dir: &str,
@@ -40,9 +45,16 @@ pub fn new_volumes<R: AllocGlobal + Files<File = File>>(
     shape: Geometry,
 ) -> Result<Vec<Volume>, OutOfMemory> {
     let mut shelf = Vec::new(rt.alloc());
+    let mut opens = shape.is_allowed();
     for number in 0..count {
         let path = volume_path(rt.alloc(), dir, number)?;
-        shelf.push(new_volume(rt, path.as_str(), shape))?;
+        let file = if opens {
+            LockedFile::open_or_create(rt, path.as_str()).ok()
+        } else {
+            None
+        };
+        opens = file.is_some();
+        shelf.push(FileDevice::over_cleared(file, shape.size, shape.blocks))?;
     }
     Ok(shelf)
 }
@@ -56,28 +68,22 @@ fn volume_path(alloc: Global, dir: &str, number: u32) -> Result<String, OutOfMem
     Ok(format!(in alloc; "{dir}/vol{number:02}")?)
 }
 
-/// Opens a volume's file. `None`: there is no file of this name. A file that can't be opened, or is
-/// shorter than it states, is a device whose every call fails.
-fn open_volume<R: Files<File = File>>(rt: &R, path: &str) -> Option<Volume> {
-    let shape = match File::open(rt, path) {
-        Ok(file) => shape_of(&file).unwrap_or(unread()),
-        Err(error) if is_absent(error.kind()) => return None,
-        Err(_) => unread(),
-    };
-    Some(FileDevice::open(rt, path, shape.size, shape.blocks))
+/// The device over a volume's file. Where the file can't be read, or is shorter than it states,
+/// every call fails.
+fn volume_over(file: LockedFile) -> Volume {
+    match shape_of(&file) {
+        Ok(shape) => FileDevice::over_file(Some(file), shape.size, shape.blocks),
+        Err(_) => over_nothing(unread()),
+    }
+}
+
+/// A device of this shape whose every call fails.
+fn over_nothing(shape: Shape) -> Volume {
+    FileDevice::over_file(None, shape.size, shape.blocks)
 }
 
 /// Whether a file that couldn't be opened isn't there: nothing has its name, or its directory is
 /// none.
 fn is_absent(kind: ErrorKind) -> bool {
     kind == ErrorKind::NotFound || kind == ErrorKind::NotADirectory
-}
-
-/// Makes a volume's file new, where a volume may have this shape.
-fn new_volume<R: Files<File = File>>(rt: &R, path: &str, shape: Geometry) -> Volume {
-    if shape.is_allowed() {
-        FileDevice::create(rt, path, shape.size, shape.blocks)
-    } else {
-        FileDevice::open(rt, path, shape.size, shape.blocks)
-    }
 }
