@@ -408,6 +408,7 @@ module _ {D : Type 0} (tells : Bool) (seen : D → Seen) (faults : D → Faults)
     end_is = refl;
     shown = is.shown told;
     kept = is.kept;
+    unwritten = is.unwritten told;
     moments = is.any_moment told;
   }
 

@@ -11,7 +11,7 @@ ghost use Rattle.vr_event.specs.Opening.{IsOpened as IsOpenedWith, owned_in};
 ghost use Rattle.vr_event.specs.Volume.{IsWhole};
 ghost use Rattle.vr_history.specs.State.{opening_state};
 ghost use Rattle.vr_volume.specs.Volume.{Recovers};
-ghost use Rattle.vr_recover.specs.Opening.{IsHandedOut, IsOpened, IsVolume};
+ghost use Rattle.vr_recover.specs.Opening.{IsHandedOut, IsNoVolume, IsOpened, IsVolume};
 ghost use Rattle.vr_job.specs.Going.{HasRun};
 ghost use Rattle.vr_job.specs.OpenEnds as ends;
 ghost use Rattle.vr_job.specs.OpenEnds.{HasEndCause, IsOpenEnd, IsOpenLine, NeverFall};
@@ -84,6 +84,8 @@ fn open_whole<B: Blocks>(
     ensures refused { IsTrue B.tells → IfErr result (IsOpenEnd number (B.seen blocks.old)) }
     ensures kept { IfErr result (λ end. SaysOfBlocks number end
         → Keeps B.tells (B.seen blocks.old) (B.seen blocks.new)) }
+    ensures unwritten { IsTrue B.tells → IsNoVolume number (B.seen blocks.old)
+        → IfErr result (λ end. Keeps B.tells (B.seen blocks.old) (B.seen blocks.new)) }
     ensures faults { NeverFall (B.faults blocks.old) (B.faults blocks.new) }
     ensures cause { IfErr result
         (HasEndCause number (B.faults blocks.old) (B.faults blocks.new)) }
@@ -117,6 +119,8 @@ fn open_parts<B: Blocks>(
     ensures refused { IsTrue B.tells → IfErr result (IsOpenEnd number (B.seen blocks.old)) }
     ensures kept { IfErr result (λ end. SaysOfBlocks number end
         → Keeps B.tells (B.seen blocks.old) (B.seen blocks.new)) }
+    ensures unwritten { IsTrue B.tells → IsNoVolume number (B.seen blocks.old)
+        → IfErr result (λ end. Keeps B.tells (B.seen blocks.old) (B.seen blocks.new)) }
     ensures faults { NeverFall (B.faults blocks.old) (B.faults blocks.new) }
     ensures cause { IfErr result
         (HasEndCause number (B.faults blocks.old) (B.faults blocks.new)) }
@@ -188,6 +192,9 @@ pub fn open<B: Blocks + Drop>(
     // Blocks that are refused for what they are were left as they were.
     ensures kept { IfErr result (λ back. SaysOfBlocks number back.1
         → Keeps B.tells (B.seen blocks) (B.seen back.0)) }
+    // What is no volume of this number is never written, whatever the line.
+    ensures unwritten { IsTrue B.tells → IsNoVolume number (B.seen blocks)
+        → IfErr result (λ back. Keeps B.tells (B.seen blocks) (B.seen back.0)) }
     ensures faults { IfOk result (λ volume.
         NeverFall (B.faults blocks) (B.faults volume.blocks)) }
     ensures faults_back { IfErr result (λ back. NeverFall (B.faults blocks) (B.faults back.0)) }

@@ -66,6 +66,10 @@ module _ (a b : Seen) (count : b.count ≡ a.count) (size : b.size ≡ a.size) (
   none-before number none geometry contents is =
       none geometry contents (volume-then number geometry contents is)
 
+  pub none-then : (number : ℕ) → IsNoVolume number a → IsNoVolume number b
+  none-then number none geometry contents is =
+      none geometry contents (volume-before number geometry contents is)
+
   shown-before : (geometry : Geometry) (block rule : ℕ) → IsShownOf geometry b block rule
       → IsShownOf geometry a block rule
   shown-before geometry block rule (InLog shown) = InLog (record {

@@ -13,7 +13,7 @@ ghost use Rattle.vr_log.specs.Spells.{Spells};
 ghost use Rattle.vr_volume.specs.Volume.{Recovers};
 ghost use Rattle.vr_recover.specs.Found.{IsLogFound};
 ghost use Rattle.vr_recover.specs.OpenNo.{HasOpenCause, IsToldNo};
-ghost use Rattle.vr_recover.specs.Opening.{IsHandedOut, IsOpened, IsRefused, IsVolume};
+ghost use Rattle.vr_recover.specs.Opening.{IsHandedOut, IsNoVolume, IsOpened, IsRefused, IsVolume};
 
 use crate::begun::{Begun, begin_log, read_shape};
 use crate::finding::{Found, find};
@@ -88,6 +88,10 @@ fn open_log<B: Blocks>(
         → IfErr result (IsRefused number (B.seen blocks.old)) }
     ensures kept { IfErr result (λ no. IsToldNo no
         → Keeps B.tells (B.seen blocks.old) (B.seen blocks.new)) }
+    ensures unwritten { IsTrue B.tells → (number : ℕ)
+        → block_at (B.seen blocks.old).cur 0 ≡ header_block geometry.now number
+        → IsNoVolume number (B.seen blocks.old)
+        → IfErr result (λ no. Keeps B.tells (B.seen blocks.old) (B.seen blocks.new)) }
     ensures cause { HasOpenCause (B.faults blocks.old) (B.faults blocks.new) result }
 {
     let found = find(alloc, blocks, geometry, begun, laid)?;
@@ -145,6 +149,8 @@ fn open_numbered<B: Blocks>(
     ensures refused { IsTrue B.tells → IfErr result (IsRefused number (B.seen blocks.old)) }
     ensures kept { IfErr result (λ no. IsToldNo no
         → Keeps B.tells (B.seen blocks.old) (B.seen blocks.new)) }
+    ensures unwritten { IsTrue B.tells → IsNoVolume number (B.seen blocks.old)
+        → IfErr result (λ no. Keeps B.tells (B.seen blocks.old) (B.seen blocks.new)) }
     ensures cause { HasOpenCause (B.faults blocks.old) (B.faults blocks.new) result }
 {
     let mut begun = start(alloc, blocks, count, number)?;
@@ -201,6 +207,9 @@ pub fn open_volume<B: Blocks>(
     ensures refused { IsTrue B.tells → IfErr result (IsRefused number (B.seen blocks.old)) }
     ensures kept { IfErr result (λ no. IsToldNo no
         → Keeps B.tells (B.seen blocks.old) (B.seen blocks.new)) }
+    // What is no volume of this number is never written, whatever the answer.
+    ensures unwritten { IsTrue B.tells → IsNoVolume number (B.seen blocks.old)
+        → IfErr result (λ no. Keeps B.tells (B.seen blocks.old) (B.seen blocks.new)) }
     ensures cause { HasOpenCause (B.faults blocks.old) (B.faults blocks.new) result }
 {
     open_numbered(alloc, blocks, count, number)

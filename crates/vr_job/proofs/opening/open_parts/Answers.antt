@@ -29,3 +29,9 @@ returns-clause-from g c told =
           (handed-from o.geometry o.catalog.value o.parts.items o.log o.space now
           c.in_ok-opened.ensures.handed c.args.number is.0 old is.1),
     )
+
+-- what was opened is a volume
+pub returns-in_err-found-clause-unwritten : goal.returns-in_err-found-clause-unwritten
+returns-in_err-found-clause-unwritten g c told none =
+    let is = c.in_ok-opened.ensures.opened told in
+    absurd (none c.in_ok-opened.opened.geometry is.0 is.1.volume)
