@@ -176,11 +176,9 @@ fn open_numbered<B: Blocks>(
 ///
 /// `Damaged`: the blocks are those of no volume of that number: a block that breaks a rule, and the
 /// rule. `Version`: block 0 states another version, and so they are none. Nothing was put then.
-/// `Read` and `Write` are the device's, each where it counted that fault in this call. `Memory`:
-/// there is no memory; or the log has reached generation 2^63, so that there is no room for the
-/// generations of later runs, or it has no room for the ends of its units; or it has a before-image
-/// of the catalog's own part, or the catalog lays a part whose longest record has no room in an
-/// interval of its own, neither of which is handled yet.
+/// `Unserved`: block 0 is the header of a volume of that number, which has what isn't served, as the
+/// causes say; nothing was put then either. `Read` and `Write` are the device's, each where it counted
+/// that fault in this call. `Memory`: there is no memory.
 pub fn open_volume<B: Blocks>(
     alloc: Global,
     blocks: &mut B,

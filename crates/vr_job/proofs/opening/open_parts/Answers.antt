@@ -1,3 +1,5 @@
+use Rattle.std.proofs.lemmas.List.Elements.{recursion_from_All}
+use Rattle.vr_answer.specs.Scope.{IsKeyedCluster}
 use Rattle.vr_job.proofs.Readying.{handed-from, handed-ready, from-same, ready-same}
 use Rattle.vr_job.specs.Opened.{opened_now}
 use Rattle.std.proofs.Common.{map}
@@ -13,7 +15,8 @@ returns-clause-ready g c =
     c.in_ok-found.ensures.parts c.in_ok-found.ensures.log f.space o.space now
     c.in_ok-found.ensures.space
     (handed-ready o.geometry o.catalog.value o.parts.items o.log o.space now
-    c.in_ok-opened.ensures.handed c.in_ok-found.ensures.clusters)
+    c.in_ok-opened.ensures.handed
+    (recursion_from_All IsKeyedCluster o.catalog.value c.in_ok-opened.ensures.handed.clusters))
 
 pub returns-clause-from : goal.returns-clause-from
 returns-clause-from g c told =
