@@ -37,7 +37,8 @@ use Rattle.vr_recover.specs.declared.open_no.OpenNo.{OpenNo}
 use Rattle.vr_recover.specs.declared.open_no.OpenNo.TheVariants as nos
 use Rattle.vr_trace.specs.declared.ending.EndLine.{EndLine}
 use Rattle.vr_trace.specs.declared.ending.EndLine.TheVariants.{Damaged, DeviceFault, NoMemory, Version}
-use Rattle.vr_job.specs.OpenEnds.{IsDamage, IsFault, IsMemory, IsOpenEnd, IsVersion, open_line}
+use Rattle.vr_job.specs.OpenEnds.{IsDamage, IsFault, IsMemory, IsNotServed, IsOpenEnd}
+use Rattle.vr_job.specs.OpenEnds.{IsVersion, open_line}
 use Rattle.vr_job.specs.OpenEnds.{SaysOfBlocks}
 use Rattle.std.proofs.lemmas.List.{append-nil}
 use Rattle.vr_types.specs.Image.{Image}
@@ -400,6 +401,7 @@ end-by : (number : ℕ) (old : Seen) (why : OpenNo) → IsRefused number old why
     → IsOpenEnd number old (open_line number why)
 end-by number old (nos.Damaged block rule) is = IsDamage block rule refl is
 end-by number old (nos.Version found) is = IsVersion found refl is
+end-by number old (nos.Unserved block cause) is = IsNotServed block cause refl is
 end-by number old nos.Read is = IsFault refl
 end-by number old nos.Write is = IsFault refl
 end-by number old nos.Memory is = IsMemory refl
@@ -427,6 +429,7 @@ fault-silent number end fault says = ⊎_elim
 told-by : (number : ℕ) (why : OpenNo) → SaysOfBlocks number (open_line number why) → IsToldNo why
 told-by number (nos.Damaged block rule) says = tt
 told-by number (nos.Version found) says = tt
+told-by number (nos.Unserved block cause) says = tt
 told-by number nos.Read says = fault-silent number (DeviceFault number) refl says
 told-by number nos.Write says = fault-silent number (DeviceFault number) refl says
 told-by number nos.Memory says = memory-silent number NoMemory refl says

@@ -61,6 +61,7 @@ open-line-is : (unopened number : ℕ) (fault : OpenNo) → open_line unopened f
     → unopened ≡ number
 open-line-is unopened number (opens.Damaged block rule) same = absurd cc
 open-line-is unopened number (opens.Version found) same = absurd cc
+open-line-is unopened number (opens.Unserved block cause) same = absurd cc
 open-line-is unopened number opens.Read same = fault-number unopened number same
 open-line-is unopened number opens.Write same = fault-number unopened number same
 open-line-is unopened number opens.Memory same = absurd cc
@@ -75,6 +76,7 @@ open-line-other unopened number line shown other (inr same) = cc
 open-line-stamps : (unopened : ℕ) (fault : OpenNo) → open_line unopened fault ≡ StampsUsedUp → ⊥
 open-line-stamps unopened (opens.Damaged block rule) same = cc
 open-line-stamps unopened (opens.Version found) same = cc
+open-line-stamps unopened (opens.Unserved block cause) same = cc
 open-line-stamps unopened opens.Read same = cc
 open-line-stamps unopened opens.Write same = cc
 open-line-stamps unopened opens.Memory same = cc
@@ -408,6 +410,7 @@ module _ {D : Type 0} (tells : Bool) (seen : D → Seen) (faults : D → Faults)
     end_is = refl;
     shown = is.shown told;
     kept = is.kept;
+    unwritten = is.unwritten told;
     moments = is.any_moment told;
   }
 

@@ -5,13 +5,27 @@ use Rattle.vr_types.specs.Seen.{Seen}
 use Rattle.vr_recover.specs.Opening.{IsDamaged, IsOfVersion}
 use Rattle.vr_recover.specs.declared.open_no.OpenNo.{OpenNo}
 use Rattle.vr_recover.specs.declared.open_no.OpenNo.TheVariants as nos
+use Rattle.vr_recover.specs.declared.open_no.Unserved.{Unserved}
+use Rattle.vr_recover.specs.declared.open_no.Unserved.TheVariants.{LogAtItsEnd, LogWithoutRoom}
+use Rattle.vr_recover.specs.declared.open_no.Unserved.TheVariants.{CatalogImage, OtherKind, LongRecord}
+use Rattle.vr_recover.specs.Unserved.{IsUnserved}
 use Rattle.vr_trace.specs.declared.ending.EndLine.{EndLine}
 use Rattle.vr_trace.specs.declared.ending.EndLine.TheVariants.{Damaged, DeviceFault, NoMemory, Version}
+
+-- The rule by which a line shows what isn't served: that of the log's blocks, of before-images that
+-- can't be put back, or of the catalog's records.
+abbrev pub unserved_rule : Unserved → ℕ
+unserved_rule LogAtItsEnd = 2
+unserved_rule LogWithoutRoom = 2
+unserved_rule CatalogImage = 19
+unserved_rule OtherKind = 17
+unserved_rule LongRecord = 17
 
 -- the line of an answer about this volume
 abbrev pub open_line : ℕ → OpenNo → EndLine
 open_line number (nos.Damaged block rule) = Damaged number block rule
 open_line number (nos.Version found) = Version number found
+open_line number (nos.Unserved block cause) = Damaged number block (unserved_rule cause)
 open_line number nos.Read = DeviceFault number
 open_line number nos.Write = DeviceFault number
 open_line number nos.Memory = NoMemory
@@ -26,12 +40,15 @@ SaysOfBlocks number end = ((block : ℕ) × (rule : ℕ) × (end ≡ Damaged num
     ⊎ ((found : ℕ) × (end ≡ Version number found))
 
 -- A line by which a volume of this number is refused, by the blocks as they were: it is damaged, or
--- of another version, or there is no memory, or its device failed.
+-- of another version, or has what isn't served, which is shown as damage of the block that has it, or
+-- there is no memory, or its device failed.
 pub data IsOpenEnd (number : ℕ) (old : Seen) (end : EndLine) : Type 0 where
   IsDamage : (block rule : ℕ) → end ≡ Damaged number block rule → IsDamaged number old block rule
       → IsOpenEnd number old end
   IsVersion : (found : ℕ) → end ≡ Version number found → IsOfVersion number old found
       → IsOpenEnd number old end
+  IsNotServed : (block : ℕ) (cause : Unserved) → end ≡ Damaged number block (unserved_rule cause)
+      → IsUnserved number old block cause → IsOpenEnd number old end
   IsFault : end ≡ DeviceFault number → IsOpenEnd number old end
   IsMemory : end ≡ NoMemory → IsOpenEnd number old end
 

@@ -21,7 +21,7 @@ use Rattle.vr_job_text.specs.declared.text.Step.{Step}
 use Rattle.vr_event.specs.Opening.{owned_in}
 use Rattle.vr_event.specs.Volume.{IsWhole, VolumeNow}
 use Rattle.vr_mount.specs.Areas.{AreOwners}
-use Rattle.vr_recover.specs.Opening.{IsVolume}
+use Rattle.vr_recover.specs.Opening.{IsNoVolume, IsVolume}
 use Rattle.vr_worker.specs.Steps.{AreOfSteps}
 use Rattle.vr_job_ends.specs.declared.job_end.End.{End}
 use Rattle.vr_job_ends.specs.declared.job_end.End.TheVariants.{Line, Ran, Unsynced}
@@ -86,7 +86,8 @@ HasFaultCause number before now end = IsFaultEnd number end
 
 -- It was not opened, and the job ended by that: nothing was asked, and each image of each moment is one
 -- that a crash left before, or recovers to what the blocks recovered to. Where its blocks are refused
--- for what they are, they were left as they were.
+-- for what they are, they were left as they were; and so they were, whatever the line, where they were
+-- those of no volume of this number.
 pub record IsUnopened (tells : Bool) (number : ℕ) (end : End) (entries : List Entry)
     (old new : Seen) : Type 0 where
   pub none : entries ≡ []
@@ -94,6 +95,7 @@ pub record IsUnopened (tells : Bool) (number : ℕ) (end : End) (entries : List 
   pub end_is : end ≡ Line line
   pub shown : IsOpenEnd number old line
   pub kept : SaysOfBlocks number line → Keeps tells old new
+  pub unwritten : IsNoVolume number old → Keeps tells old new
   pub moments : (geometry : Geometry) (contents : ℕ → Content)
       → IsVolume number geometry contents old
       → Guards old new (λ image. Left old image ⊎ Recovers geometry number image contents)
@@ -146,13 +148,15 @@ pub record IsOpen {D : Type 0} (tells : Bool) (seen : D → Seen) (faults : D �
       ⊎ Recovers geometry number image contents)
 
 -- The volume of this number was not opened on a device. Where its blocks are refused for what they
--- are, they were left as they were.
+-- are, they were left as they were; and so they were, whatever the line, where they were those of no
+-- volume of this number.
 pub record IsNotOpen {D : Type 0} (tells : Bool) (seen : D → Seen) (faults : D → Faults) (number : ℕ)
     (old new : D) (end : EndLine) : Type 0 where
   pub never_fall : NeverFall (faults old) (faults new)
   pub line : IsOpenLine number end
   pub shown : IsTrue tells → IsOpenEnd number (seen old) end
   pub kept : SaysOfBlocks number end → Keeps tells (seen old) (seen new)
+  pub unwritten : IsTrue tells → IsNoVolume number (seen old) → Keeps tells (seen old) (seen new)
   pub cause : HasEndCause number (faults old) (faults new) end
   pub any_moment : IsTrue tells → (geometry : Geometry) (contents : ℕ → Content)
       → IsVolume number geometry contents (seen old)

@@ -5,13 +5,12 @@ ghost use Rattle.vr_types.specs.Content.{Content};
 ghost use Rattle.vr_types.specs.Moments.{Guards};
 ghost use Rattle.vr_types.specs.Seen.{Left};
 ghost use Rattle.vr_types.specs.declared.geometry.Geometry.{Geometry as VolumeShape};
-ghost use Rattle.vr_answer.specs.Scope.{AreKeyedClusters};
 ghost use Rattle.vr_catalog.specs.Catalog.{entries_in};
 ghost use Rattle.vr_event.specs.Opening.{IsOpened as IsOpenedWith, owned_in};
 ghost use Rattle.vr_event.specs.Volume.{IsWhole};
 ghost use Rattle.vr_history.specs.State.{opening_state};
 ghost use Rattle.vr_volume.specs.Volume.{Recovers};
-ghost use Rattle.vr_recover.specs.Opening.{IsHandedOut, IsOpened, IsVolume};
+ghost use Rattle.vr_recover.specs.Opening.{IsHandedOut, IsNoVolume, IsOpened, IsVolume};
 ghost use Rattle.vr_job.specs.Going.{HasRun};
 ghost use Rattle.vr_job.specs.OpenEnds as ends;
 ghost use Rattle.vr_job.specs.OpenEnds.{HasEndCause, IsOpenEnd, IsOpenLine, NeverFall};
@@ -20,12 +19,24 @@ ghost use Rattle.vr_job.specs.Opened.{IsOpenHeld, IsReady, IsReadyFrom, laid_now
 
 use crate::numbering::{Ready, number_parts};
 use std::alloc::Global;
-use vr_answer::has_clusters_alone;
 use vr_event::Volume;
 use vr_keyed::Keyed;
-use vr_recover::{OpenNo, Opened, open_volume};
+use vr_recover::{OpenNo, Opened, Unserved, open_volume};
 use vr_trace::EndLine;
 use vr_types::Blocks;
+
+/// The rule by which the line of a job shows what isn't served: 2 at the first block of a log that
+/// can't be gone on with, 19 there where it has before-images of the catalog's own part, and 17 at the
+/// head of a catalog that isn't served.
+fn unserved_rule(cause: Unserved) -> u32
+    ensures { result ≡ ends.unserved_rule cause }
+{
+    match cause {
+        Unserved::LogAtItsEnd | Unserved::LogWithoutRoom => 2,
+        Unserved::CatalogImage => 19,
+        Unserved::OtherKind | Unserved::LongRecord => 17,
+    }
+}
 
 /// How a job ends whose volume of this number is not opened.
 fn open_line(number: u32, no: OpenNo) -> EndLine
@@ -41,26 +52,14 @@ fn open_line(number: u32, no: OpenNo) -> EndLine
             volume: number,
             version: found,
         },
+        OpenNo::Unserved { block, cause } => EndLine::Damaged {
+            volume: number,
+            block,
+            rule: unserved_rule(cause),
+        },
         OpenNo::Read | OpenNo::Write => EndLine::DeviceFault { volume: number },
         OpenNo::Memory => EndLine::NoMemory,
     }
-}
-
-/// What was opened, each part with its number, where its catalog has key-sequenced clusters alone.
-fn served(alloc: Global, opened: Opened) -> Result<Box<Ready>, EndLine>
-    ensures geometry { IfOk result (λ made. made.value.geometry ≡ opened.geometry) }
-    ensures catalog { IfOk result (λ made. made.value.catalog.value ≡ opened.catalog.value) }
-    ensures parts { IfOk result (λ made. map laid_now made.value.parts.items
-        ≡ map opened_now opened.parts.items) }
-    ensures log { IfOk result (λ made. made.value.log ≡ opened.log) }
-    ensures space { IfOk result (λ made. made.value.space ≡ opened.space) }
-    ensures clusters { OnOk result (AreKeyedClusters opened.catalog.value) }
-    ensures memory { IfErr result (λ end. end ≡ EndLine.NoMemory) }
-{
-    if !has_clusters_alone(&opened.catalog) {
-        return Err(EndLine::NoMemory);
-    }
-    number_parts(alloc, opened)
 }
 
 /// Opens the volume of this number, on this many blocks.
@@ -84,6 +83,8 @@ fn open_whole<B: Blocks>(
     ensures refused { IsTrue B.tells → IfErr result (IsOpenEnd number (B.seen blocks.old)) }
     ensures kept { IfErr result (λ end. SaysOfBlocks number end
         → Keeps B.tells (B.seen blocks.old) (B.seen blocks.new)) }
+    ensures unwritten { IsTrue B.tells → IsNoVolume number (B.seen blocks.old)
+        → IfErr result (λ end. Keeps B.tells (B.seen blocks.old) (B.seen blocks.new)) }
     ensures faults { NeverFall (B.faults blocks.old) (B.faults blocks.new) }
     ensures cause { IfErr result
         (HasEndCause number (B.faults blocks.old) (B.faults blocks.new)) }
@@ -117,12 +118,14 @@ fn open_parts<B: Blocks>(
     ensures refused { IsTrue B.tells → IfErr result (IsOpenEnd number (B.seen blocks.old)) }
     ensures kept { IfErr result (λ end. SaysOfBlocks number end
         → Keeps B.tells (B.seen blocks.old) (B.seen blocks.new)) }
+    ensures unwritten { IsTrue B.tells → IsNoVolume number (B.seen blocks.old)
+        → IfErr result (λ end. Keeps B.tells (B.seen blocks.old) (B.seen blocks.new)) }
     ensures faults { NeverFall (B.faults blocks.old) (B.faults blocks.new) }
     ensures cause { IfErr result
         (HasEndCause number (B.faults blocks.old) (B.faults blocks.new)) }
 {
     let opened = open_whole(alloc, blocks, count, number)?;
-    let found = served(alloc, opened)?;
+    let found = number_parts(alloc, opened)?;
     Ok(found)
 }
 
@@ -157,9 +160,8 @@ fn made<B: Blocks>(alloc: Global, blocks: B, number: u32, found: Box<Ready>) -> 
 /// Opens the volume of this number, on this many blocks, for a run of the decks of a job. `Err` says
 /// how the job ends and hands the blocks back: `Damaged` or `Version` where they are those of no
 /// volume of that number (the block that breaks a rule and the rule, or the version that block 0
-/// states), and then nothing was put; `DeviceFault` where the device failed; `NoMemory` where memory
-/// ran out, where the volume is one that `open_volume` of `vr_recover` answers so, or where its
-/// catalog has other data sets than key-sequenced clusters, which aren't served yet.
+/// states), or have what isn't served (the block that has it, with the rule 2, 17 or 19), and then
+/// nothing was put; `DeviceFault` where the device failed; `NoMemory` where memory ran out.
 pub fn open<B: Blocks + Drop>(
     alloc: Global,
     mut blocks: B,
@@ -188,6 +190,9 @@ pub fn open<B: Blocks + Drop>(
     // Blocks that are refused for what they are were left as they were.
     ensures kept { IfErr result (λ back. SaysOfBlocks number back.1
         → Keeps B.tells (B.seen blocks) (B.seen back.0)) }
+    // What is no volume of this number is never written, whatever the line.
+    ensures unwritten { IsTrue B.tells → IsNoVolume number (B.seen blocks)
+        → IfErr result (λ back. Keeps B.tells (B.seen blocks) (B.seen back.0)) }
     ensures faults { IfOk result (λ volume.
         NeverFall (B.faults blocks) (B.faults volume.blocks)) }
     ensures faults_back { IfErr result (λ back. NeverFall (B.faults blocks) (B.faults back.0)) }

@@ -1,5 +1,4 @@
 -- The parts of a volume, attached one after another.
-use Rattle.std.proofs.Common.{◌-◌}
 use Rattle.std.proofs.Common.{◌≡◌, ℕ, ◌+◌, ◌<◌, ◌≤◌, List, [], ◌∷◌, ◌++◌, Option, Some, None, length}
 use Rattle.std.proofs.Common.{refl, sym, ap, subst, ◌∙◌, arith, map, take, append_assoc}
 use Rattle.std.specs.Prelude.{All, Bool, nat_eq, IfSome, IsTrue, true, false, slice_get, ◌↔◌}
@@ -11,31 +10,52 @@ use Rattle.vr_types.specs.Geometry.{IsAllowed, area_count}
 use Rattle.vr_types.specs.Image.{Image}
 use Rattle.vr_types.specs.Seen.{Seen}
 use Rattle.vr_types.specs.declared.geometry.Geometry.{Geometry}
-use Rattle.vr_types.proofs.CallerLemmas.{block_size_least}
 use Rattle.vr_catalog.specs.Catalog.{parts_in}
+use Rattle.vr_catalog.specs.Definition.{catalog_definition}
 use Rattle.vr_catalog.specs.declared.definition.Definition.{Definition}
 use Rattle.vr_catalog.specs.declared.entry.CatEntry.{CatEntry}
-use Rattle.vr_attach.specs.Laid.{keyed_part, keyed_shape, shape_of}
+use Rattle.vr_attach.specs.Laid.{catalog_shape, keyed_part, keyed_shape, shape_of}
 use Rattle.vr_keyed.specs.Attached.{IsRuleShown}
 use Rattle.vr_log.specs.LogNow.{IsOf}
 use Rattle.vr_mount.specs.Areas.{IsBelow}
 use Rattle.vr_space.specs.Keyed.{Keyed}
 use Rattle.vr_space.specs.Part.{IsOn, KeyedShape, Shape, Stands}
 use Rattle.vr_recover.specs.Found.{AllStand, AreEntries, AreEntriesOf, AtAreas, AtPart, IsAreaNo}
-use Rattle.vr_recover.specs.Found.{IsEntryShown, IsMountShown, IsOneShown, LaysIn, ShowsOnly}
+use Rattle.vr_recover.specs.Found.{IsEntryNo, IsEntryShown, IsMountShown, IsOneShown, LaysIn}
+use Rattle.vr_recover.specs.Found.{ShowsBoth, ShowsOnly}
 use Rattle.vr_recover.specs.declared.open_no.OpenNo.{OpenNo}
+use Rattle.vr_recover.specs.declared.open_no.OpenNo.TheVariants as nos
 use Rattle.vr_recover.specs.declared.open_no.OpenNo.TheVariants.{Damaged, Version, Read, Write, Memory}
+use Rattle.vr_recover.specs.declared.open_no.Unserved.{Unserved}
+use Rattle.vr_recover.specs.Unserved.{IsCatalogUnserved, IsEntryCause, IsPlain}
 use Rattle.vr_recover.proofs.Areas.{area-on}
 
 -- ---- answers
 
+pub shows-both : (P Q : ℕ → ℕ → Type 0) (R S : ℕ → Unserved → Type 0)
+    → ((block rule : ℕ) → P block rule → Q block rule)
+    → ((block : ℕ) (cause : Unserved) → R block cause → S block cause) → (answer : OpenNo)
+    → ShowsBoth P R answer → ShowsBoth Q S answer
+shows-both P Q R S damaged unserved (Damaged block rule) shown = damaged block rule shown
+shows-both P Q R S damaged unserved (Version found) shown = shown
+shows-both P Q R S damaged unserved (nos.Unserved block cause) shown = unserved block cause shown
+shows-both P Q R S damaged unserved Read shown = tt
+shows-both P Q R S damaged unserved Write shown = tt
+shows-both P Q R S damaged unserved Memory shown = tt
+
+abbrev IsNever : ℕ → Unserved → Type 0
+IsNever block cause = ⊥
+
 pub shows-more : (P Q : ℕ → ℕ → Type 0) → ((block rule : ℕ) → P block rule → Q block rule)
     → (answer : OpenNo) → ShowsOnly P answer → ShowsOnly Q answer
-shows-more P Q more (Damaged block rule) shown = more block rule shown
-shows-more P Q more (Version found) shown = shown
-shows-more P Q more Read shown = tt
-shows-more P Q more Write shown = tt
-shows-more P Q more Memory shown = tt
+shows-more P Q more answer shown =
+    shows-both P Q IsNever IsNever more (λ block cause none. none) answer shown
+
+pub shows-also : (P Q : ℕ → ℕ → Type 0) (S : ℕ → Unserved → Type 0)
+    → ((block rule : ℕ) → P block rule → Q block rule) → (answer : OpenNo)
+    → ShowsOnly P answer → ShowsBoth Q S answer
+shows-also P Q S more answer shown =
+    shows-both P Q IsNever S more (λ block cause none. absurd none) answer shown
 
 -- ---- one part more
 
@@ -87,6 +107,7 @@ module _ (geometry : Geometry) (entry : CatEntry) (area : ℕ) (definition : Def
         part = layout;
         area = area;
         laid = lays.shape geometry ∙ ap (λ (p : Keyed). Some (KeyedShape p)) (sym is);
+        begins = ap (λ (p : Keyed). p.head) is;
         shown = subst (λ (n : ℕ). IsRuleShown layout area n now.cur block rule) count shown;
       }) answer
 
@@ -123,6 +144,7 @@ one-shown geometry entries i entry now old answer there same =
         part = shown.part;
         area = shown.area;
         laid = shown.laid;
+        begins = shown.begins;
         shown = subst (λ (image : Image). IsRuleShown shown.part shown.area (area_count geometry)
             image block rule) same shown.shown;
       };
@@ -136,10 +158,12 @@ of-still tells geometry a b call of = record {
 }
 
 -- a record of the longest length has room in an interval of its own
-pub longest-fits : (geometry : Geometry) (most limit : ℕ) → IsAllowed geometry
-    → limit ≡ geometry.size - 7 → most ≤ limit → most + 7 ≤ geometry.size
-longest-fits geometry most limit allowed is within =
-    omega (arith, is, within, block_size_least geometry.size allowed.size)
+pub longest-fits : (geometry : Geometry) (entry : CatEntry) (area : ℕ) (definition : Definition)
+    → LaysIn entry area definition → IsPlain geometry entry
+    → definition.maximum + 7 ≤ geometry.size
+longest-fits geometry entry area definition lays plain =
+    subst (λ (o : Option Definition). IfSome o (λ (d : Definition). d.maximum + 7 ≤ geometry.size))
+    lays.definition_is plain
 
 -- ---- tests
 
@@ -157,30 +181,46 @@ none-stand layouts image none = subst (λ (ls : List Keyed). AllStand ls image) 
 
 module _ (geometry : Geometry) (old now : Seen) (entries : List CatEntry)
     (same : now.cur ≡ old.cur) (are : AreEntriesOf geometry now.cur entries)
-    (distinct : IsDistinct nat_eq (0 ∷ parts_in entries)) where
+    (distinct : IsDistinct nat_eq (0 ∷ parts_in entries))
+    (stands : Stands (catalog_shape geometry) old.cur) where
   entries-then : AreEntries geometry old entries
   entries-then = record {
     entries_are = subst (λ (image : Image). AreEntriesOf geometry image entries) same are;
     distinct = distinct;
   }
 
-  areas-then : (answer : OpenNo) → ShowsOnly (IsAreaNo geometry entries) answer
-      → ShowsOnly (IsMountShown geometry old) answer
-  areas-then answer = shows-more (IsAreaNo geometry entries) (IsMountShown geometry old)
+  unserved-then : (block : ℕ) (cause : Unserved) → IsEntryNo geometry entries block cause
+      → IsCatalogUnserved geometry old block cause
+  unserved-then block cause shown =
+      let of = entries-then.entries_are stands.0 stands.1 in
+      record {
+        content = stands.0;
+        stands = stands.1;
+        rules = of.1;
+        block_is = shown.0;
+        is = subst (λ (es : List CatEntry). IsEntryCause geometry es cause) of.0 shown.1;
+      }
+
+  areas-then : (answer : OpenNo)
+      → ShowsBoth (IsAreaNo geometry entries) (IsEntryNo geometry entries) answer
+      → ShowsBoth (IsMountShown geometry old) (IsCatalogUnserved geometry old) answer
+  areas-then answer = shows-both (IsAreaNo geometry entries) (IsMountShown geometry old)
+      (IsEntryNo geometry entries) (IsCatalogUnserved geometry old)
       (λ block rule shown. AtAreas (record {
         entries = entries;
         are = entries-then;
         shown = shown;
-      })) answer
+      })) unserved-then answer
 
   parts-then : (later : Seen) (answer : OpenNo) → later.cur ≡ now.cur
       → ShowsOnly (IsOneShown geometry entries later) answer
-      → ShowsOnly (IsMountShown geometry old) answer
-  parts-then later answer still = shows-more (IsOneShown geometry entries later)
-      (IsMountShown geometry old)
+      → ShowsBoth (IsMountShown geometry old) (IsCatalogUnserved geometry old) answer
+  parts-then later answer still = shows-also (IsOneShown geometry entries later)
+      (IsMountShown geometry old) (IsCatalogUnserved geometry old)
       (λ block rule shown. AtPart (record {
         entries = entries;
         are = entries-then;
+        stands = stands;
         shown = record {
           at = shown.at;
           entry = shown.entry;
@@ -189,6 +229,7 @@ module _ (geometry : Geometry) (old now : Seen) (entries : List CatEntry)
             part = shown.shown.part;
             area = shown.shown.area;
             laid = shown.shown.laid;
+            begins = shown.shown.begins;
             shown = subst (λ (image : Image). IsRuleShown shown.shown.part shown.shown.area
                 (area_count geometry) image block rule) (still ∙ same) shown.shown.shown;
           };
@@ -198,16 +239,31 @@ module _ (geometry : Geometry) (old now : Seen) (entries : List CatEntry)
 pub areas-shown : (geometry : Geometry) (old now : Seen) (entries asked : List CatEntry)
     (answer : OpenNo) → asked ≡ entries → now.cur ≡ old.cur
     → AreEntriesOf geometry now.cur entries → IsDistinct nat_eq (0 ∷ parts_in entries)
-    → ShowsOnly (IsAreaNo geometry asked) answer → ShowsOnly (IsMountShown geometry old) answer
-areas-shown geometry old now entries asked answer is same are distinct shown =
-    areas-then geometry old now entries same are distinct answer
-    (subst (λ (es : List CatEntry). ShowsOnly (IsAreaNo geometry es) answer) is shown)
+    → Stands (catalog_shape geometry) old.cur
+    → ShowsBoth (IsAreaNo geometry asked) (IsEntryNo geometry asked) answer
+    → ShowsBoth (IsMountShown geometry old) (IsCatalogUnserved geometry old) answer
+areas-shown geometry old now entries asked answer is same are distinct stands shown =
+    areas-then geometry old now entries same are distinct stands answer
+    (subst (λ (es : List CatEntry). ShowsBoth (IsAreaNo geometry es) (IsEntryNo geometry es) answer)
+    is shown)
 
 pub parts-shown : (geometry : Geometry) (old now later : Seen) (entries asked : List CatEntry)
     (answer : OpenNo) → asked ≡ entries → now.cur ≡ old.cur → later.cur ≡ now.cur
     → AreEntriesOf geometry now.cur entries → IsDistinct nat_eq (0 ∷ parts_in entries)
+    → Stands (catalog_shape geometry) old.cur
     → ShowsOnly (IsOneShown geometry asked later) answer
-    → ShowsOnly (IsMountShown geometry old) answer
-parts-shown geometry old now later entries asked answer is same still are distinct shown =
-    parts-then geometry old now entries same are distinct later answer still
+    → ShowsBoth (IsMountShown geometry old) (IsCatalogUnserved geometry old) answer
+parts-shown geometry old now later entries asked answer is same still are distinct stands shown =
+    parts-then geometry old now entries same are distinct stands later answer still
     (subst (λ (es : List CatEntry). ShowsOnly (IsOneShown geometry es later) answer) is shown)
+
+-- the first part that was added is the catalog's
+pub first-stands : (geometry : Geometry) (before after : List Keyed) (layout : Keyed) (image : Image)
+    → before ≡ [] → after ≡ before ++ layout ∷ []
+    → layout ≡ keyed_part geometry 0 0 catalog_definition → AllStand after image
+    → Stands (catalog_shape geometry) image
+first-stands geometry before after layout image none added is all =
+    let one : AllStand (layout ∷ []) image =
+    subst (λ (ls : List Keyed). AllStand ls image)
+    (added ∙ ap (λ (ls : List Keyed). ls ++ layout ∷ []) none) all in
+    subst (λ (p : Keyed). Stands (KeyedShape p) image) is (one 0 layout (omega arith))

@@ -13,27 +13,34 @@ use Rattle.vr_types.specs.declared.unit.PartNo.{PartNo}
 use Rattle.vr_types.proofs.CallerLemmas.{guards-keeps, guards-start, guards-then, guards-weaken}
 use Rattle.vr_catalog.specs.declared.entry.CatEntry.{CatEntry}
 use Rattle.vr_attach.specs.Header.{header_block}
+use Rattle.vr_attach.specs.Laid.{catalog_shape}
 use Rattle.vr_history.specs.State.{BeforeImage}
 use Rattle.vr_keyed.specs.Owned.{Owned}
 use Rattle.vr_log.specs.Content.{Content as LogContent}
 use Rattle.vr_log.specs.LogNow.{IsForced, IsOf, LogNow}
+use Rattle.vr_log.specs.Spells.{Spells}
 use Rattle.vr_log.specs.Standing.{LogStands}
 use Rattle.vr_mount.specs.Areas.{AreOwners}
 use Rattle.vr_mount.specs.Header.{IsDamagedHeader, IsHeaderOf, version_in}
 use Rattle.vr_space.specs.Keyed.{Keyed}
 use Rattle.vr_space.specs.Met.{Met}
-use Rattle.vr_space.specs.Part.{IsOn, KeyedShape, Shape}
+use Rattle.vr_space.specs.Part.{IsOn, KeyedShape, Shape, StandsFor}
 use Rattle.vr_space.specs.Room.{Lengths}
 use Rattle.vr_space.proofs.CallerLemmas.{fewer-room}
-use Rattle.vr_volume.specs.PutBack.{lengths_kept}
+use Rattle.vr_volume.specs.PutBack.{images_of, lengths_kept}
 use Rattle.vr_volume.specs.Volume.{Recovers}
 use Rattle.vr_recover.specs.Found.{AreAttached, IsFound, IsPartReady, IsPlanned}
 use Rattle.vr_recover.specs.Opening.{InArea, InCatalog, InImages, InLog, InPart, IsDamaged, IsHandedOut}
 use Rattle.vr_recover.specs.Opening.{IsNoVolume, IsOfVersion, IsOpened, IsOpenedBy, IsRefused}
-use Rattle.vr_recover.specs.Opening.{IsShownOf, IsVolume, Twice, shape_owned, shapes_laid}
+use Rattle.vr_recover.specs.Opening.{IsPartOf, IsShownOf, IsVolume, Laid, Own, Twice, shape_owned}
+use Rattle.vr_recover.specs.Opening.{shapes_laid}
 use Rattle.vr_recover.specs.Undone.{IsPastLog, IsReady, IsUndone}
 use Rattle.vr_recover.specs.declared.open_no.OpenNo.{OpenNo}
+use Rattle.vr_recover.specs.declared.open_no.OpenNo.TheVariants as nos
 use Rattle.vr_recover.specs.declared.open_no.OpenNo.TheVariants.{Damaged, Version, Read, Write, Memory}
+use Rattle.vr_recover.specs.declared.open_no.Unserved.{Unserved}
+use Rattle.vr_recover.specs.Images.{CannotGoBack}
+use Rattle.vr_recover.specs.Unserved.{ByCatalog, ByImage, ByLog, IsUnservedOf}
 use Rattle.vr_recover.proofs.Agreeing.{volume-here}
 use Rattle.vr_recover.proofs.Clearing.{parts-on, parts-past, shapes-are}
 use Rattle.vr_recover.proofs.Keeping.{all-more}
@@ -66,6 +73,16 @@ module _ (a b : Seen) (count : b.count ≡ a.count) (size : b.size ≡ a.size) (
   none-before number none geometry contents is =
       none geometry contents (volume-then number geometry contents is)
 
+  pub none-then : (number : ℕ) → IsNoVolume number a → IsNoVolume number b
+  none-then number none geometry contents is =
+      none geometry contents (volume-before number geometry contents is)
+
+  part-of-before : (geometry : Geometry) (part : Keyed) → IsPartOf geometry b part
+      → IsPartOf geometry a part
+  part-of-before geometry part (Own is) = Own is
+  part-of-before geometry part (Laid content stands number laid) = Laid content
+      (subst (λ (i : Image). StandsFor (catalog_shape geometry) i content) cur stands) number laid
+
   shown-before : (geometry : Geometry) (block rule : ℕ) → IsShownOf geometry b block rule
       → IsShownOf geometry a block rule
   shown-before geometry block rule (InLog shown) = InLog (record {
@@ -75,7 +92,9 @@ module _ (a b : Seen) (count : b.count ≡ a.count) (size : b.size ≡ a.size) (
   })
   shown-before geometry block rule (InPart shown) = InPart (record {
     part = shown.part;
+    part_of = part-of-before geometry shown.part shown.part_of;
     area = shown.area;
+    begins = shown.begins;
     shown = subst (λ (i : Image). Rattle.vr_keyed.specs.Attached.IsRuleShown shown.part shown.area
         (Rattle.vr_types.specs.Geometry.area_count geometry) i block rule) cur shown.shown;
   })
@@ -100,7 +119,44 @@ module _ (a b : Seen) (count : b.count ≡ a.count) (size : b.size ≡ a.size) (
         Rattle.vr_space.specs.Part.StandsFor (Rattle.vr_attach.specs.Laid.catalog_shape geometry) i
         one) (sym cur) stands);
   })
-  shown-before geometry block rule (InImages shown) = InImages shown
+  shown-before geometry block rule (InImages shown) = InImages (record {
+    block_is = shown.block_is;
+    rule_is = shown.rule_is;
+    log = shown.log;
+    spelled = subst (λ (i : Image). Spells geometry i shown.log) cur shown.spelled;
+    catalog = shown.catalog;
+    stands = subst (λ (i : Image). StandsFor (catalog_shape geometry) i shown.catalog) cur
+        shown.stands;
+    parts = shown.parts;
+    shapes = shown.shapes;
+    damaged = subst (λ (i : Image). CannotGoBack (images_of shown.log.records) shown.parts i) cur
+        shown.damaged;
+  })
+
+  has-before : (geometry : Geometry) (block : ℕ) (cause : Unserved)
+      → IsUnservedOf geometry b block cause → IsUnservedOf geometry a block cause
+  has-before geometry block cause (ByLog has) = ByLog (record {
+    content = has.content;
+    spelled = subst (λ (i : Image). Spells geometry i has.content) cur has.spelled;
+    block_is = has.block_is;
+    is = has.is;
+  })
+  has-before geometry block cause (ByImage has) = ByImage (record {
+    content = has.content;
+    spelled = subst (λ (i : Image). Spells geometry i has.content) cur has.spelled;
+    block_is = has.block_is;
+    cause_is = has.cause_is;
+    is = has.is;
+  })
+  has-before geometry block cause (ByCatalog log spelled off has) = ByCatalog log
+      (subst (λ (i : Image). Spells geometry i log) cur spelled) off (record {
+        content = has.content;
+        stands = subst (λ (i : Image). StandsFor (catalog_shape geometry) i has.content) cur
+            has.stands;
+        rules = has.rules;
+        block_is = has.block_is;
+        is = has.is;
+      })
 
   header-before : (number : ℕ) (geometry : Geometry)
       → IsHeaderOf b.count b.size number (block_at b.cur 0) geometry
@@ -153,6 +209,11 @@ module _ (a b : Seen) (count : b.count ≡ a.count) (size : b.size ≡ a.size) (
     none = none-before number is.none;
     stated = ap version_in (ap (λ (i : Image). block_at i 0) (sym cur)) ∙ is.stated;
     other = is.other;
+  }
+  refused-before number (nos.Unserved block cause) is = record {
+    geometry = is.geometry;
+    header = header-before number is.geometry is.header;
+    has = has-before is.geometry block cause is.has;
   }
   refused-before number Read is = tt
   refused-before number Write is = tt
@@ -253,6 +314,7 @@ module _ (geometry : Geometry) (content : LogContent) (entries : List CatEntry)
     records = records;
     generation = low;
     distinct = planned.distinct;
+    clusters = planned.clusters;
     shapes = same ∙ shapes-are geometry content entries layouts planned before numbers row;
     laid = are-laid geometry entries planned.distinct;
     on = subst (All (λ (shape : Shape). IsOn shape now)) (sym same)

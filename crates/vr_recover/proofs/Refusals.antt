@@ -18,7 +18,7 @@ use Rattle.vr_catalog.specs.Catalog.{entries_in, parts_in}
 use Rattle.vr_catalog.specs.Definition.{catalog_definition}
 use Rattle.vr_catalog.specs.declared.entry.CatEntry.{CatEntry}
 use Rattle.vr_attach.specs.Header.{header_block}
-use Rattle.vr_attach.specs.Laid.{AreApart, keyed_part, shape_in}
+use Rattle.vr_attach.specs.Laid.{AreApart, catalog_shape, keyed_part, shape_in, shape_of}
 use Rattle.vr_history.specs.State.{BeforeImage}
 use Rattle.vr_keyed.specs.Lent.{ArePlaces}
 use Rattle.vr_keyed.specs.Owned.{Owned}
@@ -35,20 +35,51 @@ use Rattle.vr_mount.specs.Header.{IsHeaderOf}
 use Rattle.vr_mount.proofs.CallerLemmas.{on_blocks}
 use Rattle.vr_mount.proofs.Telling.{all_mapped, mapped_all}
 use Rattle.vr_space.specs.Keyed.{Keyed}
-use Rattle.vr_space.specs.Part.{IsOn, KeyedShape, Shape, StandsFor}
+use Rattle.vr_space.specs.Part.{IsOn, KeyedShape, Shape, Stands, StandsFor}
 use Rattle.vr_space.specs.Room.{Lengths}
 use Rattle.vr_volume.specs.PutBack.{image_in, images_of, length_in, length_of, lengths_kept}
 use Rattle.vr_volume.specs.Volume.{Recovers}
 use Rattle.vr_recover.specs.Found.{AreEntriesOf, AreOff, AtAreas, AtCatalog, AtPart, HasRoomFor}
+use Rattle.vr_recover.specs.Found.{AllStand, HasRoomOf, IsLaidShown, IsLogNo, ShowsBoth}
 use Rattle.vr_recover.specs.Found.{IsBackNo, IsMountShown, Misspelled, ShowsOnly}
 use Rattle.vr_recover.specs.Opening.{InArea, InCatalog, InImages, InLog, InPart, IsDamaged, IsLogShown}
-use Rattle.vr_recover.specs.Opening.{IsNoVolume, IsRefused, IsShownOf, Twice, shapes_laid}
+use Rattle.vr_recover.specs.Opening.{IsNoVolume, IsPartOf, IsRefused, IsShownOf, Laid, Own, Twice}
+use Rattle.vr_recover.specs.Opening.{shapes_laid}
+use Rattle.vr_recover.specs.Unserved.{ByCatalog, ByImage, ByLog, IsCatalogUnserved, IsLogUnserved}
+use Rattle.vr_recover.specs.Unserved.{IsUnserved, IsUnservedOf}
 use Rattle.vr_recover.specs.Undone.{FitsPart}
 use Rattle.vr_recover.specs.declared.open_no.OpenNo.{OpenNo}
+use Rattle.vr_recover.specs.declared.open_no.OpenNo.TheVariants as nos
 use Rattle.vr_recover.specs.declared.open_no.OpenNo.TheVariants.{Damaged, Version, Read, Write, Memory}
+use Rattle.vr_recover.specs.declared.open_no.Unserved.{Unserved}
+use Rattle.vr_recover.specs.declared.open_no.Unserved.TheVariants.{CatalogImage}
+use Rattle.vr_recover.proofs.Attaching.{shows-both}
 use Rattle.vr_recover.proofs.Agreeing.{goes-back, has-rooms, mount-none, no-volume}
-use Rattle.vr_recover.proofs.Shapes.{layout-laid}
+use Rattle.vr_recover.proofs.Shapes.{entry-laid, layout-laid}
 use Rattle.vr_recover.proofs.Settled.{with-all}
+
+-- ---- the parts
+
+pub all-parts : (P : Keyed → Type 0) (parts : List Owned) (layouts : List Keyed)
+    → map (λ (keyed : Owned). keyed.part) parts ≡ layouts → All P layouts
+    → All (λ (keyed : Owned). P keyed.part) parts
+all-parts P parts layouts row all = mapped_all (λ (keyed : Owned). keyed.part) P parts
+    (subst (All P) (sym row) all)
+
+-- ---- a log that isn't served
+
+pub log-shown : (geometry : Geometry) (now : Seen) (content : LogContent)
+    → Spells geometry now.cur content → (answer : OpenNo)
+    → ShowsBoth (λ block rule. ⊥) (IsLogNo geometry content) answer
+    → ShowsBoth (IsLogShown geometry now) (IsLogUnserved geometry now) answer
+log-shown geometry now content spelled = shows-both (λ block rule. ⊥) (IsLogShown geometry now)
+    (IsLogNo geometry content) (IsLogUnserved geometry now) (λ block rule none. absurd none)
+    (λ block cause no. record {
+      content = content;
+      spelled = spelled;
+      block_is = no.0;
+      is = no.1;
+    })
 
 -- ---- a shape with its header
 
@@ -73,15 +104,33 @@ module _ (number : ℕ) (geometry : Geometry) (now : Seen) (allowed : IsAllowed 
 
   -- ---- by its log
 
+  unserved-of : (block : ℕ) (cause : Unserved) → IsUnservedOf geometry now block cause
+      → IsUnserved number now block cause
+  unserved-of block cause has = record { geometry = geometry; header = header-of; has = has }
+
   pub log-refused : 8 ≤ length (block_at now.cur 1) → (answer : OpenNo)
-      → ShowsOnly (IsLogShown geometry now) answer → IsRefused number now answer
+      → ShowsBoth (IsLogShown geometry now) (IsLogUnserved geometry now) answer
+      → IsRefused number now answer
   log-refused long (Damaged block rule) shown = damaged-of block rule
       (λ recovered is. damaged_none geometry now.cur is.log block long is.stands.log_is
       shown.damaged) (InLog shown)
   log-refused long (Version found) shown = absurd shown
+  log-refused long (nos.Unserved block cause) shown = unserved-of block cause (ByLog shown)
   log-refused long Read shown = tt
   log-refused long Write shown = tt
   log-refused long Memory shown = tt
+
+  -- before-images of the catalog's own part
+  pub image-refused : (content : LogContent) → Spells geometry now.cur content
+      → (AreOff (images_of content.records) → ⊥)
+      → IsRefused number now (nos.Unserved 1 CatalogImage)
+  image-refused content spelled on = unserved-of 1 CatalogImage (ByImage (record {
+    content = content;
+    spelled = spelled;
+    block_is = refl;
+    cause_is = refl;
+    is = on;
+  }))
 
   module _ (content : LogContent) (long : 8 ≤ length (block_at now.cur 1))
       (spelled : Spells geometry now.cur content) (off : AreOff (images_of content.records)) where
@@ -98,11 +147,26 @@ module _ (number : ℕ) (geometry : Geometry) (now : Seen) (allowed : IsAllowed 
         one → entries_in one ≡ entries
     entries-as entries are one stands = sym (are one stands).0
 
+    -- the part of an entry is one that the catalog's blocks lay
+    part-of : {block rule : ℕ} (shown : IsLaidShown geometry now block rule)
+        → IsPartOf geometry now shown.shown.shown.part
+    part-of shown =
+        let of = shown.shown in
+        let laid : shape_in geometry shown.entries of.entry.part.0 ≡ Some (KeyedShape of.shown.part) =
+        entry-laid geometry shown.entries shown.are.distinct of.at of.entry
+        (KeyedShape of.shown.part) of.there of.shown.laid in
+        Laid shown.stands.0 shown.stands.1 of.entry.part.0
+        (subst (λ (es : List CatEntry). shape_in geometry es of.entry.part.0
+        ≡ Some (KeyedShape of.shown.part))
+        (shown.are.entries_are shown.stands.0 shown.stands.1).0 laid)
+
     shown-as : (block rule : ℕ) → IsMountShown geometry now block rule
         → IsShownOf geometry now block rule
     shown-as block rule (AtCatalog shown) = InPart (record {
       part = keyed_part geometry 0 0 catalog_definition;
+      part_of = Own refl;
       area = 0;
+      begins = refl;
       shown = shown;
     })
     shown-as block rule (Misspelled shown) = InCatalog shown
@@ -123,15 +187,20 @@ module _ (number : ℕ) (geometry : Geometry) (now : Seen) (allowed : IsAllowed 
         shown.shown.1
     shown-as block rule (AtPart shown) = InPart (record {
       part = shown.shown.shown.part;
+      part_of = part-of shown;
       area = shown.shown.shown.area;
+      begins = shown.shown.shown.begins;
       shown = shown.shown.shown.shown;
     })
 
-    pub mount-refused : (answer : OpenNo) → ShowsOnly (IsMountShown geometry now) answer
+    pub mount-refused : (answer : OpenNo)
+        → ShowsBoth (IsMountShown geometry now) (IsCatalogUnserved geometry now) answer
         → IsRefused number now answer
     mount-refused (Damaged block rule) shown =
         damaged-of block rule (none-of block rule shown) (shown-as block rule shown)
     mount-refused (Version found) shown = absurd shown
+    mount-refused (nos.Unserved block cause) shown =
+        unserved-of block cause (ByCatalog content spelled off shown)
     mount-refused Read shown = tt
     mount-refused Write shown = tt
     mount-refused Memory shown = tt
@@ -139,7 +208,8 @@ module _ (number : ℕ) (geometry : Geometry) (now : Seen) (allowed : IsAllowed 
     -- ---- by its before-images
 
     module _ (entries : List CatEntry) (are : AreEntriesOf geometry now.cur entries)
-        (distinct : IsDistinct nat_eq (0 ∷ parts_in entries)) (layouts : List Keyed)
+        (distinct : IsDistinct nat_eq (0 ∷ parts_in entries))
+        (stands : Stands (catalog_shape geometry) now.cur) (layouts : List Keyed)
         (shapes : map KeyedShape layouts ≡ shapes_laid geometry entries) (parts : List Owned)
         (row : map (λ (keyed : Owned). keyed.part) parts ≡ layouts) where
       back-none : (block rule : ℕ)
@@ -157,19 +227,37 @@ module _ (number : ℕ) (geometry : Geometry) (now : Seen) (allowed : IsAllowed 
           → IsRefused number now answer
       back-refused (Damaged block rule) shown =
           damaged-of block rule (back-none block rule shown)
-          (InImages (record { block_is = shown.0; rule_is = shown.1 }))
+          (InImages (record {
+            block_is = shown.0;
+            rule_is = shown.1;
+            log = content;
+            spelled = spelled;
+            catalog = stands.0;
+            stands = stands.1;
+            parts = layouts;
+            shapes = shapes ∙ ap (shapes_laid geometry) (are stands.0 stands.1).0;
+            damaged = ⊎_elim (λ back. inl back)
+                (λ room. inr (λ all. room (all-parts (HasRoomOf (images_of content.records) now.cur)
+                parts layouts row all))) shown.2;
+          }))
       back-refused (Version found) shown = absurd shown
+      back-refused (nos.Unserved block cause) shown = absurd shown
       back-refused Read shown = tt
       back-refused Write shown = tt
       back-refused Memory shown = tt
 
--- ---- the parts
-
-pub all-parts : (P : Keyed → Type 0) (parts : List Owned) (layouts : List Keyed)
-    → map (λ (keyed : Owned). keyed.part) parts ≡ layouts → All P layouts
-    → All (λ (keyed : Owned). P keyed.part) parts
-all-parts P parts layouts row all = mapped_all (λ (keyed : Owned). keyed.part) P parts
-    (subst (All P) (sym row) all)
+-- the first of the parts that are laid is the catalog's own
+pub layouts-stand : (geometry : Geometry) (entries : List CatEntry) (layouts : List Keyed)
+    (image : Image) → map KeyedShape layouts ≡ shapes_laid geometry entries
+    → AllStand layouts image → Stands (catalog_shape geometry) image
+layouts-stand geometry entries [] image shapes all = absurd cc
+layouts-stand geometry entries (first ∷ rest) image shapes all =
+    subst (λ (s : Shape). Stands s image) (first-is (KeyedShape first) (catalog_shape geometry)
+    (map KeyedShape rest) (filter_map (shape_of geometry) entries) shapes)
+    (All-head (λ (part : Keyed). Stands (KeyedShape part) image) first rest all)
+  where
+    first-is : (x y : Shape) (xs ys : List Shape) → x ∷ xs ≡ y ∷ ys → x ≡ y
+    first-is x y xs ys same = cc
 
 pub layouts-on : (geometry : Geometry) (entries : List CatEntry) (layouts : List Keyed) (now : Seen)
     → IsOf geometry now → map KeyedShape layouts ≡ shapes_laid geometry entries

@@ -12,7 +12,7 @@ use Rattle.vr_types.specs.declared.geometry.Geometry.{Geometry}
 use Rattle.vr_types.specs.declared.unit.PartNo.{PartNo}
 use Rattle.vr_space.specs.Keyed.{Keyed}
 use Rattle.vr_space.specs.Part.{HasRoom, IsOn, KeyedShape, Shape, Stands, StandsFor, part_no}
-use Rattle.vr_catalog.specs.Catalog.{entries_in, parts_in}
+use Rattle.vr_catalog.specs.Catalog.{cluster_definition, entries_in, parts_in}
 use Rattle.vr_catalog.specs.Definition.{catalog_definition}
 use Rattle.vr_catalog.specs.declared.definition.Definition.{Definition}
 use Rattle.vr_catalog.specs.declared.entry.CatEntry.{CatEntry}
@@ -34,20 +34,29 @@ use Rattle.vr_mount.specs.Areas.{AreOn}
 use Rattle.vr_mount.specs.Numbers.{laid_area}
 use Rattle.vr_mount.specs.Records.{bytes_of}
 use Rattle.vr_volume.specs.PutBack.{AreAlone, images_of, lengths_kept, oldest}
+pub use Rattle.vr_recover.specs.Images.{AreOff, HasRoomOf, MayGoBack}
 use Rattle.vr_recover.specs.Opening.{IsAreaShown, IsCatalogShown, IsLogShown, IsTwiceShown}
 use Rattle.vr_recover.specs.Opening.{shape_owned, shapes_laid}
 use Rattle.vr_recover.specs.Undone.{AreApart as ListApart, FitsPart, IsCovered, IsPastLog}
 use Rattle.vr_recover.specs.Undone.{IsReady}
 use Rattle.vr_recover.specs.declared.open_no.OpenNo.{OpenNo}
+use Rattle.vr_recover.specs.declared.open_no.OpenNo.TheVariants as nos
 use Rattle.vr_recover.specs.declared.open_no.OpenNo.TheVariants.{Damaged, Version, Read, Write, Memory}
+use Rattle.vr_recover.specs.declared.open_no.Unserved.{Unserved}
+use Rattle.vr_recover.specs.Unserved.{IsEntryCause, IsKeyedCluster, IsLogCause}
+
+-- an answer that says of the blocks what P does where they are damaged, and Q where they aren't served
+abbrev pub ShowsBoth : (ℕ → ℕ → Type 0) → (ℕ → Unserved → Type 0) → OpenNo → Type 0
+ShowsBoth P Q (Damaged block rule) = P block rule
+ShowsBoth P Q (Version found) = ⊥
+ShowsBoth P Q (nos.Unserved block cause) = Q block cause
+ShowsBoth P Q Read = Unit {0}
+ShowsBoth P Q Write = Unit {0}
+ShowsBoth P Q Memory = Unit {0}
 
 -- an answer that says of the blocks what P does
 abbrev pub ShowsOnly : (ℕ → ℕ → Type 0) → OpenNo → Type 0
-ShowsOnly P (Damaged block rule) = P block rule
-ShowsOnly P (Version found) = ⊥
-ShowsOnly P Read = Unit {0}
-ShowsOnly P Write = Unit {0}
-ShowsOnly P Memory = Unit {0}
+ShowsOnly P = ShowsBoth P (λ block cause. ⊥)
 
 -- ---- the log
 
@@ -57,6 +66,10 @@ pub record IsLogFound (geometry : Geometry) (content : LogContent) : Type 0 wher
   pub size : length (log_bytes content.records) ≤ log_size geometry
   pub young : content.generation < 2 ^ 63
   pub room : used_by content.records ≤ log_size geometry
+
+-- a log that isn't served by what it says
+abbrev pub IsLogNo : Geometry → LogContent → ℕ → Unserved → Type 0
+IsLogNo geometry content block cause = (block ≡ 1) × IsLogCause geometry content cause
 
 -- ---- the parts
 
@@ -75,6 +88,7 @@ AllStand layouts image = All (λ (part : Keyed). Stands (KeyedShape part) image)
 -- An entry lays its part in this area, by this definition.
 pub record LaysIn (entry : CatEntry) (area : ℕ) (definition : Definition) : Type 0 where
   pub area_is : laid_area entry ≡ Some area
+  pub definition_is : cluster_definition entry.entry_kind entry ≡ Some definition
   pub shape : (geometry : Geometry)
       → shape_of geometry entry ≡ Some (keyed_shape geometry entry.part.0 area definition)
 
@@ -89,6 +103,7 @@ pub record IsEntryShown (geometry : Geometry) (entry : CatEntry) (now : Seen) (b
   pub part : Keyed
   pub area : ℕ
   pub laid : shape_of geometry entry ≡ Some (KeyedShape part)
+  pub begins : part.head ≡ head_block geometry area
   pub shown : IsRuleShown part area (area_count geometry) now.cur block rule
 
 -- that of one of these entries
@@ -122,6 +137,11 @@ IsAreaNo geometry entries block rule = (block ≡ head_block geometry 0)
     × (((rule ≡ 3) × (AreOn geometry entries → ⊥))
     ⊎ ((rule ≡ 4) × (AreApart (shape_in geometry entries) → ⊥)))
 
+-- entries that aren't served are shown at the catalog's head
+abbrev pub IsEntryNo : Geometry → List CatEntry → ℕ → Unserved → Type 0
+IsEntryNo geometry entries block cause = (block ≡ head_block geometry 0)
+    × IsEntryCause geometry entries cause
+
 -- The parts that a catalog lays, its own first, and that they may be laid so.
 pub record IsMounted (geometry : Geometry) (entries : List CatEntry) (parts : List Owned)
     (layouts : List Keyed) (numbers : List PartNo) : Type 0 where
@@ -130,6 +150,7 @@ pub record IsMounted (geometry : Geometry) (entries : List CatEntry) (parts : Li
   pub distinct : IsDistinct nat_eq (0 ∷ parts_in entries)
   pub apart : AreApart (shape_in geometry entries)
   pub on : AreOn geometry entries
+  pub clusters : All IsKeyedCluster entries
 
 -- These are the catalog's entries, and no part number comes twice in them.
 pub record AreEntries (geometry : Geometry) (now : Seen) (entries : List CatEntry) : Type 0 where
@@ -146,6 +167,7 @@ pub record IsAreaOf (geometry : Geometry) (now : Seen) (block rule : ℕ) : Type
 pub record IsLaidShown (geometry : Geometry) (now : Seen) (block rule : ℕ) : Type 0 where
   pub entries : List CatEntry
   pub are : AreEntries geometry now entries
+  pub stands : Stands (catalog_shape geometry) now.cur
   pub shown : IsOneShown geometry entries now block rule
 
 -- what is shown while the parts are attached
@@ -157,16 +179,6 @@ pub data IsMountShown (geometry : Geometry) (now : Seen) (block rule : ℕ) : Ty
   AtPart : IsLaidShown geometry now block rule → IsMountShown geometry now block rule
 
 -- ---- the before-images
-
--- none of these is of the catalog's part
-abbrev pub AreOff : List BeforeImage → Type 0
-AreOff images = All (λ (image : BeforeImage). image.part ≢ 0) images
-
--- Before-images that may be put back into these parts.
-pub record MayGoBack (images : List BeforeImage) (layouts : List Keyed) : Type 0 where
-  pub alone : AreAlone images
-  pub covered : All (IsCovered (map KeyedShape layouts)) images
-  pub fits : All (λ (part : Keyed). All (FitsPart (KeyedShape part)) images) layouts
 
 -- the places of what is kept of a part are its own
 abbrev pub AreItsPlaces : List BeforeImage → Owned → Type 0
@@ -192,12 +204,9 @@ pub record IsPlanned (geometry : Geometry) (content : LogContent) (entries : Lis
   pub distinct : IsDistinct nat_eq (0 ∷ parts_in entries)
   pub apart : AreApart (shape_in geometry entries)
   pub on : AreOn geometry entries
+  pub clusters : All IsKeyedCluster entries
   pub off : AreOff (images_of content.records)
   pub back : MayGoBack (images_of content.records) layouts
-
--- a part has room for those that are put back into it
-abbrev pub HasRoomOf : List BeforeImage → Image → Keyed → Type 0
-HasRoomOf images image part = HasRoom (KeyedShape part) (lengths_kept images part.part) image
 
 -- And by what the blocks have: the header, the log, the catalog, and the parts with their room.
 pub record IsFound (geometry : Geometry) (number : ℕ) (content : LogContent)

@@ -5,5 +5,7 @@ pub mod Planned
 pub mod FormatCause
 pub mod Undone
 pub mod OpenNo
+pub mod Images
+pub mod Unserved
 pub mod Opening
 pub mod Found

@@ -4,7 +4,8 @@ use Rattle.vr_types.specs.Faults.{Faults}
 use Rattle.vr_types.specs.declared.fault.DeviceFault.{DeviceFault}
 use Rattle.vr_types.specs.declared.fault.DeviceFault.TheVariants as faults
 use Rattle.vr_recover.specs.declared.open_no.OpenNo.{OpenNo}
-use Rattle.vr_recover.specs.declared.open_no.OpenNo.TheVariants.{Damaged, Version, Read, Write, Memory}
+use Rattle.vr_recover.specs.declared.open_no.OpenNo.TheVariants.{Damaged, Version, Unserved, Read, Write}
+use Rattle.vr_recover.specs.declared.open_no.OpenNo.TheVariants.{Memory}
 
 abbrev pub fault_no : DeviceFault → OpenNo
 fault_no faults.Read = Read
@@ -14,6 +15,7 @@ fault_no faults.Write = Write
 abbrev pub IsOwnNo : OpenNo → Type 0
 IsOwnNo (Damaged block rule) = Unit {0}
 IsOwnNo (Version found) = Unit {0}
+IsOwnNo (Unserved block cause) = Unit {0}
 IsOwnNo Read = ⊥
 IsOwnNo Write = ⊥
 IsOwnNo Memory = Unit {0}
@@ -22,6 +24,7 @@ IsOwnNo Memory = Unit {0}
 abbrev pub IsSilentNo : OpenNo → Type 0
 IsSilentNo (Damaged block rule) = ⊥
 IsSilentNo (Version found) = ⊥
+IsSilentNo (Unserved block cause) = ⊥
 IsSilentNo Read = Unit {0}
 IsSilentNo Write = Unit {0}
 IsSilentNo Memory = Unit {0}
@@ -40,6 +43,7 @@ pub record HasOpenCause {T : Type 0} (before now : Faults) (result : Result T Op
 abbrev pub IsToldNo : OpenNo → Type 0
 IsToldNo (Damaged block rule) = Unit {0}
 IsToldNo (Version found) = Unit {0}
+IsToldNo (Unserved block cause) = Unit {0}
 IsToldNo Read = ⊥
 IsToldNo Write = ⊥
 IsToldNo Memory = ⊥

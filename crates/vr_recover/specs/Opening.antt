@@ -17,15 +17,21 @@ use Rattle.vr_attach.specs.CatalogRules.{IsCatalog}
 use Rattle.vr_attach.specs.Laid.{AreApart, catalog_shape, shape_by, shape_in, shape_of}
 use Rattle.vr_keyed.specs.Attached.{IsRuleShown}
 use Rattle.vr_keyed.specs.Owned.{Owned}
+use Rattle.vr_log.specs.Content.{Content as LogContent}
 use Rattle.vr_log.specs.Damage.{IsDamagedAt}
 use Rattle.vr_log.specs.LogNow.{IsForced, IsOf, LogNow}
+use Rattle.vr_log.specs.Spells.{Spells}
 use Rattle.vr_log.specs.Standing.{LogStands}
 use Rattle.vr_mount.specs.Areas.{AreOn, AreOwners}
 use Rattle.vr_mount.specs.Header.{IsDamagedHeader, IsHeaderOf, version_in}
+use Rattle.vr_volume.specs.PutBack.{images_of}
 use Rattle.vr_volume.specs.Volume.{Recovers}
+use Rattle.vr_recover.specs.Images.{CannotGoBack}
 use Rattle.vr_recover.specs.Undone.{IsPastLog, IsReady, IsUndone}
+use Rattle.vr_recover.specs.Unserved.{IsKeyedCluster, IsUnserved}
 use Rattle.vr_recover.specs.declared.open_no.OpenNo.{OpenNo}
-use Rattle.vr_recover.specs.declared.open_no.OpenNo.TheVariants.{Damaged, Version, Read, Write, Memory}
+use Rattle.vr_recover.specs.declared.open_no.OpenNo.TheVariants.{Damaged, Version, Unserved, Read, Write}
+use Rattle.vr_recover.specs.declared.open_no.OpenNo.TheVariants.{Memory}
 
 -- ---- what is found
 
@@ -54,10 +60,18 @@ pub record IsLogShown (geometry : Geometry) (now : Seen) (block rule : ℕ) : Ty
   pub rule_is : rule ≡ 2
   pub damaged : IsDamagedAt geometry now.cur block
 
+-- a part is the catalog's own, or one that is laid by a content for which the catalog's blocks stand
+pub data IsPartOf (geometry : Geometry) (now : Seen) (part : Keyed) : Type 0 where
+  Own : KeyedShape part ≡ catalog_shape geometry → IsPartOf geometry now part
+  Laid : (content : Content) → StandsFor (catalog_shape geometry) now.cur content → (number : ℕ)
+      → shape_by geometry content number ≡ Some (KeyedShape part) → IsPartOf geometry now part
+
 -- rules 3 to 11: the first block of a part that breaks a rule, and the least that it breaks
 pub record IsPartShown (geometry : Geometry) (now : Seen) (block rule : ℕ) : Type 0 where
   pub part : Keyed
+  pub part_of : IsPartOf geometry now part
   pub area : ℕ
+  pub begins : part.head ≡ head_block geometry area
   pub shown : IsRuleShown part area (area_count geometry) now.cur block rule
 
 -- a content of the catalog breaks a rule that all contents keep
@@ -83,10 +97,22 @@ pub record IsTwiceShown (geometry : Geometry) (now : Seen) (block rule : ℕ) : 
   pub rule_is : rule ≡ 4
   pub damaged : IsNoneOf geometry now (λ content. AreApart (shape_by geometry content))
 
--- rule 19 at the first block of the log: a before-image can't be put back
-pub record IsImageShown (block rule : ℕ) : Type 0 where
+-- the shapes of the parts that a catalog lays, its own first
+abbrev pub shapes_laid : Geometry → List CatEntry → List Shape
+shapes_laid geometry entries = catalog_shape geometry ∷ filter_map (shape_of geometry) entries
+
+-- rule 19 at the first block of the log: the before-images that it has of live units can't be put back
+-- into the parts that the catalog's blocks lay
+pub record IsImageShown (geometry : Geometry) (now : Seen) (block rule : ℕ) : Type 0 where
   pub block_is : block ≡ 1
   pub rule_is : rule ≡ 19
+  pub log : LogContent
+  pub spelled : Spells geometry now.cur log
+  pub catalog : Content
+  pub stands : StandsFor (catalog_shape geometry) now.cur catalog
+  pub parts : List Keyed
+  pub shapes : map KeyedShape parts ≡ shapes_laid geometry (entries_in catalog)
+  pub damaged : CannotGoBack (images_of log.records) parts now.cur
 
 -- what is shown of a volume whose header is in order
 pub data IsShownOf (geometry : Geometry) (now : Seen) (block rule : ℕ) : Type 0 where
@@ -95,7 +121,7 @@ pub data IsShownOf (geometry : Geometry) (now : Seen) (block rule : ℕ) : Type 
   InCatalog : IsCatalogShown geometry now block rule → IsShownOf geometry now block rule
   InArea : IsAreaShown geometry now block rule → IsShownOf geometry now block rule
   Twice : IsTwiceShown geometry now block rule → IsShownOf geometry now block rule
-  InImages : IsImageShown block rule → IsShownOf geometry now block rule
+  InImages : IsImageShown geometry now block rule → IsShownOf geometry now block rule
 
 -- ---- why a volume is not opened
 
@@ -119,15 +145,12 @@ pub record IsOfVersion (number : ℕ) (now : Seen) (found : ℕ) : Type 0 where
 abbrev pub IsRefused : ℕ → Seen → OpenNo → Type 0
 IsRefused number now (Damaged block rule) = IsDamaged number now block rule
 IsRefused number now (Version found) = IsOfVersion number now found
+IsRefused number now (Unserved block cause) = IsUnserved number now block cause
 IsRefused number now Read = Unit {0}
 IsRefused number now Write = Unit {0}
 IsRefused number now Memory = Unit {0}
 
 -- ---- what is handed out
-
--- the shapes of the parts that a catalog lays, its own first
-abbrev pub shapes_laid : Geometry → List CatEntry → List Shape
-shapes_laid geometry entries = catalog_shape geometry ∷ filter_map (shape_of geometry) entries
 
 abbrev pub shape_owned : Owned → Shape
 shape_owned keyed = KeyedShape keyed.part
@@ -143,8 +166,9 @@ pub record AreLaid (geometry : Geometry) (entries : List CatEntry) (shapes : Lis
     pub there : (part : ℕ) (shape : Shape) → shape_in geometry entries part ≡ Some shape
         → (at : ℕ) × (slice_get shapes at ≡ Some shape)
 
--- What is handed out, whatever the blocks have: the parts are those that the catalog lays, its own
--- first, each on blocks of the volume past the log, and the log has no record.
+-- What is handed out, whatever the blocks have: the catalog has key-sequenced clusters alone, the
+-- parts are those that it lays, its own first, each on blocks of the volume past the log, and the log
+-- has no record.
 pub record IsHandedOut (geometry : Geometry) (entries : List CatEntry) (parts : List Owned)
     (log : LogNow) (owners : List (Option PartNo)) (now : Seen) : Type 0 where
   pub allowed : IsAllowed geometry
@@ -155,6 +179,7 @@ pub record IsHandedOut (geometry : Geometry) (entries : List CatEntry) (parts : 
   pub records : log.records ≡ []
   pub generation : log.generation < 2 ^ 63 + 1
   pub distinct : IsDistinct nat_eq (0 ∷ parts_in entries)
+  pub clusters : All IsKeyedCluster entries
   pub shapes : map shape_owned parts ≡ shapes_laid geometry entries
   pub laid : AreLaid geometry entries (shapes_laid geometry entries)
   pub on : All (λ (shape : Shape). IsOn shape now) (map shape_owned parts)

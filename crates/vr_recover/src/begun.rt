@@ -9,11 +9,12 @@ ghost use Rattle.vr_log.specs.Live.{used_by};
 ghost use Rattle.vr_log.specs.LogNow.{IsOf, made};
 ghost use Rattle.vr_log.specs.Records.{HasFields, bytes_of};
 ghost use Rattle.vr_log.specs.Spells.{Spells};
-ghost use Rattle.vr_recover.specs.Found.{IsLogFound, ShowsOnly};
-ghost use Rattle.vr_recover.specs.OpenNo.{HasOpenCause, IsSilentNo};
+ghost use Rattle.vr_recover.specs.Found.{IsLogFound, IsLogNo, ShowsBoth, ShowsOnly};
+ghost use Rattle.vr_recover.specs.OpenNo.{HasOpenCause, IsOwnNo, IsSilentNo};
 ghost use Rattle.vr_recover.specs.Opening.{IsLogShown, IsRefused};
+ghost use Rattle.vr_recover.specs.Unserved.{IsLogUnserved};
 
-use crate::open_no::OpenNo;
+use crate::open_no::{OpenNo, Unserved};
 use std::alloc::Global;
 use vr_log::{LogContent, LogReadNo, UndoLog, has_room, read_back, undo_log};
 use vr_mount::{HeaderNo, read_header};
@@ -78,6 +79,13 @@ fn read_log<B: Blocks>(
     }
 }
 
+/// What is answered of a log that isn't served: its first block.
+fn log_unserved(cause: Unserved) -> OpenNo
+    ensures { result ≡ OpenNo.Unserved 1 cause }
+{
+    OpenNo::Unserved { block: 1, cause }
+}
+
 /// Whether a log may be gone on with: it has room for the ends of its units, and 2^63 generations
 /// more.
 fn may_go_on(alloc: Global, geometry: &Geometry, content: &LogContent) -> Result<(), OpenNo>
@@ -85,13 +93,18 @@ fn may_go_on(alloc: Global, geometry: &Geometry, content: &LogContent) -> Result
     requires fields { All HasFields content.now.records }
     requires size { length (bytes_of content.now.records) ≤ log_size geometry.now }
     ensures found { OnOk result (IsLogFound geometry.now content.now) }
-    ensures memory { IfErr result (λ no. no ≡ OpenNo.Memory) }
+    ensures unserved { IfErr result (ShowsBoth (λ block rule. ⊥)
+        (IsLogNo geometry.now content.now)) }
+    ensures own { IfErr result IsOwnNo }
 {
-    let room = has_room(alloc, geometry, content)?;
-    if room && content.generation() < 1 << 63 {
-        return Ok(());
+    if content.generation() >= 1 << 63 {
+        return Err(log_unserved(Unserved::LogAtItsEnd));
     }
-    Err(OpenNo::Memory)
+    let room = has_room(alloc, geometry, content)?;
+    if !room {
+        return Err(log_unserved(Unserved::LogWithoutRoom));
+    }
+    Ok(())
 }
 
 /// The log, to go on with.
@@ -103,7 +116,9 @@ fn begin(alloc: Global, geometry: &Geometry, content: LogContent) -> Result<Box<
     ensures content { IfOk result (λ begun. begun.value.content ≡ content) }
     ensures log { IfOk result (λ begun. begun.value.log ≡ made geometry.now content) }
     ensures found { IfOk result (λ begun. IsLogFound geometry.now begun.value.content) }
-    ensures memory { IfErr result (λ no. no ≡ OpenNo.Memory) }
+    ensures unserved { IfErr result (ShowsBoth (λ block rule. ⊥)
+        (IsLogNo geometry.now content)) }
+    ensures own { IfErr result IsOwnNo }
 {
     may_go_on(alloc, geometry, &content)?;
     let log = undo_log(alloc, geometry, &content)?;
@@ -133,7 +148,8 @@ pub(crate) fn begin_log<B: Blocks>(
         ≡ made geometry.now begun.value.content) }
     ensures found { IfOk result (λ begun. IsLogFound geometry.now begun.value.content) }
     ensures damaged { IsTrue B.tells
-        → IfErr result (ShowsOnly (IsLogShown geometry.now (B.seen blocks.old))) }
+        → IfErr result (ShowsBoth (IsLogShown geometry.now (B.seen blocks.old))
+        (IsLogUnserved geometry.now (B.seen blocks.old))) }
     ensures keeps { Keeps B.tells (B.seen blocks.old) (B.seen blocks.new) }
     ensures cause { HasOpenCause (B.faults blocks.old) (B.faults blocks.new) result }
 {

@@ -29,7 +29,7 @@ use crate::begun::Begun;
 use crate::imaging::{are_off, keep_all, may_go_back};
 use crate::laid::Laid;
 use crate::mounted::mount;
-use crate::open_no::OpenNo;
+use crate::open_no::{OpenNo, Unserved};
 use crate::rooming::have_room;
 use std::alloc::Global;
 use vr_catalog::Catalog;
@@ -177,7 +177,10 @@ pub(crate) fn find<B: Blocks>(
     ensures cause { HasOpenCause (B.faults blocks.old) (B.faults blocks.new) result }
 {
     if !are_off(&begun.log, begun.content.records()) {
-        return Err(OpenNo::Memory);
+        return Err(OpenNo::Unserved {
+            block: 1,
+            cause: Unserved::CatalogImage,
+        });
     }
     let catalog = mount(alloc, blocks, geometry, laid)?;
     let undo = images_to_undo(alloc, blocks, begun, laid)?;

@@ -18,11 +18,12 @@ ghost use Rattle.vr_recover.specs.Found.{
   ShowsOnly,
 };
 ghost use Rattle.vr_recover.specs.OpenNo.{HasOpenCause};
+ghost use Rattle.vr_recover.specs.Unserved.{IsPlain};
 
 use crate::open_no::OpenNo;
 use std::alloc::Global;
 use vr_attach::{PartNo2, layout_of};
-use vr_catalog::{CatEntry, Definition, plain_limit};
+use vr_catalog::{CatEntry, Definition};
 use vr_keyed::Keyed;
 use vr_space::Layout;
 use vr_types::{Blocks, DeviceFault, Geometry, Kind, OutOfMemory, PartNo};
@@ -144,6 +145,7 @@ fn add_entry<B: Blocks>(
     requires allowed { IsAllowed geometry.now }
     requires shape { IsOf geometry.now (B.seen blocks.old) }
     requires below { IsBelow (area_count geometry.now) entry.now }
+    requires plain { IsPlain geometry.now entry.now }
     requires row { AreAttached into.old.parts.items into.old.layouts.items
         into.old.numbers.items }
     ensures row { OnOk result (AreAttached into.new.parts.items into.new.layouts.items
@@ -161,9 +163,6 @@ fn add_entry<B: Blocks>(
     let Some((area, definition)) = laid_by(entry) else {
         return Ok(());
     };
-    if definition.maximum > plain_limit(geometry) {
-        return Err(OpenNo::Memory);
-    }
     let layout = layout_of(*geometry, entry.part, area, &definition);
     add_part(alloc, blocks, layout, area, geometry.areas(), into)
 }
@@ -179,6 +178,7 @@ pub(crate) fn add_entries<B: Blocks>(
     requires allowed { IsAllowed geometry.now }
     requires shape { IsOf geometry.now (B.seen blocks.old) }
     requires below { All (IsBelow (area_count geometry.now)) entries.now }
+    requires plain { All (IsPlain geometry.now) entries.now }
     requires row { AreAttached into.old.parts.items into.old.layouts.items
         into.old.numbers.items }
     ensures row { OnOk result (AreAttached into.new.parts.items into.new.layouts.items

@@ -33,6 +33,7 @@ mod open_no;
 mod part;
 mod restoring;
 mod rooming;
+mod served;
 mod start;
 mod syncing;
 mod undoing;
@@ -48,4 +49,4 @@ pub use laws::{
 };
 pub use no::FormatNo;
 pub use open::{Opened, open_volume};
-pub use open_no::OpenNo;
+pub use open_no::{OpenNo, Unserved};

@@ -17,16 +17,20 @@ ghost use Rattle.vr_recover.specs.Found.{
   AreEntriesBy,
   AreEntriesOf,
   IsAreaNo,
+  IsEntryNo,
   IsMounted,
   IsMountShown,
   IsNoneBy,
+  ShowsBoth,
   ShowsOnly,
 };
 ghost use Rattle.vr_recover.specs.OpenNo.{HasOpenCause, IsOwnNo, IsSilentNo};
 ghost use Rattle.vr_recover.specs.Opening.{IsCatalogShown};
+ghost use Rattle.vr_recover.specs.Unserved.{IsCatalogUnserved, IsKeyedCluster, IsPlain};
 
 use crate::laid::{Laid, add_entries, add_part};
-use crate::open_no::OpenNo;
+use crate::open_no::{OpenNo, Unserved};
+use crate::served::{are_keyed_clusters, are_plain};
 use std::alloc::Global;
 use vr_attach::layout_of;
 use vr_catalog::{Catalog, catalog_definition};
@@ -154,13 +158,28 @@ fn read_first<B: Blocks>(
     read_entries(alloc, blocks, geometry, &mut laid.parts[0])
 }
 
-/// Whether each part that a catalog lays is in an area of its own, of those that there are.
+/// What is answered of a catalog that isn't served: its head.
+fn catalog_unserved(geometry: &Geometry, cause: Unserved) -> OpenNo
+    requires { IsAllowed geometry.now }
+    ensures { result ≡ OpenNo.Unserved (head_block geometry.now 0) cause }
+{
+    OpenNo::Unserved {
+        block: catalog_head(geometry),
+        cause,
+    }
+}
+
+/// Whether each part that a catalog lays is in an area of its own, of those that there are, and
+/// whether each is served.
 fn check_areas(geometry: &Geometry, catalog: &Catalog) -> Result<(), OpenNo>
     requires allowed { IsAllowed geometry.now }
     requires parts { IsDistinct nat_eq (0 ∷ parts_in catalog.now) }
     ensures apart { OnOk result (AreApart (shape_in geometry.now catalog.now)) }
     ensures on { OnOk result (AreOn geometry.now catalog.now) }
-    ensures damaged { IfErr result (ShowsOnly (IsAreaNo geometry.now catalog.now)) }
+    ensures clusters { OnOk result (All IsKeyedCluster catalog.now) }
+    ensures plain { OnOk result (All (IsPlain geometry.now) catalog.now) }
+    ensures damaged { IfErr result (ShowsBoth (IsAreaNo geometry.now catalog.now)
+        (IsEntryNo geometry.now catalog.now)) }
     ensures own { IfErr result IsOwnNo }
 {
     if !are_on(geometry, catalog) {
@@ -175,10 +194,17 @@ fn check_areas(geometry: &Geometry, catalog: &Catalog) -> Result<(), OpenNo>
             rule: 4,
         });
     }
+    if !are_keyed_clusters(catalog) {
+        return Err(catalog_unserved(geometry, Unserved::OtherKind));
+    }
+    if !are_plain(geometry, catalog) {
+        return Err(catalog_unserved(geometry, Unserved::LongRecord));
+    }
     Ok(())
 }
 
-/// Attaches the catalog's own part, reads the catalog from it, and attaches each part that it lays.
+/// Attaches the catalog's own part, reads the catalog from it, and attaches each part that it lays,
+/// where all of them are served.
 pub(crate) fn mount<B: Blocks>(
     alloc: Global,
     blocks: &mut B,
@@ -197,7 +223,8 @@ pub(crate) fn mount<B: Blocks>(
     ensures stand { IsTrue B.tells
         → OnOk result (AllStand laid.new.layouts.items (B.seen blocks.old).cur) }
     ensures damaged { IsTrue B.tells
-        → IfErr result (ShowsOnly (IsMountShown geometry.now (B.seen blocks.old))) }
+        → IfErr result (ShowsBoth (IsMountShown geometry.now (B.seen blocks.old))
+        (IsCatalogUnserved geometry.now (B.seen blocks.old))) }
     ensures keeps { Keeps B.tells (B.seen blocks.old) (B.seen blocks.new) }
     ensures cause { HasOpenCause (B.faults blocks.old) (B.faults blocks.new) result }
 {

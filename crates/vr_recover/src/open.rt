@@ -13,7 +13,7 @@ ghost use Rattle.vr_log.specs.Spells.{Spells};
 ghost use Rattle.vr_volume.specs.Volume.{Recovers};
 ghost use Rattle.vr_recover.specs.Found.{IsLogFound};
 ghost use Rattle.vr_recover.specs.OpenNo.{HasOpenCause, IsToldNo};
-ghost use Rattle.vr_recover.specs.Opening.{IsHandedOut, IsOpened, IsRefused, IsVolume};
+ghost use Rattle.vr_recover.specs.Opening.{IsHandedOut, IsNoVolume, IsOpened, IsRefused, IsVolume};
 
 use crate::begun::{Begun, begin_log, read_shape};
 use crate::finding::{Found, find};
@@ -88,6 +88,10 @@ fn open_log<B: Blocks>(
         → IfErr result (IsRefused number (B.seen blocks.old)) }
     ensures kept { IfErr result (λ no. IsToldNo no
         → Keeps B.tells (B.seen blocks.old) (B.seen blocks.new)) }
+    ensures unwritten { IsTrue B.tells → (number : ℕ)
+        → block_at (B.seen blocks.old).cur 0 ≡ header_block geometry.now number
+        → IsNoVolume number (B.seen blocks.old)
+        → IfErr result (λ no. Keeps B.tells (B.seen blocks.old) (B.seen blocks.new)) }
     ensures cause { HasOpenCause (B.faults blocks.old) (B.faults blocks.new) result }
 {
     let found = find(alloc, blocks, geometry, begun, laid)?;
@@ -145,6 +149,8 @@ fn open_numbered<B: Blocks>(
     ensures refused { IsTrue B.tells → IfErr result (IsRefused number (B.seen blocks.old)) }
     ensures kept { IfErr result (λ no. IsToldNo no
         → Keeps B.tells (B.seen blocks.old) (B.seen blocks.new)) }
+    ensures unwritten { IsTrue B.tells → IsNoVolume number (B.seen blocks.old)
+        → IfErr result (λ no. Keeps B.tells (B.seen blocks.old) (B.seen blocks.new)) }
     ensures cause { HasOpenCause (B.faults blocks.old) (B.faults blocks.new) result }
 {
     let mut begun = start(alloc, blocks, count, number)?;
@@ -170,11 +176,9 @@ fn open_numbered<B: Blocks>(
 ///
 /// `Damaged`: the blocks are those of no volume of that number: a block that breaks a rule, and the
 /// rule. `Version`: block 0 states another version, and so they are none. Nothing was put then.
-/// `Read` and `Write` are the device's, each where it counted that fault in this call. `Memory`:
-/// there is no memory; or the log has reached generation 2^63, so that there is no room for the
-/// generations of later runs, or it has no room for the ends of its units; or it has a before-image
-/// of the catalog's own part, or the catalog lays a part whose longest record has no room in an
-/// interval of its own, neither of which is handled yet.
+/// `Unserved`: block 0 is the header of a volume of that number, which has what isn't served, as the
+/// causes say; nothing was put then either. `Read` and `Write` are the device's, each where it counted
+/// that fault in this call. `Memory`: there is no memory.
 pub fn open_volume<B: Blocks>(
     alloc: Global,
     blocks: &mut B,
@@ -201,6 +205,9 @@ pub fn open_volume<B: Blocks>(
     ensures refused { IsTrue B.tells → IfErr result (IsRefused number (B.seen blocks.old)) }
     ensures kept { IfErr result (λ no. IsToldNo no
         → Keeps B.tells (B.seen blocks.old) (B.seen blocks.new)) }
+    // What is no volume of this number is never written, whatever the answer.
+    ensures unwritten { IsTrue B.tells → IsNoVolume number (B.seen blocks.old)
+        → IfErr result (λ no. Keeps B.tells (B.seen blocks.old) (B.seen blocks.new)) }
     ensures cause { HasOpenCause (B.faults blocks.old) (B.faults blocks.new) result }
 {
     open_numbered(alloc, blocks, count, number)

@@ -1,8 +1,24 @@
 //! Why a volume is not opened.
 use vr_types::{DeviceFault, OutOfMemory};
 
+/// What a volume has for which it is not opened, though it may be one. The limits are this project's
+/// own.
+#[derive(Clone, Copy)]
+pub enum Unserved {
+    /// The log has reached generation 2^63, so that there is no room for those of later runs.
+    LogAtItsEnd,
+    /// The log has no room for the ends of its units of recovery.
+    LogWithoutRoom,
+    /// The log has a before-image of the catalog's own part, of a unit that is live.
+    CatalogImage,
+    /// The catalog has an entry that is no key-sequenced cluster.
+    OtherKind,
+    /// The catalog has a cluster whose longest record has no room in an interval of its own.
+    LongRecord,
+}
+
 /// Why a volume is not opened.
-#[derive(Clone, Copy, PartialEq, Eq)]
+#[derive(Clone, Copy)]
 pub enum OpenNo {
     /// The blocks are those of no volume of that number: a block that breaks a rule, and the rule.
     /// 1: the header, block 0. 2: the log. 3 to 11: a part, by the numbers of `vr_attach`. 17: the
@@ -12,12 +28,14 @@ pub enum OpenNo {
     Damaged { block: u32, rule: u32 },
     /// Block 0 begins as a header, of another version.
     Version { found: u32 },
+    /// The header is that of a volume of that number, which has what isn't served: the block that
+    /// has it, the first one of the log or the catalog's head.
+    Unserved { block: u32, cause: Unserved },
     /// A read of the device failed.
     Read,
     /// A write or a sync of the device failed.
     Write,
-    /// There is no memory, no room for further generations of the log or for the ends of the units
-    /// that it has, or a part that is not handled yet.
+    /// There is no memory.
     Memory,
 }
 

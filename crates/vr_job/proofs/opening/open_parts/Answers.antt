@@ -1,3 +1,5 @@
+use Rattle.std.proofs.lemmas.List.Elements.{recursion_from_All}
+use Rattle.vr_answer.specs.Scope.{IsKeyedCluster}
 use Rattle.vr_job.proofs.Readying.{handed-from, handed-ready, from-same, ready-same}
 use Rattle.vr_job.specs.Opened.{opened_now}
 use Rattle.std.proofs.Common.{map}
@@ -13,7 +15,8 @@ returns-clause-ready g c =
     c.in_ok-found.ensures.parts c.in_ok-found.ensures.log f.space o.space now
     c.in_ok-found.ensures.space
     (handed-ready o.geometry o.catalog.value o.parts.items o.log o.space now
-    c.in_ok-opened.ensures.handed c.in_ok-found.ensures.clusters)
+    c.in_ok-opened.ensures.handed
+    (recursion_from_All IsKeyedCluster o.catalog.value c.in_ok-opened.ensures.handed.clusters))
 
 pub returns-clause-from : goal.returns-clause-from
 returns-clause-from g c told =
@@ -29,3 +32,9 @@ returns-clause-from g c told =
           (handed-from o.geometry o.catalog.value o.parts.items o.log o.space now
           c.in_ok-opened.ensures.handed c.args.number is.0 old is.1),
     )
+
+-- what was opened is a volume
+pub returns-in_err-found-clause-unwritten : goal.returns-in_err-found-clause-unwritten
+returns-in_err-found-clause-unwritten g c told none =
+    let is = c.in_ok-opened.ensures.opened told in
+    absurd (none c.in_ok-opened.opened.geometry is.0 is.1.volume)

@@ -12,6 +12,7 @@ returns-in-Err-clause-not_open g c =
       line = c.in-Err.ensures.line;
       shown = c.in-Err.ensures.refused;
       kept = c.in-Err.ensures.kept;
+      unwritten = c.in-Err.ensures.unwritten;
       cause = c.in-Err.ensures.cause;
       any_moment = c.in-Err.ensures.any_moment_back;
     })

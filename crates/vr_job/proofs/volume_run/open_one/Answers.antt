@@ -1,7 +1,7 @@
 use Rattle.std.proofs.Common.{◌⊎◌, arith, inl, refl, subst, sym}
 use Rattle.vr_types.specs.Image.{Image}
 use Rattle.vr_types.specs.Seen.{Left}
-use Rattle.vr_types.proofs.CallerLemmas.{guards-start}
+use Rattle.vr_types.proofs.CallerLemmas.{guards-start, keeps-none}
 use Rattle.vr_volume.specs.Volume.{Recovers}
 use Rattle.vr_recover.specs.declared.open_no.OpenNo.TheVariants.{Memory}
 use Rattle.vr_job.specs.OpenEnds.{IsMemory}
@@ -21,6 +21,8 @@ returns-in-Err-clause-not_open g c =
       line = (Memory, refl);
       shown = λ told. IsMemory refl;
       kept = λ says. absurd (memory-silent c.args.number NoMemory refl says);
+      unwritten = λ told none. keeps-none D.tells (D.seen first)
+          (λ told image now. g.met.D.BlockDevice.images_may first image told now);
       cause = λ same. absurd cc;
       any_moment = λ told geometry contents is. guards-start (D.seen first)
           (λ (image : Image). Left (D.seen first) image

@@ -8,17 +8,28 @@ use Rattle.vr_log.specs.LogNow.{LogNow}
 use Rattle.vr_space.specs.Keyed.{Keyed}
 use Rattle.vr_space.specs.Part.{IsOn, KeyedShape}
 use Rattle.vr_volume.specs.PutBack.{images_of}
-use Rattle.vr_recover.specs.Found.{AllStand, HasRoomOf, IsBackNo, IsFound}
+use Rattle.vr_recover.specs.Found.{AllStand, AreOff, HasRoomOf, IsBackNo, IsFound}
 use Rattle.vr_recover.specs.Found.{IsPlanned, ShowsOnly}
-use Rattle.vr_recover.proofs.Attaching.{of-still}
+use Rattle.vr_recover.proofs.Attaching.{not-if, of-still}
 use Rattle.vr_recover.proofs.Refusals.{all-layouts, all-parts, back-refused, layouts-on, log-long}
-use Rattle.vr_recover.proofs.Refusals.{mount-refused, off-live}
+use Rattle.vr_recover.proofs.Refusals.{image-refused, layouts-stand, mount-refused, off-live}
 use Rattle.vr_recover.proofs.finding.find.Goals as goal
 
 pub returns-then-not-are_off-clause-keeps : goal.returns-then-not-are_off-clause-keeps
 returns-then-not-are_off-clause-keeps g c =
     keeps-none g.B.Blocks.tells (g.B.Blocks.seen c.args.blocks.now)
     (λ told image now. g.met.B.Blocks.images_may c.args.blocks.now image told now)
+
+pub returns-then-not-are_off-clause-refused : goal.returns-then-not-are_off-clause-refused
+returns-then-not-are_off-clause-refused g c told number header spelled =
+    let geometry = c.args.geometry.now in
+    let content = c.args.begun.now.content in
+    image-refused number geometry (g.B.Blocks.seen c.args.blocks.now) c.requires.allowed
+    c.requires.shape header content spelled
+    (λ off. not-if c.are_off.result (AreOff (images_of c.args.begun.now.log.records))
+    c.are_off.ensures c.if-not-are_off.true
+    (off-live c.args.begun.now.log.records content.records
+    (ap (λ (l : LogNow). l.records) c.requires.log) off))
 
 pub returns-in_err-catalog-clause-refused : goal.returns-in_err-catalog-clause-refused
 returns-in_err-catalog-clause-refused g c told number header spelled =
@@ -68,8 +79,10 @@ returns-in_err-undo-clause-refused g c told number header spelled =
     c.from_residual-in_err-undo.ensures.1 in
     rw (p.1, p.2) (back-refused number geometry a c.requires.allowed c.requires.shape header
     content long spelled off c.in_ok-catalog.catalog.value (c.in_ok-catalog.ensures.entries told)
-    mounted.distinct layouts mounted.shapes parts mounted.row.layouts_are
-    c.in_err-undo.field-0.0
+    mounted.distinct
+    (layouts-stand geometry c.in_ok-catalog.catalog.value layouts a.cur
+    mounted.shapes (c.in_ok-catalog.ensures.stand told)) layouts mounted.shapes parts
+    mounted.row.layouts_are c.in_err-undo.field-0.0
     (subst (λ (image : Image). ShowsOnly (IsBackNo (images_of content.records) layouts parts image)
     c.in_err-undo.field-0.0) (c.mount.ensures.keeps.content told)
     (c.in_err-undo.ensures.damaged told)))
@@ -86,6 +99,7 @@ returns-clause-planned g c =
       distinct = mounted.distinct;
       apart = mounted.apart;
       on = mounted.on;
+      clusters = mounted.clusters;
       off = off-live content.records c.args.begun.now.log.records
           (sym (ap (λ (l : LogNow). l.records) c.requires.log))
           (c.if-not-are_off.ensures.0 refl);

@@ -2,7 +2,7 @@ use Rattle.std.proofs.Common.{map}
 use Rattle.vr_types.proofs.CallerLemmas.{keeps-none}
 use Rattle.vr_attach.specs.Laid.{shape_of}
 use Rattle.vr_space.specs.Part.{KeyedShape}
-use Rattle.vr_recover.proofs.Attaching.{area-below, entry-on, none-laid}
+use Rattle.vr_recover.proofs.Attaching.{area-below, entry-on, longest-fits, none-laid}
 use Rattle.vr_recover.proofs.laid.add_entry.Goals as goal
 
 pub returns-in_default-clause-layouts : goal.returns-in_default-clause-layouts
@@ -26,8 +26,7 @@ add_part-requires-clause-on g c =
     c.in-Some.ensures c.requires.below c.layout_of-layout.result
     (g.B.Blocks.seen c.args.blocks.now) c.requires.shape c.layout_of-layout.ensures
 
-pub returns-then-definition-plain_limit-clause-keeps :
-    goal.returns-then-definition-plain_limit-clause-keeps
-returns-then-definition-plain_limit-clause-keeps g c =
-    keeps-none g.B.Blocks.tells (g.B.Blocks.seen c.args.blocks.now)
-    (λ told image now. g.met.B.Blocks.images_may c.args.blocks.now image told now)
+pub layout_of-layout-requires-clause-room : goal.layout_of-layout-requires-clause-room
+layout_of-layout-requires-clause-room g c =
+    longest-fits c.args.geometry.now c.args.entry.now c.in-Some.area c.in-Some.definition
+    c.in-Some.ensures c.requires.plain

@@ -9,7 +9,8 @@ use Rattle.vr_mount.proofs.Laying.{areas_by_on}
 use Rattle.vr_mount.proofs.Parts.{parts_told}
 use Rattle.vr_space.specs.Keyed.{Keyed}
 use Rattle.vr_recover.specs.Found.{AllStand, AreEntriesOf}
-use Rattle.vr_recover.proofs.Attaching.{areas-shown, none-stand, parts-shown}
+use Rattle.vr_recover.specs.Unserved.{IsPlain}
+use Rattle.vr_recover.proofs.Attaching.{areas-shown, first-stands, none-stand, parts-shown}
 use Rattle.vr_recover.proofs.mounted.mount.Goals as goal
 
 pub read_first-requires-clause-stand : goal.read_first-requires-clause-stand
@@ -29,7 +30,11 @@ returns-in_err-check_areas-clause-damaged g c told =
     rw (p.1, p.2) (areas-shown geometry a (g.B.Blocks.seen c.add_part.new.blocks)
     c.in_ok-catalog.catalog.value c.deref.result.now c.in_err-check_areas.field-0.0
     c.deref.ensures (c.add_part.ensures.keeps.content told)
-    (c.in_ok-catalog.ensures.entries told) c.in_ok-catalog.ensures.distinct
+    (c.in_ok-catalog.ensures.entries told) c.in_ok-catalog.ensures.distinct (first-stands
+    geometry c.args.laid.now.layouts.items c.add_part.new.into.layouts.items
+    c.catalog_layout.result a.cur c.requires.layouts c.in_ok-add_part.ensures.layouts
+    c.catalog_layout.ensures (c.in_ok-add_part.ensures.stand told
+    (none-stand c.args.laid.now.layouts.items a.cur c.requires.layouts)))
     c.in_err-check_areas.ensures.damaged)
 
 pub returns-in_err-check_areas-clause-keeps : goal.returns-in_err-check_areas-clause-keeps
@@ -47,6 +52,12 @@ add_entries-requires-clause-below g c =
     (areas_by_on geometry entries (parts_told entries c.in_ok-catalog.ensures.distinct)
     (subst (AreOn geometry) c.deref.ensures c.in_ok-check_areas.ensures.on))
 
+pub add_entries-requires-clause-plain : goal.add_entries-requires-clause-plain
+add_entries-requires-clause-plain g c =
+    let geometry = c.args.geometry.now in
+    subst (All (IsPlain geometry)) (sym (c.as_slice.ensures ∙ c.deref-2.ensures))
+    (subst (All (IsPlain geometry)) c.deref.ensures c.in_ok-check_areas.ensures.plain)
+
 pub returns-in_err-add_entries-clause-damaged : goal.returns-in_err-add_entries-clause-damaged
 returns-in_err-add_entries-clause-damaged g c told =
     let geometry = c.args.geometry.now in
@@ -59,7 +70,12 @@ returns-in_err-add_entries-clause-damaged g c told =
     c.as_slice.result.now c.in_err-add_entries.field-0.0
     (c.as_slice.ensures ∙ c.deref-2.ensures) (c.add_part.ensures.keeps.content told)
     (c.read_first.ensures.keeps.content told) (c.in_ok-catalog.ensures.entries told)
-    c.in_ok-catalog.ensures.distinct (c.in_err-add_entries.ensures.damaged told))
+    c.in_ok-catalog.ensures.distinct (first-stands geometry c.args.laid.now.layouts.items
+    c.add_part.new.into.layouts.items c.catalog_layout.result a.cur c.requires.layouts
+    c.in_ok-add_part.ensures.layouts c.catalog_layout.ensures
+    (c.in_ok-add_part.ensures.stand told
+    (none-stand c.args.laid.now.layouts.items a.cur c.requires.layouts)))
+    (c.in_err-add_entries.ensures.damaged told))
 
 pub returns-in_err-add_entries-clause-keeps : goal.returns-in_err-add_entries-clause-keeps
 returns-in_err-add_entries-clause-keeps g c =

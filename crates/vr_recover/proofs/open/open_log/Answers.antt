@@ -5,6 +5,7 @@ use Rattle.vr_volume.specs.Volume.{Recovers}
 use Rattle.vr_undo.specs.Records.{images_in}
 use Rattle.vr_recover.specs.Found.{IsFound}
 use Rattle.vr_recover.proofs.OpenLemmas.{forced-guards, handed-out, opened-by}
+use Rattle.vr_recover.proofs.Recovery.{found-recovers, recovered}
 use Rattle.vr_recover.proofs.open.open_log.Goals as goal
 
 pub returns-in_err-found-clause-any_moment : goal.returns-in_err-found-clause-any_moment
@@ -77,3 +78,20 @@ returns-clause-any_moment g c told number contents is =
     (c.restore.ensures.any_moment told number contents
     (subst (λ (i : Image). Recovers c.args.geometry.now number i contents)
     (sym (c.find.ensures.keeps.content told)) is))
+
+-- what was found is a volume
+pub returns-in_err-restore-clause-unwritten : goal.returns-in_err-restore-clause-unwritten
+returns-in_err-restore-clause-unwritten g c told number header none =
+    let geometry = c.args.geometry.now in
+    let content = c.args.begun.now.content in
+    let entries = c.in_ok-found.found.catalog.value in
+    let layouts = c.find.new.laid.layouts.items in
+    let cur = (g.B.Blocks.seen c.args.blocks.now).cur in
+    let found = c.in_ok-found.ensures.found told number header (c.requires.spelled told) in
+    let planned = c.in_ok-found.ensures.planned in
+    absurd (none geometry (recovered geometry content entries layouts planned number cur found)
+    (record {
+      allowed = c.requires.allowed;
+      shape = c.requires.shape;
+      recovers = found-recovers geometry content entries layouts planned number cur found;
+    }))

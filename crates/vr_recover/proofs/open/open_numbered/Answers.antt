@@ -7,7 +7,8 @@ use Rattle.vr_attach.specs.Header.{header_block}
 use Rattle.vr_recover.specs.Opening.{IsOpened}
 use Rattle.vr_recover.specs.declared.begun.Begun.{Begun}
 use Rattle.vr_recover.specs.declared.laid.Laid.{Laid}
-use Rattle.vr_recover.proofs.OpenLemmas.{left-guards, left-then, opened-before, refused-before}
+use Rattle.vr_recover.proofs.OpenLemmas.{left-guards, left-then, none-then, opened-before}
+use Rattle.vr_recover.proofs.OpenLemmas.{refused-before}
 use Rattle.vr_recover.proofs.open.open_numbered.Goals as goal
 
 pub returns-in_err-begun-clause-any_moment : goal.returns-in_err-begun-clause-any_moment
@@ -98,3 +99,18 @@ returns-clause-any_moment g c told =
     (c.in_ok-begun.ensures.header told
     ∙ ap (λ (g : Geometry). header_block g c.args.number) (sym same))
     (λ contents is. c.open_log.ensures.any_moment told c.args.number contents is)
+
+pub returns-in_err-found-clause-unwritten : goal.returns-in_err-found-clause-unwritten
+returns-in_err-found-clause-unwritten g c told none =
+    let geometry = c.deref.result.now.geometry in
+    let same : geometry ≡ c.in_ok-begun.begun.value.geometry =
+    ap (λ (b : Begun). b.geometry) c.deref.ensures in
+    let a = g.B.Blocks.seen c.args.blocks.now in
+    let b = g.B.Blocks.seen c.start.new.blocks in
+    let call = c.start.ensures.keeps in
+    keeps-then g.B.Blocks.tells a b (g.B.Blocks.seen c.open_log.new.blocks) call
+    (c.in_err-found.ensures.unwritten told c.args.number
+    (ap (λ (i : Image). block_at i 0) (call.content told)
+    ∙ c.in_ok-begun.ensures.header told
+    ∙ ap (λ (g : Geometry). header_block g c.args.number) (sym same))
+    (none-then a b call.count_same call.size_same (call.content told) c.args.number none))

@@ -1,0 +1,95 @@
+-- What a volume has for which it is not opened, though it may be one. The limits are this project's
+-- own.
+use Rattle.std.specs.Prelude.{◌≡◌, ◌<◌, ◌≤◌, ◌+◌, ◌^◌, ℕ, List, All, IfSome}
+use Rattle.vr_types.specs.Content.{Content}
+use Rattle.vr_types.specs.Geometry.{head_block}
+use Rattle.vr_types.specs.Image.{block_at}
+use Rattle.vr_types.specs.LogSpace.{log_size}
+use Rattle.vr_types.specs.Seen.{Seen}
+use Rattle.vr_types.specs.declared.geometry.Geometry.{Geometry}
+use Rattle.vr_types.specs.declared.unit.Kind.TheVariants.{Keyed}
+use Rattle.vr_space.specs.Part.{StandsFor}
+use Rattle.vr_catalog.specs.Catalog.{cluster_definition, definition_in, entries_in}
+use Rattle.vr_catalog.specs.declared.definition.Definition.{Definition}
+use Rattle.vr_catalog.specs.declared.entry.CatEntry.{CatEntry}
+use Rattle.vr_catalog.specs.declared.entry.EntryKind.TheVariants.{Cluster}
+use Rattle.vr_attach.specs.CatalogRules.{IsCatalog}
+use Rattle.vr_attach.specs.Laid.{catalog_shape}
+use Rattle.vr_log.specs.Content.{Content as LogContent}
+use Rattle.vr_log.specs.Live.{used_by}
+use Rattle.vr_log.specs.Spells.{Spells}
+use Rattle.vr_mount.specs.Header.{IsHeaderOf}
+use Rattle.vr_volume.specs.PutBack.{images_of}
+use Rattle.vr_recover.specs.Images.{AreOff}
+use Rattle.vr_recover.specs.declared.open_no.Unserved.{Unserved}
+use Rattle.vr_recover.specs.declared.open_no.Unserved.TheVariants.{LogAtItsEnd, LogWithoutRoom}
+use Rattle.vr_recover.specs.declared.open_no.Unserved.TheVariants.{CatalogImage, OtherKind, LongRecord}
+
+-- ---- what is served
+
+-- an entry of a key-sequenced cluster
+abbrev pub IsKeyedCluster : CatEntry → Type 0
+IsKeyedCluster entry = (entry.entry_kind ≡ Cluster) × ((definition_in entry).kind ≡ Keyed)
+
+-- the longest record of a cluster has room in an interval of its own
+abbrev pub IsPlain : Geometry → CatEntry → Type 0
+IsPlain geometry entry = IfSome (cluster_definition entry.entry_kind entry)
+    (λ (definition : Definition). definition.maximum + 7 ≤ geometry.size)
+
+-- ---- what isn't
+
+-- of a log by what it says
+abbrev pub IsLogCause : Geometry → LogContent → Unserved → Type 0
+IsLogCause geometry content LogAtItsEnd = 2 ^ 63 ≤ content.generation
+IsLogCause geometry content LogWithoutRoom = log_size geometry < used_by content.records
+IsLogCause geometry content CatalogImage = ⊥
+IsLogCause geometry content OtherKind = ⊥
+IsLogCause geometry content LongRecord = ⊥
+
+-- of a catalog by its entries
+abbrev pub IsEntryCause : Geometry → List CatEntry → Unserved → Type 0
+IsEntryCause geometry entries LogAtItsEnd = ⊥
+IsEntryCause geometry entries LogWithoutRoom = ⊥
+IsEntryCause geometry entries CatalogImage = ⊥
+IsEntryCause geometry entries OtherKind = All IsKeyedCluster entries → ⊥
+IsEntryCause geometry entries LongRecord = All (IsPlain geometry) entries → ⊥
+
+-- The log says so, and is shown at its first block.
+pub record IsLogUnserved (geometry : Geometry) (now : Seen) (block : ℕ) (cause : Unserved) : Type 0
+  where
+    pub content : LogContent
+    pub spelled : Spells geometry now.cur content
+    pub block_is : block ≡ 1
+    pub is : IsLogCause geometry content cause
+
+-- The log has a before-image of the catalog's own part, and is shown at its first block.
+pub record IsImageUnserved (geometry : Geometry) (now : Seen) (block : ℕ) (cause : Unserved) : Type 0
+  where
+    pub content : LogContent
+    pub spelled : Spells geometry now.cur content
+    pub block_is : block ≡ 1
+    pub cause_is : cause ≡ CatalogImage
+    pub is : AreOff (images_of content.records) → ⊥
+
+-- The catalog's blocks stand for a catalog with such entries, and it is shown at its head.
+pub record IsCatalogUnserved (geometry : Geometry) (now : Seen) (block : ℕ) (cause : Unserved)
+    : Type 0 where
+  pub content : Content
+  pub stands : StandsFor (catalog_shape geometry) now.cur content
+  pub rules : IsCatalog geometry content
+  pub block_is : block ≡ head_block geometry 0
+  pub is : IsEntryCause geometry (entries_in content) cause
+
+-- what isn't served of a volume whose header is in order
+pub data IsUnservedOf (geometry : Geometry) (now : Seen) (block : ℕ) (cause : Unserved) : Type 0 where
+  ByLog : IsLogUnserved geometry now block cause → IsUnservedOf geometry now block cause
+  ByImage : IsImageUnserved geometry now block cause → IsUnservedOf geometry now block cause
+  -- none of the catalog's records is put back, so that its blocks have what it recovers to
+  ByCatalog : (log : LogContent) → Spells geometry now.cur log → AreOff (images_of log.records)
+      → IsCatalogUnserved geometry now block cause → IsUnservedOf geometry now block cause
+
+-- Block 0 is the header of a volume of this number, which has what isn't served.
+pub record IsUnserved (number : ℕ) (now : Seen) (block : ℕ) (cause : Unserved) : Type 0 where
+  pub geometry : Geometry
+  pub header : IsHeaderOf now.count now.size number (block_at now.cur 0) geometry
+  pub has : IsUnservedOf geometry now block cause
