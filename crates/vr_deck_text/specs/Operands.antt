@@ -11,10 +11,10 @@ use Rattle.vr_deck_text.specs.declared.row.Row.{Row}
 use Rattle.vr_deck_text.specs.declared.row.Settles.{Settles}
 use Rattle.vr_deck_text.specs.declared.row.Value.{Value}
 use Rattle.vr_deck_text.specs.declared.row.Value.TheVariants as values
-use Rattle.vr_deck_text.specs.declared.tables.TheConstants.{NOTHING}
 use Rattle.vr_deck_text.specs.declared.text.At.{At}
 use Rattle.vr_deck_text.specs.declared.text.At.TheVariants as places
 use Rattle.vr_deck_text.specs.Rows.{operand_named, overlaps, joined, covers}
+use Rattle.vr_deck_text.specs.Tables.{settles_nothing}
 use Rattle.vr_deck_text.specs.Values.{literal_in, number_in}
 use Rattle.vr_deck_text.specs.Words.{keyword, value}
 
@@ -24,7 +24,7 @@ StopsBy outcome (Bad cause) = outcome ≡ Err cause
 StopsBy outcome Memory = Unit {0}
 
 abbrev pub none_given : Given
-none_given = record { settles = NOTHING; at = None; integrity = None; bytes = [] }
+none_given = record { settles = settles_nothing; at = None; integrity = None; bytes = [] }
 
 abbrev pub settled_too : Given → Settles → Given
 settled_too given more = record {
