@@ -1,4 +1,4 @@
--- Names and numbers: the tests of Words answer what the calls for them do.
+-- Names and numbers: the functions that Words has for them answer what the rules of both say.
 use Rattle.std.proofs.Common.{◌≡◌, ◌≢◌, ℕ, suc, ◌<◌, List, [], ◌∷◌, length, true, false, not}
 use Rattle.std.proofs.Common.{◌==◌, nat_lt, get_or, refl, sym, subst, ap, ◌∙◌, Option, Some, None, IfSome}
 use Rattle.std.proofs.Common.{IfNone, arith}
@@ -18,8 +18,8 @@ use Rattle.vr_types.specs.declared.name.NameFault.{NameFault}
 use Rattle.vr_types.specs.declared.name.NameFault.TheVariants.{Empty, TooLong, Qualifier, Memory}
 use Rattle.vr_types.specs.Name.{IsDatasetName, CauseOf, is_right_at}
 use Rattle.vr_text.specs.Number.{IsNumber, number_of}
-use Rattle.vr_amsparse_grammar.specs.Words.{is_plain, is_right_below, is_name, is_numeral, number_in}
-use Rattle.vr_amsparse_grammar.specs.Words.{is_out_of_memory}
+use Rattle.vr_types.specs.Name.{in_capitals}
+use Rattle.vr_text.specs.Words.{is_plain, is_right_below, is_name, name_in, is_numeral, number_in}
 
 -- each byte of a plain text is a character of ASCII, so that the text is UTF-8
 each_plain : (text : List ℕ) → is_plain text ≡ true → (k d : ℕ) → k < length text
@@ -44,13 +44,18 @@ longer : (text : List ℕ) → text ≢ [] → 0 < length text
 longer [] h = absurd (h refl)
 longer (x ∷ xs) h = omega arith
 
-pub name_true : (text : List ℕ) → is_plain text ≡ true → IsDatasetName text → is_name text ≡ true
+name_true : (text : List ℕ) → is_plain text ≡ true → IsDatasetName text → is_name text ≡ true
 name_true text plain h =
     and_from _ _ (and_from _ _ (and_from _ _ plain (not_empty _ (longer text h.some)))
     (le-leb _ _ h.short))
     ((right_decides text (suc (length text))).1 (λ i k. h.right i (omega arith)))
 
-pub name_false : (text : List ℕ) (fault : NameFault) → CauseOf text fault → is_out_of_memory fault ≡ false
+pub name_there : (text name : List ℕ) → is_plain text ≡ true → IsDatasetName text
+    → name ≡ in_capitals text → Some name ≡ name_in text
+name_there text name plain h same =
+    ap Some same ∙ sym (cond-true _ _ _ (name_true text plain h))
+
+name_false : (text : List ℕ) (fault : NameFault) → CauseOf text fault → fault ≢ Memory
     → is_name text ≡ false
 name_false text Empty h other = subst (λ (t : List ℕ). is_name t ≡ false) (sym h) refl
 name_false text (TooLong n) h other = and_left _ _ (and_right _ _ (lt-leb _ _ h.0))
@@ -58,7 +63,11 @@ name_false text (Qualifier at) h other =
     and_right _ _ (false_from_ne_true _ (λ all.
     let within : at < suc (length text) = omega (arith, h.2.within) in
     both_ways _ h.2.bad ((right_decides text (suc (length text))).0 all at within)))
-name_false text Memory h other = absurd (both_ways _ other refl)
+name_false text Memory h other = absurd (other refl)
+
+pub name_absent : (text : List ℕ) (fault : NameFault) → CauseOf text fault → fault ≢ Memory
+    → None ≡ name_in text
+name_absent text fault h other = sym (cond-false _ _ _ (name_false text fault h other))
 
 digits_true : (text : List ℕ) → AllDigits 10 text
     → list_all (λ b. nat_lt (digit_value b) 10) text ≡ true
