@@ -8,6 +8,7 @@ use Rattle.std.specs.Option.{unwrap_or}
 use Rattle.vr_types.specs.declared.unit.Integrity.{Integrity}
 use Rattle.vr_types.specs.declared.unit.Integrity.TheVariants.{Nri}
 use Rattle.vr_text.specs.Lines.{Line}
+use Rattle.vr_text.specs.Words.{is_file_name, name_in}
 use Rattle.vr_deck_text.specs.declared.fault.DeckCause.{DeckCause}
 use Rattle.vr_deck_text.specs.declared.fault.DeckCause.TheVariants as causes
 use Rattle.vr_deck_text.specs.declared.fault.DeckFault.{DeckFault}
@@ -29,7 +30,6 @@ use Rattle.vr_deck_text.specs.declared.text.Seek.TheVariants.{Next, Equal, AtLea
 use Rattle.vr_deck_text.specs.Operands.{operands_in}
 use Rattle.vr_deck_text.specs.Rows.{verb_named, rows_of, needs_of}
 use Rattle.vr_deck_text.specs.Tables.{file_rows, settles_nothing}
-use Rattle.vr_deck_text.specs.Values.{is_file_name, name_in}
 use Rattle.vr_deck_text.specs.Words.{words, without_end}
 
 -- the causes by number, as listings have them

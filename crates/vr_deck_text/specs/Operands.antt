@@ -15,7 +15,7 @@ use Rattle.vr_deck_text.specs.declared.text.At.{At}
 use Rattle.vr_deck_text.specs.declared.text.At.TheVariants as places
 use Rattle.vr_deck_text.specs.Rows.{operand_named, overlaps, joined, covers}
 use Rattle.vr_deck_text.specs.Tables.{settles_nothing}
-use Rattle.vr_deck_text.specs.Values.{literal_in, number_in}
+use Rattle.vr_deck_text.specs.Values.{literal_in, small_number_in}
 use Rattle.vr_deck_text.specs.Words.{keyword, value}
 
 -- why a call stops: by the cause that the definition gives; memory may run out at any time
@@ -72,11 +72,11 @@ with_data given text = given_by (literal_in text) (with_bytes given) causes.BadL
 
 abbrev pub with_rba : Given → List ℕ → Result Given DeckCause
 with_rba given text =
-    given_by (number_in text) (λ n. with_at given (places.Rba n)) causes.BadNumber
+    given_by (small_number_in text) (λ n. with_at given (places.Rba n)) causes.BadNumber
 
 abbrev pub with_rrn : Given → List ℕ → Result Given DeckCause
 with_rrn given text =
-    given_by (number_in text) (λ n. with_at given (places.Rrn n)) causes.BadNumber
+    given_by (small_number_in text) (λ n. with_at given (places.Rrn n)) causes.BadNumber
 
 abbrev pub with_value : Given → Value → List ℕ → Result Given DeckCause
 with_value given values.Key text = with_key given text
