@@ -84,6 +84,14 @@ branch_act kinds.End text top depth = acts.Complete
 branch_act kinds.Word text top depth = word_act text top depth
 branch_act kind text top depth = acts.Bad causes.UnknownCommand
 
+-- a token after END: the end of the command, or ELSE
+abbrev pub group_end_act : TokenKind → List ℕ → Option Open → ℕ → Act
+group_end_act kinds.End text top depth = acts.Go places.Command
+group_end_act kinds.Word text top depth =
+    if bytes_eq text (codes "ELSE") then verb_act verbs.Else top depth else acts.Bad
+    causes.TextAfterEnd
+group_end_act kind text top depth = acts.Bad causes.TextAfterEnd
+
 -- a token after DEFINE
 abbrev pub defined_by : Option Section → Act
 defined_by None = acts.Bad causes.UnknownCommand
@@ -155,6 +163,7 @@ within_act (moves.Bad cause) = acts.Bad cause
 abbrev pub act_at : Place → ℕ → TokenKind → List ℕ → List Given → List (List ℕ) → Option Open → ℕ → Act
 act_at places.Command at kind text given names top depth = command_act kind text top depth
 act_at places.Branch at kind text given names top depth = branch_act kind text top depth
+act_at places.GroupEnd at kind text given names top depth = group_end_act kind text top depth
 act_at places.Object at kind text given names top depth = object_act kind text
 act_at (places.Within point) at kind text given names top depth =
     within_act (next_move point at kind text given names)

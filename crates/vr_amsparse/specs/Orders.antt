@@ -1,7 +1,7 @@
--- The command that given parameters make, with its defaults, and what it requires. The commands and
--- their defaults are those of Access Method Services Commands; that LOG is UNDO is this project's own.
-use Rattle.std.specs.Prelude.{ℕ, Bool, true, ◌&&◌, if◌then◌else◌, List, Option}
-use Rattle.std.specs.Prelude.{Some, None, is_some}
+-- The command that given parameters make, with its defaults, where each required one is given. The
+-- commands and their defaults are those of Access Method Services Commands; that LOG is UNDO is this project's own.
+use Rattle.std.specs.Prelude.{ℕ, min, Bool, true, if◌then◌else◌, List, Option, Some, None, is_some}
+use Rattle.std.specs.Option.{option_map}
 use Rattle.vr_types.specs.declared.unit.Kind.{Kind}
 use Rattle.vr_types.specs.declared.unit.Kind.TheVariants as kinds
 use Rattle.vr_catalog.specs.declared.entry.EntryKind.{EntryKind}
@@ -17,7 +17,6 @@ use Rattle.vr_scan.specs.Token.{Token}
 use Rattle.vr_amsparse_grammar.specs.declared.given.Given.{Given}
 use Rattle.vr_amsparse_grammar.specs.declared.row.Choice.{Choice}
 use Rattle.vr_amsparse_grammar.specs.declared.row.Choice.TheVariants.{First, Second, Third}
-use Rattle.vr_amsparse_grammar.specs.declared.row.Slot.{Slot}
 use Rattle.vr_amsparse_grammar.specs.declared.row.Slot.TheVariants as slots
 use Rattle.vr_amsparse_grammar.specs.declared.section.Section.{Section}
 use Rattle.vr_amsparse_grammar.specs.declared.section.Section.TheVariants as lists
@@ -32,7 +31,7 @@ use Rattle.vr_amsparse.specs.declared.command.Source.{Source}
 use Rattle.vr_amsparse.specs.declared.command.Source.TheVariants as sources
 use Rattle.vr_amsparse.specs.declared.command.PrintForm.{PrintForm}
 use Rattle.vr_amsparse.specs.declared.command.PrintForm.TheVariants as forms
-use Rattle.vr_amsparse.specs.Values.{number_for, name_for, name_if}
+use Rattle.vr_amsparse.specs.Values.{number_for, name_for}
 use Rattle.vr_amsparse.specs.Values.{text_if, text_for, names_for, choice_for, is_first, is_second}
 
 -- INDEXED, NONINDEXED, NUMBERED; INDEXED where none is given
@@ -49,17 +48,18 @@ unit_of (Some First) = units.Cylinders
 unit_of (Some Second) = units.Tracks
 unit_of (Some Third) = units.Records
 
--- FREESPACE(0 0) and SHAREOPTIONS(1 3) where they aren't given
+-- A number is kept in the bits that its field has; the tables of parameters let no greater one through.
+-- FREESPACE is (0 0) and SHAREOPTIONS (1 3) where they aren't given.
 abbrev pub free_space : List Token → List Given → FreeSpace
 free_space tokens given = record {
-  interval = number_for tokens given slots.FreeSpace 0 0;
-  area = number_for tokens given slots.FreeSpace 1 0;
+  interval = min 255 (number_for tokens given slots.FreeSpace 0 0);
+  area = min 255 (number_for tokens given slots.FreeSpace 1 0);
 }
 
 abbrev pub share_options : List Token → List Given → ShareOptions
 share_options tokens given = record {
-  regions = number_for tokens given slots.ShareOptions 0 1;
-  systems = number_for tokens given slots.ShareOptions 1 3;
+  regions = min 255 (number_for tokens given slots.ShareOptions 0 1);
+  systems = min 255 (number_for tokens given slots.ShareOptions 1 3);
 }
 
 -- RECORDSIZE is (4089 4089) where it isn't given, and (4086 32600) of what is spanned and of alternate
@@ -73,21 +73,21 @@ usual_maximum long = if long then 32600 else 4089
 -- KEYS is (64 0) where it isn't given
 abbrev pub data_options : List Token → List Given → Bool → DataOptions
 data_options tokens given long = record {
-  key_length = number_for tokens given slots.Keys 0 64;
-  key_offset = number_for tokens given slots.Keys 1 0;
-  average = number_for tokens given slots.RecordSize 0 (usual_average long);
-  maximum = number_for tokens given slots.RecordSize 1 (usual_maximum long);
+  key_length = min 65535 (number_for tokens given slots.Keys 0 64);
+  key_offset = min 65535 (number_for tokens given slots.Keys 1 0);
+  average = min 4294967295 (number_for tokens given slots.RecordSize 0 (usual_average long));
+  maximum = min 4294967295 (number_for tokens given slots.RecordSize 1 (usual_maximum long));
   free_space = free_space tokens given;
   share_options = share_options tokens given;
   space = unit_of (choice_for given slots.Space);
-  primary = number_for tokens given slots.Space 0 0;
-  secondary = number_for tokens given slots.Space 1 0;
-  interval_size = number_for tokens given slots.IntervalSize 0 0;
-  data_name = name_if tokens given slots.DataName;
-  index_name = name_if tokens given slots.IndexName;
-  storage_class = name_if tokens given slots.StorageClass;
-  data_class = name_if tokens given slots.DataClass;
-  management_class = name_if tokens given slots.ManagementClass;
+  primary = min 4294967295 (number_for tokens given slots.Space 0 0);
+  secondary = min 4294967295 (number_for tokens given slots.Space 1 0);
+  interval_size = min 4294967295 (number_for tokens given slots.IntervalSize 0 0);
+  data_name = name_for tokens given slots.DataName;
+  index_name = name_for tokens given slots.IndexName;
+  storage_class = name_for tokens given slots.StorageClass;
+  data_class = name_for tokens given slots.DataClass;
+  management_class = name_for tokens given slots.ManagementClass;
 }
 
 abbrev pub is_spanned : List Given → Bool
@@ -98,19 +98,36 @@ new_cluster tokens given =
     news.Cluster (kind_of (choice_for given slots.Kind)) (is_spanned given)
     (data_options tokens given (is_spanned given))
 
-abbrev pub new_alternate : List Token → List Given → NewEntry
-new_alternate tokens given =
-    news.Alternate (name_for tokens given slots.Related)
-    (is_first (choice_for given slots.Unique)) (data_options tokens given true)
+abbrev pub new_alternate : List Token → List Given → List ℕ → NewEntry
+new_alternate tokens given related =
+    news.Alternate related (is_first (choice_for given slots.Unique))
+    (data_options tokens given true)
 
-abbrev pub new_path : List Token → List Given → NewEntry
-new_path tokens given = news.Path (name_for tokens given slots.Related)
+-- A command has to have certain names; without one of them there is none. Of all that is defined, the
+-- name.
+abbrev pub defined : Option (List ℕ) → Option NewEntry → Option (List ℕ) → Option Command
+defined (Some name) (Some what) volume =
+    Some (commands.Define (record { order = record { name = name; what = what }; volume = volume }))
+defined name what volume = None
 
-abbrev pub define_command : List Token → List Given → NewEntry → Command
-define_command tokens given what = commands.Define (record {
-  order = record { name = name_for tokens given slots.Name; what = what };
-  volume = text_if tokens given slots.Volumes;
-})
+abbrev pub define_command : List Token → List Given → Option NewEntry → Option Command
+define_command tokens given what =
+    defined (name_for tokens given slots.Name) what (text_if tokens given slots.Volumes)
+
+abbrev pub define_cluster : List Token → List Given → Option Command
+define_cluster tokens given =
+    define_command tokens given (Some (new_cluster tokens given))
+
+-- of an alternate index and of a path also the name in RELATE and in PATHENTRY
+abbrev pub define_alternate : List Token → List Given → Option Command
+define_alternate tokens given =
+    define_command tokens given
+    (option_map (new_alternate tokens given) (name_for tokens given slots.Related))
+
+abbrev pub define_path : List Token → List Given → Option Command
+define_path tokens given =
+    define_command tokens given
+    (option_map (λ related. news.Path related) (name_for tokens given slots.Related))
 
 -- FREESPACE and SHAREOPTIONS of ALTER, where they are given
 abbrev pub altered_space : List Token → List Given → Option Given → Option FreeSpace
@@ -121,32 +138,39 @@ abbrev pub altered_sharing : List Token → List Given → Option Given → Opti
 altered_sharing tokens given None = None
 altered_sharing tokens given (Some one) = Some (share_options tokens given)
 
-abbrev pub alter_command : List Token → List Given → Command
-alter_command tokens given = commands.Alter (record {
-  name = name_for tokens given slots.Entry;
-  new_name = name_if tokens given slots.NewName;
+-- ALTER: the name of the entry
+abbrev pub alter_by : List Token → List Given → List ℕ → Command
+alter_by tokens given name = commands.Alter (record {
+  name = name;
+  new_name = name_for tokens given slots.NewName;
   free_space = altered_space tokens given (given_in given slots.FreeSpace);
   share_options = altered_sharing tokens given (given_in given slots.ShareOptions);
 })
 
--- CLUSTER, AIX, PATH
+abbrev pub alter_command : List Token → List Given → Option Command
+alter_command tokens given =
+    option_map (alter_by tokens given) (name_for tokens given slots.Entry)
+
+-- CLUSTER, ALTERNATEINDEX, PATH
 abbrev pub entry_kind_of : Option Choice → Option EntryKind
 entry_kind_of None = None
 entry_kind_of (Some First) = Some entries.Cluster
 entry_kind_of (Some Second) = Some entries.Alternate
 entry_kind_of (Some Third) = Some entries.Path
 
-abbrev pub delete_command : List Token → List Given → Command
-delete_command tokens given = commands.Delete (record {
-  names = names_for tokens given slots.Entry;
-  kind = entry_kind_of (choice_for given slots.EntryKind);
-})
+-- DELETE: the names of the entries
+abbrev pub delete_command : List Token → List Given → Option Command
+delete_command tokens given =
+    if is_some (given_in given slots.Entry) then Some (commands.Delete (record {
+      names = names_for tokens given slots.Entry;
+      kind = entry_kind_of (choice_for given slots.EntryKind);
+    })) else None
 
 -- INFILE, INDATASET
-abbrev pub source_of : List Token → List Given → Source
+abbrev pub source_of : List Token → List Given → Option Source
 source_of tokens given =
-    if is_first (choice_for given slots.Source) then sources.Data
-    (text_for tokens given slots.Source) else sources.DataSet
+    if is_first (choice_for given slots.Source) then Some (sources.Data
+    (text_for tokens given slots.Source)) else option_map (λ name. sources.DataSet name)
     (name_for tokens given slots.Source)
 
 -- FROMKEY, SKIP
@@ -173,20 +197,31 @@ to_of tokens given =
     to_by (choice_for given slots.To) (text_for tokens given slots.To)
     (number_for tokens given slots.To 0 0)
 
-abbrev pub repro_command : List Token → List Given → Command
-repro_command tokens given = commands.Repro (record {
-  source = source_of tokens given;
-  target = name_for tokens given slots.Target;
-  from = from_of tokens given;
-  to = to_of tokens given;
-  replace = is_first (choice_for given slots.Replace);
-})
+-- REPRO: where it reads, and where it writes
+abbrev pub repro_of : Option Source → Option (List ℕ) → From → To → Bool → Option Command
+repro_of (Some source) (Some target) from to replace = Some (commands.Repro (record {
+  source = source;
+  target = target;
+  from = from;
+  to = to;
+  replace = replace;
+}))
+repro_of source target from to replace = None
 
-abbrev pub build_command : List Token → List Given → Command
-build_command tokens given = commands.BuildIndex (record {
-  base = name_for tokens given slots.Source;
-  alternate = name_for tokens given slots.Target;
-})
+abbrev pub repro_command : List Token → List Given → Option Command
+repro_command tokens given =
+    repro_of (source_of tokens given) (name_for tokens given slots.Target) (from_of tokens given)
+    (to_of tokens given) (is_first (choice_for given slots.Replace))
+
+-- BLDINDEX: the base, and the alternate index
+abbrev pub build_of : Option (List ℕ) → Option (List ℕ) → Option Command
+build_of (Some base) (Some alternate) =
+    Some (commands.BuildIndex (record { base = base; alternate = alternate }))
+build_of base alternate = None
+
+abbrev pub build_command : List Token → List Given → Option Command
+build_command tokens given =
+    build_of (name_for tokens given slots.Source) (name_for tokens given slots.Target)
 
 -- CHARACTER, HEX, DUMP; DUMP where none is given
 abbrev pub form_of : Option Choice → PrintForm
@@ -195,13 +230,18 @@ form_of (Some First) = forms.Character
 form_of (Some Second) = forms.Hex
 form_of (Some Third) = forms.Dump
 
-abbrev pub print_command : List Token → List Given → Command
-print_command tokens given = commands.Print (record {
-  source = name_for tokens given slots.Source;
+-- PRINT: where it reads
+abbrev pub print_by : List Token → List Given → List ℕ → Command
+print_by tokens given source = commands.Print (record {
+  source = source;
   form = form_of (choice_for given slots.Form);
   from = from_of tokens given;
   to = to_of tokens given;
 })
+
+abbrev pub print_command : List Token → List Given → Option Command
+print_command tokens given =
+    option_map (print_by tokens given) (name_for tokens given slots.Source)
 
 -- NAME, ALL; NAME where none is given
 abbrev pub list_command : List Token → List Given → Command
@@ -210,42 +250,27 @@ list_command tokens given = commands.ListCatalog (record {
   all = is_second (choice_for given slots.Detail);
 })
 
-abbrev pub verify_command : List Token → List Given → Command
-verify_command tokens given = commands.Verify (name_for tokens given slots.Name)
+-- VERIFY, EXAMINE: the name of the data set
+abbrev pub verify_command : List Token → List Given → Option Command
+verify_command tokens given =
+    option_map (λ name. commands.Verify name) (name_for tokens given slots.Name)
 
-abbrev pub examine_command : List Token → List Given → Command
-examine_command tokens given = commands.Examine (name_for tokens given slots.Name)
+abbrev pub examine_command : List Token → List Given → Option Command
+examine_command tokens given =
+    option_map (λ name. commands.Examine name) (name_for tokens given slots.Name)
 
--- what a command requires
-abbrev pub has : List Given → Slot → Bool
-has given slot = is_some (given_in given slot)
-
-abbrev pub has_all : Section → List Given → Bool
-has_all lists.ClusterParts given = has given slots.Name
-has_all lists.AlternateParts given = has given slots.Name && has given slots.Related
-has_all lists.PathEnd given = has given slots.Name && has given slots.Related
-has_all lists.Alter given = has given slots.Entry
-has_all lists.Delete given = has given slots.Entry
-has_all lists.Repro given = has given slots.Source && has given slots.Target
-has_all lists.BuildIndex given = has given slots.Source && has given slots.Target
-has_all lists.Print given = has given slots.Source
-has_all lists.Verify given = has given slots.Name
-has_all lists.Examine given = has given slots.Name
-has_all section given = true
-
--- the command that ends with this list; DO, END and SET make none of given parameters
+-- the command that ends with this list, where each required parameter is given; SET makes none of
+-- given parameters
 abbrev pub command_of : Section → List Token → List Given → Option Command
-command_of lists.ClusterParts tokens given =
-    Some (define_command tokens given (new_cluster tokens given))
-command_of lists.AlternateParts tokens given =
-    Some (define_command tokens given (new_alternate tokens given))
-command_of lists.PathEnd tokens given = Some (define_command tokens given (new_path tokens given))
-command_of lists.Alter tokens given = Some (alter_command tokens given)
-command_of lists.Delete tokens given = Some (delete_command tokens given)
-command_of lists.Repro tokens given = Some (repro_command tokens given)
-command_of lists.BuildIndex tokens given = Some (build_command tokens given)
-command_of lists.Print tokens given = Some (print_command tokens given)
+command_of lists.ClusterParts tokens given = define_cluster tokens given
+command_of lists.AlternateParts tokens given = define_alternate tokens given
+command_of lists.PathEnd tokens given = define_path tokens given
+command_of lists.Alter tokens given = alter_command tokens given
+command_of lists.Delete tokens given = delete_command tokens given
+command_of lists.Repro tokens given = repro_command tokens given
+command_of lists.BuildIndex tokens given = build_command tokens given
+command_of lists.Print tokens given = print_command tokens given
 command_of lists.ListCatalog tokens given = Some (list_command tokens given)
-command_of lists.Verify tokens given = Some (verify_command tokens given)
-command_of lists.Examine tokens given = Some (examine_command tokens given)
+command_of lists.Verify tokens given = verify_command tokens given
+command_of lists.Examine tokens given = examine_command tokens given
 command_of section tokens given = None

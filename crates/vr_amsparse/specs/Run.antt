@@ -3,6 +3,7 @@
 use Rattle.std.specs.Prelude.{ℕ, ◌+◌, Bool, true, false, min, List, [], ◌∷◌, ◌++◌, length, Option, Some, None}
 use Rattle.std.specs.Prelude.{codes, bytes_eq, if◌then◌else◌}
 use Rattle.std.specs.Option.{unwrap_or}
+use Rattle.vr_text.specs.Words.{number_in}
 use Rattle.vr_scan.specs.declared.token.TokenKind.{TokenKind}
 use Rattle.vr_scan.specs.declared.token.TokenKind.TheVariants as kinds
 use Rattle.vr_scan.specs.Token.{Token, token_at}
@@ -10,10 +11,8 @@ use Rattle.vr_amsparse_grammar.specs.declared.cause.AmsCause.{AmsCause}
 use Rattle.vr_amsparse_grammar.specs.declared.cause.AmsCause.TheVariants as causes
 use Rattle.vr_amsparse_grammar.specs.declared.given.Given.{Given}
 use Rattle.vr_amsparse_grammar.specs.declared.point.Point.{Point}
-use Rattle.vr_amsparse_grammar.specs.declared.point.Point.TheVariants as points
 use Rattle.vr_amsparse_grammar.specs.declared.section.Section.{Section}
 use Rattle.vr_amsparse_grammar.specs.declared.section.Section.TheVariants as lists
-use Rattle.vr_amsparse_grammar.specs.Words.{number_in}
 use Rattle.vr_amsparse.specs.declared.act.Act.{Act}
 use Rattle.vr_amsparse.specs.declared.act.Act.TheVariants as acts
 use Rattle.vr_amsparse.specs.declared.act.Place.{Place}
@@ -35,7 +34,7 @@ use Rattle.vr_amsparse.specs.declared.opens.Stage.TheVariants.{Single, Group}
 use Rattle.vr_amsparse.specs.declared.state.State.{State}
 use Rattle.vr_amsparse.specs.Acts.{act_at}
 use Rattle.vr_amsparse.specs.Opens.{top_of, completed, settled, last_group}
-use Rattle.vr_amsparse.specs.Orders.{has_all, command_of}
+use Rattle.vr_amsparse.specs.Orders.{command_of}
 use Rattle.vr_amsparse.specs.Values.{text_at}
 use Rattle.vr_amsparse.specs.Verbs.{variable_named, comparison_named}
 
@@ -90,22 +89,23 @@ abbrev pub ended_command : Section → List Token → State → Option Command
 ended_command lists.SetEnd tokens s = Some (commands.Set (setting_at tokens s.start))
 ended_command section tokens s = command_of section tokens s.given
 
-abbrev pub with_command : List Token → State → Option Command → List Node
-with_command tokens s None = s.nodes
-with_command tokens s (Some command) = s.nodes ++ node_of tokens s command ∷ []
+abbrev pub with_node : List Token → State → Command → State
+with_node tokens s command = record s { nodes = s.nodes ++ node_of tokens s command ∷ [] }
 
-abbrev pub with_nodes : State → List Node → State
-with_nodes s nodes = record s { nodes = nodes }
-
--- the end of a command: its node is complete, and perhaps IFs
-abbrev pub finished : List Token → State → Section → State
-finished tokens s section = record {
+-- the end of a command: it is complete, and perhaps IFs are
+abbrev pub with_command : List Token → State → Command → State
+with_command tokens s command = record {
   place = places.Command;
   start = s.start;
   given = s.given;
-  nodes = with_command tokens s (ended_command section tokens s);
+  nodes = s.nodes ++ node_of tokens s command ∷ [];
   opens = completed s.opens;
 }
+
+-- where not all is given that the command has to have, its first word is at fault
+abbrev pub finished : List Token → State → Option Command → Stepped
+finished tokens s None = Failed causes.ParameterMissing s.start
+finished tokens s (Some command) = Went (with_command tokens s command)
 
 -- the innermost IF in another stage
 abbrev pub restaged : Stage → List Open → List Open
@@ -118,15 +118,14 @@ abbrev pub in_else : List Open → List Open
 in_else [] = []
 in_else (one ∷ opens) = record { node = one.node; branch = Else; stage = Single } ∷ opens
 
--- DO and END are commands of their own text, which goes on to its end
-abbrev pub grouped : State → Stage → State
-grouped s stage = record {
-  place = places.Within (points.Listed lists.GroupEnd);
-  start = s.start;
-  given = [];
-  nodes = s.nodes;
-  opens = restaged stage s.opens;
-}
+-- DO: the first command of the group may follow at once
+abbrev pub grouped : State → ℕ → State
+grouped s at = record s { place = places.Command; opens = restaged (Group at) s.opens }
+
+-- END: the group is complete, and perhaps IFs are
+abbrev pub group_ended : State → State
+group_ended s =
+    record s { place = places.GroupEnd; opens = completed (restaged Single s.opens) }
 
 -- the condition of IF is complete
 abbrev pub branched : List Token → State → State
@@ -157,11 +156,10 @@ applied tokens s at (acts.Begin place) = Went (begun s at place)
 applied tokens s at (acts.Give given point) = Went (granted s given point)
 applied tokens s at acts.Else =
     Went (record s { place = places.Branch; opens = in_else s.opens })
-applied tokens s at acts.Do = Went (grouped s (Group at))
-applied tokens s at acts.EndGroup = Went (grouped s Single)
+applied tokens s at acts.Do = Went (grouped s at)
+applied tokens s at acts.EndGroup = Went (group_ended s)
 applied tokens s at (acts.Finish section) =
-    if has_all section s.given then Went (finished tokens s section) else Failed
-    causes.ParameterMissing s.start
+    finished tokens s (ended_command section tokens s)
 applied tokens s at acts.Condition = Went (branched tokens s)
 applied tokens s at acts.Missing = Failed causes.ParameterMissing s.start
 applied tokens s at (acts.Bad cause) = Failed cause at

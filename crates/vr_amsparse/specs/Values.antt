@@ -2,14 +2,13 @@
 use Rattle.std.specs.Prelude.{ℕ, zero, suc, ◌+◌, Bool, true, false, nat_lt, List, [], ◌∷◌, ◌++◌, Option, Some}
 use Rattle.std.specs.Prelude.{None, if◌then◌else◌}
 use Rattle.std.specs.Option.{option_map, unwrap_or}
-use Rattle.vr_types.specs.Name.{in_capitals}
+use Rattle.vr_text.specs.Words.{name_in, number_in}
 use Rattle.vr_scan.specs.Token.{Token, token_at}
 use Rattle.vr_amsparse_grammar.specs.declared.given.Given.{Given}
 use Rattle.vr_amsparse_grammar.specs.declared.row.Choice.{Choice}
 use Rattle.vr_amsparse_grammar.specs.declared.row.Choice.TheVariants.{First, Second, Third}
 use Rattle.vr_amsparse_grammar.specs.declared.row.Slot.{Slot}
 use Rattle.vr_amsparse_grammar.specs.Moves.{given_in}
-use Rattle.vr_amsparse_grammar.specs.Words.{number_in}
 
 -- the text of a token
 abbrev pub text_at : List Token → ℕ → List ℕ
@@ -29,19 +28,13 @@ number_value tokens (Some given) place default =
 abbrev pub number_for : List Token → List Given → Slot → ℕ → ℕ → ℕ
 number_for tokens given slot place default = number_value tokens (given_in given slot) place default
 
--- a name in capitals, or the empty one where none was given, which is so only of names that don't
--- have to be
-abbrev pub name_value : List Token → Option Given → List ℕ
-name_value tokens None = []
-name_value tokens (Some given) = in_capitals (value_text tokens given 0)
+-- the name of a parameter, in capitals, if it was given
+abbrev pub name_value : List Token → Option Given → Option (List ℕ)
+name_value tokens None = None
+name_value tokens (Some given) = name_in (value_text tokens given 0)
 
-abbrev pub name_for : List Token → List Given → Slot → List ℕ
+abbrev pub name_for : List Token → List Given → Slot → Option (List ℕ)
 name_for tokens given slot = name_value tokens (given_in given slot)
-
--- a name, if it was given
-abbrev pub name_if : List Token → List Given → Slot → Option (List ℕ)
-name_if tokens given slot =
-    option_map (λ one. in_capitals (value_text tokens one 0)) (given_in given slot)
 
 -- a text, if it was given
 abbrev pub text_if : List Token → List Given → Slot → Option (List ℕ)
@@ -55,11 +48,16 @@ text_value tokens (Some given) = value_text tokens given 0
 abbrev pub text_for : List Token → List Given → Slot → List ℕ
 text_for tokens given slot = text_value tokens (given_in given slot)
 
+-- a list of one name or none
+abbrev pub listed : Option (List ℕ) → List (List ℕ)
+listed None = []
+listed (Some name) = name ∷ []
+
 -- the first `count` names of a parameter
 abbrev pub names_below : List Token → Given → ℕ → List (List ℕ)
 names_below tokens given zero = []
 names_below tokens given (suc n) =
-    names_below tokens given n ++ in_capitals (value_text tokens given n) ∷ []
+    names_below tokens given n ++ listed (name_in (value_text tokens given n))
 
 abbrev pub names_value : List Token → Option Given → List (List ℕ)
 names_value tokens None = []

@@ -3,7 +3,7 @@ ghost use Rattle.std.specs.Prelude.{◌≡◌, IfOk};
 ghost use Rattle.vr_amsparse.specs.Acts.{verb_act, word_act, command_act, branch_act, object_act};
 ghost use Rattle.vr_amsparse.specs.Acts.{variable_act, comparison_act, number_act, then_act, within_act};
 ghost use Rattle.vr_amsparse.specs.Acts.{act_at, is_done_top, is_single_top, is_group_top, after_number};
-ghost use Rattle.vr_amsparse.specs.Acts.{is_comparison, range_of};
+ghost use Rattle.vr_amsparse.specs.Acts.{is_comparison, range_of, group_end_act};
 
 use crate::opens::{Open, Stage};
 use crate::verb::{Verb, comparison_named, object_named, variable_named, verb_named};
@@ -31,6 +31,8 @@ pub enum Place {
     Command,
     /// What stands after THEN or ELSE.
     Branch,
+    /// What stands after END: the end of its command, or ELSE.
+    GroupEnd,
     /// What DEFINE defines.
     Object,
     /// A token of a command with lists of parameters.
@@ -189,6 +191,23 @@ fn branch_act(kind: TokenKind, text: &[u8], around: Around) -> Act
     }
 }
 
+/// A token after END.
+fn group_end_act(kind: TokenKind, text: &[u8], around: Around) -> Act
+    ensures { result ≡ group_end_act kind text.now around.top around.depth }
+{
+    match kind {
+        TokenKind::End => Act::Go(Place::Command),
+        TokenKind::Word => {
+            if text == b"ELSE".as_slice() {
+                verb_act(Verb::Else, around)
+            } else {
+                Act::Bad(AmsCause::TextAfterEnd)
+            }
+        }
+        _ => Act::Bad(AmsCause::TextAfterEnd),
+    }
+}
+
 /// A token after DEFINE.
 fn object_act(kind: TokenKind, text: &[u8]) -> Act
     ensures { result ≡ object_act kind text.now }
@@ -328,6 +347,7 @@ pub(crate) fn act_at(
     match place {
         Place::Command => Ok(command_act(seen.kind, seen.text, around)),
         Place::Branch => Ok(branch_act(seen.kind, seen.text, around)),
+        Place::GroupEnd => Ok(group_end_act(seen.kind, seen.text, around)),
         Place::Object => Ok(object_act(seen.kind, seen.text)),
         Place::Within(point) => Ok(within_act(move_at(alloc, point, seen, given, names)?)),
         Place::Variable(modal) => Ok(variable_act(modal, seen.kind, seen.text)),

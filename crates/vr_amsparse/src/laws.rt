@@ -4,6 +4,8 @@ ghost use Rattle.vr_scan.specs.Token.{Token};
 ghost use Rattle.vr_amsparse.specs.declared.command.Node.{Node};
 ghost use Rattle.vr_amsparse.specs.declared.fault.CommandFault.{CommandFault};
 ghost use Rattle.vr_amsparse.specs.Commands.{IsCommands, IsFirstFault};
+ghost use Rattle.vr_amsparse.specs.Verbs.{verb_rows, object_rows, comparison_rows};
+ghost use Rattle.vr_amsparse.specs.declared.verb.TheConstants.{VERBS, OBJECTS, COMPARISONS};
 
 /// A list of tokens is one list of commands at most, and has one first fault at most.
 pub fn one_value()
@@ -21,4 +23,11 @@ pub fn value_or_fault()
     ensures either { (tokens : List Token) (names : List (List ℕ))
         → ((commands : List Node) × IsCommands tokens names commands)
         ⊎ ((fault : CommandFault) × IsFirstFault tokens names fault) }
+{}
+
+/// Each table of words has the rows that the definition spells out.
+pub fn rows_are_as_said()
+    ensures verbs { VERBS ≡ verb_rows }
+    ensures objects { OBJECTS ≡ object_rows }
+    ensures comparisons { COMPARISONS ≡ comparison_rows }
 {}

@@ -22,6 +22,6 @@ pub use command::{
     To, Within,
 };
 pub use fault::{AmsFault, CommandFault};
-pub use laws::{one_value, value_or_fault};
+pub use laws::{one_value, rows_are_as_said, value_or_fault};
 pub use parsing::parse;
 pub use vr_amsparse_grammar::{AmsCause, DataNames};

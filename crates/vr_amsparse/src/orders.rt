@@ -1,9 +1,9 @@
 //! The command that given parameters make.
 ghost use Rattle.std.specs.Prelude.{◌≡◌, IfOk};
 ghost use Rattle.vr_amsparse.specs.Orders.{entry_kind_of, delete_command, source_of, from_of, to_of};
-ghost use Rattle.vr_amsparse.specs.Orders.{repro_command, build_command, form_of, print_command};
-ghost use Rattle.vr_amsparse.specs.Orders.{list_command, verify_command, examine_command, has};
-ghost use Rattle.vr_amsparse.specs.Orders.{has_all, command_of};
+ghost use Rattle.vr_amsparse.specs.Orders.{repro_of, repro_command, build_of, build_command, form_of};
+ghost use Rattle.vr_amsparse.specs.Orders.{print_by, print_command, list_command, verify_command};
+ghost use Rattle.vr_amsparse.specs.Orders.{examine_command, command_of};
 
 use crate::command::{
     BuildCommand, Command, DeleteCommand, From, ListCommand, PrintCommand, PrintForm, ReproCommand,
@@ -15,7 +15,7 @@ use std::alloc::Global;
 use vr_amsparse_grammar::{Choice, Given, Section, Slot, given_for};
 use vr_catalog::EntryKind;
 use vr_scan::Tokens;
-use vr_types::OutOfMemory;
+use vr_types::{Name, OutOfMemory};
 
 /// Of which kind DELETE's entries have to be.
 fn entry_kind_of(choice: Option<Choice>) -> Option<EntryKind>
@@ -30,22 +30,31 @@ fn entry_kind_of(choice: Option<Choice>) -> Option<EntryKind>
 }
 
 /// DELETE.
-fn delete_command(alloc: Global, tokens: &Tokens, given: &[Given]) -> Result<Command, OutOfMemory>
+fn delete_command(
+    alloc: Global,
+    tokens: &Tokens,
+    given: &[Given],
+) -> Result<Option<Command>, OutOfMemory>
     ensures { IfOk result (λ command. command ≡ delete_command tokens.now given.now) }
 {
+    if given_for(given, Slot::Entry).is_none() {
+        return Ok(None);
+    }
     let kind = entry_kind_of(choice_for(given, Slot::EntryKind));
     let names = names_for(alloc, tokens, given, Slot::Entry)?;
-    Ok(Command::Delete(DeleteCommand { names, kind }))
+    Ok(Some(Command::Delete(DeleteCommand { names, kind })))
 }
 
 /// INFILE or INDATASET.
-fn source_of(alloc: Global, tokens: &Tokens, given: &[Given]) -> Result<Source, OutOfMemory>
+fn source_of(alloc: Global, tokens: &Tokens, given: &[Given]) -> Result<Option<Source>, OutOfMemory>
     ensures { IfOk result (λ source. source ≡ source_of tokens.now given.now) }
 {
     if is_first(choice_for(given, Slot::Source)) {
-        Ok(Source::Data(text_for(alloc, tokens, given, Slot::Source)?))
-    } else {
-        Ok(Source::DataSet(name_for(alloc, tokens, given, Slot::Source)?))
+        return Ok(Some(Source::Data(text_for(alloc, tokens, given, Slot::Source)?)));
+    }
+    match name_for(alloc, tokens, given, Slot::Source)? {
+        None => Ok(None),
+        Some(name) => Ok(Some(Source::DataSet(name))),
     }
 }
 
@@ -73,8 +82,37 @@ fn to_of(alloc: Global, tokens: &Tokens, given: &[Given]) -> Result<To, OutOfMem
     }
 }
 
+/// REPRO of a source into a target.
+fn repro_of(
+    source: Option<Source>,
+    target: Option<Name>,
+    from: From,
+    to: To,
+    replace: bool,
+) -> Option<Command>
+    ensures { result ≡ repro_of source target from to replace }
+{
+    match source {
+        None => None,
+        Some(source) => match target {
+            None => None,
+            Some(target) => Some(Command::Repro(ReproCommand {
+                source,
+                target,
+                from,
+                to,
+                replace,
+            })),
+        },
+    }
+}
+
 /// REPRO.
-fn repro_command(alloc: Global, tokens: &Tokens, given: &[Given]) -> Result<Command, OutOfMemory>
+fn repro_command(
+    alloc: Global,
+    tokens: &Tokens,
+    given: &[Given],
+) -> Result<Option<Command>, OutOfMemory>
     ensures { IfOk result (λ command. command ≡ repro_command tokens.now given.now) }
 {
     let replace = is_first(choice_for(given, Slot::Replace));
@@ -82,22 +120,33 @@ fn repro_command(alloc: Global, tokens: &Tokens, given: &[Given]) -> Result<Comm
     let target = name_for(alloc, tokens, given, Slot::Target)?;
     let from = from_of(alloc, tokens, given)?;
     let to = to_of(alloc, tokens, given)?;
-    Ok(Command::Repro(ReproCommand {
-        source,
-        target,
-        from,
-        to,
-        replace,
-    }))
+    Ok(repro_of(source, target, from, to, replace))
+}
+
+/// BLDINDEX of an alternate index over a base.
+fn build_of(base: Option<Name>, alternate: Option<Name>) -> Option<Command>
+    ensures { result ≡ build_of base alternate }
+{
+    match base {
+        None => None,
+        Some(base) => match alternate {
+            None => None,
+            Some(alternate) => Some(Command::BuildIndex(BuildCommand { base, alternate })),
+        },
+    }
 }
 
 /// BLDINDEX.
-fn build_command(alloc: Global, tokens: &Tokens, given: &[Given]) -> Result<Command, OutOfMemory>
+fn build_command(
+    alloc: Global,
+    tokens: &Tokens,
+    given: &[Given],
+) -> Result<Option<Command>, OutOfMemory>
     ensures { IfOk result (λ command. command ≡ build_command tokens.now given.now) }
 {
     let base = name_for(alloc, tokens, given, Slot::Source)?;
     let alternate = name_for(alloc, tokens, given, Slot::Target)?;
-    Ok(Command::BuildIndex(BuildCommand { base, alternate }))
+    Ok(build_of(base, alternate))
 }
 
 /// How PRINT shows a record.
@@ -112,12 +161,16 @@ fn form_of(choice: Option<Choice>) -> PrintForm
     }
 }
 
-/// PRINT.
-fn print_command(alloc: Global, tokens: &Tokens, given: &[Given]) -> Result<Command, OutOfMemory>
-    ensures { IfOk result (λ command. command ≡ print_command tokens.now given.now) }
+/// PRINT of a data set.
+fn print_by(
+    alloc: Global,
+    tokens: &Tokens,
+    given: &[Given],
+    source: Name,
+) -> Result<Command, OutOfMemory>
+    ensures { IfOk result (λ command. command ≡ print_by tokens.now given.now source) }
 {
     let form = form_of(choice_for(given, Slot::Form));
-    let source = name_for(alloc, tokens, given, Slot::Source)?;
     let from = from_of(alloc, tokens, given)?;
     let to = to_of(alloc, tokens, given)?;
     Ok(Command::Print(PrintCommand {
@@ -126,6 +179,20 @@ fn print_command(alloc: Global, tokens: &Tokens, given: &[Given]) -> Result<Comm
         from,
         to,
     }))
+}
+
+/// PRINT.
+fn print_command(
+    alloc: Global,
+    tokens: &Tokens,
+    given: &[Given],
+) -> Result<Option<Command>, OutOfMemory>
+    ensures { IfOk result (λ command. command ≡ print_command tokens.now given.now) }
+{
+    match name_for(alloc, tokens, given, Slot::Source)? {
+        None => Ok(None),
+        Some(source) => Ok(Some(print_by(alloc, tokens, given, source)?)),
+    }
 }
 
 /// LISTCAT.
@@ -138,45 +205,34 @@ fn list_command(alloc: Global, tokens: &Tokens, given: &[Given]) -> Result<Comma
 }
 
 /// VERIFY.
-fn verify_command(alloc: Global, tokens: &Tokens, given: &[Given]) -> Result<Command, OutOfMemory>
+fn verify_command(
+    alloc: Global,
+    tokens: &Tokens,
+    given: &[Given],
+) -> Result<Option<Command>, OutOfMemory>
     ensures { IfOk result (λ command. command ≡ verify_command tokens.now given.now) }
 {
-    Ok(Command::Verify(name_for(alloc, tokens, given, Slot::Name)?))
-}
-
-/// EXAMINE.
-fn examine_command(alloc: Global, tokens: &Tokens, given: &[Given]) -> Result<Command, OutOfMemory>
-    ensures { IfOk result (λ command. command ≡ examine_command tokens.now given.now) }
-{
-    Ok(Command::Examine(name_for(alloc, tokens, given, Slot::Name)?))
-}
-
-/// Whether a parameter was given.
-fn has(given: &[Given], slot: Slot) -> bool
-    ensures { result ≡ has given.now slot }
-{
-    given_for(given, slot).is_some()
-}
-
-/// Whether the command that ends with this list has each parameter that it requires.
-pub(crate) fn has_all(section: Section, given: &[Given]) -> bool
-    ensures { result ≡ has_all section given.now }
-{
-    match section {
-        Section::ClusterParts | Section::Verify | Section::Examine => has(given, Slot::Name),
-        Section::AlternateParts | Section::PathEnd => {
-            has(given, Slot::Name) && has(given, Slot::Related)
-        }
-        Section::Alter | Section::Delete => has(given, Slot::Entry),
-        Section::Repro | Section::BuildIndex => {
-            has(given, Slot::Source) && has(given, Slot::Target)
-        }
-        Section::Print => has(given, Slot::Source),
-        _ => true,
+    match name_for(alloc, tokens, given, Slot::Name)? {
+        None => Ok(None),
+        Some(name) => Ok(Some(Command::Verify(name))),
     }
 }
 
-/// The command that ends with this list, if there is one.
+/// EXAMINE.
+fn examine_command(
+    alloc: Global,
+    tokens: &Tokens,
+    given: &[Given],
+) -> Result<Option<Command>, OutOfMemory>
+    ensures { IfOk result (λ command. command ≡ examine_command tokens.now given.now) }
+{
+    match name_for(alloc, tokens, given, Slot::Name)? {
+        None => Ok(None),
+        Some(name) => Ok(Some(Command::Examine(name))),
+    }
+}
+
+/// The command that ends with this list, if there is one, and all is given that it has to have.
 pub(crate) fn command_of(
     alloc: Global,
     section: Section,
@@ -185,7 +241,7 @@ pub(crate) fn command_of(
 ) -> Result<Option<Command>, OutOfMemory>
     ensures { IfOk result (λ command. command ≡ command_of section tokens.now given.now) }
 {
-    let command = match section {
+    match section {
         Section::ClusterParts => define_cluster(alloc, tokens, given),
         Section::AlternateParts => define_alternate(alloc, tokens, given),
         Section::PathEnd => define_path(alloc, tokens, given),
@@ -194,10 +250,9 @@ pub(crate) fn command_of(
         Section::Repro => repro_command(alloc, tokens, given),
         Section::BuildIndex => build_command(alloc, tokens, given),
         Section::Print => print_command(alloc, tokens, given),
-        Section::ListCatalog => list_command(alloc, tokens, given),
+        Section::ListCatalog => Ok(Some(list_command(alloc, tokens, given)?)),
         Section::Verify => verify_command(alloc, tokens, given),
         Section::Examine => examine_command(alloc, tokens, given),
-        _ => return Ok(None),
-    };
-    Ok(Some(command?))
+        _ => Ok(None),
+    }
 }

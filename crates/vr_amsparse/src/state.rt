@@ -1,21 +1,23 @@
 //! How far a command text has been read, and what a token does to it.
-ghost use Rattle.std.specs.Prelude.{◌≡◌, Some, IfOk, OnOk, IfErr, min};
+ghost use Rattle.std.specs.Prelude.{◌≡◌, ◌+◌, IfOk, OnOk, IfErr, min};
 ghost use Rattle.vr_scan.specs.Token.{token_at};
 ghost use Rattle.vr_amsparse.specs.Run.{first_state, variable_at, number_at, comparison_at};
-ghost use Rattle.vr_amsparse.specs.Run.{condition_at, setting_at, within_of, with_nodes, ended_command};
+ghost use Rattle.vr_amsparse.specs.Run.{condition_at, setting_at, within_of, with_node, ended_command};
 ghost use Rattle.vr_amsparse.specs.Run.{with_command, finished, restaged, in_else, grouped, branched};
-ghost use Rattle.vr_amsparse.specs.Run.{begun, granted, applied, is_other, ready, act_for, step, Went};
+ghost use Rattle.vr_amsparse.specs.Run.{group_ended, begun, granted, applied, is_other, ready, act_for};
+ghost use Rattle.vr_amsparse.specs.Run.{step, Went};
 ghost use Rattle.vr_amsparse.specs.Stops.{Stops};
 
 use crate::act::{Act, Around, Place, act_at};
 use crate::command::{Branch, CodeVariable, Command, Comparison, Condition, Node, Setting, Within};
 use crate::opens::{Open, Opens, Stage, complete, settle};
-use crate::orders::{command_of, has_all};
-use crate::values::text_at;
+use crate::orders::command_of;
+use crate::values::text_after;
 use crate::verb::{comparison_named, variable_named};
 use std::alloc::Global;
-use vr_amsparse_grammar::{AmsCause, DataNames, Given, Point, Section, Seen, number_in};
+use vr_amsparse_grammar::{AmsCause, DataNames, Given, Point, Section, Seen};
 use vr_scan::{TokenKind, Tokens};
+use vr_text::number_in;
 use vr_types::{Items, OutOfMemory};
 
 /// How far a text has been read.
@@ -64,58 +66,46 @@ pub(crate) fn first_state(alloc: Global) -> State
     }
 }
 
-/// The code that a token names.
-fn variable_at(tokens: &Tokens, at: usize) -> CodeVariable
-    ensures { result ≡ variable_at tokens.now at }
+/// The code that the token names that stands so many tokens after the first.
+fn variable_after(tokens: &Tokens, start: usize, ahead: usize) -> CodeVariable
+    ensures { result ≡ variable_at tokens.now (start + ahead) }
 {
-    variable_named(text_at(tokens, at)).unwrap_or(CodeVariable::LastCode)
+    variable_named(text_after(tokens, start, ahead)).unwrap_or(CodeVariable::LastCode)
 }
 
-/// The number that a token writes.
-fn number_at(tokens: &Tokens, at: usize) -> u64
-    ensures { result ≡ number_at tokens.now at }
+/// The number that such a token writes.
+fn number_after(tokens: &Tokens, start: usize, ahead: usize) -> u64
+    ensures { result ≡ number_at tokens.now (start + ahead) }
 {
-    number_in(text_at(tokens, at)).unwrap_or(0)
+    number_in(text_after(tokens, start, ahead)).unwrap_or(0)
 }
 
-/// The comparison that a token says.
-fn comparison_at(tokens: &Tokens, at: usize) -> Comparison
-    ensures { result ≡ comparison_at tokens.now at }
+/// The comparison that such a token says.
+fn comparison_after(tokens: &Tokens, start: usize, ahead: usize) -> Comparison
+    ensures { result ≡ comparison_at tokens.now (start + ahead) }
 {
-    comparison_named(text_at(tokens, at)).unwrap_or(Comparison::Equal)
+    comparison_named(text_after(tokens, start, ahead)).unwrap_or(Comparison::Equal)
 }
 
 /// The condition of an IF.
-fn condition_at(tokens: &Tokens, start: usize) -> Result<Condition, OutOfMemory>
-    ensures { IfOk result (λ condition. condition ≡ condition_at tokens.now start) }
+fn condition_at(tokens: &Tokens, start: usize) -> Condition
+    ensures { result ≡ condition_at tokens.now start }
 {
-    if tokens.len() <= start {
-        return Err(OutOfMemory);
+    Condition {
+        variable: variable_after(tokens, start, 1),
+        comparison: comparison_after(tokens, start, 2),
+        number: number_after(tokens, start, 3),
     }
-    if tokens.len() - start < 4 {
-        return Err(OutOfMemory);
-    }
-    Ok(Condition {
-        variable: variable_at(tokens, start + 1),
-        comparison: comparison_at(tokens, start + 2),
-        number: number_at(tokens, start + 3),
-    })
 }
 
 /// The setting of a SET.
-fn setting_at(tokens: &Tokens, start: usize) -> Result<Setting, OutOfMemory>
-    ensures { IfOk result (λ setting. setting ≡ setting_at tokens.now start) }
+fn setting_at(tokens: &Tokens, start: usize) -> Setting
+    ensures { result ≡ setting_at tokens.now start }
 {
-    if tokens.len() <= start {
-        return Err(OutOfMemory);
+    Setting {
+        variable: variable_after(tokens, start, 1),
+        code: at_most_16(number_after(tokens, start, 3)),
     }
-    if tokens.len() - start < 4 {
-        return Err(OutOfMemory);
-    }
-    Ok(Setting {
-        variable: variable_at(tokens, start + 1),
-        code: at_most_16(number_at(tokens, start + 3)),
-    })
 }
 
 /// A code: a number above 16 counts as 16.
@@ -151,8 +141,7 @@ fn line_at(tokens: &Tokens, at: usize) -> u32
 
 /// Adds a command in its place.
 fn push_node(tokens: &Tokens, state: &mut State, command: Command) -> Result<(), OutOfMemory>
-    ensures { OnOk result (state.new
-        ≡ with_nodes state.old (with_command tokens.now state.old (Some command))) }
+    ensures { OnOk result (state.new ≡ with_node tokens.now state.old command) }
 {
     let line = line_at(tokens, state.start);
     let within = within_of(state.opens.top());
@@ -174,40 +163,37 @@ fn ended_command(
     ensures { IfOk result (λ command. command ≡ ended_command section tokens.now state.now) }
 {
     match section {
-        Section::SetEnd => Ok(Some(Command::Set(setting_at(tokens, state.start)?))),
+        Section::SetEnd => Ok(Some(Command::Set(setting_at(tokens, state.start)))),
         _ => command_of(alloc, section, tokens, state.given.as_slice()),
     }
 }
 
-/// Adds the command that ends with this list, if it is one.
-fn push_ended(
-    alloc: Global,
-    section: Section,
-    tokens: &Tokens,
-    state: &mut State,
-) -> Result<(), OutOfMemory>
-    ensures { OnOk result (state.new ≡ with_nodes state.old
-        (with_command tokens.now state.old (ended_command section tokens.now state.old))) }
-{
-    match ended_command(alloc, section, tokens, state)? {
-        None => Ok(()),
-        Some(command) => push_node(tokens, state, command),
-    }
-}
-
 /// The end of a command.
-fn finish(
-    alloc: Global,
-    tokens: &Tokens,
-    state: &mut State,
-    section: Section,
-) -> Result<(), OutOfMemory>
-    ensures { OnOk result (state.new ≡ finished tokens.now state.old section) }
+fn finish(tokens: &Tokens, state: &mut State, command: Command) -> Result<(), OutOfMemory>
+    ensures { OnOk result (state.new ≡ with_command tokens.now state.old command) }
 {
-    push_ended(alloc, section, tokens, state)?;
+    push_node(tokens, state, command)?;
     state.place = Place::Command;
     complete(&mut state.opens);
     Ok(())
+}
+
+/// The end of the command that ends with this list.
+fn finish_list(
+    alloc: Global,
+    tokens: &Tokens,
+    state: &mut State,
+    section: Section,
+) -> Result<(), Stop>
+    ensures ok { OnOk result (finished tokens.now state.old
+        (ended_command section tokens.now state.old) ≡ Went state.new) }
+    ensures bad { IfErr result (Stops (finished tokens.now state.old
+        (ended_command section tokens.now state.old))) }
+{
+    match ended_command(alloc, section, tokens, state)? {
+        None => Err(Stop::Bad(AmsCause::ParameterMissing, state.start)),
+        Some(command) => Ok(finish(tokens, state, command)?),
+    }
 }
 
 /// The condition of an IF is complete.
@@ -215,7 +201,7 @@ fn branch_if(tokens: &Tokens, state: &mut State) -> Result<(), OutOfMemory>
     ensures { OnOk result (state.new ≡ branched tokens.now state.old) }
 {
     let node = state.nodes.len();
-    let condition = condition_at(tokens, state.start)?;
+    let condition = condition_at(tokens, state.start);
     push_node(tokens, state, Command::If(condition))?;
     state.opens.push(Open {
         node,
@@ -252,13 +238,21 @@ fn enter_else(opens: &mut Opens)
     }
 }
 
-/// DO and END.
-fn group(alloc: Global, state: &mut State, stage: Stage)
-    ensures { state.new ≡ grouped state.old stage }
+/// DO, token `at`.
+fn group(state: &mut State, at: usize)
+    ensures { state.new ≡ grouped state.old at }
 {
-    restage(&mut state.opens, stage);
-    state.given = Items::new(alloc);
-    state.place = Place::Within(Point::Listed(Section::GroupEnd));
+    restage(&mut state.opens, Stage::Group(at));
+    state.place = Place::Command;
+}
+
+/// END.
+fn end_group(state: &mut State)
+    ensures { state.new ≡ group_ended state.old }
+{
+    restage(&mut state.opens, Stage::Single);
+    complete(&mut state.opens);
+    state.place = Place::GroupEnd;
 }
 
 /// A command begins.
@@ -297,14 +291,9 @@ fn apply(alloc: Global, tokens: &Tokens, state: &mut State, at: usize, act: Act)
             state.place = Place::Branch;
             enter_else(&mut state.opens);
         }
-        Act::Do => group(alloc, state, Stage::Group(at)),
-        Act::EndGroup => group(alloc, state, Stage::Single),
-        Act::Finish(section) => {
-            if !has_all(section, state.given.as_slice()) {
-                return Err(Stop::Bad(AmsCause::ParameterMissing, state.start));
-            }
-            finish(alloc, tokens, state, section)?;
-        }
+        Act::Do => group(state, at),
+        Act::EndGroup => end_group(state),
+        Act::Finish(section) => finish_list(alloc, tokens, state, section)?,
         Act::Condition => branch_if(tokens, state)?,
         Act::Missing => return Err(Stop::Bad(AmsCause::ParameterMissing, state.start)),
         Act::Bad(cause) => return Err(Stop::Bad(cause, at)),

@@ -1,22 +1,23 @@
 //! The values of given parameters.
-ghost use Rattle.std.specs.Prelude.{◌≡◌, IfOk, IfSome, IfNone, None};
-ghost use Rattle.vr_types.specs.Name.{in_capitals};
+ghost use Rattle.std.specs.Prelude.{◌≡◌, ◌+◌, ◌++◌, IfOk, OnOk};
 ghost use Rattle.vr_amsparse.specs.Values.{text_at, value_text, number_value, number_for, name_for};
-ghost use Rattle.vr_amsparse.specs.Values.{name_if, text_if, text_for, names_below, names_for, choice_for};
+ghost use Rattle.vr_amsparse.specs.Values.{text_if, text_for, listed, names_below, names_for, choice_for};
 ghost use Rattle.vr_amsparse.specs.Values.{is_first, is_second};
 
 use std::alloc::Global;
-use vr_amsparse_grammar::{Choice, Given, Slot, given_for, number_in};
+use vr_amsparse_grammar::{Choice, Given, Slot, given_for};
 use vr_catalog::NameList;
 use vr_scan::Tokens;
-use vr_types::{Bytes, Name, OutOfMemory, bytes, dataset_name};
+use vr_text::{name_in, number_in};
+use vr_types::{Bytes, Name, OutOfMemory, bytes};
 
-/// The text of a token, empty past the last.
-pub(crate) fn text_at(tokens: &Tokens, at: usize) -> &[u8]
-    ensures { result.now ≡ text_at tokens.now at }
+/// The text of the token that stands so many tokens after another, empty past the last.
+pub(crate) fn text_after(tokens: &Tokens, at: usize, ahead: usize) -> &[u8]
+    ensures { result.now ≡ text_at tokens.now (at + ahead) }
 {
-    if at < tokens.len() {
-        tokens.text(at)
+    let len = tokens.len();
+    if at < len && ahead < len - at {
+        tokens.text(at + ahead)
     } else {
         b""
     }
@@ -63,47 +64,18 @@ pub(crate) fn number_for(
     number_value(tokens, given_for(given, slot), place, default)
 }
 
-/// The name that a text spells. Where it spells none it answers that memory ran out too: the
-/// reader has let names through alone.
-fn name_of(alloc: Global, text: &[u8]) -> Result<Name, OutOfMemory>
-    ensures { IfOk result (λ name. name ≡ in_capitals text.now) }
-{
-    match str::from_utf8(text) {
-        Err(_) => Err(OutOfMemory),
-        Ok(text) => match dataset_name(alloc, text) {
-            Err(_) => Err(OutOfMemory),
-            Ok(name) => Ok(name),
-        },
-    }
-}
-
-/// A name that was given.
+/// The name of a parameter, if it was given.
 pub(crate) fn name_for(
     alloc: Global,
     tokens: &Tokens,
     given: &[Given],
     slot: Slot,
-) -> Result<Name, OutOfMemory>
+) -> Result<Option<Name>, OutOfMemory>
     ensures { IfOk result (λ name. name ≡ name_for tokens.now given.now slot) }
 {
     match given_for(given, slot) {
-        None => Err(OutOfMemory),
-        Some(one) => name_of(alloc, value_text(tokens, one, 0)),
-    }
-}
-
-/// A name, if it was given.
-pub(crate) fn name_if(
-    alloc: Global,
-    tokens: &Tokens,
-    given: &[Given],
-    slot: Slot,
-) -> Result<Option<Name>, OutOfMemory>
-    ensures { IfOk result (λ name. name ≡ name_if tokens.now given.now slot) }
-{
-    match given_for(given, slot) {
         None => Ok(None),
-        Some(one) => Ok(Some(name_of(alloc, value_text(tokens, one, 0))?)),
+        Some(one) => name_in(alloc, value_text(tokens, one, 0)),
     }
 }
 
@@ -137,13 +109,24 @@ pub(crate) fn text_for(
     }
 }
 
+/// Adds a name, if there is one.
+fn push_name(names: &mut NameList, name: Option<Name>) -> Result<(), OutOfMemory>
+    ensures { OnOk result (names.new ≡ names.old ++ listed name) }
+{
+    match name {
+        None => Ok(()),
+        Some(name) => Ok(names.push(name)?),
+    }
+}
+
 /// The names of a parameter that was given.
 fn names_of(alloc: Global, tokens: &Tokens, given: Given) -> Result<NameList, OutOfMemory>
     ensures { IfOk result (λ names. names ≡ names_below tokens.now given given.count) }
 {
     let mut names = NameList::new(alloc);
     for place in 0..given.count {
-        names.push(name_of(alloc, value_text(tokens, given, place))?)?;
+        let name = name_in(alloc, value_text(tokens, given, place))?;
+        push_name(&mut names, name)?;
     }
     Ok(names)
 }

@@ -1,4 +1,4 @@
-//! The words that begin commands, with the tables that the definition reads too.
+//! The words that begin commands, by tables with the rows that the definition spells out.
 ghost use Rattle.std.specs.Prelude.{◌≡◌};
 ghost use Rattle.vr_amsparse.specs.Verbs.{is_verb_row, verb_named, is_object_row, object_named};
 ghost use Rattle.vr_amsparse.specs.Verbs.{is_comparison_row, comparison_named, variable_named};

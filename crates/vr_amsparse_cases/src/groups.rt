@@ -79,7 +79,13 @@ fn fault_at(items: &[u8], at: usize) -> Option<(u8, usize)> {
     }
     let number = match before(items, at) {
         COMMAND => 3,
-        DO | END => 18,
+        END => {
+            if this == ELSE {
+                fault_in_front(items, at, this)
+            } else {
+                18
+            }
+        }
         IF | ELSE => match this {
             ELSE => 14,
             END => 15,
@@ -123,7 +129,7 @@ fn group(items: &[u8], at: usize) -> Option<usize> {
 }
 
 /// Whether a command that isn't in a branch begins at an item: a semicolon stands before it, and it is
-/// no ELSE, nor a semicolon.
+/// no ELSE, nor a semicolon. One after DO needs no look: no search goes back past its DO.
 fn begins(items: &[u8], at: usize) -> bool {
     before(items, at) == 5 && item(items, at) != ELSE && item(items, at) != 5
 }

@@ -1,8 +1,9 @@
 -- What may stand as a value, and the fault of what may not. The kinds of values are those of Access
 -- Method Services Commands; what is left out is this project's own choice.
 use Rattle.std.specs.Prelude.{ℕ, Bool, ◌&&◌, ◌||◌, ◌==◌, not, nat_le, List, length, codes, bytes_eq}
-use Rattle.std.specs.Prelude.{Option, Some, None, if◌then◌else◌}
+use Rattle.std.specs.Prelude.{slice_index, Option, Some, None, is_some, if◌then◌else◌}
 use Rattle.std.specs.List.{list_any}
+use Rattle.vr_text.specs.Words.{name_in, number_in}
 use Rattle.vr_scan.specs.declared.token.TokenKind.{TokenKind}
 use Rattle.vr_scan.specs.declared.token.TokenKind.TheVariants as kinds
 use Rattle.vr_amsparse_grammar.specs.declared.cause.AmsCause.{AmsCause}
@@ -10,7 +11,7 @@ use Rattle.vr_amsparse_grammar.specs.declared.cause.AmsCause.TheVariants as caus
 use Rattle.vr_amsparse_grammar.specs.declared.row.Range.{Range}
 use Rattle.vr_amsparse_grammar.specs.declared.row.Value.{Value}
 use Rattle.vr_amsparse_grammar.specs.declared.row.Value.TheVariants as values
-use Rattle.vr_amsparse_grammar.specs.Words.{is_name, is_class, number_in}
+use Rattle.vr_amsparse_grammar.specs.Words.{is_class}
 
 -- no fault where a test holds, else this one
 abbrev pub unless : Bool → AmsCause → Option AmsCause
@@ -19,8 +20,8 @@ unless holds cause = if holds then None else Some cause
 -- a data set is named by a word that is its name; one with `*` is left out
 abbrev pub name_fault : TokenKind → List ℕ → Option AmsCause
 name_fault kinds.Word text =
-    if list_any (λ b. b == 42) text then Some causes.LeftOut else unless (is_name text)
-    causes.BadName
+    if list_any (λ b. b == 42) text then Some causes.LeftOut else unless
+    (is_some (name_in text)) causes.BadName
 name_fault kind text = Some causes.BadName
 
 -- a class is named by a word that is a name without a dot
@@ -54,6 +55,15 @@ text_fault kinds.Characters = None
 text_fault kinds.Hex = None
 text_fault kind = Some causes.BadLiteral
 
+-- a word that begins with a quote: a literal without its letter
+abbrev pub begins_quoted : List ℕ → Bool
+begins_quoted text = not (length text == 0) && slice_index text 0 == 39
+
+-- a key is a literal, or a word that stands for its characters
+abbrev pub key_fault : TokenKind → List ℕ → Option AmsCause
+key_fault kinds.Word text = unless (not (begins_quoted text)) causes.BadLiteral
+key_fault kind text = text_fault kind
+
 -- a number within its range
 abbrev pub range_fault : Range → Option ℕ → Option AmsCause
 range_fault range None = Some causes.BadNumber
@@ -72,5 +82,6 @@ value_fault values.Data place kind text names = data_fault kind text names
 value_fault values.Serial place kind text names = serial_fault kind text
 value_fault values.Log place kind text names = log_fault kind text
 value_fault values.Text place kind text names = text_fault kind
+value_fault values.Key place kind text names = key_fault kind text
 value_fault (values.Number first second) place kind text names =
     number_fault (if place == 0 then first else second) kind text

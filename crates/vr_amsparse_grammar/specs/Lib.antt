@@ -1,5 +1,6 @@
 pub mod Cause
 pub mod Rows
+pub mod Tables
 pub mod Sections
 pub mod Words
 pub mod Judging

@@ -1,50 +1,48 @@
--- The lists of parameters of each command, by the tables of the code: which rows each has, which stand
+-- The lists of parameters of each command, by the tables of Tables: which rows each has, which stand
 -- in parentheses, and what follows. The parameters are those of Access Method Services Commands.
 use Rattle.std.specs.Prelude.{ℕ, Bool, true, false, List, [], Option, Some, None}
 use Rattle.vr_amsparse_grammar.specs.declared.row.Row.{Row}
 use Rattle.vr_amsparse_grammar.specs.declared.row.Parameter.{Parameter}
 use Rattle.vr_amsparse_grammar.specs.declared.section.Section.{Section}
 use Rattle.vr_amsparse_grammar.specs.declared.section.Section.TheVariants as lists
-use Rattle.vr_amsparse_grammar.specs.declared.tables.TheConstants.{NAME_ROWS, DATA_ROWS, INDEX_ROWS}
-use Rattle.vr_amsparse_grammar.specs.declared.tables.TheConstants.{CLUSTER_PART_ROWS, ALTERNATE_PART_ROWS, CLUSTER_ROWS}
-use Rattle.vr_amsparse_grammar.specs.declared.tables.TheConstants.{ALTERNATE_ROWS, SPACE_ROWS}
-use Rattle.vr_amsparse_grammar.specs.declared.tables.TheConstants.{PATH_ROWS, ALTER_ROWS, DELETE_ROWS}
-use Rattle.vr_amsparse_grammar.specs.declared.tables.TheConstants.{REPRO_ROWS, BUILD_ROWS, PRINT_ROWS}
-use Rattle.vr_amsparse_grammar.specs.declared.tables.TheConstants.{LIST_ROWS, VERIFY_ROWS, EXAMINE_ROWS}
 use Rattle.vr_amsparse_grammar.specs.Rows.{parameter_among}
+use Rattle.vr_amsparse_grammar.specs.Tables.{name_rows, data_rows, index_rows, cluster_part_rows}
+use Rattle.vr_amsparse_grammar.specs.Tables.{alternate_part_rows, cluster_rows, alternate_rows}
+use Rattle.vr_amsparse_grammar.specs.Tables.{space_rows, path_rows, alter_rows, delete_rows}
+use Rattle.vr_amsparse_grammar.specs.Tables.{repro_rows, build_rows, print_rows, list_rows}
+use Rattle.vr_amsparse_grammar.specs.Tables.{verify_rows, examine_rows}
 
 -- the rows that a list has for itself
 abbrev pub own_rows : Section → List Row
-own_rows lists.Cluster = NAME_ROWS
-own_rows lists.ClusterData = DATA_ROWS
-own_rows lists.ClusterIndex = INDEX_ROWS
-own_rows lists.ClusterParts = CLUSTER_PART_ROWS
-own_rows lists.Alternate = NAME_ROWS
-own_rows lists.AlternateData = DATA_ROWS
-own_rows lists.AlternateIndex = INDEX_ROWS
-own_rows lists.AlternateParts = ALTERNATE_PART_ROWS
-own_rows lists.Path = PATH_ROWS
+own_rows lists.Cluster = name_rows
+own_rows lists.ClusterData = data_rows
+own_rows lists.ClusterIndex = index_rows
+own_rows lists.ClusterParts = cluster_part_rows
+own_rows lists.Alternate = name_rows
+own_rows lists.AlternateData = data_rows
+own_rows lists.AlternateIndex = index_rows
+own_rows lists.AlternateParts = alternate_part_rows
+own_rows lists.Path = path_rows
 own_rows lists.PathEnd = []
-own_rows lists.Alter = ALTER_ROWS
-own_rows lists.Delete = DELETE_ROWS
-own_rows lists.Repro = REPRO_ROWS
-own_rows lists.BuildIndex = BUILD_ROWS
-own_rows lists.Print = PRINT_ROWS
-own_rows lists.ListCatalog = LIST_ROWS
-own_rows lists.Verify = VERIFY_ROWS
-own_rows lists.Examine = EXAMINE_ROWS
+own_rows lists.Alter = alter_rows
+own_rows lists.Delete = delete_rows
+own_rows lists.Repro = repro_rows
+own_rows lists.BuildIndex = build_rows
+own_rows lists.Print = print_rows
+own_rows lists.ListCatalog = list_rows
+own_rows lists.Verify = verify_rows
+own_rows lists.Examine = examine_rows
 own_rows lists.SetEnd = []
-own_rows lists.GroupEnd = []
 
 -- the rows that clusters have, or alternate indexes
 abbrev pub type_rows : Section → List Row
-type_rows lists.Cluster = CLUSTER_ROWS
-type_rows lists.ClusterData = CLUSTER_ROWS
-type_rows lists.ClusterIndex = CLUSTER_ROWS
+type_rows lists.Cluster = cluster_rows
+type_rows lists.ClusterData = cluster_rows
+type_rows lists.ClusterIndex = cluster_rows
 type_rows lists.ClusterParts = []
-type_rows lists.Alternate = ALTERNATE_ROWS
-type_rows lists.AlternateData = ALTERNATE_ROWS
-type_rows lists.AlternateIndex = ALTERNATE_ROWS
+type_rows lists.Alternate = alternate_rows
+type_rows lists.AlternateData = alternate_rows
+type_rows lists.AlternateIndex = alternate_rows
 type_rows lists.AlternateParts = []
 type_rows lists.Path = []
 type_rows lists.PathEnd = []
@@ -57,17 +55,16 @@ type_rows lists.ListCatalog = []
 type_rows lists.Verify = []
 type_rows lists.Examine = []
 type_rows lists.SetEnd = []
-type_rows lists.GroupEnd = []
 
 -- the rows that both have
 abbrev pub common_rows : Section → List Row
-common_rows lists.Cluster = SPACE_ROWS
-common_rows lists.ClusterData = SPACE_ROWS
-common_rows lists.ClusterIndex = SPACE_ROWS
+common_rows lists.Cluster = space_rows
+common_rows lists.ClusterData = space_rows
+common_rows lists.ClusterIndex = space_rows
 common_rows lists.ClusterParts = []
-common_rows lists.Alternate = SPACE_ROWS
-common_rows lists.AlternateData = SPACE_ROWS
-common_rows lists.AlternateIndex = SPACE_ROWS
+common_rows lists.Alternate = space_rows
+common_rows lists.AlternateData = space_rows
+common_rows lists.AlternateIndex = space_rows
 common_rows lists.AlternateParts = []
 common_rows lists.Path = []
 common_rows lists.PathEnd = []
@@ -80,7 +77,6 @@ common_rows lists.ListCatalog = []
 common_rows lists.Verify = []
 common_rows lists.Examine = []
 common_rows lists.SetEnd = []
-common_rows lists.GroupEnd = []
 
 -- the first of two that is there
 abbrev pub or_else : Option Parameter → Option Parameter → Option Parameter
@@ -114,7 +110,6 @@ is_enclosed lists.ListCatalog = false
 is_enclosed lists.Verify = false
 is_enclosed lists.Examine = false
 is_enclosed lists.SetEnd = false
-is_enclosed lists.GroupEnd = false
 
 -- the list that follows one in parentheses
 abbrev pub section_after : Section → Section
@@ -137,7 +132,6 @@ section_after lists.ListCatalog = lists.ListCatalog
 section_after lists.Verify = lists.Verify
 section_after lists.Examine = lists.Examine
 section_after lists.SetEnd = lists.SetEnd
-section_after lists.GroupEnd = lists.GroupEnd
 
 -- the list may have parameters
 abbrev pub has_parameters : Section → Bool
@@ -160,4 +154,3 @@ has_parameters lists.ListCatalog = true
 has_parameters lists.Verify = true
 has_parameters lists.Examine = true
 has_parameters lists.SetEnd = false
-has_parameters lists.GroupEnd = false

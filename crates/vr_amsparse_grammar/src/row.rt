@@ -100,6 +100,8 @@ pub enum Value {
     Log,
     /// A literal or a word.
     Text,
+    /// A literal, or a word that doesn't begin with a quote.
+    Key,
     /// A number; each place has a range of its own.
     Number { first: Range, second: Range },
 }

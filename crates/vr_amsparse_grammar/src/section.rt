@@ -39,8 +39,6 @@ pub enum Section {
     Examine,
     /// What follows the number of SET: nothing.
     SetEnd,
-    /// What follows DO and END: nothing.
-    GroupEnd,
 }
 
 /// The rows that a list has for itself.
@@ -62,7 +60,7 @@ fn own_rows(section: Section) -> &'static [Row]
         Section::ListCatalog => &LIST_ROWS,
         Section::Verify => &VERIFY_ROWS,
         Section::Examine => &EXAMINE_ROWS,
-        Section::PathEnd | Section::SetEnd | Section::GroupEnd => &NO_ROWS,
+        Section::PathEnd | Section::SetEnd => &NO_ROWS,
     }
 }
 
@@ -131,7 +129,7 @@ pub(crate) fn has_parameters(section: Section) -> bool
     ensures { result ≡ has_parameters section }
 {
     match section {
-        Section::PathEnd | Section::SetEnd | Section::GroupEnd => false,
+        Section::PathEnd | Section::SetEnd => false,
         _ => true,
     }
 }

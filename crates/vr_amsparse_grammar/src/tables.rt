@@ -1,7 +1,6 @@
 //! The tables of parameters: one row for each word, with its long form, its short form if it has
-//! one, what it states, which of the words that exclude each other it is, and what it takes. The
-//! definition of a list of parameters reads these same tables. They follow Access Method Services
-//! Commands.
+//! one, what it states, which of the words that exclude each other it is, and what it takes. They have
+//! the rows that the definitions spell out, and follow Access Method Services Commands.
 
 use crate::row::{Choice, Parameter, Range, Row, Slot, Takes, Value, Values};
 use crate::section::Section;
@@ -68,6 +67,8 @@ const LOG_VALUE: Takes = values!(Value::Log, 1, 1);
 
 const ONE_TEXT: Takes = values!(Value::Text, 1, 1);
 
+const ONE_KEY: Takes = values!(Value::Key, 1, 1);
+
 const ONE_COUNT: Takes = values!(numbers!(ANY, ANY), 1, 1);
 
 const TWO_COUNTS: Takes = values!(numbers!(ANY, ANY), 2, 2);
@@ -104,40 +105,40 @@ const SHARE_OPTIONS: Takes = values!(
 
 /// What is defined.
 #[rattlefmt::skip]
-pub const NAME_ROWS: [Row; 1] = [
+pub(crate) const NAME_ROWS: [Row; 1] = [
     row!(b"NAME               ", b"      ", Name, First, ONE_NAME),
 ];
 
 /// DATA's own.
 #[rattlefmt::skip]
-pub const DATA_ROWS: [Row; 1] = [
+pub(crate) const DATA_ROWS: [Row; 1] = [
     row!(b"NAME               ", b"      ", DataName, First, ONE_NAME),
 ];
 
 /// INDEX's own. Its interval size is dropped.
 #[rattlefmt::skip]
-pub const INDEX_ROWS: [Row; 2] = [
+pub(crate) const INDEX_ROWS: [Row; 2] = [
     row!(b"NAME               ", b"      ", IndexName, First, ONE_NAME),
     row!(b"CONTROLINTERVALSIZE", b"CISZ  ", IndexIntervalSize, First, ONE_COUNT),
 ];
 
 /// What may follow the parentheses of a cluster.
 #[rattlefmt::skip]
-pub const CLUSTER_PART_ROWS: [Row; 2] = [
+pub(crate) const CLUSTER_PART_ROWS: [Row; 2] = [
     row!(b"DATA               ", b"      ", DataPart, First, Takes::Section(Section::ClusterData)),
     row!(b"INDEX              ", b"IX    ", IndexPart, First, Takes::Section(Section::ClusterIndex)),
 ];
 
 /// What may follow the parentheses of an alternate index.
 #[rattlefmt::skip]
-pub const ALTERNATE_PART_ROWS: [Row; 2] = [
+pub(crate) const ALTERNATE_PART_ROWS: [Row; 2] = [
     row!(b"DATA               ", b"      ", DataPart, First, Takes::Section(Section::AlternateData)),
     row!(b"INDEX              ", b"IX    ", IndexPart, First, Takes::Section(Section::AlternateIndex)),
 ];
 
 /// What clusters have and alternate indexes haven't.
 #[rattlefmt::skip]
-pub const CLUSTER_ROWS: [Row; 7] = [
+pub(crate) const CLUSTER_ROWS: [Row; 7] = [
     row!(b"INDEXED            ", b"IXD   ", Kind, First, Takes::Nothing),
     row!(b"NONINDEXED         ", b"NIXD  ", Kind, Second, Takes::Nothing),
     row!(b"NUMBERED           ", b"NUMD  ", Kind, Third, Takes::Nothing),
@@ -149,7 +150,7 @@ pub const CLUSTER_ROWS: [Row; 7] = [
 
 /// What alternate indexes have and clusters haven't.
 #[rattlefmt::skip]
-pub const ALTERNATE_ROWS: [Row; 5] = [
+pub(crate) const ALTERNATE_ROWS: [Row; 5] = [
     row!(b"RELATE             ", b"REL   ", Related, First, ONE_NAME),
     row!(b"UNIQUEKEY          ", b"UNQK  ", Unique, First, Takes::Nothing),
     row!(b"NONUNIQUEKEY       ", b"NUNQK ", Unique, Second, Takes::Nothing),
@@ -159,7 +160,7 @@ pub const ALTERNATE_ROWS: [Row; 5] = [
 
 /// What both have.
 #[rattlefmt::skip]
-pub const SPACE_ROWS: [Row; 19] = [
+pub(crate) const SPACE_ROWS: [Row; 19] = [
     row!(b"KEYS               ", b"      ", Keys, First, KEYS),
     row!(b"RECORDSIZE         ", b"RECSZ ", RecordSize, First, TWO_COUNTS),
     row!(b"FREESPACE          ", b"FSPC  ", FreeSpace, First, FREE_SPACE),
@@ -183,7 +184,7 @@ pub const SPACE_ROWS: [Row; 19] = [
 
 /// DEFINE PATH.
 #[rattlefmt::skip]
-pub const PATH_ROWS: [Row; 3] = [
+pub(crate) const PATH_ROWS: [Row; 3] = [
     row!(b"NAME               ", b"      ", Name, First, ONE_NAME),
     row!(b"PATHENTRY          ", b"PENT  ", Related, First, ONE_NAME),
     row!(b"UPDATE             ", b"      ", Update, First, Takes::Nothing),
@@ -191,7 +192,7 @@ pub const PATH_ROWS: [Row; 3] = [
 
 /// ALTER, after the name.
 #[rattlefmt::skip]
-pub const ALTER_ROWS: [Row; 3] = [
+pub(crate) const ALTER_ROWS: [Row; 3] = [
     row!(b"NEWNAME            ", b"      ", NewName, First, ONE_NAME),
     row!(b"FREESPACE          ", b"FSPC  ", FreeSpace, First, FREE_SPACE),
     row!(b"SHAREOPTIONS       ", b"SHR   ", ShareOptions, First, SHARE_OPTIONS),
@@ -199,9 +200,9 @@ pub const ALTER_ROWS: [Row; 3] = [
 
 /// DELETE, after the name or the names.
 #[rattlefmt::skip]
-pub const DELETE_ROWS: [Row; 7] = [
-    row!(b"CLUSTER            ", b"      ", EntryKind, First, Takes::Nothing),
-    row!(b"AIX                ", b"      ", EntryKind, Second, Takes::Nothing),
+pub(crate) const DELETE_ROWS: [Row; 7] = [
+    row!(b"CLUSTER            ", b"CL    ", EntryKind, First, Takes::Nothing),
+    row!(b"ALTERNATEINDEX     ", b"AIX   ", EntryKind, Second, Takes::Nothing),
     row!(b"PATH               ", b"      ", EntryKind, Third, Takes::Nothing),
     row!(b"PURGE              ", b"      ", Purge, First, Takes::Nothing),
     row!(b"NOPURGE            ", b"      ", Purge, Second, Takes::Nothing),
@@ -211,13 +212,13 @@ pub const DELETE_ROWS: [Row; 7] = [
 
 /// REPRO.
 #[rattlefmt::skip]
-pub const REPRO_ROWS: [Row; 12] = [
+pub(crate) const REPRO_ROWS: [Row; 12] = [
     row!(b"INFILE             ", b"      ", Source, First, DATA_NAME),
     row!(b"INDATASET          ", b"IDS   ", Source, Second, ONE_NAME),
     row!(b"OUTDATASET         ", b"ODS   ", Target, First, ONE_NAME),
-    row!(b"FROMKEY            ", b"      ", From, First, ONE_TEXT),
+    row!(b"FROMKEY            ", b"      ", From, First, ONE_KEY),
     row!(b"SKIP               ", b"      ", From, Second, ONE_COUNT),
-    row!(b"TOKEY              ", b"      ", To, First, ONE_TEXT),
+    row!(b"TOKEY              ", b"      ", To, First, ONE_KEY),
     row!(b"COUNT              ", b"      ", To, Second, ONE_COUNT),
     row!(b"REPLACE            ", b"REP   ", Replace, First, Takes::Nothing),
     row!(b"NOREPLACE          ", b"      ", Replace, Second, Takes::Nothing),
@@ -228,7 +229,7 @@ pub const REPRO_ROWS: [Row; 12] = [
 
 /// BLDINDEX.
 #[rattlefmt::skip]
-pub const BUILD_ROWS: [Row; 3] = [
+pub(crate) const BUILD_ROWS: [Row; 3] = [
     row!(b"INDATASET          ", b"IDS   ", Source, Second, ONE_NAME),
     row!(b"OUTDATASET         ", b"ODS   ", Target, First, ONE_NAME),
     row!(b"OUTFILE            ", b"      ", Nothing, First, Takes::LeftOut),
@@ -236,14 +237,14 @@ pub const BUILD_ROWS: [Row; 3] = [
 
 /// PRINT.
 #[rattlefmt::skip]
-pub const PRINT_ROWS: [Row; 11] = [
+pub(crate) const PRINT_ROWS: [Row; 11] = [
     row!(b"INDATASET          ", b"IDS   ", Source, Second, ONE_NAME),
     row!(b"CHARACTER          ", b"CHAR  ", Form, First, Takes::Nothing),
     row!(b"HEX                ", b"      ", Form, Second, Takes::Nothing),
     row!(b"DUMP               ", b"      ", Form, Third, Takes::Nothing),
-    row!(b"FROMKEY            ", b"      ", From, First, ONE_TEXT),
+    row!(b"FROMKEY            ", b"      ", From, First, ONE_KEY),
     row!(b"SKIP               ", b"      ", From, Second, ONE_COUNT),
-    row!(b"TOKEY              ", b"      ", To, First, ONE_TEXT),
+    row!(b"TOKEY              ", b"      ", To, First, ONE_KEY),
     row!(b"COUNT              ", b"      ", To, Second, ONE_COUNT),
     row!(b"OUTFILE            ", b"      ", Nothing, First, Takes::LeftOut),
     row!(b"FROMADDRESS        ", b"      ", Nothing, First, Takes::LeftOut),
@@ -252,7 +253,7 @@ pub const PRINT_ROWS: [Row; 11] = [
 
 /// LISTCAT.
 #[rattlefmt::skip]
-pub const LIST_ROWS: [Row; 4] = [
+pub(crate) const LIST_ROWS: [Row; 4] = [
     row!(b"ENTRIES            ", b"ENT   ", Entries, First, SOME_NAMES),
     row!(b"NAME               ", b"      ", Detail, First, Takes::Nothing),
     row!(b"ALL                ", b"      ", Detail, Second, Takes::Nothing),
@@ -261,12 +262,12 @@ pub const LIST_ROWS: [Row; 4] = [
 
 /// VERIFY.
 #[rattlefmt::skip]
-pub const VERIFY_ROWS: [Row; 1] = [
+pub(crate) const VERIFY_ROWS: [Row; 1] = [
     row!(b"DATASET            ", b"DS    ", Name, First, ONE_NAME),
 ];
 
 /// EXAMINE.
 #[rattlefmt::skip]
-pub const EXAMINE_ROWS: [Row; 1] = [
+pub(crate) const EXAMINE_ROWS: [Row; 1] = [
     row!(b"NAME               ", b"      ", Name, First, ONE_NAME),
 ];

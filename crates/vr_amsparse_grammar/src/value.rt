@@ -3,14 +3,15 @@ ghost use Rattle.std.specs.Prelude.{◌≡◌, ◌==◌, List, IfOk, if◌then�
 ghost use Rattle.std.specs.List.{list_any};
 ghost use Rattle.vr_amsparse_grammar.specs.Judging.{value_fault, name_fault, class_fault};
 ghost use Rattle.vr_amsparse_grammar.specs.Judging.{data_fault, serial_fault, log_fault, text_fault};
-ghost use Rattle.vr_amsparse_grammar.specs.Judging.{number_fault, range_fault};
+ghost use Rattle.vr_amsparse_grammar.specs.Judging.{number_fault, range_fault, key_fault, begins_quoted};
+ghost use Rattle.vr_amsparse_grammar.specs.Words.{is_class};
 
 use crate::cause::AmsCause;
 use crate::data_names::DataNames;
 use crate::row::{Range, Value};
-use crate::text::{is_class, is_name, number_in};
 use std::alloc::Global;
 use vr_scan::TokenKind;
+use vr_text::{name_in, number_in};
 use vr_types::OutOfMemory;
 
 /// What is wrong with a token as the value in a place, counted from 0.
@@ -31,6 +32,7 @@ pub fn judge(
         Value::Serial => Ok(serial_fault(kind, text)),
         Value::Log => Ok(log_fault(kind, text)),
         Value::Text => Ok(text_fault(kind)),
+        Value::Key => Ok(key_fault(kind, text)),
         Value::Number { first, second } => {
             Ok(number_fault(if place == 0 { first } else { second }, kind, text))
         }
@@ -45,7 +47,7 @@ fn name_fault(alloc: Global, kind: TokenKind, text: &[u8]) -> Result<Option<AmsC
         TokenKind::Word => {
             if text.contains(&b'*') {
                 Ok(Some(AmsCause::LeftOut))
-            } else if is_name(alloc, text)? {
+            } else if name_in(alloc, text)?.is_some() {
                 Ok(None)
             } else {
                 Ok(Some(AmsCause::BadName))
@@ -53,6 +55,16 @@ fn name_fault(alloc: Global, kind: TokenKind, text: &[u8]) -> Result<Option<AmsC
         }
         _ => Ok(Some(AmsCause::BadName)),
     }
+}
+
+/// Whether a text is a name without a dot.
+fn is_class(alloc: Global, text: &[u8]) -> Result<bool, OutOfMemory>
+    ensures { IfOk result (λ answer. answer ≡ is_class text.now) }
+{
+    if text.contains(&b'.') {
+        return Ok(false);
+    }
+    Ok(name_in(alloc, text)?.is_some())
 }
 
 /// A class is named by a word that is a name without a dot.
@@ -128,6 +140,30 @@ fn text_fault(kind: TokenKind) -> Option<AmsCause>
     match kind {
         TokenKind::Word | TokenKind::Characters | TokenKind::Hex => None,
         _ => Some(AmsCause::BadLiteral),
+    }
+}
+
+/// Whether a word begins with a quote.
+fn begins_quoted(text: &[u8]) -> bool
+    ensures { result ≡ begins_quoted text.now }
+{
+    !text.is_empty() && text[0] == b'\''
+}
+
+/// A key is a literal, or a word that stands for its characters. A word that begins with a quote is
+/// a literal without its letter.
+fn key_fault(kind: TokenKind, text: &[u8]) -> Option<AmsCause>
+    ensures { result ≡ key_fault kind text.now }
+{
+    match kind {
+        TokenKind::Word => {
+            if !begins_quoted(text) {
+                None
+            } else {
+                Some(AmsCause::BadLiteral)
+            }
+        }
+        _ => text_fault(kind),
     }
 }
 

@@ -1,13 +1,51 @@
 //! Words of a line: numbers, places, records, files.
+ghost use Rattle.std.specs.Prelude.{◌≤◌, length};
 
 use crate::answers::Stop;
 use std::alloc::Global;
-use vr_text::number;
+use vr_text::{LiteralFault, number, plain_text, read_literal};
 use vr_types::{Bytes, FileRef, Kind, PartNo, Place, Unit};
 
-/// The first word of a text and what stands after it, which may be nothing.
+/// The first word of a text and what stands after it, which may be nothing. A word that is a literal
+/// goes on to its closing quote, blanks and all.
 pub fn parted(text: &str) -> (&str, &str) {
+    if begins_literal(text) {
+        return after_literal(text);
+    }
     text.split_once(' ').unwrap_or((text, ""))
+}
+
+/// Whether a word is written as a literal: `C'..'` or `X'..'`.
+fn begins_literal(word: &str) -> bool {
+    word.starts_with("C'") || word.starts_with("X'")
+}
+
+/// The literal that a text begins with, and what stands after it.
+fn after_literal(text: &str) -> (&str, &str) {
+    let bytes = text.as_bytes();
+    let len = literal_len(bytes);
+    (
+        plain_text(&bytes[..len]).unwrap_or(text),
+        plain_text(&bytes[len..])
+            .and_then(|rest| rest.strip_prefix(' '))
+            .unwrap_or(""),
+    )
+}
+
+/// How many bytes there are up to the first blank that is not between quotes.
+fn literal_len(bytes: &[u8]) -> usize
+    ensures { result ≤ length bytes.now }
+{
+    let mut quoted = false;
+    for (at, byte) in bytes.iter().enumerate() {
+        if *byte == b' ' && !quoted {
+            return at;
+        }
+        if *byte == b'\'' {
+            quoted = !quoted;
+        }
+    }
+    bytes.len()
 }
 
 /// The number that a word spells.
@@ -27,11 +65,14 @@ pub fn small_of(word: &str) -> Result<u16, Stop> {
     u16::try_from(value).ok().ok_or(Stop::Line)
 }
 
-/// The bytes that a word spells: `#N` a number of four bytes, `=TEXT` a text, `TEXT+N` a text and N
-/// full stops after it, `NUMBER,TEXT+N` a number of four bytes before such a text, and `.` nothing.
+/// The bytes that a word spells: `C'..'` and `X'..'` those of the literal, `#N` a number of four bytes,
+/// `TEXT+N` a text and N full stops after it, `.` nothing, and another word its characters.
 pub fn bytes_of(alloc: Global, word: &str) -> Result<Vec<u8>, Stop> {
     if word == "." {
         return Ok(Vec::new(alloc));
+    }
+    if begins_literal(word) {
+        return literal_bytes(alloc, word);
     }
     if let Some(digits) = word.strip_prefix('#') {
         return four_bytes(alloc, digits);
@@ -39,6 +80,16 @@ pub fn bytes_of(alloc: Global, word: &str) -> Result<Vec<u8>, Stop> {
     let (text, count) = word.split_once('+').unwrap_or((word, "0"));
     let count = small_of(count)?;
     text_and_stops(alloc, text, count)
+}
+
+/// The bytes of a literal.
+fn literal_bytes(alloc: Global, word: &str) -> Result<Vec<u8>, Stop> {
+    match read_literal(alloc, word) {
+        Ok(bytes) => Ok(Vec::from_slice(alloc, bytes.as_slice())?),
+        Err(LiteralFault::Memory) => Err(Stop::Memory),
+        Err(LiteralFault::Unclosed) => Err(Stop::Line),
+        Err(LiteralFault::Digit { .. }) => Err(Stop::Line),
+    }
 }
 
 /// The four bytes of a number.

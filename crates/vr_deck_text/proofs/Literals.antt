@@ -9,7 +9,8 @@ use Rattle.vr_text.specs.declared.literal.LiteralFault.{LiteralFault}
 use Rattle.vr_text.specs.declared.literal.LiteralFault.TheVariants.{Memory}
 use Rattle.vr_text.specs.Literal.{doubled, SpellsBytes, IsLiteral, CauseOf}
 use Rattle.vr_text.proofs.CallerLemmas.{literal_has_no_cause}
-use Rattle.vr_deck_text.specs.Values.{is_plain, onto, characters_in, digits_in, form_in, literal_in}
+use Rattle.vr_text.specs.Words.{is_plain}
+use Rattle.vr_deck_text.specs.Values.{onto, characters_in, digits_in, form_in, literal_in}
 
 -- a quote, or another byte
 is_quote : (b : ℕ) → (b ≡ 39) ⊎ ((b == 39) ≡ false)

@@ -8,6 +8,7 @@ use Rattle.std.specs.Option.{unwrap_or}
 use Rattle.vr_types.specs.declared.unit.Integrity.{Integrity}
 use Rattle.vr_types.specs.declared.unit.Integrity.TheVariants.{Nri}
 use Rattle.vr_text.specs.Lines.{Line}
+use Rattle.vr_text.specs.Words.{is_file_name, name_in}
 use Rattle.vr_deck_text.specs.declared.fault.DeckCause.{DeckCause}
 use Rattle.vr_deck_text.specs.declared.fault.DeckCause.TheVariants as causes
 use Rattle.vr_deck_text.specs.declared.fault.DeckFault.{DeckFault}
@@ -19,7 +20,6 @@ use Rattle.vr_deck_text.specs.declared.row.FileVerb.{FileVerb}
 use Rattle.vr_deck_text.specs.declared.row.FileVerb.TheVariants.{Get, Point, Put, Erase, EndReq}
 use Rattle.vr_deck_text.specs.declared.row.Verb.{Verb}
 use Rattle.vr_deck_text.specs.declared.row.Verb.TheVariants.{File, Commit, Backout, On}
-use Rattle.vr_deck_text.specs.declared.tables.TheConstants.{FILE_ROWS, NOTHING}
 use Rattle.vr_deck_text.specs.declared.text.Ask.{Ask}
 use Rattle.vr_deck_text.specs.declared.text.Ask.TheVariants as asks
 use Rattle.vr_deck_text.specs.declared.text.At.{At}
@@ -29,7 +29,7 @@ use Rattle.vr_deck_text.specs.declared.text.Seek.{Seek}
 use Rattle.vr_deck_text.specs.declared.text.Seek.TheVariants.{Next, Equal, AtLeast}
 use Rattle.vr_deck_text.specs.Operands.{operands_in}
 use Rattle.vr_deck_text.specs.Rows.{verb_named, rows_of, needs_of}
-use Rattle.vr_deck_text.specs.Values.{is_file_name, name_in}
+use Rattle.vr_deck_text.specs.Tables.{file_rows, settles_nothing}
 use Rattle.vr_deck_text.specs.Words.{words, without_end}
 
 -- the causes by number, as listings have them
@@ -113,7 +113,7 @@ integrity_by (Err cause) = Err cause
 integrity_by (Ok given) = Ok (unwrap_or given.integrity Nri)
 
 abbrev pub integrity_in : List (List ℕ) → Result Integrity DeckCause
-integrity_in words = integrity_by (operands_in FILE_ROWS NOTHING words)
+integrity_in words = integrity_by (operands_in file_rows settles_nothing words)
 
 abbrev pub file_with : List ℕ → List ℕ → Result Integrity DeckCause → Result DeckFile DeckCause
 file_with name data_set (Err cause) = Err cause

@@ -1,5 +1,6 @@
 pub mod Words
 pub mod Values
+pub mod Tables
 pub mod Rows
 pub mod Operands
 pub mod Deck

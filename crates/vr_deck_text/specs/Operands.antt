@@ -11,11 +11,11 @@ use Rattle.vr_deck_text.specs.declared.row.Row.{Row}
 use Rattle.vr_deck_text.specs.declared.row.Settles.{Settles}
 use Rattle.vr_deck_text.specs.declared.row.Value.{Value}
 use Rattle.vr_deck_text.specs.declared.row.Value.TheVariants as values
-use Rattle.vr_deck_text.specs.declared.tables.TheConstants.{NOTHING}
 use Rattle.vr_deck_text.specs.declared.text.At.{At}
 use Rattle.vr_deck_text.specs.declared.text.At.TheVariants as places
 use Rattle.vr_deck_text.specs.Rows.{operand_named, overlaps, joined, covers}
-use Rattle.vr_deck_text.specs.Values.{literal_in, number_in}
+use Rattle.vr_deck_text.specs.Tables.{settles_nothing}
+use Rattle.vr_deck_text.specs.Values.{literal_in, small_number_in}
 use Rattle.vr_deck_text.specs.Words.{keyword, value}
 
 -- why a call stops: by the cause that the definition gives; memory may run out at any time
@@ -24,7 +24,7 @@ StopsBy outcome (Bad cause) = outcome ≡ Err cause
 StopsBy outcome Memory = Unit {0}
 
 abbrev pub none_given : Given
-none_given = record { settles = NOTHING; at = None; integrity = None; bytes = [] }
+none_given = record { settles = settles_nothing; at = None; integrity = None; bytes = [] }
 
 abbrev pub settled_too : Given → Settles → Given
 settled_too given more = record {
@@ -72,11 +72,11 @@ with_data given text = given_by (literal_in text) (with_bytes given) causes.BadL
 
 abbrev pub with_rba : Given → List ℕ → Result Given DeckCause
 with_rba given text =
-    given_by (number_in text) (λ n. with_at given (places.Rba n)) causes.BadNumber
+    given_by (small_number_in text) (λ n. with_at given (places.Rba n)) causes.BadNumber
 
 abbrev pub with_rrn : Given → List ℕ → Result Given DeckCause
 with_rrn given text =
-    given_by (number_in text) (λ n. with_at given (places.Rrn n)) causes.BadNumber
+    given_by (small_number_in text) (λ n. with_at given (places.Rrn n)) causes.BadNumber
 
 abbrev pub with_value : Given → Value → List ℕ → Result Given DeckCause
 with_value given values.Key text = with_key given text

@@ -1,6 +1,6 @@
 -- Tables of verbs and operands: what a word names, which operands a verb has, and which exclude one
--- another. The tables are those of the code.
-use Rattle.std.specs.Prelude.{ℕ, Bool, not, ◌&&◌, ◌||◌, ◌==◌, nat_le, List, length, take, slice_index}
+-- another, by the tables of Tables.
+use Rattle.std.specs.Prelude.{ℕ, Bool, not, ◌&&◌, ◌||◌, ◌==◌, nat_le, List, [], length, take, slice_index}
 use Rattle.std.specs.Prelude.{bytes_eq, Option}
 use Rattle.std.specs.List.{find}
 use Rattle.std.specs.Option.{option_map}
@@ -10,8 +10,8 @@ use Rattle.vr_deck_text.specs.declared.row.Operand.{Operand}
 use Rattle.vr_deck_text.specs.declared.row.Row.{Row}
 use Rattle.vr_deck_text.specs.declared.row.Settles.{Settles}
 use Rattle.vr_deck_text.specs.declared.row.Verb.{Verb}
-use Rattle.vr_deck_text.specs.declared.tables.TheConstants.{GET_ROWS, POINT_ROWS, PUT_ROWS, NO_ROWS}
-use Rattle.vr_deck_text.specs.declared.tables.TheConstants.{VERBS, PLACE, DATA, NOTHING}
+use Rattle.vr_deck_text.specs.Tables.{get_rows, point_rows, put_rows, verb_rows}
+use Rattle.vr_deck_text.specs.Tables.{settles_place, settles_bytes, settles_nothing}
 
 -- a column that is filled with blanks has this word; no column has the empty word
 abbrev pub is_column_of : List ℕ → List ℕ → Bool
@@ -27,23 +27,23 @@ operand_named rows keyword =
 
 -- the verb of a word
 abbrev pub verb_named : List ℕ → Option Verb
-verb_named word = option_map (λ row. row.verb) (find (λ row. is_column_of row.word word) VERBS)
+verb_named word = option_map (λ row. row.verb) (find (λ row. is_column_of row.word word) verb_rows)
 
 -- the operands that a verb may have
 abbrev pub rows_of : FileVerb → List Row
-rows_of verbs.Get = GET_ROWS
-rows_of verbs.Point = POINT_ROWS
-rows_of verbs.Put = PUT_ROWS
-rows_of verbs.Erase = NO_ROWS
-rows_of verbs.EndReq = NO_ROWS
+rows_of verbs.Get = get_rows
+rows_of verbs.Point = point_rows
+rows_of verbs.Put = put_rows
+rows_of verbs.Erase = []
+rows_of verbs.EndReq = []
 
 -- what they have to settle: GET and POINT the record, PUT its bytes
 abbrev pub needs_of : FileVerb → Settles
-needs_of verbs.Get = PLACE
-needs_of verbs.Point = PLACE
-needs_of verbs.Put = DATA
-needs_of verbs.Erase = NOTHING
-needs_of verbs.EndReq = NOTHING
+needs_of verbs.Get = settles_place
+needs_of verbs.Point = settles_place
+needs_of verbs.Put = settles_bytes
+needs_of verbs.Erase = settles_nothing
+needs_of verbs.EndReq = settles_nothing
 
 -- two operands exclude each other where both settle a thing
 abbrev pub overlaps : Settles → Settles → Bool

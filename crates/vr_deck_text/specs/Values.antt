@@ -1,42 +1,18 @@
--- Words of a deck as names, numbers and literals. Names of data sets are those of Using Data Sets,
--- literals those of Access Method Services Commands, names of files those of cards of MVS JCL.
-use Rattle.std.specs.Prelude.{ℕ, zero, suc, ◌+◌, ◌*◌, Bool, true, false, not, ◌&&◌, ◌||◌, ◌==◌, nat_le, nat_lt}
-use Rattle.std.specs.Prelude.{List, [], ◌∷◌, length, slice_index, Option, Some, None, if◌then◌else◌}
-use Rattle.std.specs.List.{list_all}
+-- Words of a deck as numbers and literals, which are those of Access Method Services Commands.
+use Rattle.std.specs.Prelude.{ℕ, ◌+◌, ◌*◌, ◌&&◌, ◌==◌, nat_le, nat_lt, List, [], ◌∷◌, Option, Some, None}
+use Rattle.std.specs.Prelude.{if◌then◌else◌}
 use Rattle.std.specs.Option.{option_map}
-use Rattle.std.specs.Char.{digit_value, is_ascii_alphabetic, is_ascii_digit}
-use Rattle.vr_types.specs.Name.{is_right_at, in_capitals}
-use Rattle.vr_text.specs.Number.{number_of}
+use Rattle.std.specs.Char.{digit_value}
+use Rattle.vr_text.specs.Words.{is_plain, number_in}
 
--- characters of ASCII
-abbrev pub is_plain : List ℕ → Bool
-is_plain text = list_all (λ b. nat_lt b 128) text
+-- a number that is at most 4,294,967,295
+abbrev pub if_small : Option ℕ → Option ℕ
+if_small None = None
+if_small (Some n) = if nat_le n 4294967295 then Some n else None
 
--- each byte below n may be where it is in a name
-abbrev pub is_right_below : List ℕ → ℕ → Bool
-is_right_below text zero = true
-is_right_below text (suc n) = is_right_at text n && is_right_below text n
-
--- the text is the name of a data set: each byte may be where it is, and the name may end there
-abbrev pub is_name : List ℕ → Bool
-is_name text =
-    is_plain text && not (length text == 0) && nat_le (length text) 44
-    && is_right_below text (suc (length text))
-
--- the name, in capitals
-abbrev pub name_in : List ℕ → Option (List ℕ)
-name_in text = if is_name text then Some (in_capitals text) else None
-
--- 1 to 19 digits
-abbrev pub is_numeral : List ℕ → Bool
-is_numeral text =
-    is_plain text && not (length text == 0) && nat_le (length text) 19
-    && list_all (λ b. nat_lt (digit_value b) 10) text
-
--- the number that they write, 0 to 4,294,967,295
-abbrev pub number_in : List ℕ → Option ℕ
-number_in text =
-    if is_numeral text && nat_le (number_of text) 4294967295 then Some (number_of text) else None
+-- the number that a word writes, 0 to 4,294,967,295
+abbrev pub small_number_in : List ℕ → Option ℕ
+small_number_in text = if_small (number_in text)
 
 -- a byte before others, where there are some
 abbrev pub onto : ℕ → Option (List ℕ) → Option (List ℕ)
@@ -67,16 +43,3 @@ form_in text = None
 
 abbrev pub literal_in : List ℕ → Option (List ℕ)
 literal_in text = if is_plain text then form_in text else None
-
--- a letter of either case, or one of the three characters that count as letters: @ # $
-abbrev pub is_letter : ℕ → Bool
-is_letter b = is_ascii_alphabetic b || b == 64 || b == 35 || b == 36
-
-abbrev pub are_letters : List ℕ → Bool
-are_letters name = list_all (λ b. is_letter b || is_ascii_digit b) name
-
--- the name of a file, as on cards: 1 to 8 letters and digits, the first not a digit
-abbrev pub is_file_name : List ℕ → Bool
-is_file_name name =
-    if length name == 0 || nat_lt 8 (length name) then false else (is_letter (slice_index name 0)
-    && are_letters name)

@@ -9,9 +9,9 @@ use crate::given::operands_in;
 use crate::order::file_named;
 use crate::tables::{FILE_ROWS, NOTHING};
 use crate::text::{DeckFile, FILE_LIMIT, Files};
-use crate::value::{is_file_name, name_in};
 use crate::word::next_word;
 use std::alloc::Global;
+use vr_text::{is_file_name, name_in};
 use vr_types::{Integrity, Name, bytes};
 
 /// What is wrong with declaring a file of this name.

@@ -9,7 +9,7 @@ use crate::fault::{DeckCause, Stop};
 use crate::row::{Operand, Row, Settles, Value, covers, joined, operand_named, overlaps};
 use crate::tables::NOTHING;
 use crate::text::At;
-use crate::value::{literal_in, number_in};
+use crate::value::{literal_in, small_number_in};
 use crate::word::{next_word, split_keyword};
 use std::alloc::Global;
 use vr_types::{Bytes, Integrity};
@@ -154,7 +154,7 @@ fn take_rba(given: &mut Given, text: &[u8]) -> Result<(), Stop>
     ensures ok { OnOk result (with_rba given.old text.now ≡ Ok given.new) }
     ensures stop { IfErr result (StopsBy (with_rba given.old text.now)) }
 {
-    match number_in(text) {
+    match small_number_in(text) {
         None => Err(Stop::Bad(DeckCause::BadNumber)),
         Some(number) => {
             given.at = Some(At::Rba(number));
@@ -168,7 +168,7 @@ fn take_rrn(given: &mut Given, text: &[u8]) -> Result<(), Stop>
     ensures ok { OnOk result (with_rrn given.old text.now ≡ Ok given.new) }
     ensures stop { IfErr result (StopsBy (with_rrn given.old text.now)) }
 {
-    match number_in(text) {
+    match small_number_in(text) {
         None => Err(Stop::Bad(DeckCause::BadNumber)),
         Some(number) => {
             given.at = Some(At::Rrn(number));

@@ -8,9 +8,9 @@ use crate::fault::{DeckCause, Stop};
 use crate::given::{Given, operands_in};
 use crate::row::{FileVerb, needs_of, rows_of};
 use crate::text::{Ask, At, Files, Seek};
-use crate::value::is_file_name;
 use crate::word::next_word;
 use std::alloc::Global;
+use vr_text::is_file_name;
 use vr_types::Integrity;
 
 /// A file that was declared: its number, and the integrity of its reads.

@@ -1,4 +1,4 @@
-//! The tables of verbs and of their operands. The definition of a deck reads these same tables. The
+//! The tables of verbs and of their operands, with the rows that the definitions spell out. The
 //! requests are those of Using Data Sets; how they are written is this project's own.
 
 use crate::row::{FileVerb, Operand, Row, Settles, Value, Verb, VerbRow};

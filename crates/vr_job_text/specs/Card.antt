@@ -7,7 +7,7 @@ use Rattle.std.specs.Prelude.{if◌then◌else◌}
 use Rattle.std.specs.Char.{is_ascii_digit}
 use Rattle.std.specs.List.{list_all}
 use Rattle.std.specs.Str.Parse.{digits_value}
-use Rattle.vr_deck_text.specs.Values.{is_file_name}
+use Rattle.vr_text.specs.Words.{is_file_name}
 use Rattle.vr_job_text.specs.declared.card.Card.{Card}
 use Rattle.vr_job_text.specs.declared.card.Card.TheVariants.{Nothing, Step, Data}
 use Rattle.vr_job_text.specs.declared.card.Program.TheVariants.{Decks, Utilities}

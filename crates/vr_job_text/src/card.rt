@@ -3,13 +3,13 @@ ghost use Rattle.std.specs.Prelude.{◌≡◌, ◌≤◌, ◌^◌, true, drop, l
 ghost use Rattle.std.specs.Char.{digit_value, is_ascii_digit};
 ghost use Rattle.std.specs.List.{list_all};
 ghost use Rattle.std.specs.Str.Parse.{digits_value};
-ghost use Rattle.vr_deck_text.specs.Values.{is_letter, are_letters, is_file_name};
 ghost use Rattle.vr_job_text.specs.Card.{is_card, is_nothing, program_name, after_program};
 ghost use Rattle.vr_job_text.specs.Card.{other_program, step_of, step_card, data_card, card_from};
 ghost use Rattle.vr_job_text.specs.Card.{named_card, card_of, name_on, is_deck_name, deck_number};
 
 use crate::fault::{CardCause, CardFault, wrong};
 use crate::line::{after_word, column_of, unindented, word};
+use vr_text::is_file_name;
 
 /// The programs whose steps a job may have: decks, and the utilities of IDCAMS.
 #[derive(Clone, Copy)]
@@ -42,31 +42,6 @@ fn is_nothing(rest: &[u8]) -> bool
     ensures { result ≡ is_nothing rest.now }
 {
     rest.is_empty() || rest[0] == b'*' || rest[0] == b' '
-}
-
-/// Whether a byte is a letter of a name.
-fn is_letter(byte: u8) -> bool
-    ensures { result ≡ is_letter byte }
-{
-    byte.is_ascii_alphabetic() || byte == b'@' || byte == b'#' || byte == b'$'
-}
-
-/// Whether each byte is a letter or a digit.
-fn are_letters(name: &[u8]) -> bool
-    ensures { result ≡ are_letters name.now }
-{
-    name.iter()
-        .all(|byte| is_letter(*byte) || byte.is_ascii_digit())
-}
-
-/// Whether these bytes are a name.
-fn is_name(name: &[u8]) -> bool
-    ensures { result ≡ is_file_name name.now }
-{
-    if name.is_empty() || name.len() > NAME_LIMIT {
-        return false;
-    }
-    is_letter(name[0]) && are_letters(name)
 }
 
 /// The name of a program: the bytes up to the first blank or comma.
@@ -169,7 +144,7 @@ fn named_card(line: &[u8], rest: &[u8]) -> Result<Card, CardFault>
     requires within { length rest.now ≤ length line.now }
     ensures { result ≡ named_card line.now rest.now }
 {
-    if is_name(word(rest)) {
+    if is_file_name(word(rest)) {
         card_from(line, after_word(rest))
     } else {
         Err(wrong(CardCause::Misspelled, 3))

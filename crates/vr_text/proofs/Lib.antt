@@ -3,3 +3,4 @@ pub mod Digits
 pub mod Enclosed
 pub mod Numbers
 pub mod Quotes
+pub mod Names

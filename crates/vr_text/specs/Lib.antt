@@ -3,3 +3,4 @@ pub mod LinesHeld
 pub mod Literal
 pub mod LiteralParts
 pub mod Number
+pub mod Words

@@ -1,6 +1,6 @@
 use Rattle.std.proofs.Common.{rules}
-use Rattle.vr_deck_text.proofs.Names.{name_there, name_absent}
-use Rattle.vr_deck_text.proofs.value.plain_name.Goals as goal
+use Rattle.vr_text.proofs.Names.{name_there, name_absent}
+use Rattle.vr_text.proofs.words.plain_name.Goals as goal
 
 pub returns-in-Ok : goal.returns-in-Ok
 returns-in-Ok c =

@@ -1,6 +1,6 @@
 use Rattle.std.proofs.lemmas.Bool.{false_from_ne_true}
-use Rattle.vr_deck_text.proofs.Names.{plain_is_utf8}
-use Rattle.vr_deck_text.proofs.value.plain_text.Goals as goal
+use Rattle.vr_text.proofs.Names.{plain_is_utf8}
+use Rattle.vr_text.proofs.words.plain_text.Goals as goal
 
 pub returns-in-Err-clause-none : goal.returns-in-Err-clause-none
 returns-in-Err-clause-none c =

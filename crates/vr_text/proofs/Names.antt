@@ -1,7 +1,7 @@
--- Names and numbers: the functions that the definition has for them answer what the calls do.
-use Rattle.std.proofs.Common.{◌≡◌, ◌≢◌, ℕ, suc, ◌<◌, ◌≤◌, List, [], ◌∷◌, length, true, false, not}
-use Rattle.std.proofs.Common.{◌==◌, nat_lt, get_or, refl, sym, subst, ap, ◌∙◌, Some, None}
-use Rattle.std.proofs.Common.{arith}
+-- Names and numbers: the functions that Words has for them answer what the rules of both say.
+use Rattle.std.proofs.Common.{◌≡◌, ◌≢◌, ℕ, suc, ◌<◌, List, [], ◌∷◌, length, true, false, not}
+use Rattle.std.proofs.Common.{◌==◌, nat_lt, get_or, refl, sym, subst, ap, ◌∙◌, Option, Some, None, IfSome}
+use Rattle.std.proofs.Common.{IfNone, arith}
 use Rattle.std.specs.Bool.{Decides}
 use Rattle.std.specs.List.{list_all}
 use Rattle.std.specs.Char.{digit_value}
@@ -19,8 +19,7 @@ use Rattle.vr_types.specs.declared.name.NameFault.TheVariants.{Empty, TooLong, Q
 use Rattle.vr_types.specs.Name.{IsDatasetName, CauseOf, is_right_at}
 use Rattle.vr_text.specs.Number.{IsNumber, number_of}
 use Rattle.vr_types.specs.Name.{in_capitals}
-use Rattle.vr_deck_text.specs.Values.{is_plain, is_right_below, is_name, name_in, is_numeral}
-use Rattle.vr_deck_text.specs.Values.{number_in}
+use Rattle.vr_text.specs.Words.{is_plain, is_right_below, is_name, name_in, is_numeral, number_in}
 
 -- each byte of a plain text is a character of ASCII, so that the text is UTF-8
 each_plain : (text : List ℕ) → is_plain text ≡ true → (k d : ℕ) → k < length text
@@ -97,19 +96,10 @@ numeral_back text h =
     let some = and_parts _ _ short.0 in
     ((some_text text some.1, digits_back text whole.1), leb-true _ _ short.1)
 
-pub number_there : (text : List ℕ) (n : ℕ) → is_plain text ≡ true → IsNumber text
-    → n ≡ number_of text → n ≤ 4294967295 → Some n ≡ number_in text
-number_there text n plain h same fits =
-    ap Some same
-    ∙ sym (cond-true _ _ _ (and_from _ _ (numeral_true text plain h)
-    (le-leb _ _ (subst (λ (m : ℕ). m ≤ 4294967295) same fits))))
-
-pub number_large : (text : List ℕ) (n : ℕ) → n ≡ number_of text → 4294967295 < n
-    → None ≡ number_in text
-number_large text n same large =
-    sym (cond-false _ _ _ (and_right _ _
-    (lt-leb _ _ (subst (λ (m : ℕ). 4294967295 < m) same large))))
-
-pub number_absent : (text : List ℕ) → ¬ IsNumber text → None ≡ number_in text
-number_absent text none =
-    sym (cond-false _ _ _ (and_left _ _ (false_from_ne_true _ (λ h. none (numeral_back text h)))))
+pub number_plain : (text : List ℕ) (result : Option ℕ) → is_plain text ≡ true
+    → IfSome result (λ n. IsNumber text × (n ≡ number_of text)) → IfNone result (¬ IsNumber text)
+    → result ≡ number_in text
+number_plain text (Some n) plain some none =
+    ap Some some.1 ∙ sym (cond-true _ _ _ (numeral_true text plain some.0))
+number_plain text None plain some none =
+    sym (cond-false _ _ _ (false_from_ne_true _ (λ h. none (numeral_back text h))))
