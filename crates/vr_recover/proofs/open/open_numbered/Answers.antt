@@ -108,9 +108,11 @@ returns-in_err-found-clause-unwritten g c told none =
     let a = g.B.Blocks.seen c.args.blocks.now in
     let b = g.B.Blocks.seen c.start.new.blocks in
     let call = c.start.ensures.keeps in
-    keeps-then g.B.Blocks.tells a b (g.B.Blocks.seen c.open_log.new.blocks) call
+    let p = err_from_is_err_and c.from_residual-in_err-found.result
+    c.from_residual-in_err-found.ensures.1 in
+    rw p.1 (keeps-then g.B.Blocks.tells a b (g.B.Blocks.seen c.open_log.new.blocks) call
     (c.in_err-found.ensures.unwritten told c.args.number
     (ap (λ (i : Image). block_at i 0) (call.content told)
     ∙ c.in_ok-begun.ensures.header told
     ∙ ap (λ (g : Geometry). header_block g c.args.number) (sym same))
-    (none-then a b call.count_same call.size_same (call.content told) c.args.number none))
+    (none-then a b call.count_same call.size_same (call.content told) c.args.number none)))
