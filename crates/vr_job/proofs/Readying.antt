@@ -459,6 +459,7 @@ opening-run seen opening volume none going whole held may = record {
             (whole.geometry going) is;
       });
   events = record { events = []; are = (refl, none) };
+  stopped = λ stops. absurd (stops going);
 }
   where
     now : Seen

@@ -1,0 +1,274 @@
+-- A COMMIT that was answered 0 leaves its volume going, and what a volume that stopped leaves is what
+-- the event leaves in which it did.
+use Rattle.std.proofs.Common.{◌≡◌, ◌≢◌, ◌⊎◌, inl, inr, ⊎_elim, ◌∙◌, ℕ, Bool, List, [], ◌∷◌, ◌++◌}
+use Rattle.std.proofs.Common.{Option, Some, None, refl, sym, ap, subst, append_assoc}
+use Rattle.std.specs.Prelude.{option_map}
+use Rattle.std.proofs.lemmas.List.{append-nil, append_cancel_left}
+use Rattle.std.proofs.lemmas.List.Elements.{All-cons, All-nil}
+use Rattle.vr_types.specs.Faults.{Faults}
+use Rattle.vr_types.specs.Image.{Image}
+use Rattle.vr_types.specs.Seen.{Left, Seen}
+use Rattle.vr_types.specs.declared.fault.DeviceFault.{DeviceFault}
+use Rattle.vr_types.specs.declared.fault.DeviceFault.TheVariants.{Write}
+use Rattle.vr_types.specs.declared.geometry.Geometry.{Geometry}
+use Rattle.vr_types.specs.declared.reply.Refusal.{Refusal}
+use Rattle.vr_types.specs.declared.reply.Refusal.TheVariants.{Stopped, WriteFault}
+use Rattle.vr_types.specs.declared.reply.Reply.{Reply}
+use Rattle.vr_types.specs.declared.reply.Reply.TheVariants.{Done as DoneReply, Refused}
+use Rattle.vr_types.specs.declared.request.Request.{Request}
+use Rattle.vr_types.specs.declared.request.Request.TheVariants.{Commit}
+use Rattle.vr_types.specs.declared.unit.PartNo.{PartNo}
+use Rattle.vr_types.specs.declared.unit.Unit.{Unit as UnitOfRecovery}
+use Rattle.vr_history.specs.Legal.{AreSteps, state_of}
+use Rattle.vr_history.specs.Replies.{MayReply, first_of, refused_or}
+use Rattle.vr_history.specs.State.{State}
+use Rattle.vr_history.specs.Step.{MayEnter, Step, case_of, state_after}
+use Rattle.vr_history.specs.declared.entry.Entry.{Entry}
+use Rattle.vr_history.specs.declared.entry.What.{What}
+use Rattle.vr_history.specs.declared.entry.What.TheVariants.{Asked, Faulted, Split, Undone}
+use Rattle.vr_record_file.specs.Now.{FileNow, asked_failing, ended, entry_next, failed, with_event}
+use Rattle.vr_event.specs.Acting.{HasStepped, IsActed, IsAnsweredFor}
+use Rattle.vr_event.specs.Made.{IsStepFor, MadeBy}
+use Rattle.vr_event.specs.declared.act.Act.{Act}
+use Rattle.vr_event.specs.declared.act.Act.TheVariants.{Again, Done}
+use Rattle.vr_job.specs.Crash.{HaveDoneCommit, IsDoneCommit}
+use Rattle.vr_job.specs.Events.{FaultsFollow, HasStopped, IsLeftWhile, IsStop}
+use Rattle.vr_job.specs.Faultless.{AreFaultless, IsFaulted}
+
+-- ---- a COMMIT that is answered 0 comes where its volume goes on
+
+going-by : (stopped : Option ℕ) (refusals : List (Option Refusal)) (reply : Reply)
+    → DoneReply 0 None None
+    ≡ refused_or (first_of (None ∷ option_map Stopped stopped ∷ refusals)) reply → stopped ≡ None
+going-by None refusals reply same = refl
+going-by (Some stamp) refusals reply same = absurd cc
+
+commit-going : (geometry : Geometry) (state : State) (unit : UnitOfRecovery)
+    → MayReply (case_of geometry state unit Commit) (DoneReply 0 None None) → state.stopped ≡ None
+commit-going geometry state unit is = ⊎_elim
+    (λ answered. going-by state.stopped _ _ answered.0)
+    (λ lacks. ⊎_elim (λ room. absurd (not-refused _ room.4))
+    (λ further. ⊎_elim (λ memory. absurd (not-refused _ memory.2))
+    (λ faults. ⊎_elim (λ write. absurd (not-refused _ write))
+    (λ read. absurd (not-refused _ read.1)) faults.1) further) lacks) is
+  where
+    not-refused : (refusal : Refusal) → DoneReply 0 None None ≡ Refused refusal → ⊥
+    not-refused refusal same = cc
+
+-- a step in the midst of others
+step-at : (geometry : Geometry) (state : State) (before : List Entry) (entry : Entry)
+    (rest : List Entry) → AreSteps geometry state (before ++ entry ∷ rest)
+    → Step geometry (state_of geometry state before) entry
+step-at geometry state [] entry rest steps = steps.0
+step-at geometry state (first ∷ before) entry rest steps =
+    step-at geometry (state_after geometry state first) before entry rest steps.1
+
+-- so the volume went on before it
+pub commit-went : (geometry : Geometry) (state : State) (before : List Entry) (entry : Entry)
+    (rest : List Entry) → AreSteps geometry state (before ++ entry ∷ rest)
+    → IsDoneCommit entry.what → (state_of geometry state before).stopped ≡ None
+commit-went geometry state before entry rest steps is =
+    commit-going geometry (state_of geometry state before) entry.unit
+    (subst (λ (what : What). MayEnter geometry (state_of geometry state before) entry.unit what) is
+    (step-at geometry state before entry rest steps)).1
+
+-- ---- what an event does of faults
+
+-- the volume goes on as before, and what was entered is no fault
+pub record GoesOnFrom (old new : FileNow) (made : List Entry) : Type 0 where
+  pub same : new.stopped ≡ old.stopped
+  pub faultless : AreFaultless made
+
+asked-none : (request : Request) (reply : Reply) → ¬ IsFaulted (Asked request reply)
+asked-none request reply is = differ is.0 is.1
+  where
+    differ : (fault : DeviceFault) → Asked request reply ≡ Faulted fault → ⊥
+    differ fault same = cc
+
+split-none : (part : PartNo) → ¬ IsFaulted (Split part)
+split-none part is = differ is.0 is.1
+  where
+    differ : (fault : DeviceFault) → Split part ≡ Faulted fault → ⊥
+    differ fault same = cc
+
+undone-none : (part : PartNo) (place : List ℕ) → ¬ IsFaulted (Undone part place)
+undone-none part place is = differ is.0 is.1
+  where
+    differ : (fault : DeviceFault) → Undone part place ≡ Faulted fault → ⊥
+    differ fault same = cc
+
+module _ (old new : FileNow) (made : List Entry) (entries : new.entries ≡ old.entries ++ made)
+    (after : ℕ) (unit : UnitOfRecovery) where
+  none-entered : new ≡ old → GoesOnFrom old new made
+  none-entered same = record {
+    same = ap (λ (f : FileNow). f.stopped) same;
+    faultless = subst AreFaultless (sym none) (All-nil (λ (entry : Entry). ¬ IsFaulted entry.what));
+  }
+    where
+      none : made ≡ []
+      none = append_cancel_left old.entries made []
+          (sym entries ∙ ap (λ (f : FileNow). f.entries) same ∙ sym (append-nil old.entries))
+
+  one-entered : (line : ℕ) (what : What) (mid : FileNow) → new ≡ with_event after unit line what mid
+      → mid.stopped ≡ old.stopped → mid.entries ≡ old.entries → ¬ IsFaulted what
+      → GoesOnFrom old new made
+  one-entered line what mid leaves stopped same none = record {
+    same = ap (λ (f : FileNow). f.stopped) leaves ∙ stopped;
+    faultless = subst AreFaultless (sym one)
+        (All-cons (λ (entry : Entry). ¬ IsFaulted entry.what)
+        (entry_next mid.entries after unit line what) [] none
+        (All-nil (λ (entry : Entry). ¬ IsFaulted entry.what)));
+  }
+    where
+      one : made ≡ entry_next mid.entries after unit line what ∷ []
+      one = append_cancel_left old.entries made (entry_next mid.entries after unit line what ∷ [])
+          (sym entries ∙ ap (λ (f : FileNow). f.entries) leaves
+          ∙ ap (λ (es : List Entry). es ++ entry_next mid.entries after unit line what ∷ []) same)
+
+  stepped : (request : Request) → HasStepped after unit request old new → GoesOnFrom old new made
+  stepped request is = ⊎_elim
+      (λ same. none-entered same)
+      (λ step. ⊎_elim
+      (λ split. one-entered 0 (Split split.0) old split.1 refl refl (split-none split.0))
+      (λ back. one-entered 0 (Undone back.1 back.2) old back.3 refl refl
+      (undone-none back.1 back.2))
+      step) is
+
+  module _ (line : ℕ) (request : Request) where
+    fails : (mid : FileNow) → mid.entries ≡ old.entries → new ≡ failed after unit line request mid
+        → IsStop made
+    fails mid same leaves = record {
+      request = request;
+      failing = entry_next mid.entries after unit line (Asked request (Refused WriteFault));
+      fault = entry_next (asked_failing after unit line request mid).entries 0 unit line
+          (Faulted Write);
+      made_are = append_cancel_left old.entries made _
+          (sym entries ∙ ap (λ (f : FileNow). f.entries) leaves
+          ∙ append_assoc mid.entries
+          (entry_next mid.entries after unit line (Asked request (Refused WriteFault)) ∷ [])
+          (entry_next (asked_failing after unit line request mid).entries 0 unit line
+          (Faulted Write) ∷ [])
+          ∙ ap (λ (es : List Entry). es
+          ++ entry_next mid.entries after unit line (Asked request (Refused WriteFault))
+          ∷ entry_next (asked_failing after unit line request mid).entries 0 unit line
+          (Faulted Write) ∷ []) same);
+      failing_is = refl;
+      fault_is = refl;
+    }
+
+    answered : (before now : Faults) → IsAnsweredFor before now after unit line request old new
+        → GoesOnFrom old new made ⊎ IsStop made
+    answered before now is = ⊎_elim
+        (λ entered. inl (one-entered line (Asked request entered.entered.reply) (record old {
+          locks = new.locks;
+          files = new.files;
+          files_room = new.files_room;
+        }) entered.entered.leaves refl refl (asked-none request entered.entered.reply)))
+        (λ further. ⊎_elim
+        (λ over. inl (one-entered line (Asked request (DoneReply 0 None None)) (ended unit old) over.1
+        refl refl (asked-none request (DoneReply 0 None None))))
+        (λ stops. inr (fails (record old { locks = new.locks }) refl stops.0))
+        further) is
+
+    -- what an event comes to: the volume goes on, or stops
+    pub acted-stops : (before now : Faults) (act : Act)
+        → IsActed before now act after unit line request old new
+        → GoesOnFrom old new made ⊎ IsStop made
+    acted-stops before now Done is = answered before now is.by
+    acted-stops before now (Again given) is = inl (stepped request is.by.1)
+
+-- in the words of an event
+pub faults-follow : (old new : FileNow) (made : List Entry)
+    → GoesOnFrom old new made ⊎ IsStop made → FaultsFollow made
+faults-follow old new made is = ⊎_elim (λ on. inr on.faultless) (λ stop. inl stop) is
+
+refused-not-done : (request : Request)
+    → Asked request (Refused WriteFault) ≡ Asked Commit (DoneReply 0 None None) → ⊥
+refused-not-done request same = cc
+
+faulted-not-done : Faulted Write ≡ Asked Commit (DoneReply 0 None None) → ⊥
+faulted-not-done same = cc
+
+-- no COMMIT is answered 0 in an event in which the volume stops
+pub stop-none : (made : List Entry) → IsStop made → HaveDoneCommit made → ⊥
+stop-none made stop done = in-pair (subst HaveDoneCommit stop.made_are done)
+  where
+    refused : (what : What) (request : Request) → what ≡ Asked request (Refused WriteFault)
+        → IsDoneCommit what → ⊥
+    refused what request is done = refused-not-done request (sym is ∙ done)
+
+    faulted : (what : What) → what ≡ Faulted Write → IsDoneCommit what → ⊥
+    faulted what is done = faulted-not-done (sym is ∙ done)
+
+    in-pair : HaveDoneCommit (stop.failing ∷ stop.fault ∷ []) → ⊥
+    in-pair is = ⊎_elim (λ first. refused stop.failing.what stop.request stop.failing_is first)
+        (λ rest. ⊎_elim (λ second. faulted stop.fault.what stop.fault_is second)
+        (λ none. none) rest) is
+
+-- ---- a COMMIT that was answered 0
+
+-- as an event that goes on enters one entry at most, it is the first
+pub commit-first : (act : Act) (unit : UnitOfRecovery) (line : ℕ) (request : Request)
+    (made : List Entry) → MadeBy act unit line request made → HaveDoneCommit made
+    → (entry : Entry) × (rest : List Entry) × (made ≡ entry ∷ rest) × IsDoneCommit entry.what
+commit-first Done unit line request made is done = (
+  is.entry,
+  is.rest,
+  is.is,
+  ⊎_elim (λ first. first) (λ later. absurd (rest-none later)) (subst HaveDoneCommit is.is done),
+)
+  where
+    faulted : (what : What) → what ≡ Faulted Write → IsDoneCommit what → ⊥
+    faulted what is done = faulted-not-done (sym is ∙ done)
+
+    rest-none : HaveDoneCommit is.rest → ⊥
+    rest-none later = ⊎_elim
+        (λ none. subst HaveDoneCommit none later)
+        (λ fault. ⊎_elim (λ at. faulted fault.0.what fault.3 at) (λ none. none)
+        (subst HaveDoneCommit fault.1 later)) is.follows
+commit-first (Again given) unit line request made is done = absurd (⊎_elim
+    (λ none. subst HaveDoneCommit none done)
+    (λ one. ⊎_elim (λ at. step-done one.0 one.2 at) (λ none. none)
+    (subst HaveDoneCommit one.1 done)) is)
+  where
+    split-done : (part : PartNo) → IsDoneCommit (Split part) → ⊥
+    split-done part done = cc
+
+    undone-done : (part : PartNo) (place : List ℕ) → IsDoneCommit (Undone part place) → ⊥
+    undone-done part place done = cc
+
+    step-done : (entry : Entry) → IsStepFor unit request entry → IsDoneCommit entry.what → ⊥
+    step-done entry step done = ⊎_elim
+        (λ split. split-done split.0 (subst IsDoneCommit split.1 done))
+        (λ back. undone-done back.1 back.2 (subst IsDoneCommit back.3 done)) step.1
+
+-- ---- a volume that has stopped
+
+-- more entries, while no block is touched
+pub stopped-more : (geometry : Geometry) (number : ℕ) (opening : State) (entries more : List Entry)
+    (now : Seen) → HasStopped geometry number opening entries now
+    → HasStopped geometry number opening (entries ++ more) now
+stopped-more geometry number opening entries more now is = record {
+  before = is.before;
+  made = is.made;
+  later = is.later ++ more;
+  entries_are = ap (λ (es : List Entry). es ++ more) is.entries_are
+      ∙ append_assoc is.before (is.made ++ is.later) more
+      ∙ ap (λ (es : List Entry). is.before ++ es) (append_assoc is.made is.later more);
+  stop = is.stop;
+  left = is.left;
+}
+
+-- less is left
+pub stopped-fewer : (geometry : Geometry) (number : ℕ) (opening : State) (entries : List Entry)
+    (now later : Seen) → ((image : Image) → Left later image → Left now image)
+    → HasStopped geometry number opening entries now
+    → HasStopped geometry number opening entries later
+stopped-fewer geometry number opening entries now later fewer is = record {
+  before = is.before;
+  made = is.made;
+  later = is.later;
+  entries_are = is.entries_are;
+  stop = is.stop;
+  left = λ image left. is.left image (fewer image left);
+}
