@@ -66,8 +66,10 @@ event-made act after unit line at request what old new locks files files_room nu
       made = entry ∷ [];
       entries = entries;
       by = by;
+      next = (refl, tt);
       stamped = (omega arith, tt);
       last = omega (arith, last);
+      stops = inl (ap (λ (f : FileNow). f.stopped) leaves);
       geometry = ap (λ (f : FileNow). f.geometry) leaves;
       catalog = ap (λ (f : FileNow). f.catalog) leaves;
       decks = λ deck. ap (λ (f : FileNow). has_deck deck f.numbers) leaves ∙ decks deck;
@@ -84,8 +86,10 @@ same-made after unit line request given old new same = record {
   entries = ap (λ (f : FileNow). f.entries) same
       ∙ sym (Rattle.std.proofs.lemmas.List.append-nil old.entries);
   by = inl refl;
+  next = tt;
   stamped = tt;
   last = omega (arith, ap (λ (f : FileNow). last_stamp 0 f.entries) same);
+  stops = inl (ap (λ (f : FileNow). f.stopped) same);
   geometry = ap (λ (f : FileNow). f.geometry) same;
   catalog = ap (λ (f : FileNow). f.catalog) same;
   decks = λ deck. ap (λ (f : FileNow). has_deck deck f.numbers) same;
@@ -147,10 +151,25 @@ failed-made after unit line request old new locks leaves =
         unit_is = refl;
         line_is = refl;
         what_is = refl;
-        follows = inr (fault, refl, refl, refl);
+        follows = inr (record {
+          refused = refl;
+          fault = fault;
+          is = refl;
+          unit_is = refl;
+          line_is = refl;
+          what_is = refl;
+        });
       };
+      next = (refl, (omega (arith, mid-last), tt));
       stamped = (omega arith, (omega (arith, mid-last), tt));
       last = omega (arith, last, mid-last);
+      stops = inr (record {
+        entry = asked;
+        fault = fault;
+        is = refl;
+        what_is = refl;
+        stopped = ap (λ (f : FileNow). f.stopped) leaves;
+      });
       geometry = ap (λ (f : FileNow). f.geometry) leaves;
       catalog = ap (λ (f : FileNow). f.catalog) leaves;
       decks = λ deck. ap (λ (f : FileNow). has_deck deck f.numbers) leaves;

@@ -9,7 +9,9 @@ ghost use Rattle.vr_event.specs.Made.{HasMade};
 ghost use Rattle.vr_event.specs.declared.act.Act as acts;
 
 /// An event adds the entry of its request to the history, once, where it is done, and no entry of a
-/// request where it is to be asked again. The stamps of what it adds rise.
+/// request where it is to be asked again. The stamps of what it adds are those that come next. A
+/// fault follows a request that is refused for it alone, and stops the volume: one that is answered
+/// otherwise leaves a volume that goes on.
 pub fn event_adds()
     ensures { (before now : Faults) (act : acts.Act) (after : ℕ) (unit : units.Unit) (line : ℕ)
         (request : Request) (old new : FileNow)

@@ -41,8 +41,8 @@ made-own Done asking line request made is =
     rest-own : All (IsOf asking.deck) is.rest
     rest-own = ⊎_elim
         (λ none. subst (All (IsOf asking.deck)) (sym none) (All-nil (IsOf asking.deck)))
-        (λ fault. subst (All (IsOf asking.deck)) (sym fault.1)
-        (All-cons (IsOf asking.deck) fault.0 [] (of-unit fault.0 fault.2)
+        (λ fault. subst (All (IsOf asking.deck)) (sym fault.is)
+        (All-cons (IsOf asking.deck) fault.fault [] (of-unit fault.fault fault.unit_is)
         (All-nil (IsOf asking.deck)))) is.follows
 made-own (Again given) asking line request made is = ⊎_elim
     (λ none. subst (All (IsOf asking.deck)) (sym none) (All-nil (IsOf asking.deck)))
@@ -93,9 +93,9 @@ made-answers Done number asking line request made is =
   where
     rest-none : part-of number asking.deck is.rest ≡ []
     rest-none = ⊎_elim (λ none. ap (part-of number asking.deck) none)
-        (λ fault. ap (part-of number asking.deck) fault.1
-        ∙ none-asked number asking.deck fault.0
-        (ap (request_in number fault.0.line) fault.3)) is.follows
+        (λ fault. ap (part-of number asking.deck) fault.is
+        ∙ none-asked number asking.deck fault.fault
+        (ap (request_in number fault.fault.line) fault.what_is)) is.follows
 made-answers (Again given) number asking line request made is = ⊎_elim
     (λ none. ap (part-of number asking.deck) none)
     (λ one. ap (part-of number asking.deck) one.1
@@ -119,7 +119,7 @@ made-goes Done asking line request made own is may =
     ∙ undoes-append false own (is.entry ∷ is.rest)
     ∙ ap (λ (w : What). undoes_from (asked.undoing_after (undoes own) w) is.rest) is.what_is
     ∙ ⊎_elim (λ none. ap (undoes_from false) none)
-    (λ fault. ap (undoes_from false) fault.1 ∙ ap (asked.undoing_after false) fault.3) is.follows
+    (λ fault. ap (undoes_from false) fault.is ∙ ap (asked.undoing_after false) fault.what_is) is.follows
 made-goes (Again given) asking line request made own is may = ⊎_elim
     (λ none. subst (MayAsk request)
     (sym (ap (λ (m : List Entry). own ++ m) none ∙ append-nil own)) may)

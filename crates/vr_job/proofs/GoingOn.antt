@@ -70,8 +70,8 @@ made-once Done unit line request made is =
   where
     rest-none : requests_in is.rest ≡ []
     rest-none = ⊎_elim (λ none. ap requests_in none)
-        (λ fault. ap requests_in fault.1
-        ∙ alone fault.0 (ap (request_in 0 fault.0.line) fault.3)) is.follows
+        (λ fault. ap requests_in fault.is
+        ∙ alone fault.fault (ap (request_in 0 fault.fault.line) fault.what_is)) is.follows
 
     one : requests_in made ≡ bound_to 0 is.entry.line request ∷ []
     one = ap requests_in is.is

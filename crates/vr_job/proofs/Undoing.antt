@@ -155,8 +155,8 @@ module _ (asking : UnitOfRecovery) (line : ℕ) (request : Request) (old new : F
 
       rest-stays : (b : Bool) → is_undoing_from unit b is.rest ≡ b
       rest-stays b = ⊎_elim (λ none. ap (is_undoing_from unit b) none)
-          (λ fault. ap (is_undoing_from unit b) fault.1
-          ∙ ap (undoing_after unit b fault.0) fault.3) is.follows
+          (λ fault. ap (is_undoing_from unit b) fault.is
+          ∙ ap (undoing_after unit b fault.fault) fault.what_is) is.follows
 
   -- a unit that is its deck's current one, and not the one that asks, is of another deck
   apart : (unit : UnitOfRecovery) → unit ≡ unit_of unit.deck old
