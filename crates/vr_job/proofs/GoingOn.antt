@@ -35,7 +35,8 @@ use Rattle.vr_volume.specs.Crashes.{RecoversTo}
 use Rattle.vr_worker.proofs.CallerLemmas.{stamped-above}
 use Rattle.vr_worker.specs.Asked.{bound_to}
 use Rattle.vr_job.specs.Crash.{HaveDoneCommit, IsCommit, IsDoneCommit, IsLeftBy}
-use Rattle.vr_job.specs.Events.{HasStopped, IsLeftWhile, IsOfEvents, IsStop, LeavesAtRest, requests_in}
+use Rattle.vr_job.specs.Events.{FaultsFollow, HasStopped, IsLeftWhile, IsOfEvents, LeavesAtRest}
+use Rattle.vr_job.specs.Events.{requests_in}
 use Rattle.vr_job.specs.Faultless.{AreFaultless}
 use Rattle.vr_job.specs.Going.{GoesOn, HasRun, went-then}
 use Rattle.vr_job.specs.Serving.{IsServing, StaysServing}
@@ -43,8 +44,8 @@ use Rattle.vr_job.proofs.Crashing.{held-left, left-more}
 use Rattle.vr_job.proofs.Entering.{step-none}
 use Rattle.vr_job.proofs.Faultless.{NoFault, acted-faultless}
 use Rattle.vr_job.proofs.ReadFaults.{acted-reads}
-use Rattle.vr_job.proofs.Stopping.{GoesOnFrom, acted-stops, commit-first, commit-went, faults-follow}
-use Rattle.vr_job.proofs.Stopping.{stop-none, stopped-more}
+use Rattle.vr_job.proofs.Stopping.{commit-first, commit-went, faults-follow, going-on, stop-of}
+use Rattle.vr_job.proofs.Stopping.{stopped-more}
 use Rattle.vr_job.proofs.Undoing.{shows-same}
 
 -- stamps rise on
@@ -260,17 +261,15 @@ module _ {B : Type 0} (seen : B → Seen) (faults : B → Faults) (old new : Vol
           in-while)
       by_while (Some stamp) is = inl (stays (λ none. some-none stamp (sym is ∙ none)))
 
-      -- the volume goes on, or stops
-      comes-to : GoesOnFrom old.file new.file made-in.made ⊎ IsStop made-in.made
-      comes-to = acted-stops old.file new.file made-in.made made-in.entries after unit line request
-          (faults old.blocks) (faults new.blocks) act acted
+      -- a fault is entered after a request alone that was refused for it
+      follow : FaultsFollow made-in.made
+      follow = faults-follow act unit line request made-in.made made-in.by
 
       -- it goes on where a COMMIT was answered 0
       goes-on : IsHeld seen opening new → HaveDoneCommit made-in.made → new.file.stopped ≡ None
-      goes-on held done = ⊎_elim
-          (λ on. on.same ∙ run.held.file.now.stopped
-          ∙ commit-went old.file.geometry opening old.file.entries one.0 one.1 steps one.3)
-          (λ stop. absurd (stop-none made-in.made stop done)) comes-to
+      goes-on held done = going-on old.file new.file made-in.made made-in.stops follow done
+          ∙ run.held.file.now.stopped
+          ∙ commit-went old.file.geometry opening old.file.entries one.0 one.1 steps one.3
         where
           one : (entry : Entry) × (rest : List Entry) × (made-in.made ≡ entry ∷ rest)
               × IsDoneCommit entry.what
@@ -297,7 +296,7 @@ module _ {B : Type 0} (seen : B → Seen) (faults : B → Faults) (old new : Vol
             once = made-once act unit line request made-in.made made-in.by;
             during = by_while old.file.stopped refl;
             after = rests;
-            faults = faults-follow old.file new.file made-in.made comes-to;
+            faults = follow;
             lasting = λ done. rests (sym held-stopped ∙ goes-on held done);
           },
           run.events.are,
@@ -331,7 +330,8 @@ module _ {B : Type 0} (seen : B → Seen) (faults : B → Faults) (old new : Vol
             later = [];
             entries_are = made-in.entries
                 ∙ ap (λ (es : List Entry). old.file.entries ++ es) (sym (append-nil made-in.made));
-            stop = ⊎_elim (λ on. absurd (stops (on.same ∙ going))) (λ stop. stop) comes-to;
+            stop = stop-of old.file new.file made-in.made made-in.stops follow
+                (λ same. stops (same ∙ going));
             left = λ image left. in-while image
                 ((subst (λ (g : Geometry). Guards (seen old.blocks) (seen new.blocks)
                 (IsLeftIn g old.number (state_now opening old.file) after unit line request old.file

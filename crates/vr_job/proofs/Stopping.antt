@@ -3,9 +3,7 @@
 use Rattle.std.proofs.Common.{◌≡◌, ◌≢◌, ◌⊎◌, inl, inr, ⊎_elim, ◌∙◌, ℕ, Bool, List, [], ◌∷◌, ◌++◌}
 use Rattle.std.proofs.Common.{Option, Some, None, refl, sym, ap, subst, append_assoc}
 use Rattle.std.specs.Prelude.{option_map}
-use Rattle.std.proofs.lemmas.List.{append-nil, append_cancel_left}
-use Rattle.std.proofs.lemmas.List.Elements.{All-cons, All-nil}
-use Rattle.vr_types.specs.Faults.{Faults}
+use Rattle.std.proofs.lemmas.List.Elements.{All-cons, All-head, All-nil, All-tail}
 use Rattle.vr_types.specs.Image.{Image}
 use Rattle.vr_types.specs.Seen.{Left, Seen}
 use Rattle.vr_types.specs.declared.fault.DeviceFault.{DeviceFault}
@@ -26,9 +24,8 @@ use Rattle.vr_history.specs.Step.{MayEnter, Step, case_of, state_after}
 use Rattle.vr_history.specs.declared.entry.Entry.{Entry}
 use Rattle.vr_history.specs.declared.entry.What.{What}
 use Rattle.vr_history.specs.declared.entry.What.TheVariants.{Asked, Faulted, Split, Undone}
-use Rattle.vr_record_file.specs.Now.{FileNow, asked_failing, ended, entry_next, failed, with_event}
-use Rattle.vr_event.specs.Acting.{HasStepped, IsActed, IsAnsweredFor}
-use Rattle.vr_event.specs.Made.{IsStepFor, MadeBy}
+use Rattle.vr_record_file.specs.Now.{FileNow}
+use Rattle.vr_event.specs.Made.{HasStopped as HasStoppedWith, IsStepFor, MadeBy}
 use Rattle.vr_event.specs.declared.act.Act.{Act}
 use Rattle.vr_event.specs.declared.act.Act.TheVariants.{Again, Done}
 use Rattle.vr_job.specs.Crash.{HaveDoneCommit, IsDoneCommit}
@@ -74,113 +71,55 @@ commit-went geometry state before entry rest steps is =
 
 -- ---- what an event does of faults
 
--- the volume goes on as before, and what was entered is no fault
-pub record GoesOnFrom (old new : FileNow) (made : List Entry) : Type 0 where
-  pub same : new.stopped ≡ old.stopped
-  pub faultless : AreFaultless made
-
-asked-none : (request : Request) (reply : Reply) → ¬ IsFaulted (Asked request reply)
-asked-none request reply is = differ is.0 is.1
+faulted-not-asked : (request : Request) (reply : Reply) → ¬ IsFaulted (Asked request reply)
+faulted-not-asked request reply is = differ is.0 is.1
   where
     differ : (fault : DeviceFault) → Asked request reply ≡ Faulted fault → ⊥
     differ fault same = cc
 
-split-none : (part : PartNo) → ¬ IsFaulted (Split part)
-split-none part is = differ is.0 is.1
+faulted-not-split : (part : PartNo) → ¬ IsFaulted (Split part)
+faulted-not-split part is = differ is.0 is.1
   where
     differ : (fault : DeviceFault) → Split part ≡ Faulted fault → ⊥
     differ fault same = cc
 
-undone-none : (part : PartNo) (place : List ℕ) → ¬ IsFaulted (Undone part place)
-undone-none part place is = differ is.0 is.1
+faulted-not-undone : (part : PartNo) (place : List ℕ) → ¬ IsFaulted (Undone part place)
+faulted-not-undone part place is = differ is.0 is.1
   where
     differ : (fault : DeviceFault) → Undone part place ≡ Faulted fault → ⊥
     differ fault same = cc
 
-module _ (old new : FileNow) (made : List Entry) (entries : new.entries ≡ old.entries ++ made)
-    (after : ℕ) (unit : UnitOfRecovery) where
-  none-entered : new ≡ old → GoesOnFrom old new made
-  none-entered same = record {
-    same = ap (λ (f : FileNow). f.stopped) same;
-    faultless = subst AreFaultless (sym none) (All-nil (λ (entry : Entry). ¬ IsFaulted entry.what));
-  }
-    where
-      none : made ≡ []
-      none = append_cancel_left old.entries made []
-          (sym entries ∙ ap (λ (f : FileNow). f.entries) same ∙ sym (append-nil old.entries))
+abbrev NoFault : Entry → Type 0
+NoFault entry = ¬ IsFaulted entry.what
 
-  one-entered : (line : ℕ) (what : What) (mid : FileNow) → new ≡ with_event after unit line what mid
-      → mid.stopped ≡ old.stopped → mid.entries ≡ old.entries → ¬ IsFaulted what
-      → GoesOnFrom old new made
-  one-entered line what mid leaves stopped same none = record {
-    same = ap (λ (f : FileNow). f.stopped) leaves ∙ stopped;
-    faultless = subst AreFaultless (sym one)
-        (All-cons (λ (entry : Entry). ¬ IsFaulted entry.what)
-        (entry_next mid.entries after unit line what) [] none
-        (All-nil (λ (entry : Entry). ¬ IsFaulted entry.what)));
-  }
-    where
-      one : made ≡ entry_next mid.entries after unit line what ∷ []
-      one = append_cancel_left old.entries made (entry_next mid.entries after unit line what ∷ [])
-          (sym entries ∙ ap (λ (f : FileNow). f.entries) leaves
-          ∙ ap (λ (es : List Entry). es ++ entry_next mid.entries after unit line what ∷ []) same)
+none-faultless : (made : List Entry) → made ≡ [] → AreFaultless made
+none-faultless made none = subst AreFaultless (sym none) (All-nil NoFault)
 
-  stepped : (request : Request) → HasStepped after unit request old new → GoesOnFrom old new made
-  stepped request is = ⊎_elim
-      (λ same. none-entered same)
-      (λ step. ⊎_elim
-      (λ split. one-entered 0 (Split split.0) old split.1 refl refl (split-none split.0))
-      (λ back. one-entered 0 (Undone back.1 back.2) old back.3 refl refl
-      (undone-none back.1 back.2))
-      step) is
+one-faultless : (made : List Entry) (entry : Entry) → made ≡ entry ∷ [] → NoFault entry
+    → AreFaultless made
+one-faultless made entry one none =
+    subst AreFaultless (sym one) (All-cons NoFault entry [] none (All-nil NoFault))
 
-  module _ (line : ℕ) (request : Request) where
-    fails : (mid : FileNow) → mid.entries ≡ old.entries → new ≡ failed after unit line request mid
-        → IsStop made
-    fails mid same leaves = record {
+-- a fault comes after a request alone that was refused for it
+pub faults-follow : (act : Act) (unit : UnitOfRecovery) (line : ℕ) (request : Request)
+    (made : List Entry) → MadeBy act unit line request made → FaultsFollow made
+faults-follow Done unit line request made is = ⊎_elim
+    (λ none. inr (one-faultless made is.entry
+    (is.is ∙ ap (λ (rest : List Entry). is.entry ∷ rest) none)
+    (λ fault. faulted-not-asked request is.reply (subst IsFaulted is.what_is fault))))
+    (λ faulted. inl (record {
       request = request;
-      failing = entry_next mid.entries after unit line (Asked request (Refused WriteFault));
-      fault = entry_next (asked_failing after unit line request mid).entries 0 unit line
-          (Faulted Write);
-      made_are = append_cancel_left old.entries made _
-          (sym entries ∙ ap (λ (f : FileNow). f.entries) leaves
-          ∙ append_assoc mid.entries
-          (entry_next mid.entries after unit line (Asked request (Refused WriteFault)) ∷ [])
-          (entry_next (asked_failing after unit line request mid).entries 0 unit line
-          (Faulted Write) ∷ [])
-          ∙ ap (λ (es : List Entry). es
-          ++ entry_next mid.entries after unit line (Asked request (Refused WriteFault))
-          ∷ entry_next (asked_failing after unit line request mid).entries 0 unit line
-          (Faulted Write) ∷ []) same);
-      failing_is = refl;
-      fault_is = refl;
-    }
-
-    answered : (before now : Faults) → IsAnsweredFor before now after unit line request old new
-        → GoesOnFrom old new made ⊎ IsStop made
-    answered before now is = ⊎_elim
-        (λ entered. inl (one-entered line (Asked request entered.entered.reply) (record old {
-          locks = new.locks;
-          files = new.files;
-          files_room = new.files_room;
-        }) entered.entered.leaves refl refl (asked-none request entered.entered.reply)))
-        (λ further. ⊎_elim
-        (λ over. inl (one-entered line (Asked request (DoneReply 0 None None)) (ended unit old) over.1
-        refl refl (asked-none request (DoneReply 0 None None))))
-        (λ stops. inr (fails (record old { locks = new.locks }) refl stops.0))
-        further) is
-
-    -- what an event comes to: the volume goes on, or stops
-    pub acted-stops : (before now : Faults) (act : Act)
-        → IsActed before now act after unit line request old new
-        → GoesOnFrom old new made ⊎ IsStop made
-    acted-stops before now Done is = answered before now is.by
-    acted-stops before now (Again given) is = inl (stepped request is.by.1)
-
--- in the words of an event
-pub faults-follow : (old new : FileNow) (made : List Entry)
-    → GoesOnFrom old new made ⊎ IsStop made → FaultsFollow made
-faults-follow old new made is = ⊎_elim (λ on. inr on.faultless) (λ stop. inl stop) is
+      failing = is.entry;
+      fault = faulted.fault;
+      made_are = is.is ∙ ap (λ (rest : List Entry). is.entry ∷ rest) faulted.is;
+      failing_is = is.what_is ∙ ap (Asked request) faulted.refused;
+      fault_is = faulted.what_is;
+    })) is.follows
+faults-follow (Again given) unit line request made is = inr (⊎_elim
+    (λ none. none-faultless made none)
+    (λ one. one-faultless made one.0 one.1 (⊎_elim
+    (λ split fault. faulted-not-split split.0 (subst IsFaulted split.1 fault))
+    (λ back fault. faulted-not-undone back.1 back.2 (subst IsFaulted back.3 fault)) one.2.1)) is)
 
 refused-not-done : (request : Request)
     → Asked request (Refused WriteFault) ≡ Asked Commit (DoneReply 0 None None) → ⊥
@@ -224,8 +163,8 @@ commit-first Done unit line request made is done = (
     rest-none : HaveDoneCommit is.rest → ⊥
     rest-none later = ⊎_elim
         (λ none. subst HaveDoneCommit none later)
-        (λ fault. ⊎_elim (λ at. faulted fault.0.what fault.3 at) (λ none. none)
-        (subst HaveDoneCommit fault.1 later)) is.follows
+        (λ fault. ⊎_elim (λ at. faulted fault.fault.what fault.what_is at) (λ none. none)
+        (subst HaveDoneCommit fault.is later)) is.follows
 commit-first (Again given) unit line request made is done = absurd (⊎_elim
     (λ none. subst HaveDoneCommit none done)
     (λ one. ⊎_elim (λ at. step-done one.0 one.2 at) (λ none. none)
@@ -241,6 +180,29 @@ commit-first (Again given) unit line request made is done = absurd (⊎_elim
     step-done entry step done = ⊎_elim
         (λ split. split-done split.0 (subst IsDoneCommit split.1 done))
         (λ back. undone-done back.1 back.2 (subst IsDoneCommit back.3 done)) step.1
+
+second-faulted : (entry fault : Entry) → AreFaultless (entry ∷ fault ∷ []) → IsFaulted fault.what
+    → ⊥
+second-faulted entry fault none is =
+    All-head NoFault fault [] (All-tail NoFault entry (fault ∷ []) none) is
+
+-- where one is, the volume goes on as before
+pub going-on : (old new : FileNow) (made : List Entry)
+    → (new.stopped ≡ old.stopped) ⊎ HasStoppedWith made new → FaultsFollow made
+    → HaveDoneCommit made → new.stopped ≡ old.stopped
+going-on old new made stops faults done = ⊎_elim (λ same. same)
+    (λ stopped. absurd (⊎_elim (λ stop. stop-none made stop done)
+    (λ faultless. second-faulted stopped.entry stopped.fault
+    (subst AreFaultless stopped.is faultless) (Write, stopped.what_is)) faults)) stops
+
+-- the event in which a volume stops
+pub stop-of : (old new : FileNow) (made : List Entry)
+    → (new.stopped ≡ old.stopped) ⊎ HasStoppedWith made new → FaultsFollow made
+    → (new.stopped ≡ old.stopped → ⊥) → IsStop made
+stop-of old new made stops faults changes = ⊎_elim (λ same. absurd (changes same))
+    (λ stopped. ⊎_elim (λ stop. stop)
+    (λ faultless. absurd (second-faulted stopped.entry stopped.fault
+    (subst AreFaultless stopped.is faultless) (Write, stopped.what_is))) faults) stops
 
 -- ---- a volume that has stopped
 
