@@ -16,6 +16,7 @@ use Rattle.vr_types.specs.declared.reply.Reply.TheVariants.{Done as DoneReply, R
 use Rattle.vr_types.specs.declared.request.Request.{Request}
 use Rattle.vr_types.specs.declared.unit.Unit.{Unit as UnitOfRecovery}
 use Rattle.vr_types.proofs.CallerLemmas.{guards-then, guards-weaken}
+use Rattle.vr_history.specs.Legal.{AreSteps, state_of}
 use Rattle.vr_history.specs.Merged.{IsStamped, last_stamp, request_in}
 use Rattle.vr_history.specs.State.{State}
 use Rattle.vr_history.specs.declared.entry.Entry.{Entry}
@@ -33,8 +34,9 @@ use Rattle.vr_event.proofs.CallerLemmas.{acted_made}
 use Rattle.vr_volume.specs.Crashes.{RecoversTo}
 use Rattle.vr_worker.proofs.CallerLemmas.{stamped-above}
 use Rattle.vr_worker.specs.Asked.{bound_to}
-use Rattle.vr_job.specs.Crash.{IsCommit, IsLeftBy}
-use Rattle.vr_job.specs.Events.{IsLeftWhile, IsOfEvents, LeavesAtRest, requests_in}
+use Rattle.vr_job.specs.Crash.{HaveDoneCommit, IsCommit, IsDoneCommit, IsLeftBy}
+use Rattle.vr_job.specs.Events.{FaultsFollow, HasStopped, IsLeftWhile, IsOfEvents, LeavesAtRest}
+use Rattle.vr_job.specs.Events.{requests_in}
 use Rattle.vr_job.specs.Faultless.{AreFaultless}
 use Rattle.vr_job.specs.Going.{GoesOn, HasRun, went-then}
 use Rattle.vr_job.specs.Serving.{IsServing, StaysServing}
@@ -42,6 +44,8 @@ use Rattle.vr_job.proofs.Crashing.{held-left, left-more}
 use Rattle.vr_job.proofs.Entering.{step-none}
 use Rattle.vr_job.proofs.Faultless.{NoFault, acted-faultless}
 use Rattle.vr_job.proofs.ReadFaults.{acted-reads}
+use Rattle.vr_job.proofs.Stopping.{commit-first, commit-went, faults-follow, going-on, stop-of}
+use Rattle.vr_job.proofs.Stopping.{stopped-more}
 use Rattle.vr_job.proofs.Undoing.{shows-same}
 
 -- stamps rise on
@@ -257,6 +261,27 @@ module _ {B : Type 0} (seen : B → Seen) (faults : B → Faults) (old new : Vol
           in-while)
       by_while (Some stamp) is = inl (stays (λ none. some-none stamp (sym is ∙ none)))
 
+      -- a fault is entered after a request alone that was refused for it
+      follow : FaultsFollow made-in.made
+      follow = faults-follow act unit line request made-in.made made-in.by
+
+      -- it goes on where a COMMIT was answered 0
+      goes-on : IsHeld seen opening new → HaveDoneCommit made-in.made → new.file.stopped ≡ None
+      goes-on held done = going-on old.file new.file made-in.made made-in.stops follow done
+          ∙ run.held.file.now.stopped
+          ∙ commit-went old.file.geometry opening old.file.entries one.0 one.1 steps one.3
+        where
+          one : (entry : Entry) × (rest : List Entry) × (made-in.made ≡ entry ∷ rest)
+              × IsDoneCommit entry.what
+          one = commit-first act unit line request made-in.made made-in.by done
+
+          steps : AreSteps old.file.geometry opening (old.file.entries ++ one.0 ∷ one.1)
+          steps = subst (λ (es : List Entry). AreSteps old.file.geometry opening
+              (old.file.entries ++ es)) one.2
+              (subst (AreSteps old.file.geometry opening) made-in.entries
+              (subst (λ (g : Geometry). AreSteps g opening new.file.entries) made-in.geometry
+              held.file.legal.steps))
+
       one-event : IsWhole seen new → IsHeld seen opening new
           → IsOfEvents seen old.file.geometry old.number opening first new.blocks new.file.entries
       one-event whole-new held = record {
@@ -270,15 +295,58 @@ module _ {B : Type 0} (seen : B → Seen) (faults : B → Faults) (old new : Vol
             entries_are = made-in.entries;
             once = made-once act unit line request made-in.made made-in.by;
             during = by_while old.file.stopped refl;
-            after = subst (λ (n : ℕ). LeavesAtRest seen old.file.geometry n opening new.blocks
-                new.file.entries) number
-                (subst (λ (g : Geometry). LeavesAtRest seen g new.number opening new.blocks
-                new.file.entries) made-in.geometry
-                (held-left seen opening new whole-new held));
+            after = rests;
+            faults = follow;
+            lasting = λ done. rests (sym held-stopped ∙ goes-on held done);
           },
           run.events.are,
         );
       }
+        where
+          rests : LeavesAtRest seen old.file.geometry old.number opening new.blocks new.file.entries
+          rests = subst (λ (n : ℕ). LeavesAtRest seen old.file.geometry n opening new.blocks
+              new.file.entries) number
+              (subst (λ (g : Geometry). LeavesAtRest seen g new.number opening new.blocks
+              new.file.entries) made-in.geometry
+              (held-left seen opening new whole-new held))
+
+          -- what its history says of the volume
+          held-stopped : new.file.stopped
+              ≡ (state_of old.file.geometry opening new.file.entries).stopped
+          held-stopped = subst (λ (g : Geometry). new.file.stopped
+              ≡ (state_of g opening new.file.entries).stopped) made-in.geometry
+              held.file.now.stopped
+
+      -- the event in which the volume stopped
+      stops-now : new.file.stopped ≢ None
+          → HasStopped old.file.geometry old.number opening new.file.entries (seen new.blocks)
+      stops-now stops = by_old old.file.stopped refl
+        where
+          by_old : (stopped : Option ℕ) → old.file.stopped ≡ stopped
+              → HasStopped old.file.geometry old.number opening new.file.entries (seen new.blocks)
+          by_old None going = record {
+            before = old.file.entries;
+            made = made-in.made;
+            later = [];
+            entries_are = made-in.entries
+                ∙ ap (λ (es : List Entry). old.file.entries ++ es) (sym (append-nil made-in.made));
+            stop = stop-of old.file new.file made-in.made made-in.stops follow
+                (λ same. stops (same ∙ going));
+            left = λ image left. in-while image
+                ((subst (λ (g : Geometry). Guards (seen old.blocks) (seen new.blocks)
+                (IsLeftIn g old.number (state_now opening old.file) after unit line request old.file
+                new.file)) (whole.geometry going) (moments going)).rest image left);
+          }
+          by_old (Some stamp) is =
+              subst (HasStopped old.file.geometry old.number opening new.file.entries)
+              (sym (ap seen (stays going-not)))
+              (subst (λ (es : List Entry). HasStopped old.file.geometry old.number opening es
+              (seen old.blocks)) (sym made-in.entries)
+              (stopped-more old.file.geometry old.number opening old.file.entries made-in.made
+              (seen old.blocks) (run.stopped going-not)))
+            where
+              going-not : old.file.stopped ≢ None
+              going-not none = some-none stamp (sym is ∙ none)
 
       -- and where it does: what a crash leaves at each moment, event by event
       pub event-run : IsWhole seen new → IsHeld seen opening new → HasRun seen opening first new
@@ -293,6 +361,10 @@ module _ {B : Type 0} (seen : B → Seen) (faults : B → Faults) (old new : Vol
             (subst (λ (g : Geometry). Guards (seen first) (seen new.blocks)
             (IsLeftBy g old.number opening new.file.entries)) (sym made-in.geometry)
             (by_stop old.file.stopped refl));
+        stopped = λ stops. subst (λ (n : ℕ). HasStopped new.file.geometry n opening new.file.entries
+            (seen new.blocks)) (sym number)
+            (subst (λ (g : Geometry). HasStopped g old.number opening new.file.entries
+            (seen new.blocks)) (sym made-in.geometry) (stops-now stops));
       }
 
 -- ---- room, and a deck that is entered
@@ -313,6 +385,8 @@ module _ {B : Type 0} (seen : B → Seen) (old mid : VolumeNow B) (numbers : Lis
         (IsLeftBy v.file.geometry v.number opening v.file.entries)) (sym same) run.left;
     events = subst (λ (v : VolumeNow B). IsOfEvents seen v.file.geometry v.number opening first
         v.blocks v.file.entries) (sym same) run.events;
+    stopped = subst (λ (v : VolumeNow B). v.file.stopped ≢ None → HasStopped v.file.geometry v.number
+        opening v.file.entries (seen v.blocks)) (sym same) run.stopped;
   }
 
   stays-on : (faults : B → Faults) → IsWhole seen mid

@@ -8,6 +8,7 @@ pub mod Entering
 pub mod Undoing
 pub mod GoingOn
 pub mod Faultless
+pub mod Stopping
 pub mod ReadFaults
 pub mod Devices
 pub mod Shown

@@ -462,6 +462,7 @@ opening-run seen opening volume none going whole held may = record {
             (whole.geometry going) is;
       });
   events = record { events = []; are = (refl, none) };
+  stopped = λ stops. absurd (stops going);
 }
   where
     now : Seen

@@ -26,11 +26,11 @@ use Rattle.vr_job.specs.OpenEnds.{IsOpenLine, open_line}
 use Rattle.vr_job.specs.Shelf.{Answer, AreClosing, AreOpen, Closing, HaveClosed, HaveOpened, HaveRun, HaveRunWhere}
 use Rattle.vr_job.specs.Shelf.{IsClosing, IsRest, IsUnsynced, Opening, catalog_of, end_of, entries_on}
 use Rattle.vr_job.specs.ShelfRun.{AreEmpty, AreVolumeRuns, AsAsked, ByClosing, ByOpening, IsShelfEnd, IsShelfRun}
-use Rattle.vr_job.specs.ShelfRun.{VolumeOf, run_end, run_line}
+use Rattle.vr_job.specs.ShelfRun.{VolumeOf, WereRun, run_end, run_line}
 use Rattle.vr_job.specs.VolumeRun.{HasFaultCause, IsFaultEnd, IsNotOpen}
 use Rattle.vr_job.specs.VolumeRun.{IsOpen, IsUnopened, IsVolumeRun}
 use Rattle.vr_job.proofs.Devices.{same-some}
-use Rattle.vr_job.proofs.VolumeRuns.{ended-rose, volume-run}
+use Rattle.vr_job.proofs.VolumeRuns.{ended-rose, volume-run, was-run}
 
 -- ---- ends
 
@@ -222,6 +222,25 @@ module _ {D : Type 0} (tells : Bool) (seen : D → Seen) (faults : D → Faults)
           entries_are = closed.0.entries_are;
         }) end owed.0 owed.1,
     each-run end (number + 1) openings closings opens_so.1 since.1 closed.1 owed.2,
+  )
+
+  -- each was opened and run
+  each-ran : (end : End) (number : ℕ) (openings : List (Opening D)) (closings : List (Closing D))
+      → AreOpen tells seen faults number openings → AreSince openings closings
+      → AreClosing tells seen faults closings → AreOwed end number openings closings → IsTrue tells
+      → WereRun tells seen faults end number (volumes-of openings closings)
+  each-ran end number [] closings opens_so since closing owed told = tt
+  each-ran end number (one ∷ others) [] opens_so since closing owed told = tt
+  each-ran end number (opening ∷ openings) (closing ∷ closings) opens_so since closed owed told = (
+    was-run tells seen faults number steps opening.device opening.volume closing.result
+        closing.left closing.entries opens_so.0 (record {
+          end = closing.volume;
+          later = since.0.is_later;
+          of_steps = since.0.of_steps;
+          closed = closed.0.closed;
+          entries_are = closed.0.entries_are;
+        }) end owed.0 told,
+    each-ran end (number + 1) openings closings opens_so.1 since.1 closed.1 owed.2 told,
   )
 
   -- ---- where a device failed to sync
@@ -600,29 +619,42 @@ module _ {D : Type 0} (tells : Bool) (seen : D → Seen) (faults : D → Faults)
         ends = ends;
       }
 
+    -- all volumes were run
+    ran-all : (value : Unit {0})
+        (opened : HaveOpened tells seen faults devices volumes unopened (Ok value))
+        (has_run : HaveRun tells seen faults steps by volumes ran) (end : End)
+        → AreOwed end 0 opened.first closings → IsTrue tells
+        → WereRun tells seen faults end 0 (volumes-of opened.first closings)
+    ran-all value opened has_run end owed told = each-ran end 0 opened.first closings opened.opens
+        (since value opened has_run) closed.closing owed told
+
     opened-run : (value : Unit {0})
         → HaveOpened tells seen faults devices volumes unopened (Ok value)
         → (asked : Result (Unit {0}) RunNo) → by ≡ asked
         → HaveRun tells seen faults steps by volumes ran → (failed : Option ℕ)
         → unsynced ≡ failed → Run (end_of (Ok value) asked failed)
     opened-run value opened (Err fault) is has_run failed same =
-        with-end value opened has_run (Line (run_line fault)) (owed-asked fault 0 opened.first closings)
+        let owed = owed-asked fault 0 opened.first closings in
+        with-end value opened has_run (Line (run_line fault)) owed
         (λ used. is ∙ ap Err (line-stamps fault used))
-        (AsAsked (ap run_end (sym is)))
+        (AsAsked (ap run_end (sym is)) (ran-all value opened has_run _ owed))
     opened-run value opened (Ok done) is has_run None same =
-        with-end value opened has_run Ran
-        (owed-none 0 opened.first closings (subst (IsUnsynced closings) same closed.unsynced_is))
-        (λ used. absurd cc) (AsAsked (ap run_end (sym is)))
+        let owed = owed-none 0 opened.first closings
+        (subst (IsUnsynced closings) same closed.unsynced_is) in
+        with-end value opened has_run Ran owed
+        (λ used. absurd cc) (AsAsked (ap run_end (sym is)) (ran-all value opened has_run _ owed))
     opened-run value opened (Ok done) is has_run (Some failing) same =
         let fails : IsUnsynced closings (Some failing) =
         subst (IsUnsynced closings) same closed.unsynced_is in
         let one = failed-at 0 failing opened.first closings fails.0 opened.opens
         (since value opened has_run) closed.closing fails.1 fails.2 in
-        with-end value opened has_run (Unsynced failing)
-        (owed-closing failing 0 opened.first closings opened.opens (since value opened has_run)
-        closed.closing (one-fails failing 0 failing closings fails.0 (omega arith) fails.1 fails.2))
+        let owed = owed-closing failing 0 opened.first closings opened.opens
+        (since value opened has_run)
+        closed.closing (one-fails failing 0 failing closings fails.0 (omega arith) fails.1 fails.2) in
+        with-end value opened has_run (Unsynced failing) owed
         (λ used. absurd cc)
-        (ByClosing (subst IsOk (sym is) refl) failing one.0 one.1 refl one.2)
+        (ByClosing (subst IsOk (sym is) refl) failing one.0 one.1 refl one.2
+        (ran-all value opened has_run _ owed))
 
     unopened-shelf : (end : EndLine)
         → HaveOpened tells seen faults devices volumes unopened (Err end) → ran ≡ volumes

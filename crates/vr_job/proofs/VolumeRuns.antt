@@ -31,6 +31,7 @@ use Rattle.vr_volume.specs.Volume.{Recovers}
 use Rattle.vr_job.specs.Crash.{IsLeftBy}
 use Rattle.vr_job.specs.Faultless.{AreFaultless}
 use Rattle.vr_job.proofs.Faultless.{faultless-none}
+use Rattle.vr_job.proofs.Stopping.{stopped-fewer}
 use Rattle.vr_job.specs.Going.{GoesOn, HasRun, WentOn}
 use Rattle.vr_job.specs.ReadFaults.{read_faults}
 use Rattle.vr_job.specs.OpenEnds.{NeverFall}
@@ -240,12 +241,22 @@ module _ {D : Type 0} (tells : Bool) (seen : D → Seen) (faults : D → Faults)
           (stored-left end.number end.store (state_now opening end.file) (seen end.blocks)
           (run.held.stored stops) image
           (keeps-left tells (seen end.blocks) (seen device) image told ended.closed.keeps left));
+      stopped = λ stops. stopped-fewer end.file.geometry end.number opening end.file.entries
+          (seen end.blocks) (seen device)
+          (λ image left. keeps-left tells (seen end.blocks) (seen device) image told
+          ended.closed.keeps left)
+          (run.stopped (λ none. stops (sym run.held.file.now.stopped ∙ none)));
       forced = λ ran goes. unstopped-forced (synced ran) told (run.held.file.now.stopped ∙ goes);
     }
 
     ended-run : Ran-as number entries
     ended-run = subst (λ (es : List Entry). Ran-as number es) (sym ended.entries_are)
         (subst (λ (n : ℕ). Ran-as n end.file.entries) same-number at-end)
+
+  -- where the device reports its contents, such a volume was run
+  pub was-run : (by : End) → (by ≡ Ran → result ≡ Ok tt) → IsTrue tells
+      → IsRun tells seen faults number volume.file.catalog by entries first end.blocks device
+  was-run by synced told = ended-run by synced told
 
   -- a volume that was opened, run and closed, by how the job ended
   pub volume-run : (by : End) → (by ≡ Ran → result ≡ Ok tt)

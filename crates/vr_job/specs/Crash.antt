@@ -15,9 +15,18 @@ use Rattle.vr_history.specs.declared.entry.What.{What}
 use Rattle.vr_history.specs.declared.entry.What.TheVariants.{Asked}
 use Rattle.vr_volume.specs.Crashes.{RecoversTo}
 
+-- a COMMIT that was answered 0
+abbrev pub IsDoneCommit : What → Type 0
+IsDoneCommit what = what ≡ Asked Commit (Done 0 None None)
+
 -- a COMMIT that was done, or that a fault of a write refused
 abbrev pub IsCommit : What → Type 0
-IsCommit what = (what ≡ Asked Commit (Done 0 None None)) ⊎ (what ≡ Asked Commit (Refused WriteFault))
+IsCommit what = IsDoneCommit what ⊎ (what ≡ Asked Commit (Refused WriteFault))
+
+-- one of these entries is a COMMIT that was answered 0
+abbrev pub HaveDoneCommit : List Entry → Type 0
+HaveDoneCommit [] = ⊥
+HaveDoneCommit (entry ∷ entries) = IsDoneCommit entry.what ⊎ HaveDoneCommit entries
 
 -- The units that are in their commit before these entries: none, or that of the first of them.
 abbrev pub AreInCommit : List UnitOfRecovery → List Entry → Type 0

@@ -5,14 +5,20 @@ use Rattle.vr_types.specs.Image.{Image}
 use Rattle.vr_types.specs.Moments.{Guards}
 use Rattle.vr_types.specs.Seen.{Left, Seen}
 use Rattle.vr_types.specs.declared.bound.Bound.{Bound}
+use Rattle.vr_types.specs.declared.fault.DeviceFault.TheVariants.{Write}
 use Rattle.vr_types.specs.declared.geometry.Geometry.{Geometry}
+use Rattle.vr_types.specs.declared.reply.Refusal.TheVariants.{WriteFault}
+use Rattle.vr_types.specs.declared.reply.Reply.TheVariants.{Refused}
+use Rattle.vr_types.specs.declared.request.Request.{Request}
 use Rattle.vr_types.specs.declared.unit.Unit.{Unit as UnitOfRecovery}
 use Rattle.vr_history.specs.Legal.{state_of}
 use Rattle.vr_history.specs.Merged.{request_in}
 use Rattle.vr_history.specs.State.{State}
 use Rattle.vr_history.specs.declared.entry.Entry.{Entry}
+use Rattle.vr_history.specs.declared.entry.What.TheVariants.{Asked, Faulted}
 use Rattle.vr_volume.specs.Crashes.{RecoversTo}
-use Rattle.vr_job.specs.Crash.{AreInCommit}
+use Rattle.vr_job.specs.Crash.{AreInCommit, HaveDoneCommit}
+use Rattle.vr_job.specs.Faultless.{AreFaultless}
 
 -- An event: the blocks and the history as it began, and the entries that it made.
 pub record Event (B : Type 0) : Type 0 where
@@ -39,9 +45,36 @@ LeavesAtRest seen geometry number opening now entries =
     (state_of geometry opening entries).stopped ≡ None → (image : Image) → Left (seen now) image
     → RecoversTo geometry number (state_of geometry opening entries) [] image
 
+-- A request is refused since a write failed, and the fault stops the volume.
+pub record IsStop (made : List Entry) : Type 0 where
+  pub request : Request
+  pub failing : Entry
+  pub fault : Entry
+  pub made_are : made ≡ failing ∷ fault ∷ []
+  pub failing_is : failing.what ≡ Asked request (Refused WriteFault)
+  pub fault_is : fault.what ≡ Faulted Write
+
+-- The volume stopped in an event of its history, and what a crash may leave of it is left while that
+-- event goes on: an image recovers to what is committed by the history before it, perhaps with the unit
+-- whose COMMIT was answered 905 in it.
+pub record HasStopped (geometry : Geometry) (number : ℕ) (opening : State) (entries : List Entry)
+    (now : Seen) : Type 0 where
+  pub before : List Entry
+  pub made : List Entry
+  pub later : List Entry
+  pub entries_are : entries ≡ before ++ made ++ later
+  pub stop : IsStop made
+  pub left : (image : Image) → Left now image
+      → IsLeftWhile geometry number opening before made image
+
+-- a fault that stops the volume comes right after a request that is refused for it
+abbrev pub FaultsFollow : List Entry → Type 0
+FaultsFollow made = IsStop made ⊎ AreFaultless made
+
 -- An event, with the blocks and the history as it left them: it answered one request at most; it
--- touched no block, or each image at each moment of it is as above; and it leaves the volume at rest.
--- So once a COMMIT was answered with 0, its unit is in every image.
+-- touched no block, or each image at each moment of it is as above; and it leaves the volume at rest. A
+-- fault is entered after a request alone that was answered 905. Where a COMMIT was answered 0, its unit
+-- is in every image that a crash may leave from then on.
 pub record IsEvent {B : Type 0} (seen : B → Seen) (geometry : Geometry) (number : ℕ)
     (opening : State) (event : Event B) (now : B) (entries : List Entry) : Type 0 where
   pub entries_are : entries ≡ event.entries ++ event.made
@@ -49,6 +82,9 @@ pub record IsEvent {B : Type 0} (seen : B → Seen) (geometry : Geometry) (numbe
   pub during : (now ≡ event.blocks) ⊎ Guards (seen event.blocks) (seen now)
       (IsLeftWhile geometry number opening event.entries event.made)
   pub after : LeavesAtRest seen geometry number opening now entries
+  pub faults : FaultsFollow event.made
+  pub lasting : HaveDoneCommit event.made → (image : Image) → Left (seen now) image
+      → RecoversTo geometry number (state_of geometry opening entries) [] image
 
 -- These are the events, the last one first, from these blocks and no history on.
 abbrev pub AreEvents : {B : Type 0} → (B → Seen) → Geometry → ℕ → State → B → B → List Entry

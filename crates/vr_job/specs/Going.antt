@@ -1,5 +1,5 @@
 -- What goes on of a volume from event to event. The rules are this project's own.
-use Rattle.std.specs.Prelude.{◌≡◌, ◌⊎◌, ◌≤◌, ◌+◌, ℕ, Bool, true, IsTrue, List, ◌++◌}
+use Rattle.std.specs.Prelude.{◌≡◌, ◌≢◌, ◌⊎◌, ◌≤◌, ◌+◌, ℕ, Bool, true, IsTrue, List, ◌++◌, None}
 use Rattle.std.proofs.Common.{◌∙◌, inl, inr, ⊎_elim, append_assoc, ap, arith, refl, subst, sym}
 use Rattle.vr_types.specs.Faults.{Faults}
 use Rattle.vr_types.specs.Moments.{Guards}
@@ -10,7 +10,7 @@ use Rattle.vr_history.specs.declared.entry.Entry.{Entry}
 use Rattle.vr_record_file.specs.Now.{has_deck}
 use Rattle.vr_event.specs.Volume.{IsHeld, IsWhole, VolumeNow}
 use Rattle.vr_job.specs.Crash.{IsLeftBy}
-use Rattle.vr_job.specs.Events.{IsOfEvents}
+use Rattle.vr_job.specs.Events.{HasStopped, IsOfEvents}
 use Rattle.vr_job.specs.Faultless.{AreFaultless}
 use Rattle.vr_job.specs.ReadFaults.{read-faults-append, read_faults}
 
@@ -38,7 +38,7 @@ pub record GoesOn {B : Type 0} (seen : B → Seen) (faults : B → Faults) (old 
 
 -- What goes on where it does, from an opening and the blocks as they were then: the history is
 -- legal and gives what the volume has, each image at each moment since is left by the history, and
--- so it is event by event.
+-- so it is event by event; and where the volume has stopped, by the event in which it did.
 pub record HasRun {B : Type 0} (seen : B → Seen) (opening : State) (first : B)
     (volume : VolumeNow B) : Type 0 where
   pub held : IsHeld seen opening volume
@@ -46,6 +46,8 @@ pub record HasRun {B : Type 0} (seen : B → Seen) (opening : State) (first : B)
       (IsLeftBy volume.file.geometry volume.number opening volume.file.entries)
   pub events : IsOfEvents seen volume.file.geometry volume.number opening first volume.blocks
       volume.file.entries
+  pub stopped : volume.file.stopped ≢ None → HasStopped volume.file.geometry volume.number opening
+      volume.file.entries (seen volume.blocks)
 
 -- What goes on, and where the device reports its contents, what goes on from each opening.
 pub record WentOn {B : Type 0} (tells : Bool) (seen : B → Seen) (faults : B → Faults)

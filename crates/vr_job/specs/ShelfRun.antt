@@ -16,7 +16,7 @@ use Rattle.vr_trace.specs.declared.ending.EndLine.TheVariants.{NoMemory, StampsU
 use Rattle.vr_worker.specs.declared.no.RunNo.{RunNo}
 use Rattle.vr_worker.specs.declared.no.RunNo.TheVariants as nos
 use Rattle.vr_job.specs.OpenEnds.{IsOpenLine}
-use Rattle.vr_job.specs.VolumeRun.{IsUnopened, IsVolumeRun}
+use Rattle.vr_job.specs.VolumeRun.{IsRun, IsUnopened, IsVolumeRun}
 
 -- how a job ends whose requests weren't all answered
 abbrev pub run_line : RunNo → EndLine
@@ -45,6 +45,15 @@ AreVolumeRuns tells seen faults steps end number (volume ∷ volumes) =
     volume.ended volume.left
     × AreVolumeRuns tells seen faults steps end (number + 1) volumes
 
+-- Each volume, the first of them having this number, was opened, run and closed.
+abbrev pub WereRun : {D : Type 0} → Bool → (D → Seen) → (D → Faults) → End → ℕ → List (VolumeOf D)
+    → Type 0
+WereRun tells seen faults end number [] = Unit {0}
+WereRun tells seen faults end number (volume ∷ volumes) =
+    IsRun tells seen faults number volume.catalog end volume.entries volume.device volume.ended
+    volume.left
+    × WereRun tells seen faults end (number + 1) volumes
+
 -- the volume of this number
 abbrev pub IsAt : {D : Type 0} → ℕ → VolumeOf D → List (VolumeOf D) → Type 0
 IsAt number volume volumes = slice_get volumes number ≡ Some volume
@@ -55,13 +64,16 @@ AreEmpty [] = Unit {0}
 AreEmpty (volume ∷ volumes) = (volume.entries ≡ []) × AreEmpty volumes
 
 -- How a job ends, by what its requests came to: as they did; or all were answered and the device of
--- a volume failed to sync as it was closed, which was counted then; or a volume was not opened,
--- which its blocks show where they are reported, and none was asked.
+-- a volume failed to sync as it was closed, which was counted then; and then all volumes were opened
+-- and run. Or a volume was not opened, which its blocks show where they are reported, and none was
+-- asked.
 pub data IsShelfEnd {D : Type 0} (tells : Bool) (seen : D → Seen) (faults : D → Faults)
     (volumes : List (VolumeOf D)) (by : Result (Unit {0}) RunNo) (end : End) : Type 0 where
-  AsAsked : end ≡ run_end by → IsShelfEnd tells seen faults volumes by end
+  AsAsked : end ≡ run_end by → (IsTrue tells → WereRun tells seen faults end 0 volumes)
+      → IsShelfEnd tells seen faults volumes by end
   ByClosing : IsOk by → (number : ℕ) (volume : VolumeOf D) → IsAt number volume volumes
       → end ≡ Unsynced number → (faults volume.ended).writes < (faults volume.left).writes
+      → (IsTrue tells → WereRun tells seen faults end 0 volumes)
       → IsShelfEnd tells seen faults volumes by end
   ByOpening : (number : ℕ) (volume : VolumeOf D) (line : EndLine) → IsAt number volume volumes
       → end ≡ Line line → IsOpenLine number line

@@ -1,6 +1,6 @@
 -- What the run of a job comes to on one of its volumes, from its opening to the end. The rules are this
 -- project's own.
-use Rattle.std.specs.Prelude.{◌≡◌, ◌<◌, ◌⊎◌, ℕ, Bool, List, [], None, OnOk, Result, IsErr, IsSome}
+use Rattle.std.specs.Prelude.{◌≡◌, ◌≢◌, ◌<◌, ◌⊎◌, ℕ, Bool, List, [], None, OnOk, Result, IsErr, IsSome}
 use Rattle.std.specs.Prelude.{◌≤◌, ◌+◌, IsTrue, Option, false}
 use Rattle.vr_types.specs.Blocks.{AllForced, Keeps}
 use Rattle.vr_types.specs.Content.{Content}
@@ -30,7 +30,7 @@ use Rattle.vr_trace.specs.declared.ending.EndLine.TheVariants.{DeviceFault}
 use Rattle.vr_volume.specs.Crashes.{RecoversTo}
 use Rattle.vr_volume.specs.Volume.{Recovers}
 use Rattle.vr_job.specs.Crash.{IsLeftBy}
-use Rattle.vr_job.specs.Events.{IsOfEvents}
+use Rattle.vr_job.specs.Events.{HasStopped, IsOfEvents}
 use Rattle.vr_job.specs.Faultless.{AreFaultless}
 use Rattle.vr_job.specs.Going.{Follows}
 use Rattle.vr_job.specs.OpenEnds.{HasEndCause, IsOpenEnd, IsOpenLine, NeverFall, SaysOfBlocks}
@@ -46,7 +46,9 @@ use Rattle.vr_job.specs.Opened.{IsOpenHeld}
 -- in each of which an image recovers to what is committed by the history before it, perhaps with
 -- the unit whose COMMIT it enters; so it came to what the requests left, and then nothing more is
 -- put. As long as the device counted no write that failed, the volume wasn't stopped, and each
--- image that a crash may leave at the end recovers to what is committed by all of the history.
+-- image that a crash may leave at the end recovers to what is committed by all of the history; on a
+-- volume that stopped, to what is committed by the history before the fault, with the unit in doubt
+-- only where its COMMIT was answered 905.
 -- Where the job came through, a crash leaves what is read, unless the volume had stopped: whatever
 -- the device has counted.
 pub record IsRun {D : Type 0} (tells : Bool) (seen : D → Seen) (faults : D → Faults) (number : ℕ)
@@ -71,6 +73,8 @@ pub record IsRun {D : Type 0} (tells : Bool) (seen : D → Seen) (faults : D →
   pub kept : (state_of geometry (opening_state contents (owned_in owners)) entries).stopped ≡ None
       → (image : Image) → Left (seen new) image → RecoversTo geometry number
       (state_of geometry (opening_state contents (owned_in owners)) entries) [] image
+  pub stopped : (state_of geometry (opening_state contents (owned_in owners)) entries).stopped ≢ None
+      → HasStopped geometry number (opening_state contents (owned_in owners)) entries (seen new)
   pub forced : end ≡ Ran
       → (state_of geometry (opening_state contents (owned_in owners)) entries).stopped ≡ None
       → AllForced (seen new).count (seen new).cur (seen new).may
