@@ -30,6 +30,7 @@ fn create<R: Files<File = File>>(rt: &R, held: &mut Held, rest: &str, out: &mut 
     let (size, blocks) = parted(rest);
     let size = number(size)?;
     let blocks = number(blocks)?;
+    held.set(Held::Nothing);
     held.set(Held::Host(FileDevice::create(rt, PATH, size, blocks)));
     say(out, "ok")
 }
@@ -38,6 +39,7 @@ fn open<R: Files<File = File>>(rt: &R, held: &mut Held, rest: &str, out: &mut St
     let (size, blocks) = parted(rest);
     let size = number(size)?;
     let blocks = number(blocks)?;
+    held.set(Held::Nothing);
     held.set(Held::Host(FileDevice::open(rt, PATH, size, blocks)));
     say(out, "ok")
 }

@@ -8,7 +8,7 @@ use crate::words::{bytes_in, number, parted};
 use std::alloc::Global;
 use std::fmt::Write;
 use vr_device::{BlockDevice, Direct, MemoryDevice, direct};
-use vr_recover::{OpenNo, Opened, open_volume};
+use vr_recover::{OpenNo, Opened, Unserved, open_volume};
 use vr_types::Blocks;
 
 /// Writes bytes into a block of the device: `N FROM HEX`.
@@ -100,8 +100,22 @@ fn say_no(out: &mut String, no: OpenNo) -> Answer {
             write!(out, "version {found}")?;
             Ok(())
         }
+        OpenNo::Unserved { block, cause } => {
+            write!(out, "unserved {block} ")?;
+            say(out, cause_word(cause))
+        }
         OpenNo::Read => say(out, "read"),
         OpenNo::Write => say(out, "write"),
         OpenNo::Memory => say(out, "memory"),
+    }
+}
+
+fn cause_word(cause: Unserved) -> &'static str {
+    match cause {
+        Unserved::LogAtItsEnd => "LogAtItsEnd",
+        Unserved::LogWithoutRoom => "LogWithoutRoom",
+        Unserved::CatalogImage => "CatalogImage",
+        Unserved::OtherKind => "OtherKind",
+        Unserved::LongRecord => "LongRecord",
     }
 }
