@@ -1,5 +1,6 @@
 //! The values of given parameters.
 ghost use Rattle.std.specs.Prelude.{◌≡◌, ◌+◌, ◌++◌, IfOk, OnOk};
+ghost use Rattle.vr_text.specs.Words.{name_in};
 ghost use Rattle.vr_amsparse.specs.Values.{text_at, value_text, number_value, number_for, name_for};
 ghost use Rattle.vr_amsparse.specs.Values.{text_if, text_for, listed, names_below, names_for, choice_for};
 ghost use Rattle.vr_amsparse.specs.Values.{is_first, is_second};
@@ -109,11 +110,11 @@ pub(crate) fn text_for(
     }
 }
 
-/// Adds a name, if there is one.
-fn push_name(names: &mut NameList, name: Option<Name>) -> Result<(), OutOfMemory>
-    ensures { OnOk result (names.new ≡ names.old ++ listed name) }
+/// Adds the name that a text spells, if it spells one.
+fn push_name(alloc: Global, names: &mut NameList, text: &[u8]) -> Result<(), OutOfMemory>
+    ensures { OnOk result (names.new ≡ names.old ++ listed (name_in text.now)) }
 {
-    match name {
+    match name_in(alloc, text)? {
         None => Ok(()),
         Some(name) => Ok(names.push(name)?),
     }
@@ -125,8 +126,7 @@ fn names_of(alloc: Global, tokens: &Tokens, given: Given) -> Result<NameList, Ou
 {
     let mut names = NameList::new(alloc);
     for place in 0..given.count {
-        let name = name_in(alloc, value_text(tokens, given, place))?;
-        push_name(&mut names, name)?;
+        push_name(alloc, &mut names, value_text(tokens, given, place))?;
     }
     Ok(names)
 }
