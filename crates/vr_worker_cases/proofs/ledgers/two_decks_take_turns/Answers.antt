@@ -9,11 +9,11 @@ use Rattle.vr_ledger.specs.Turn.{TurnNow}
 use Rattle.vr_worker_cases.proofs.ledgers.two_decks_take_turns.Goals as goal
 
 pub push-requires-clause-rises : goal.push-requires-clause-rises
-push-requires-clause-rises g c =
+push-requires-clause-rises c =
     rw (c.reserve.ensures.entries, c.new-history.ensures) (omega (arith, c.entry.ensures.stamp))
 
 pub record-requires-clause-more : goal.record-requires-clause-more
-record-requires-clause-more g c = let made = c.entry.result in (
+record-requires-clause-more c = let made = c.entry.result in (
   made ∷ [],
   c.push.ensures.entries ∙ ap (λ (entries : List Entry). entries ++ made ∷ []) (
       c.reserve.ensures.entries ∙ sym (
@@ -26,7 +26,7 @@ record-requires-clause-more g c = let made = c.entry.result in (
 )
 
 pub push-requires-2-clause-rises : goal.push-requires-2-clause-rises
-push-requires-2-clause-rises g c = omega (
+push-requires-2-clause-rises c = omega (
   arith,
   ap (last_stamp 0) c.push.ensures.entries,
   last_stamp-append 0 c.reserve.new.self.entries c.entry.result,
@@ -35,7 +35,7 @@ push-requires-2-clause-rises g c = omega (
 )
 
 pub record-requires-2-clause-more : goal.record-requires-2-clause-more
-record-requires-2-clause-more g c = let made = c.entry-2.result in (
+record-requires-2-clause-more c = let made = c.entry-2.result in (
   made ∷ [],
   c.push-2.ensures.entries ∙ ap (λ (entries : List Entry). entries ++ made ∷ [])
       (sym c.record.ensures.history),
