@@ -338,8 +338,8 @@ module _ {B : Type 0} (seen : B → Seen) (faults : B → Faults) (old new : Vol
                 new.file)) (whole.geometry going) (moments going)).rest image left);
           }
           by_old (Some stamp) is =
-              subst (HasStopped old.file.geometry old.number opening new.file.entries)
-              (sym (ap seen (stays going-not)))
+              subst (λ (b : B). HasStopped old.file.geometry old.number opening new.file.entries
+              (seen b)) (sym (stays going-not))
               (subst (λ (es : List Entry). HasStopped old.file.geometry old.number opening es
               (seen old.blocks)) (sym made-in.entries)
               (stopped-more old.file.geometry old.number opening old.file.entries made-in.made
