@@ -71,7 +71,8 @@ fn record_length(bytes: &[u8]) -> usize {
     0
 }
 
-/// Whether the bytes are the beginning of a record and not the whole of one.
+/// Whether the bytes are what is left of a record that isn't whole: its beginning, or of a before-image
+/// whatever ends before its flag and length.
 fn is_cut(bytes: &[u8]) -> bool {
     match bytes.first() {
         None => true,
@@ -84,15 +85,13 @@ fn is_cut(bytes: &[u8]) -> bool {
 fn is_before_cut(bytes: &[u8]) -> bool {
     let flag_at = number_at(bytes, 13, 2).saturating_add(15) as usize;
     let rest = bytes.get(flag_at..).unwrap_or(&[]);
-    if bytes.len() < 15 {
+    if bytes.len() < 15 || rest.len() < 5 {
         return true;
     }
     match rest.first() {
-        None => true,
-        Some(0) => rest.len() < 5 && are_zeros(rest),
         Some(1) => {
             let length = number_at(rest, 1, 4).saturating_add(5);
-            rest.len() < 5 || (rest.len() as u64) < length
+            (rest.len() as u64) < length
         }
         _ => false,
     }
