@@ -62,7 +62,7 @@ pub record HasStopped (geometry : Geometry) (number : ℕ) (opening : State) (en
   pub before : List Entry
   pub made : List Entry
   pub later : List Entry
-  pub entries_are : entries ≡ before ++ made ++ later
+  pub entries_are : entries ≡ before ++ (made ++ later)
   pub stop : IsStop made
   pub left : (image : Image) → Left now image
       → IsLeftWhile geometry number opening before made image
