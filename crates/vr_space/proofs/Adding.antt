@@ -3,7 +3,7 @@ use Rattle.std.proofs.Common.{◌≡◌, ◌⊎◌, inl, inr, ⊎_elim, ◌<◌,
 use Rattle.std.proofs.Common.{[], Option, Some, None, refl, sym, ap, ◌∙◌, arith, length}
 use Rattle.std.proofs.Common.{◌≤◌}
 use Rattle.std.specs.Prelude.{IfSome}
-use Rattle.vr_types.specs.Content.{Content, record_at}
+use Rattle.vr_types.specs.Content.{Content, Item, item_at}
 use Rattle.vr_types.specs.Image.{Block, Image, block_at}
 use Rattle.vr_types.specs.Seen.{Seen, Left}
 use Rattle.vr_types.specs.Blocks.{Keeps, Forced}
@@ -14,12 +14,13 @@ use Rattle.vr_space.specs.declared.room.Room.{Room}
 use Rattle.vr_space.specs.declared.room.Room.TheVariants.{Ready, NoSpace}
 use Rattle.vr_space.specs.Way.{MayOnceForced}
 use Rattle.vr_space.specs.Room.{Lengths, length_at}
+use Rattle.vr_space.specs.Known.{Known}
 use Rattle.vr_space.specs.Split.{SplitNow, keyed_stage, keyed_fits, room_after, room_by}
 use Rattle.vr_space.specs.Split.{room_by_split, free_interval}
 use Rattle.vr_space.specs.Keyed.{entries_of, keyed_way}
 use Rattle.vr_space.specs.Part.{Shape, KeyedShape, InPart, StandsFor, Stands, HasOnly, MayHold}
 use Rattle.vr_space.specs.Part.{MayAlsoHold, Nothing, AddsTo, IsSound, IsAtRest, HasKeptRoom}
-use Rattle.vr_space.specs.Part.{way_to, item_of, SameRecords, SetsOne, IsDueTo, DueMore, IsFirm}
+use Rattle.vr_space.specs.Part.{way_to, item_of, left_by, SameRecords, SetsOne, IsDueTo, DueMore, IsFirm}
 use Rattle.vr_space.specs.Part.{CanSet, DueMoreAt}
 use Rattle.vr_space.specs.Part.{room_of, stage_of, fits_at}
 use Rattle.vr_space.proofs.Ways.{find-more, within-less}
@@ -29,21 +30,21 @@ use Rattle.vr_space.proofs.KeyedSound.{head-ascends, IsBlock}
 
 -- ---- one after another
 
-pub only-weaken : (shape : Shape) (O P : List ℕ → Option (List ℕ) → Type 0)
-    → ((place : List ℕ) (item : Option (List ℕ)) → O place item → P place item)
+pub only-weaken : (shape : Shape) (O P : List ℕ → Option Item → Type 0)
+    → ((place : List ℕ) (item : Option Item) → O place item → P place item)
     → (image : Image) → HasOnly shape O image → HasOnly shape P image
 only-weaken shape O P wider image has = record {
   content = has.content;
   stands = has.stands;
-  each = λ place. wider place (record_at has.content place) (has.each place);
+  each = λ place. wider place (item_at has.content place) (has.each place);
 }
 
 -- what is allowed may be allowed more widely
-pub adds-weaken : (shape : Shape) (A C : List ℕ → Option (List ℕ) → Type 0) (a b : Seen)
+pub adds-weaken : (shape : Shape) (A C : List ℕ → Option Item → Type 0) (a b : Seen)
     → AddsTo shape A a b
-    → ((place : List ℕ) (item : Option (List ℕ)) → A place item → C place item) → AddsTo shape C a b
+    → ((place : List ℕ) (item : Option Item) → A place item → C place item) → AddsTo shape C a b
 adds-weaken shape A C a b call wider =
-    let over : (place : List ℕ) (item : Option (List ℕ)) → MayAlsoHold shape a.may A place item
+    let over : (place : List ℕ) (item : Option Item) → MayAlsoHold shape a.may A place item
     → MayAlsoHold shape a.may C place item =
     λ place item. ⊎_elim (λ old. inl old) (λ new. inr (wider place item new)) in
     record {
@@ -54,15 +55,15 @@ adds-weaken shape A C a b call wider =
     }
 
 -- two calls add what each allows
-pub adds-then : (shape : Shape) (A C : List ℕ → Option (List ℕ) → Type 0) (a b c : Seen)
+pub adds-then : (shape : Shape) (A C : List ℕ → Option Item → Type 0) (a b c : Seen)
     → AddsTo shape A a b → AddsTo shape C b c
     → AddsTo shape (λ place item. A place item ⊎ C place item) a c
 adds-then shape A C a b c first second =
-    let both : List ℕ → Option (List ℕ) → Type 0 = λ place item. A place item ⊎ C place item in
-    let early : (place : List ℕ) (item : Option (List ℕ)) → MayAlsoHold shape a.may A place item
+    let both : List ℕ → Option Item → Type 0 = λ place item. A place item ⊎ C place item in
+    let early : (place : List ℕ) (item : Option Item) → MayAlsoHold shape a.may A place item
     → MayAlsoHold shape a.may both place item =
     λ place item. ⊎_elim (λ old. inl old) (λ new. inr (inl new)) in
-    let late : (place : List ℕ) (item : Option (List ℕ)) → MayAlsoHold shape b.may C place item
+    let late : (place : List ℕ) (item : Option Item) → MayAlsoHold shape b.may C place item
     → MayAlsoHold shape a.may both place item =
     λ place item. ⊎_elim (λ old. early place item (first.rest place item old))
     (λ new. inr (inr new)) in
@@ -77,14 +78,14 @@ adds-then shape A C a b c first second =
     }
 
 -- a call that adds nothing, and then another
-pub nothing-then : (shape : Shape) (A : List ℕ → Option (List ℕ) → Type 0) (a b c : Seen)
+pub nothing-then : (shape : Shape) (A : List ℕ → Option Item → Type 0) (a b c : Seen)
     → AddsTo shape Nothing a b → AddsTo shape A b c → AddsTo shape A a c
 nothing-then shape A a b c first second =
     adds-weaken shape _ A a c (adds-then shape Nothing A a b c first second)
     (λ place item. ⊎_elim (λ none. absurd none) (λ new. new))
 
 -- and the other way round
-pub then-nothing : (shape : Shape) (A : List ℕ → Option (List ℕ) → Type 0) (a b c : Seen)
+pub then-nothing : (shape : Shape) (A : List ℕ → Option Item → Type 0) (a b c : Seen)
     → AddsTo shape A a b → AddsTo shape Nothing b c → AddsTo shape A a c
 then-nothing shape A a b c first second =
     adds-weaken shape _ A a c (adds-then shape A Nothing a b c first second)
@@ -111,12 +112,12 @@ rest-stands shape now sound left =
     }) in
     (has.content, has.stands)
 
--- a content has at each place the record that is read there
+-- a content has at each place the item that is there
 pub content_item : (shape : Shape) (image : Image) (content : Content)
     → StandsFor shape image content → (place : List ℕ)
-    → record_at content place ≡ item_of shape image place
+    → item_at content place ≡ item_of shape image place
 content_item (KeyedShape part) image content stands place =
-    ap (λ (c : Content). record_at c place) stands.records
+    ap (λ (c : Content). item_at c place) stands.records
     ∙ way-content part image None (entries_of (block_at image part.head)) place
     (head-ascends part (block_at image part.head) stands.head) refl
 
@@ -249,22 +250,22 @@ never-ready None (Some interval) is = cc
 never-ready None None is = cc
 
 -- a record that room is ready for may be set
-pub ready-can : (shape : Shape) (split : Option SplitNow) (image : Image) (free : ℕ)
-    (kept : Lengths) (place : List ℕ) (n : ℕ) → room_of shape split image free kept place n ≡ Ready
-    → (stage_of shape split image place ≡ None) × IsTrue (fits_at shape image kept place n)
-ready-can (KeyedShape part) split image free kept place n is =
-    let both = ready-after (keyed_stage part split image place) _ is in (
+pub ready-can : (shape : Shape) (known : Known) (image : Image) (free : ℕ)
+    (kept : Lengths) (place : List ℕ) (n : ℕ) → room_of shape known image free kept place n ≡ Ready
+    → (stage_of shape known image place ≡ None) × IsTrue (fits_at shape image kept place n)
+ready-can (KeyedShape part) known image free kept place n is =
+    let both = ready-after (keyed_stage part known.split image place) _ is in (
       both.0,
       ready-by (keyed_fits part image kept place n) _
-          (never-ready split (free_interval part (block_at image part.head))) both.1,
+          (never-ready known.split (free_interval part (block_at image part.head))) both.1,
     )
 
 -- and is set
-pub can-set : (shape : Shape) (split : Option SplitNow) (image : Image) (free : ℕ) (kept : Lengths)
-    (place bytes : List ℕ) → room_of shape split image free kept place (length bytes) ≡ Ready
-    → CanSet shape split image kept place (Some bytes)
-can-set shape split image free kept place bytes is =
-    let both = ready-can shape split image free kept place (length bytes) is in
+pub can-set : (shape : Shape) (known : Known) (image : Image) (free : ℕ) (kept : Lengths)
+    (place bytes : List ℕ) → room_of shape known image free kept place (length bytes) ≡ Ready
+    → CanSet shape known image kept place (Some bytes)
+can-set shape known image free kept place bytes is =
+    let both = ready-can shape known image free kept place (length bytes) is in
     record { no_stage = both.0; room = inl both.1 }
 
 no-stage-after : (stage : Option StageKind) (other : Room) (need left : ℕ)
@@ -273,31 +274,31 @@ no-stage-after None other need left is = refl
 no-stage-after (Some stage) other need left is = absurd cc
 
 -- Where room is ready, or there is no space, no stage comes before the place.
-pub room-no-stage : (shape : Shape) (split : Option SplitNow) (image : Image) (free : ℕ)
+pub room-no-stage : (shape : Shape) (known : Known) (image : Image) (free : ℕ)
     (kept : Lengths) (place : List ℕ) (n need left : ℕ)
-    → (room_of shape split image free kept place n ≡ Ready)
-    ⊎ (room_of shape split image free kept place n ≡ NoSpace need left)
-    → stage_of shape split image place ≡ None
-room-no-stage (KeyedShape part) split image free kept place n need left = ⊎_elim
-    (λ ready. (ready-can (KeyedShape part) split image free kept place n ready).0)
-    (λ full. no-stage-after (keyed_stage part split image place) _ need left full)
+    → (room_of shape known image free kept place n ≡ Ready)
+    ⊎ (room_of shape known image free kept place n ≡ NoSpace need left)
+    → stage_of shape known image place ≡ None
+room-no-stage (KeyedShape part) known image free kept place n need left = ⊎_elim
+    (λ ready. (ready-can (KeyedShape part) known image free kept place n ready).0)
+    (λ full. no-stage-after (keyed_stage part known.split image place) _ need left full)
 
 -- a record may be taken away there
-pub can-erase : (shape : Shape) (split : Option SplitNow) (image : Image) (free : ℕ)
+pub can-erase : (shape : Shape) (known : Known) (image : Image) (free : ℕ)
     (kept : Lengths) (place : List ℕ) (n need left : ℕ)
-    → (room_of shape split image free kept place n ≡ Ready)
-    ⊎ (room_of shape split image free kept place n ≡ NoSpace need left)
-    → CanSet shape split image kept place None
-can-erase shape split image free kept place n need left is = record {
-  no_stage = room-no-stage shape split image free kept place n need left is;
+    → (room_of shape known image free kept place n ≡ Ready)
+    ⊎ (room_of shape known image free kept place n ≡ NoSpace need left)
+    → CanSet shape known image kept place None
+can-erase shape known image free kept place n need left is = record {
+  no_stage = room-no-stage shape known image free kept place n need left is;
   room = tt;
 }
 
 -- and one set for which the place is kept
-pub can-set-kept : (shape : Shape) (split : Option SplitNow) (image : Image) (kept : Lengths)
+pub can-set-kept : (shape : Shape) (known : Known) (image : Image) (kept : Lengths)
     (place bytes : List ℕ) (n : ℕ) → length_at kept place ≡ Some n → length bytes ≤ n
-    → stage_of shape split image place ≡ None → CanSet shape split image kept place (Some bytes)
-can-set-kept shape split image kept place bytes n at most no_stage =
+    → stage_of shape known image place ≡ None → CanSet shape known image kept place (Some bytes)
+can-set-kept shape known image kept place bytes n at most no_stage =
     record { no_stage = no_stage; room = inr (n, at, most) }
 
 -- ---- calls in a row
@@ -306,10 +307,12 @@ pub records-then : (shape : Shape) (a b c : Image) → SameRecords shape a b →
     → SameRecords shape a c
 records-then shape a b c first second place = second place ∙ first place
 
-pub sets-after : (shape : Shape) (at : List ℕ) (item : Option (List ℕ)) (a b c : Image)
-    → SameRecords shape a b → SetsOne shape at item b c → SetsOne shape at item a c
-sets-after shape at item a b c first second =
-    record { here = second.here; others = λ place other. second.others place other ∙ first place }
+pub sets-after : (shape : Shape) (at : List ℕ) (bytes : Option (List ℕ)) (a b c : Image)
+    → SameRecords shape a b → SetsOne shape at bytes b c → SetsOne shape at bytes a c
+sets-after shape at bytes a b c first second = record {
+  here = second.here ∙ ap (λ (now : Option Item). left_by shape now bytes) (first at);
+  others = λ place other. second.others place other ∙ first place;
+}
 
 pub on-still : (shape : Shape) (a b : Seen) → Rattle.vr_space.specs.Part.IsOn shape a
     → b.count ≡ a.count → b.size ≡ a.size → Rattle.vr_space.specs.Part.IsOn shape b

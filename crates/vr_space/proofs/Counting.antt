@@ -7,12 +7,14 @@ use Rattle.vr_types.specs.Content.{place_cmp}
 use Rattle.vr_types.specs.Image.{Block, Image, block_at}
 use Rattle.vr_seqset.specs.Entry.{Entry}
 use Rattle.vr_space.specs.Way.{found_on}
+use Rattle.vr_space.specs.Known.{Known}
+use Rattle.vr_types.specs.Content.Item.{Standing}
 use Rattle.vr_space.specs.Keyed.{HoldRanges, HoldsRange, Keyed, entries_of, entry_block, entry_for}
 use Rattle.vr_space.specs.Keyed.{items_of, length_of, lengths_of, range_of, records_in, way_in}
 use Rattle.vr_space.specs.Part.{KeyedShape, Shape, Stands, fits_at, item_of, room_of}
 use Rattle.vr_space.specs.Room.{Lengths, Range, have_room, is_above, is_in, with_length}
 use Rattle.vr_space.specs.Room.{with_lengths}
-use Rattle.vr_space.specs.Split.{SplitNow, fits_in, free_interval, keyed_stage, room_after, room_by}
+use Rattle.vr_space.specs.Split.{fits_in, free_interval, keyed_stage, room_after, room_by}
 use Rattle.vr_space.specs.Split.{room_by_split}
 use Rattle.vr_space.proofs.Keeping.{HasLonger, holds-read, kept-out, kept-stands}
 use Rattle.vr_space.proofs.KeyedContent.{AscendFrom}
@@ -127,7 +129,7 @@ module _ (part : Keyed) (kept : Lengths) (place : List ℕ) (n : ℕ) (image : I
 
 -- A record that is kept and stands takes no room beside what stands.
 pub kept_fits : (shape : Shape) (image : Image) (kept : Lengths) (place bytes : List ℕ) (n : ℕ)
-    → Stands shape image → item_of shape image place ≡ Some bytes → n ≤ length bytes
+    → Stands shape image → item_of shape image place ≡ Some (Standing bytes) → n ≤ length bytes
     → (other : List ℕ) (m : ℕ)
     → fits_at shape image (with_length kept place n) other m ≡ fits_at shape image kept other m
 kept_fits (KeyedShape part) image kept place bytes n stands is most other m =
@@ -143,11 +145,11 @@ kept_fits (KeyedShape part) image kept place bytes n stands is most other m =
 
 -- It stands in the way of no other record.
 pub kept_room : (shape : Shape) (image : Image) (kept : Lengths) (place bytes : List ℕ) (n : ℕ)
-    → Stands shape image → item_of shape image place ≡ Some bytes → n ≤ length bytes
-    → (split : Option SplitNow) (free : ℕ) (other : List ℕ) (m : ℕ)
-    → room_of shape split image free (with_length kept place n) other m
-    ≡ room_of shape split image free kept other m
-kept_room (KeyedShape part) image kept place bytes n stands is most split free other m =
-    ap (λ (fits : Bool). room_after (keyed_stage part split image other) (room_by fits
-    (room_by_split split (free_interval part (block_at image part.head)))))
+    → Stands shape image → item_of shape image place ≡ Some (Standing bytes) → n ≤ length bytes
+    → (known : Known) (free : ℕ) (other : List ℕ) (m : ℕ)
+    → room_of shape known image free (with_length kept place n) other m
+    ≡ room_of shape known image free kept other m
+kept_room (KeyedShape part) image kept place bytes n stands is most known free other m =
+    ap (λ (fits : Bool). room_after (keyed_stage part known.split image other) (room_by fits
+    (room_by_split known.split (free_interval part (block_at image part.head)))))
     (kept_fits (KeyedShape part) image kept place bytes n stands is most other m)

@@ -7,15 +7,16 @@ use Rattle.vr_types.specs.Image.{Block, block_at}
 use Rattle.vr_types.specs.Seen.{Left, Seen}
 use Rattle.vr_seqset.specs.Entry.{Entry}
 use Rattle.vr_space.specs.Keyed.{IsHead, Keyed, entries_of, entry_block, entry_for}
-use Rattle.vr_space.specs.Met.{IsMet, Met}
+use Rattle.vr_space.specs.Known.{Known}
+use Rattle.vr_space.specs.Met.{IsMet}
 use Rattle.vr_space.specs.Part.{CanSet, HasKeptRoom, HasRoomFor, InPart, IsAtRest, IsSound}
 use Rattle.vr_space.specs.Part.{KeyedShape, Knows, Shape}
-use Rattle.vr_types.specs.Content.{record_at}
+use Rattle.vr_types.specs.Content.{item_at}
 use Rattle.vr_space.specs.Keyed.{records_of, way_in, way_under}
 use Rattle.vr_space.specs.Part.{SameRecords}
 use Rattle.vr_space.specs.Way.{found_on}
 use Rattle.vr_space.specs.Room.{Lengths, Range}
-use Rattle.vr_space.specs.Split.{SplitNow, fits_in, keyed_fits, stage_in}
+use Rattle.vr_space.specs.Split.{fits_in, keyed_fits, stage_in}
 use Rattle.vr_space.proofs.KeyedSound.{IsBlock, each-less, head-in, keyed-less}
 use Rattle.vr_space.proofs.UnderWay.{found-in, met-stays, way-stays}
 
@@ -53,11 +54,10 @@ module _ (a b : Seen) where
             (head-in part top (sound.heads top before)) (room.each top before);
       }
 
-  pub knows-stays : (shape : Shape) (split : Option SplitNow) (met : List Met)
-      → StaysPart shape a b → IsSound shape a → Left a a.cur → Knows shape split met a
-      → Knows shape split met b
-  knows-stays (KeyedShape part) split met stays sound left knows = record {
-    way = way-stays part split a b sound left
+  pub knows-stays : (shape : Shape) (known : Known) → StaysPart shape a b → IsSound shape a
+      → Left a a.cur → Knows shape known a → Knows shape known b
+  knows-stays (KeyedShape part) known stays sound left knows = record {
+    way = way-stays part known.split a b sound left
         (λ now some n block named. record {
           cur = stays.same n block.1;
           less = λ bytes may. stays.fewer n bytes block.0 block.1 may;
@@ -66,7 +66,7 @@ module _ (a b : Seen) where
         (λ one is. met-stays part a.cur b.cur one
         (sound.heads _ (left.each part.head (omega (arith, sound.area))))
         (stays.same part.head (omega arith, omega arith))
-        (λ inside. stays.same one.number inside) is) met knows.blocks;
+        (λ inside. stays.same one.number inside) is) known.met knows.blocks;
   }
 
   -- the record that fits where the interval is as it was
@@ -101,11 +101,11 @@ module _ (a b : Seen) where
       (λ fits. inl (subst IsTrue (sym (fits-same part kept place (length bytes) stays head)) fits))
       (λ kept-there. inr kept-there) has
 
-  pub can-stays : (shape : Shape) (split : Option SplitNow) (kept : Lengths) (place : List ℕ)
+  pub can-stays : (shape : Shape) (known : Known) (kept : Lengths) (place : List ℕ)
       (item : Option (List ℕ)) → StaysPart shape a b → IsSound shape a → Left a a.cur
-      → CanSet shape split a.cur kept place item → CanSet shape split b.cur kept place item
-  can-stays (KeyedShape part) split kept place item stays sound left can = record {
-    no_stage = ap (λ (top : Block). stage_in split (entry_for None (entries_of top) place))
+      → CanSet shape known a.cur kept place item → CanSet shape known b.cur kept place item
+  can-stays (KeyedShape part) known kept place item stays sound left can = record {
+    no_stage = ap (λ (top : Block). stage_in known.split (entry_for None (entries_of top) place))
         (stays.same part.head (omega arith, omega arith)) ∙ can.no_stage;
     room = room-for part kept place item stays
         (sound.heads _ (left.each part.head (omega (arith, sound.area)))) can.room;
@@ -118,7 +118,7 @@ module _ (a b : Seen) where
       → found_on b.cur (way_in part place found) ≡ found_on a.cur (way_in part place found)
   way-same part place stays None inside = refl
   way-same part place stays (Some at) inside =
-      ap (λ (block : Block). record_at (records_of part block) place)
+      ap (λ (block : Block). item_at (records_of part block) place)
       (stays.same (entry_block part at.1) (inside at refl))
 
   pub same-stays : (shape : Shape) → StaysPart shape a b → IsSound shape a → Left a a.cur

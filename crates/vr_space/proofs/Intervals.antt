@@ -13,6 +13,7 @@ use Rattle.vr_seqset.specs.Entry.{Entry}
 use Rattle.vr_space.specs.Keyed.{Keyed, entries_of, entry_for}
 use Rattle.vr_space.specs.Part.{IsUnderWay, KeyedShape, OwnersAfter, Shape, room_of}
 use Rattle.vr_space.specs.Room.{Lengths, Range}
+use Rattle.vr_space.specs.Known.{Known}
 use Rattle.vr_space.specs.Split.{IsIntervalStage, SplitNow, free_interval, keyed_fits, room_after}
 use Rattle.vr_space.specs.Split.{room_by, room_by_split, stage_at, stage_in}
 use Rattle.vr_space.specs.UnderWay.{IsReadyFor, KeyedUnderWay}
@@ -67,18 +68,18 @@ by-room None true other kind is = absurd cc
 by-room None false other kind is = inr is
 
 -- What room answers is Ready, that there is no space, or one of the stages of a split of an interval.
-pub interval-stage : (shape : Shape) (split : Option SplitNow) (now : Seen) (image : Image)
+pub interval-stage : (shape : Shape) (known : Known) (now : Seen) (image : Image)
     (free : ℕ) (kept : Lengths) (place : List ℕ) (n : ℕ) (kind : StageKind)
-    → IsUnderWay shape split now → room_of shape split image free kept place n ≡ Stage kind
+    → IsUnderWay shape known now → room_of shape known image free kept place n ≡ Stage kind
     → IsIntervalStage kind
-interval-stage (KeyedShape part) split now image free kept place n kind way is = ⊎_elim
-    (λ staged. stage-in part split now
+interval-stage (KeyedShape part) known now image free kept place n kind way is = ⊎_elim
+    (λ staged. stage-in part known.split now
     (entry_for None (entries_of (block_at image part.head)) place) kind way staged)
-    (λ splits. by-split part split now (free_interval part (block_at image part.head)) kind way
-    splits)
-    (by-room (stage_in split (entry_for None (entries_of (block_at image part.head)) place))
+    (λ splits. by-split part known.split now (free_interval part (block_at image part.head)) kind
+    way splits)
+    (by-room (stage_in known.split (entry_for None (entries_of (block_at image part.head)) place))
     (keyed_fits part image kept place n)
-    (room_by_split split (free_interval part (block_at image part.head))) kind is)
+    (room_by_split known.split (free_interval part (block_at image part.head))) kind is)
 
 -- Such a stage takes no area.
 pub interval-owners : (part : PartNo) (kind : StageKind) (old new : List (Option PartNo))

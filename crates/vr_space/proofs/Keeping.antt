@@ -13,7 +13,8 @@ use Rattle.std.specs.declared.cmp.Ordering.TheVariants.{Less, Equal, Greater}
 use Rattle.std.proofs.lemmas.Cmp.{nat_list_cmp_total}
 use Rattle.std.proofs.lemmas.Map.Keys.{sorted_head, sorted_tail}
 use Rattle.std.specs.Cmp.{tied_itself}
-use Rattle.vr_types.specs.Content.{Placed, found_by, place_cmp, record_at}
+use Rattle.vr_types.specs.Content.{Item, Placed, found_by, place_cmp, item_at}
+use Rattle.vr_types.specs.Content.Item.{Standing}
 use Rattle.vr_types.specs.Image.{Block}
 use Rattle.vr_types.specs.Seen.{Seen}
 use Rattle.vr_types.proofs.CallerLemmas.{same_place}
@@ -188,20 +189,20 @@ kept-stands range lengths (entry ∷ kept) place n holds =
 -- ---- the records of an interval
 
 -- what is read of an item that stands
-some-bytes : {X : Type 0} (one other : X) → Some one ≡ Some other → one ≡ other
+some-bytes : (one other : List ℕ) → Some (Standing one) ≡ Some (Standing other) → one ≡ other
 some-bytes one other same = cc
 
-some-none : {X : Type 0} (one : X) → Some one ≡ None → ⊥
+some-none : (one : Item) → Some one ≡ None → ⊥
 some-none one is = cc
 
 -- ascending keys above a place have no record there
 none-above : (part : Keyed) (items : List ci.Item) (place : List ℕ)
     → AllByRecursion (λ key. place_cmp place key ≡ Less)
     (map (λ (item : ci.Item). key_of part item.bytes) items)
-    → record_at (map (placed part) items) place ≡ None
+    → item_at (map (placed part) items) place ≡ None
 none-above part [] place all = refl
 none-above part (item ∷ items) place all =
-    ap (λ (order : Ordering). found_by order (Some item.bytes) (record_at (map (placed part) items)
+    ap (λ (order : Ordering). found_by order (Some (Standing item.bytes)) (item_at (map (placed part) items)
     place)) all.0
     ∙ none-above part items place all.1
 
@@ -217,7 +218,7 @@ all-more low place (key ∷ keys) less all = (
 -- a record that is read in a range has its length there
 pub holds-read : (part : Keyed) (range : Range) (items : List ci.Item) (place bytes : List ℕ) (n : ℕ)
     → IsStrictlySortedBy place_cmp (map (λ (item : ci.Item). key_of part item.bytes) items)
-    → is_in range place ≡ true → record_at (map (placed part) items) place ≡ Some bytes
+    → is_in range place ≡ true → item_at (map (placed part) items) place ≡ Some (Standing bytes)
     → n ≤ length bytes
     → Holds (map length_of (filter (λ (entry : Placed). is_in range entry.0)
     (map (placed part) items))) place n
@@ -233,7 +234,7 @@ holds-read part range (item ∷ items) place bytes n sorted inside reads most =
     above = sorted_head place_cmp (key_of part item.bytes)
         (map (λ (other : ci.Item). key_of part other.bytes) items) sorted
 
-    here : place ≡ key_of part item.bytes → Some item.bytes ≡ Some bytes → (inside-key : Bool)
+    here : place ≡ key_of part item.bytes → Some (Standing item.bytes) ≡ Some (Standing bytes) → (inside-key : Bool)
         → is_in range (key_of part item.bytes) ≡ inside-key
         → Holds (map length_of (cond inside-key
         (placed part item ∷ filter (λ (entry : Placed). is_in range entry.0)
@@ -264,13 +265,14 @@ holds-read part range (item ∷ items) place bytes n sorted inside reads most =
     past is further false = further
 
     by_order : (order : Ordering) → place_cmp place (key_of part item.bytes) ≡ order
-        → found_by order (Some item.bytes) (record_at (map (placed part) items) place) ≡ Some bytes
-        → (record_at (map (placed part) items) place ≡ Some bytes
+        → found_by order (Some (Standing item.bytes)) (item_at (map (placed part) items) place)
+        ≡ Some (Standing bytes)
+        → (item_at (map (placed part) items) place ≡ Some (Standing bytes)
         → Holds (map length_of (filter (λ (entry : Placed). is_in range entry.0)
         (map (placed part) items))) place n)
         → Holds (map length_of (filter (λ (entry : Placed). is_in range entry.0)
         (map (placed part) (item ∷ items)))) place n
-    by_order Less is there further = absurd (some-none bytes (sym there
+    by_order Less is there further = absurd (some-none (Standing bytes) (sym there
         ∙ none-above part items place (all-more place (key_of part item.bytes)
         (map (λ (other : ci.Item). key_of part other.bytes) items) is above)))
     by_order Equal is there further =
@@ -311,7 +313,7 @@ kept-out range (entry ∷ kept) place n out =
 -- the block has such a record at the place
 abbrev pub HasLonger : Keyed → List ℕ → ℕ → Block → Type 0
 HasLonger part place n block = (bytes : List ℕ)
-    × (record_at (records_of part block) place ≡ Some bytes) × (n ≤ length bytes)
+    × (item_at (records_of part block) place ≡ Some (Standing bytes)) × (n ≤ length bytes)
 
 module _ (part : Keyed) (kept : Lengths) (place : List ℕ) (n : ℕ) (now : Seen) where
   abbrev Room : Lengths → Range → Block → Type 0
@@ -418,8 +420,8 @@ places-with key (entry ∷ kept) place n long all =
 -- The record that a crash leaves at a place may be kept, where it is the only one.
 pub keep-room : (shape : Shape) (kept : Lengths) (place : List ℕ) (n : ℕ) (now : Seen)
     → IsPlaceOf shape place → IsSound shape now → HasKeptRoom shape kept now
-    → ((item : Option (List ℕ)) → MayHold shape now.may place item
-    → (bytes : List ℕ) × (item ≡ Some bytes) × (n ≤ length bytes))
+    → ((item : Option Item) → MayHold shape now.may place item
+    → (bytes : List ℕ) × (item ≡ Some (Standing bytes)) × (n ≤ length bytes))
     → HasKeptRoom shape (with_length kept place n) now
 keep-room (KeyedShape part) kept place n now long sound room stands = record {
   places = All-from_recursion (λ (entry : List ℕ × ℕ). length entry.0 ≡ part.key)
@@ -427,11 +429,11 @@ keep-room (KeyedShape part) kept place n now long sound room stands = record {
       (recursion_from_All (λ (entry : List ℕ × ℕ). length entry.0 ≡ part.key) kept room.places));
   each = λ top may. each-kept part kept place n now None (entries_of top)
       (head-ascends part top (sound.heads top may))
-      (λ at leads block block-may. stands (record_at (records_of part block) place) (
+      (λ at leads block block-may. stands (item_at (records_of part block) place) (
         top,
         may,
         subst (λ (found : Option (Range × Entry)). MayFind now.may
-            (record_at (records_of part block) place) (way_in part place found)) (sym leads)
+            (item_at (records_of part block) place) (way_in part place found)) (sym leads)
             (block, block-may, refl),
       ))
       (sound.intervals top may) (room.each top may);

@@ -3,7 +3,7 @@ use Rattle.std.proofs.Common.{◌≡◌, ℕ, Bool, true, false, List, [], ◌�
 use Rattle.std.proofs.Common.{ap, ◌∙◌}
 use Rattle.std.specs.Prelude.{cond}
 use Rattle.std.specs.Ordering.{is_le, is_lt}
-use Rattle.vr_types.specs.Content.{Content, place_cmp, record_at}
+use Rattle.vr_types.specs.Content.{Content, place_cmp, item_at}
 use Rattle.vr_types.specs.Image.{Block, Image, block_at}
 use Rattle.vr_seqset.specs.Entry.{Entry}
 use Rattle.vr_space.specs.Way.{found_on}
@@ -32,10 +32,10 @@ content-above part image low (entry ∷ entries) ascend =
     (above-weaken low entry.high (content_from part image (Some entry.high) entries) ascend.0
     (content-above part image (Some entry.high) entries ascend.1))
 
--- the content's record at a place is the one that the way leads to
+-- the content's item at a place is the one that the way leads to
 pub way-content : (part : Keyed) (image : Image) (low : Option (List ℕ)) (entries : List Entry)
     (place : List ℕ) → AscendFrom low entries → is_above low place ≡ true
-    → record_at (content_from part image low entries) place ≡ found_on image
+    → item_at (content_from part image low entries) place ≡ found_on image
     (way_in part place (entry_for low entries place))
 way-content part image low [] place ascend above = refl
 way-content part image low (entry ∷ entries) place ascend above =
@@ -53,9 +53,9 @@ way-content part image low (entry ∷ entries) place ascend above =
 
     reached : (b : Bool) → is_le (place_cmp place entry.high) ≡ b
         → (is_above (Some entry.high) place ≡ true
-        → record_at further place ≡ found_on image
+        → item_at further place ≡ found_on image
         (way_in part place (entry_for (Some entry.high) entries place)))
-        → record_at (first
+        → item_at (first
         ++ further) place ≡ found_on image
         (way_in part place
         (cond b (Some (range_of low entry, entry)) (entry_for (Some entry.high) entries place)))

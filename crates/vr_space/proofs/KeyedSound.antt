@@ -9,7 +9,7 @@ use Rattle.std.specs.List.Sorted.{IsStrictlySortedBy}
 use Rattle.std.specs.Ordering.{is_le, is_lt}
 use Rattle.std.proofs.lemmas.List.Elements.{All-head, All-tail}
 use Rattle.std.proofs.lemmas.Map.Keys.{sorted_head, sorted_tail}
-use Rattle.vr_types.specs.Content.{place_cmp}
+use Rattle.vr_types.specs.Content.{Item, place_cmp}
 use Rattle.vr_types.specs.Image.{Block, Image, block_at}
 use Rattle.vr_types.specs.Seen.{Seen}
 use Rattle.vr_types.specs.Regions.{IsImageOn}
@@ -170,7 +170,7 @@ module _ (part : Keyed) (now : Seen) where
           records = refl;
         };
         each = λ place. subst
-            (λ (item : Option (List ℕ)). MayFind now.may item (keyed_way part place))
+            (λ (item : Option Item). MayFind now.may item (keyed_way part place))
             (sym (way-content part image None (entries_of top) place (head-ascends part top head)
             refl))
             (found-may IsBlock now.may image each (keyed_way part place)

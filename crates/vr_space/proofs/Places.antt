@@ -6,7 +6,7 @@ use Rattle.std.specs.Ordering.{is_le, is_lt, ordering_reverse}
 use Rattle.std.specs.declared.cmp.Ordering.{Ordering}
 use Rattle.std.specs.declared.cmp.Ordering.TheVariants.{Less, Equal, Greater}
 use Rattle.std.proofs.lemmas.Cmp.{nat_list_cmp_total, tied_itself}
-use Rattle.vr_types.specs.Content.{Content, Placed, place_cmp, record_at, record_of, found_by}
+use Rattle.vr_types.specs.Content.{Content, Placed, place_cmp, item_at, found_by}
 use Rattle.vr_types.proofs.CallerLemmas.{same_place}
 use Rattle.vr_space.specs.Room.{Range, is_in, is_above}
 
@@ -65,23 +65,23 @@ by_other Equal here further other = absurd (other refl)
 by_other Greater here further other = refl
 
 pub none-record : (place : List ℕ) (content : Content) → NoneAt place content
-    → record_at content place ≡ None
+    → item_at content place ≡ None
 none-record place [] none = refl
 none-record place (entry ∷ content) none =
-    by_other (place_cmp place entry.0) (record_of entry.1) (record_at content place) none.0
+    by_other (place_cmp place entry.0) (Some entry.1) (item_at content place) none.0
     ∙ none-record place content none.1
 
 pub record-left : (xs ys : Content) (place : List ℕ) → NoneAt place ys
-    → record_at (xs ++ ys) place ≡ record_at xs place
+    → item_at (xs ++ ys) place ≡ item_at xs place
 record-left [] ys place none = none-record place ys none
 record-left (entry ∷ xs) ys place none =
-    ap (found_by (place_cmp place entry.0) (record_of entry.1)) (record-left xs ys place none)
+    ap (found_by (place_cmp place entry.0) (Some entry.1)) (record-left xs ys place none)
 
 pub record-right : (xs ys : Content) (place : List ℕ) → NoneAt place xs
-    → record_at (xs ++ ys) place ≡ record_at ys place
+    → item_at (xs ++ ys) place ≡ item_at ys place
 record-right [] ys place none = refl
 record-right (entry ∷ xs) ys place none =
-    by_other (place_cmp place entry.0) (record_of entry.1) (record_at (xs ++ ys) place) none.0
+    by_other (place_cmp place entry.0) (Some entry.1) (item_at (xs ++ ys) place) none.0
     ∙ record-right xs ys place none.1
 
 abbrev in_range : Range → Placed → Bool
@@ -89,7 +89,7 @@ in_range range entry = is_in range entry.0
 
 -- a place of the range has the record that it has among all
 pub record-filter : (range : Range) (xs : Content) (place : List ℕ) → is_in range place ≡ true
-    → record_at (filter (λ (entry : Placed). is_in range entry.0) xs) place ≡ record_at xs place
+    → item_at (filter (λ (entry : Placed). is_in range entry.0) xs) place ≡ item_at xs place
 record-filter range [] place is = refl
 record-filter range (entry ∷ xs) place is =
     kept (is_in range entry.0) refl (record-filter range xs place is)
@@ -97,11 +97,11 @@ record-filter range (entry ∷ xs) place is =
     rest : Content
     rest = filter (λ (other : Placed). is_in range other.0) xs
 
-    kept : (b : Bool) → is_in range entry.0 ≡ b → record_at rest place ≡ record_at xs place
-        → record_at (cond b (entry ∷ rest) rest) place ≡ record_at (entry ∷ xs) place
-    kept true in_it more = ap (found_by (place_cmp place entry.0) (record_of entry.1)) more
+    kept : (b : Bool) → is_in range entry.0 ≡ b → item_at rest place ≡ item_at xs place
+        → item_at (cond b (entry ∷ rest) rest) place ≡ item_at (entry ∷ xs) place
+    kept true in_it more = ap (found_by (place_cmp place entry.0) (Some entry.1)) more
     kept false out more = more
-        ∙ sym (by_other (place_cmp place entry.0) (record_of entry.1) (record_at xs place)
+        ∙ sym (by_other (place_cmp place entry.0) (Some entry.1) (item_at xs place)
         (λ same. true≢false (sym is ∙ ap (is_in range) (same_place place entry.0 same) ∙ out)))
 
 -- a place beyond the range has none among those of the range

@@ -14,7 +14,8 @@ use Rattle.std.proofs.lemmas.List.{take_at, drop_at, length-append}
 use Rattle.std.proofs.lemmas.List.Elements.{All-head, All-tail, All-push, All-nil}
 use Rattle.std.proofs.lemmas.List.Elements.{All-from_recursion}
 use Rattle.std.proofs.lemmas.Map.Keys.{sorted_head, sorted_tail}
-use Rattle.vr_types.specs.Content.{place_cmp, record_at, found_by}
+use Rattle.vr_types.specs.Content.{place_cmp, item_at, found_by}
+use Rattle.vr_types.specs.Content.Item.{Standing}
 use Rattle.vr_types.proofs.CallerLemmas.{same_place}
 use Rattle.vr_ci_match.specs.declared.form.Form.TheVariants.{Plain}
 use Rattle.vr_types.specs.Image.{Block, Image, block_at}
@@ -184,7 +185,7 @@ test-false test false says fails least = refl
 pub record IsSearching (part : Keyed) (place : List ℕ) (all left : List ci.Item)
     (i : ℕ) : Type 0 where
   pub kept : All (IsKept part) left
-  pub same : record_at (map (placed part) left) place ≡ record_at (map (placed part) all) place
+  pub same : item_at (map (placed part) left) place ≡ item_at (map (placed part) all) place
   pub count : length left + i ≡ length all
 
 pub search-starts : (part : Keyed) (place : List ℕ) (all : List ci.Item) → All (IsKept part) all
@@ -201,11 +202,11 @@ module _ (part : Keyed) (place : List ℕ) (all old left : List ci.Item) (i : �
         let kept : All (IsKept part) (item ∷ left) = subst (All (IsKept part)) cut search.kept in
         record {
           kept = All-tail (IsKept part) item left kept;
-          same = sym (by_other (place_cmp place (key_of part item.bytes)) (Some item.bytes)
-              (record_at (map (placed part) left) place)
+          same = sym (by_other (place_cmp place (key_of part item.bytes)) (Some (Standing item.bytes))
+              (item_at (map (placed part) left) place)
               (λ equal. other (All-head (IsKept part) item left kept)
               (sym (same_place place (key_of part item.bytes) equal))))
-              ∙ sym (ap (λ (xs : List ci.Item). record_at (map (placed part) xs) place) cut)
+              ∙ sym (ap (λ (xs : List ci.Item). item_at (map (placed part) xs) place) cut)
               ∙ search.same;
           count = omega (arith, ap length cut, search.count);
         }
@@ -213,11 +214,11 @@ module _ (part : Keyed) (place : List ℕ) (all old left : List ci.Item) (i : �
     -- or at this one
     pub search-finds : old ≡ item ∷ left → key_of part item.bytes ≡ place
         → IsSearching part place all old i
-        → record_at (map (placed part) all) place ≡ Some item.bytes
+        → item_at (map (placed part) all) place ≡ Some (Standing item.bytes)
     search-finds cut here search =
-        sym search.same ∙ ap (λ (xs : List ci.Item). record_at (map (placed part) xs) place) cut
+        sym search.same ∙ ap (λ (xs : List ci.Item). item_at (map (placed part) xs) place) cut
         ∙ ap (λ (o : Rattle.std.specs.declared.cmp.Ordering.Ordering).
-        found_by o (Some item.bytes) (record_at (map (placed part) left) place))
+        found_by o (Some (Standing item.bytes)) (item_at (map (placed part) left) place))
         (ap (place_cmp place) here ∙ same_is_equal place)
 
 no_items : (xs : List ci.Item) → length xs ≡ 0 → xs ≡ []
@@ -227,10 +228,10 @@ no_items (x ∷ xs) none = absurd (omega (arith, none))
 -- none is left
 pub search-ends : (part : Keyed) (place : List ℕ) (all left : List ci.Item) (i : ℕ)
     → (length left ≡ 0) → IsSearching part place all left i
-    → record_at (map (placed part) all) place ≡ None
+    → item_at (map (placed part) all) place ≡ None
 search-ends part place all left i none search =
     sym search.same
-    ∙ ap (λ (xs : List ci.Item). record_at (map (placed part) xs) place) (no_items left none)
+    ∙ ap (λ (xs : List ci.Item). item_at (map (placed part) xs) place) (no_items left none)
 
 -- ---- how many records are at a place or before it
 

@@ -18,6 +18,7 @@ use Rattle.vr_seqset.specs.Numbers.{intervals_used}
 use Rattle.vr_space.specs.Room.{Range}
 use Rattle.vr_space.specs.Keyed.{Keyed, IsHead, HoldsRange, IsKeyedSound, entries_of, entry_for}
 use Rattle.vr_space.specs.Keyed.{records_in}
+use Rattle.vr_space.specs.Known.{Known}
 use Rattle.vr_space.specs.Split.{SplitNow, free_from, free_interval}
 use Rattle.vr_space.specs.UnderWay.{IsBegun, IsCopied, IsSwitched, IsReadyFor, KeyedUnderWay}
 use Rattle.vr_space.specs.UnderWay.{interval_block, above_cut}
@@ -177,10 +178,10 @@ met-stays part a b met head top still is =
 
 module _ (tells : Bool) (told : IsTrue tells) where
   -- a call that puts nothing leaves a split under way
-  pub way-keeps : (shape : Shape) (split : Option SplitNow) (a b : Seen) → Keeps tells a b
-      → IsSound shape a → Left a a.cur → IsUnderWay shape split a → IsUnderWay shape split b
-  way-keeps (KeyedShape part) split a b call sound left is =
-      way-stays part split a b sound left
+  pub way-keeps : (shape : Shape) (known : Known) (a b : Seen) → Keeps tells a b
+      → IsSound shape a → Left a a.cur → IsUnderWay shape known a → IsUnderWay shape known b
+  way-keeps (KeyedShape part) known a b call sound left is =
+      way-stays part known.split a b sound left
       (λ now some n block named. record {
         cur = ap (λ (image : Image). block_at image n) (call.content told);
         less = λ bytes may. call.adds_none told n bytes block.0 may;
@@ -212,20 +213,19 @@ module _ (tells : Bool) (told : IsTrue tells) where
       outside (subst (InPart (KeyedShape part)) same inside)) is
 
   -- what a part knows of its blocks stays where nothing is put
-  pub knows-keeps : (shape : Shape) (split : Option SplitNow) (met : List Met) (a b : Seen)
-      → Keeps tells a b → IsSound shape a → Left a a.cur → Knows shape split met a
-      → Knows shape split met b
-  knows-keeps (KeyedShape part) split met a b call sound left knows = record {
-    way = way-keeps (KeyedShape part) split a b call sound left knows.way;
-    blocks = subst (λ (image : Image). All (IsMet part image) met) (sym (call.content told))
+  pub knows-keeps : (shape : Shape) (known : Known) (a b : Seen) → Keeps tells a b
+      → IsSound shape a → Left a a.cur → Knows shape known a → Knows shape known b
+  knows-keeps (KeyedShape part) known a b call sound left knows = record {
+    way = way-keeps (KeyedShape part) known a b call sound left knows.way;
+    blocks = subst (λ (image : Image). All (IsMet part image) known.met) (sym (call.content told))
         knows.blocks;
   }
 
   -- and where something is put outside the part
-  pub knows-puts : (shape : Shape) (split : Option SplitNow) (met : List Met) (n : ℕ)
-      (bytes : Block) (a b : Seen) → Puts tells n bytes a b → (InPart shape n → ⊥)
-      → IsSound shape a → Left a a.cur → Knows shape split met a → Knows shape split met b
-  knows-puts (KeyedShape part) split met n bytes a b call outside sound left knows =
+  pub knows-puts : (shape : Shape) (known : Known) (n : ℕ) (bytes : Block) (a b : Seen)
+      → Puts tells n bytes a b → (InPart shape n → ⊥) → IsSound shape a → Left a a.cur
+      → Knows shape known a → Knows shape known b
+  knows-puts (KeyedShape part) known n bytes a b call outside sound left knows =
       let top : Block = block_at a.cur part.head in
       let head : IsHead part top = sound.heads _ (left.each part.head (omega (arith, sound.area)))
       in
@@ -233,8 +233,8 @@ module _ (tells : Bool) (told : IsTrue tells) where
       λ m inside. cur-elsewhere tells a b m n bytes told
       (λ same. outside (subst (InPart (KeyedShape part)) same inside)) call in
       record {
-        way = way-outside part split n bytes a b call outside sound left knows.way;
+        way = way-outside part known.split n bytes a b call outside sound left knows.way;
         blocks = All-weaker (IsMet part a.cur) (IsMet part b.cur)
             (λ one is. met-stays part a.cur b.cur one head (still part.head
-            (omega arith, omega arith)) (still one.number) is) met knows.blocks;
+            (omega arith, omega arith)) (still one.number) is) known.met knows.blocks;
       }

@@ -1,5 +1,6 @@
 -- What may be found on a way, as what is allowed of blocks grows or shrinks.
 use Rattle.std.proofs.Common.{◌≡◌, ◌⊎◌, inl, inr, ⊎_elim, ◌<◌, ℕ, List, Option, Contains, refl}
+use Rattle.vr_types.specs.Content.{Item}
 use Rattle.vr_types.specs.Image.{Block, Image, block_at}
 use Rattle.vr_space.specs.Way.{Way, Found, Reads, found_on, MayFind, IsWithin}
 
@@ -16,7 +17,7 @@ found-may region may image each (Reads n next) within = (
 )
 
 -- more may be found where more is allowed
-pub find-more : (region : ℕ → Type 0) (less more : ℕ → Block → Type 0) (item : Option (List ℕ))
+pub find-more : (region : ℕ → Type 0) (less more : ℕ → Block → Type 0) (item : Option Item)
     → ((n : ℕ) (block : Block) → region n → less n block → more n block)
     → (way : Way) → IsWithin region less way → MayFind less item way → MayFind more item way
 find-more region less more item each (Found found) within is = is

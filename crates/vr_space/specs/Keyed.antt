@@ -7,7 +7,7 @@ use Rattle.std.specs.Prelude.{replicate, if◌then◌else◌}
 use Rattle.std.specs.List.{flat_map}
 use Rattle.std.specs.List.Sorted.{IsStrictlySortedBy}
 use Rattle.std.specs.Ordering.{is_le}
-use Rattle.vr_types.specs.Content.{Content, Placed, Item, place_cmp, record_at}
+use Rattle.vr_types.specs.Content.{Content, Placed, Item, place_cmp, item_at}
 use Rattle.vr_types.specs.Content.Item.{Standing}
 use Rattle.vr_types.specs.Image.{Block, Image, block_at}
 use Rattle.vr_types.specs.Seen.{Seen, Only}
@@ -144,7 +144,7 @@ entry_for low (entry ∷ entries) place =
 abbrev pub way_in : Keyed → List ℕ → Option (Range × Entry) → Way
 way_in part place None = Found None
 way_in part place (Some found) =
-    Reads (entry_block part found.1) (λ block. Found (record_at (records_of part block) place))
+    Reads (entry_block part found.1) (λ block. Found (item_at (records_of part block) place))
 
 -- by way of this head
 abbrev pub way_under : Keyed → List ℕ → Block → Way

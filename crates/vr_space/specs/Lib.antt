@@ -6,5 +6,6 @@ pub mod Keyed
 pub mod Split
 pub mod UnderWay
 pub mod Met
+pub mod Known
 pub mod Part
 pub mod Search

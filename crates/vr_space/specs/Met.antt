@@ -1,6 +1,6 @@
 -- What a part keeps of the blocks that its last calls of `room` met, so that `set` at one of their
 -- places reads nothing. The rules are this project's own.
-use Rattle.std.specs.Prelude.{◌≡◌, ℕ, List, ◌∷◌, Contains, Some, None, map, take}
+use Rattle.std.specs.Prelude.{◌≡◌, ℕ, List, ◌∷◌, Some, None, take}
 use Rattle.std.specs.Prelude.{filter, not, bytes_eq}
 use Rattle.vr_types.specs.Image.{Block, Image, block_at}
 use Rattle.vr_seqset.specs.Entry.{Entry}
@@ -21,13 +21,6 @@ pub record IsMet (part : Keyed) (image : Image) (met : Met) : Type 0 where
       ≡ Some (met.range, entry)
   pub number : entry_block part entry ≡ met.number
   pub still : block_at image met.number ≡ met.block
-
-abbrev pub places_met : List Met → List (List ℕ)
-places_met met = map (λ (one : Met). one.place) met
-
--- a place that was met
-abbrev pub HasMet : List Met → List ℕ → Type 0
-HasMet met place = Contains (places_met met) place
 
 -- the places after another was met: that one, and the last before it
 abbrev pub met_next : List (List ℕ) → List ℕ → List (List ℕ)

@@ -1,8 +1,10 @@
 -- A part of a volume on its blocks: what they stand for, which items each place may hold in the
 -- images that a crash may leave, and what a call adds to that. The rules are this project's own.
 use Rattle.std.specs.Prelude.{◌≡◌, ◌≢◌, ◌⊎◌, ◌<◌, ◌≤◌, ◌+◌, ℕ, Bool, List, Option, Some, None}
-use Rattle.std.specs.Prelude.{All, Contains, length}
-use Rattle.vr_types.specs.Content.{Content, record_at}
+use Rattle.std.specs.Prelude.{All, Contains, length, option_and_then}
+use Rattle.std.specs.Option.{option_map}
+use Rattle.vr_types.specs.Content.{Content, Item, item_at, record_of}
+use Rattle.vr_types.specs.Content.Item.{Standing}
 use Rattle.vr_types.specs.Image.{Block, Image, block_at}
 use Rattle.vr_types.specs.Seen.{Seen}
 use Rattle.vr_types.specs.Regions.{Touches}
@@ -21,9 +23,10 @@ use Rattle.vr_space.specs.declared.room.Room.{Room}
 use Rattle.vr_space.specs.declared.room.Room.TheVariants.{Stage}
 use Rattle.vr_space.specs.Whence.{allows}
 use Rattle.vr_space.specs.Room.{Lengths, length_at}
-use Rattle.vr_space.specs.Split.{SplitNow, keyed_room, keyed_stage, keyed_fits}
+use Rattle.vr_space.specs.Known.{Known}
+use Rattle.vr_space.specs.Split.{keyed_room, keyed_stage, keyed_fits}
 use Rattle.vr_space.specs.UnderWay.{KeyedUnderWay}
-use Rattle.vr_space.specs.Met.{Met, IsMet}
+use Rattle.vr_space.specs.Met.{IsMet}
 use Rattle.vr_space.specs.Keyed.{Keyed, keyed_way, KeyedStandsFor, IsKeyedSound, IsKeyedAtRest}
 use Rattle.vr_space.specs.Keyed.{KeepsRoom, HaveRooms, IsValid, entries_of, key_of}
 
@@ -88,58 +91,68 @@ abbrev pub HasRoom : Shape → Lengths → Image → Type 0
 HasRoom (KeyedShape part) kept image =
     HaveRooms part kept image None (entries_of (block_at image part.head))
 
--- the record that is read at a place
-abbrev pub item_of : Shape → Image → List ℕ → Option (List ℕ)
+-- the item at a place
+abbrev pub item_of : Shape → Image → List ℕ → Option Item
 item_of shape image place = found_on image (way_to shape place)
 
--- A crash may leave this record, or none, at this place.
-abbrev pub MayHold : Shape → (ℕ → Block → Type 0) → List ℕ → Option (List ℕ) → Type 0
+-- the record that is read there: what was withdrawn is none
+abbrev pub record_read : Shape → Image → List ℕ → Option (List ℕ)
+record_read shape image place = option_and_then record_of (item_of shape image place)
+
+-- A crash may leave this item, or none, at this place.
+abbrev pub MayHold : Shape → (ℕ → Block → Type 0) → List ℕ → Option Item → Type 0
 MayHold shape may place item = MayFind may item (way_to shape place)
 
--- which records, or none, a call adds to what places may hold
-abbrev pub Nothing : List ℕ → Option (List ℕ) → Type 0
+-- What a call leaves at a place where this item is, or none, as it gives a record to the place, or
+-- takes the one there away: of a keyed part nothing is withdrawn.
+abbrev pub left_by : Shape → Option Item → Option (List ℕ) → Option Item
+left_by (KeyedShape part) now bytes = option_map Standing bytes
+
+-- which items, or none, a call adds to what places may hold
+abbrev pub Nothing : List ℕ → Option Item → Type 0
 Nothing place item = ⊥
 
 -- one at one place
-abbrev pub Just : List ℕ → Option (List ℕ) → List ℕ → Option (List ℕ) → Type 0
+abbrev pub Just : List ℕ → Option Item → List ℕ → Option Item → Type 0
 Just at new place item = (place ≡ at) × (item ≡ new)
 
 -- what might be held before, and also what A allows
-abbrev pub MayAlsoHold : Shape → (ℕ → Block → Type 0) → (List ℕ → Option (List ℕ) → Type 0)
-    → List ℕ → Option (List ℕ) → Type 0
+abbrev pub MayAlsoHold : Shape → (ℕ → Block → Type 0) → (List ℕ → Option Item → Type 0) → List ℕ
+    → Option Item → Type 0
 MayAlsoHold shape may A place item = MayHold shape may place item ⊎ A place item
 
 -- The image stands for some content, and each place of it has what O allows.
-pub record HasOnly (shape : Shape) (O : List ℕ → Option (List ℕ)
-    → Type 0) (image : Image) : Type 0 where
-  pub content : Content
-  pub stands : StandsFor shape image content
-  pub each : (place : List ℕ) → O place (record_at content place)
+pub record HasOnly (shape : Shape) (O : List ℕ → Option Item → Type 0) (image : Image) : Type 0
+  where
+    pub content : Content
+    pub stands : StandsFor shape image content
+    pub each : (place : List ℕ) → O place (item_at content place)
 
 -- Calls that put into the part's blocks alone made `new` of `old`, and added at most what A allows
 -- to what its places may hold: in each image of each of their moments, whether they failed or not,
 -- and from then on.
-pub record AddsTo (shape : Shape) (A : List ℕ → Option (List ℕ)
-    → Type 0) (old new : Seen) : Type 0 where
-  pub touches : Touches (InPart shape) (HasOnly shape (MayAlsoHold shape old.may A)) old new
-  pub rest : (place : List ℕ) (item : Option (List ℕ)) → MayHold shape new.may place item
-      → MayAlsoHold shape old.may A place item
-  pub sound : IsSound shape new
+pub record AddsTo (shape : Shape) (A : List ℕ → Option Item → Type 0) (old new : Seen) : Type 0
+  where
+    pub touches : Touches (InPart shape) (HasOnly shape (MayAlsoHold shape old.may A)) old new
+    pub rest : (place : List ℕ) (item : Option Item) → MayHold shape new.may place item
+        → MayAlsoHold shape old.may A place item
+    pub sound : IsSound shape new
 
--- each place has the record that it had
+-- each place has the item that it had
 abbrev pub SameRecords : Shape → Image → Image → Type 0
 SameRecords shape old new = (place : List ℕ) → item_of shape new place ≡ item_of shape old place
 
--- this place has this record, or none, and each other what it had
-pub record SetsOne (shape : Shape) (at : List ℕ) (item : Option (List ℕ)) (old new : Image) : Type 0
+-- this place was given this record, or its own was taken away, and each other has what it had
+pub record SetsOne (shape : Shape) (at : List ℕ) (bytes : Option (List ℕ)) (old new : Image)
+    : Type 0
   where
-    pub here : item_of shape new at ≡ item
+    pub here : item_of shape new at ≡ left_by shape (item_of shape old at) bytes
     pub others : (place : List ℕ) → place ≢ at → item_of shape new place ≡ item_of shape old place
 
--- Once the listed blocks are forced, a crash leaves the current record alone at the place.
+-- Once the listed blocks are forced, a crash leaves the current item alone at the place.
 abbrev pub IsDueTo : Shape → List ℕ → Seen → List ℕ → Type 0
 IsDueTo shape listed now place =
-    (item : Option (List ℕ)) → MayFind (MayOnceForced listed now) item (way_to shape place)
+    (item : Option Item) → MayFind (MayOnceForced listed now) item (way_to shape place)
     → item ≡ item_of shape now.cur place
 
 -- What has to be forced for a place is what had to be, and these blocks.
@@ -149,51 +162,51 @@ DueMore shape put old new = (listed : List ℕ) (place : List ℕ) → IsDueTo s
 
 -- The same of a record set at one place. What has to be forced for that place is what had to be,
 -- and these blocks; for each other place only what had to be: each content that a crash may leave
--- of a block was allowed before, or is the new one, which has the current record there too.
+-- of a block was allowed before, or is the new one, which has the current item there too.
 abbrev pub DueMoreAt : Shape → List ℕ → List ℕ → Seen → Seen → Type 0
 DueMoreAt shape at put old new = (listed : List ℕ) (place : List ℕ)
     → IsDueTo shape listed old place
     → ((place ≢ at) ⊎ ((n : ℕ) → Contains put n → Contains listed n))
     → IsDueTo shape listed new place
 
--- A crash leaves the current record alone at the place.
+-- A crash leaves the current item alone at the place.
 abbrev pub IsFirm : Shape → Seen → List ℕ → Type 0
-IsFirm shape now place = (item : Option (List ℕ)) → MayHold shape now.may place item
+IsFirm shape now place = (item : Option Item) → MayHold shape now.may place item
     → item ≡ item_of shape now.cur place
 
 -- ---- what calls answer
 
 -- what stands in the way of a record of this length at this place, with this many free areas and
 -- with this kept
-abbrev pub room_of : Shape → Option SplitNow → Image → ℕ → Lengths → List ℕ → ℕ → Room
-room_of (KeyedShape part) split image free kept place n = keyed_room part split image kept place n
+abbrev pub room_of : Shape → Known → Image → ℕ → Lengths → List ℕ → ℕ → Room
+room_of (KeyedShape part) known image free kept place n =
+    keyed_room part known.split image kept place n
 
 -- a record of this length has room beside what stands there and what is kept
 abbrev pub fits_at : Shape → Image → Lengths → List ℕ → ℕ → Bool
 fits_at (KeyedShape part) image kept place n = keyed_fits part image kept place n
 
 -- the stage of a split under way that comes before any change at the place
-abbrev pub stage_of : Shape → Option SplitNow → Image → List ℕ → Option StageKind
-stage_of (KeyedShape part) split image place = keyed_stage part split image place
+abbrev pub stage_of : Shape → Known → Image → List ℕ → Option StageKind
+stage_of (KeyedShape part) known image place = keyed_stage part known.split image place
 
 -- the blocks are as the split under way left them
-abbrev pub IsUnderWay : Shape → Option SplitNow → Seen → Type 0
-IsUnderWay (KeyedShape part) split now = KeyedUnderWay part split now
+abbrev pub IsUnderWay : Shape → Known → Seen → Type 0
+IsUnderWay (KeyedShape part) known now = KeyedUnderWay part known.split now
 
 -- the blocks that were met are as they were
-abbrev pub AreMet : Shape → List Met → Image → Type 0
-AreMet (KeyedShape part) met image = All (IsMet part image) met
+abbrev pub AreMet : Shape → Known → Image → Type 0
+AreMet (KeyedShape part) known image = All (IsMet part image) known.met
 
 -- The blocks are as the part knows them: by its split under way, and those that it met.
-pub record Knows (shape : Shape) (split : Option SplitNow) (met : List Met) (now : Seen) : Type 0
-  where
-    pub way : IsUnderWay shape split now
-    pub blocks : AreMet shape met now.cur
+pub record Knows (shape : Shape) (known : Known) (now : Seen) : Type 0 where
+  pub way : IsUnderWay shape known now
+  pub blocks : AreMet shape known now.cur
 
 -- a stage comes before such a record
-abbrev pub IsStageDue : Shape → Option SplitNow → Image → ℕ → Lengths → List ℕ → ℕ → Type 0
-IsStageDue shape split image free kept place n =
-    (kind : StageKind) × (room_of shape split image free kept place n ≡ Stage kind)
+abbrev pub IsStageDue : Shape → Known → Image → ℕ → Lengths → List ℕ → ℕ → Type 0
+IsStageDue shape known image free kept place n =
+    (kind : StageKind) × (room_of shape known image free kept place n ≡ Stage kind)
 
 -- the part got the least free area
 abbrev pub IsClaimed : PartNo → List (Option PartNo) → List (Option PartNo) → Type 0
@@ -223,23 +236,23 @@ HasRoomFor shape image kept place (Some bytes) =
     ⊎ ((n : ℕ) × (length_at kept place ≡ Some n) × (length bytes ≤ n))
 
 -- It may be set: no stage of a split is left at its place, and there is room for it.
-pub record CanSet (shape : Shape) (split : Option SplitNow) (image : Image) (kept : Lengths)
-    (place : List ℕ) (item : Option (List ℕ)) : Type 0 where
-  pub no_stage : stage_of shape split image place ≡ None
-  pub room : HasRoomFor shape image kept place item
+pub record CanSet (shape : Shape) (known : Known) (image : Image) (kept : Lengths)
+    (place : List ℕ) (bytes : Option (List ℕ)) : Type 0 where
+  pub no_stage : stage_of shape known image place ≡ None
+  pub room : HasRoomFor shape image kept place bytes
 
 -- The place is the least with a record that the search may find.
 pub record IsNextPlace (shape : Shape) (image : Image) (from : Whence) (place : List ℕ) : Type 0
   where
     pub allowed : IsTrue (allows from place)
-    pub some : item_of shape image place ≢ None
+    pub some : record_read shape image place ≢ None
     pub least : (other : List ℕ) → IsTrue (allows from other) → place_cmp other place ≡ Less
-        → item_of shape image other ≡ None
+        → record_read shape image other ≡ None
 
 -- there is no such place
 abbrev pub HasNoNext : Shape → Image → Whence → Type 0
 HasNoNext shape image from = (place : List ℕ) → IsTrue (allows from place)
-    → item_of shape image place ≡ None
+    → record_read shape image place ≡ None
 
 abbrev pub NextIs : Shape → Image → Whence → Bool → List ℕ → Type 0
 NextIs shape image from true place = IsNextPlace shape image from place

@@ -2,22 +2,23 @@
 -- have. Where a crash may leave several contents of a block, the ways through them are what a
 -- place may hold. The rules are this project's own.
 use Rattle.std.specs.Prelude.{◌≡◌, ℕ, List, Option, Contains}
+use Rattle.vr_types.specs.Content.{Item}
 use Rattle.vr_types.specs.Image.{Block, Image, block_at}
 use Rattle.vr_types.specs.Seen.{Seen}
 
--- The reader has come to the record at a place, or to none, or reads a block and goes on by what it
+-- The reader has come to the item at a place, or to none, or reads a block and goes on by what it
 -- has.
 pub data Way : Type 0 where
-  Found : Option (List ℕ) → Way
+  Found : Option Item → Way
   Reads : ℕ → (Block → Way) → Way
 
--- the record that the way leads to in these blocks
-abbrev pub found_on : Image → Way → Option (List ℕ)
+-- the item that the way leads to in these blocks
+abbrev pub found_on : Image → Way → Option Item
 found_on image (Found item) = item
 found_on image (Reads n next) = found_on image (next (block_at image n))
 
--- some contents that are allowed lead to this record, or to none
-abbrev pub MayFind : (ℕ → Block → Type 0) → Option (List ℕ) → Way → Type 0
+-- some contents that are allowed lead to this item, or to none
+abbrev pub MayFind : (ℕ → Block → Type 0) → Option Item → Way → Type 0
 MayFind may item (Found found) = item ≡ found
 MayFind may item (Reads n next) = (block : Block) × may n block × MayFind may item (next block)
 

@@ -10,13 +10,15 @@ ghost use Rattle.vr_types.specs.Space.{free_count};
 ghost use Rattle.vr_types.specs.declared.fault.DeviceFault.TheVariants.{Read, Write};
 ghost use Rattle.vr_types.specs.declared.unit.StageKind.{StageKind};
 ghost use Rattle.vr_space.specs.declared.room.Room.TheVariants as answers;
-ghost use Rattle.vr_space.specs.Met.{Met, HasMet, places_met, met_next};
-ghost use Rattle.vr_space.specs.Split.{SplitNow};
+ghost use Rattle.vr_space.specs.Known.{Known, HasMet, places_met};
+ghost use Rattle.vr_space.specs.Met.{met_next};
 ghost use Rattle.vr_space.specs.Part.{
   Shape,
   part_no,
   place_length,
   item_of,
+  record_read,
+  left_by,
   room_of,
   IsOn,
   InPart,
@@ -54,11 +56,8 @@ pub trait Part {
     /// Where the part is on its blocks, and how they are spelled.
     ghost shape: { Self → Shape };
 
-    /// The split that is under way.
-    ghost split: { Self → Option SplitNow };
-
-    /// What it keeps of the blocks that its last two calls of `room` met, the last one first.
-    ghost met: { Self → List Met };
+    /// What it keeps in memory of its blocks.
+    ghost known: { Self → Known };
 
     /// The blocks that the last `set` put.
     ghost put: { Self → List ℕ };
@@ -73,11 +72,10 @@ pub trait Part {
         requires place { IsPlaceOf (shape part.old) place.now }
         requires stands { IsTrue B.tells → Stands (shape part.old) (B.seen blocks.old).cur }
         ensures item { IsTrue B.tells → IfOk result (λ found. MatchOption found
-            (item_of (shape part.old) (B.seen blocks.old).cur place.now ≡ None)
-            (λ s. item_of (shape part.old) (B.seen blocks.old).cur place.now ≡ Some s.now)) }
+            (record_read (shape part.old) (B.seen blocks.old).cur place.now ≡ None)
+            (λ s. record_read (shape part.old) (B.seen blocks.old).cur place.now ≡ Some s.now)) }
         ensures shape { shape part.new ≡ shape part.old }
-        ensures split { split part.new ≡ split part.old }
-        ensures met { met part.new ≡ met part.old }
+        ensures known { known part.new ≡ known part.old }
         ensures put { put part.new ≡ put part.old }
         ensures* after { sem 𝓛 (Rests B.row blocks.entry (λ new.
             Keeps B.tells (B.seen blocks.old) (B.seen new)
@@ -99,8 +97,7 @@ pub trait Part {
         ensures keeps { Keeps B.tells (B.seen blocks.old) (B.seen blocks.new) }
         ensures cause { HasCause (B.faults blocks.old) (B.faults blocks.new) result }
         ensures shape { shape self.new ≡ shape self.old }
-        ensures split { split self.new ≡ split self.old }
-        ensures met { met self.new ≡ met self.old }
+        ensures known { known self.new ≡ known self.old }
         ensures put { put self.new ≡ put self.old };
 
     /// Whether a record of this length has room at the place, beside what stands there and what is
@@ -119,22 +116,22 @@ pub trait Part {
         requires stands { IsTrue B.tells → Stands (shape self.old) (B.seen blocks.old).cur }
         requires room { IsTrue B.tells → HasKeptRoom (shape self.old)
             (K.kept kept.now (part_no (shape self.old))) (B.seen blocks.old) }
-        requires knows { IsTrue B.tells → Knows (shape self.old) (split self.old) (met self.old)
+        requires knows { IsTrue B.tells → Knows (shape self.old) (known self.old)
             (B.seen blocks.old) }
         ensures answer { IsTrue B.tells → IfOk result (λ room. room
-            ≡ room_of (shape self.old) (split self.old) (B.seen blocks.old).cur
+            ≡ room_of (shape self.old) (known self.old) (B.seen blocks.old).cur
             (free_count space.now) (K.kept kept.now (part_no (shape self.old))) place.now length) }
-        ensures knows { IsTrue B.tells → Knows (shape self.old) (split self.old) (met self.new)
+        ensures knows { IsTrue B.tells → Knows (shape self.old) (known self.new)
             (B.seen blocks.new) }
         ensures met { OnOk result
-            (places_met (met self.new) ≡ met_next (places_met (met self.old)) place.now) }
+            (places_met (known self.new) ≡ met_next (places_met (known self.old)) place.now) }
         ensures keeps { Keeps B.tells (B.seen blocks.old) (B.seen blocks.new) }
         ensures cause { HasCause (B.faults blocks.old) (B.faults blocks.new) result }
         ensures shape { shape self.new ≡ shape self.old }
-        ensures split { split self.new ≡ split self.old }
+        ensures split { (known self.new).split ≡ (known self.old).split }
         ensures put { put self.new ≡ put self.old };
 
-    /// Does the stage that comes before such a record, and answers it. Each place keeps its record.
+    /// Does the stage that comes before such a record, and answers it. Each place keeps its item.
     /// The caller asks `room` again.
     fn advance<B: Blocks, K: Kept>(
         &mut self,
@@ -150,13 +147,13 @@ pub trait Part {
         requires rests { IsTrue B.tells → IsAtRest (shape self.old) (B.seen blocks.old) }
         requires room { IsTrue B.tells → HasKeptRoom (shape self.old)
             (K.kept kept.now (part_no (shape self.old))) (B.seen blocks.old) }
-        requires knows { IsTrue B.tells → Knows (shape self.old) (split self.old) (met self.old)
+        requires knows { IsTrue B.tells → Knows (shape self.old) (known self.old)
             (B.seen blocks.old) }
-        requires due { IsTrue B.tells → IsStageDue (shape self.old) (split self.old)
+        requires due { IsTrue B.tells → IsStageDue (shape self.old) (known self.old)
             (B.seen blocks.old).cur (free_count space.old)
             (K.kept kept.now (part_no (shape self.old))) place.now length }
         ensures stage { IsTrue B.tells → IfOk result (λ kind. answers.Stage kind
-            ≡ room_of (shape self.old) (split self.old) (B.seen blocks.old).cur
+            ≡ room_of (shape self.old) (known self.old) (B.seen blocks.old).cur
             (free_count space.old) (K.kept kept.now (part_no (shape self.old))) place.now length) }
         ensures owners { IfOk result (λ kind.
             OwnersAfter (part_no (shape self.old)) kind space.old space.new) }
@@ -176,12 +173,12 @@ pub trait Part {
             (HasRoom (shape self.old) (K.kept kept.now (part_no (shape self.old))))
             (B.seen blocks.old) (B.seen blocks.new) }
         ensures knows { IsTrue B.tells → OnOk result
-            (Knows (shape self.old) (split self.new) (met self.new) (B.seen blocks.new)) }
-        ensures split { OnErr result (split self.new ≡ split self.old) }
+            (Knows (shape self.old) (known self.new) (B.seen blocks.new)) }
+        ensures split { OnErr result ((known self.new).split ≡ (known self.old).split) }
         // It reads before it puts.
         ensures unread { IfErr result (λ fault. fault ≡ Read
             → Keeps B.tells (B.seen blocks.old) (B.seen blocks.new)
-            × (IsTrue B.tells → Knows (shape self.old) (split self.old) (met self.new)
+            × (IsTrue B.tells → Knows (shape self.old) (known self.new)
             (B.seen blocks.new))) }
         ensures count { (B.seen blocks.new).count ≡ (B.seen blocks.old).count }
         ensures size { (B.seen blocks.new).size ≡ (B.seen blocks.old).size }
@@ -202,14 +199,16 @@ pub trait Part {
         requires rests { IsTrue B.tells → IsAtRest (shape self.old) (B.seen blocks.old) }
         requires room { IsTrue B.tells → HasKeptRoom (shape self.old)
             (K.kept kept.now (part_no (shape self.old))) (B.seen blocks.old) }
-        requires knows { IsTrue B.tells → Knows (shape self.old) (split self.old) (met self.old)
+        requires knows { IsTrue B.tells → Knows (shape self.old) (known self.old)
             (B.seen blocks.old) }
-        requires can { IsTrue B.tells → CanSet (shape self.old) (split self.old)
+        requires can { IsTrue B.tells → CanSet (shape self.old) (known self.old)
             (B.seen blocks.old).cur (K.kept kept.now (part_no (shape self.old))) place.now
             (given bytes) }
         // At every moment, whether it fails or not.
         ensures adds { IsTrue B.tells → AddsTo (shape self.old)
-            (Just place.now (given bytes.entry)) (B.seen blocks.old) (B.seen blocks.new) }
+            (Just place.now (left_by (shape self.old)
+            (item_of (shape self.old) (B.seen blocks.old).cur place.now) (given bytes.entry)))
+            (B.seen blocks.old) (B.seen blocks.new) }
         ensures set { IsTrue B.tells → OnOk result (SetsOne (shape self.old) place.now
             (given bytes.entry) (B.seen blocks.old).cur (B.seen blocks.new).cur) }
         ensures due { IsTrue B.tells → OnOk result
@@ -224,21 +223,21 @@ pub trait Part {
             (HasRoom (shape self.old) (K.kept kept.now (part_no (shape self.old))))
             (B.seen blocks.old) (B.seen blocks.new) }
         ensures knows { IsTrue B.tells → OnOk result
-            (Knows (shape self.old) (split self.old) (met self.new) (B.seen blocks.new)) }
+            (Knows (shape self.old) (known self.new) (B.seen blocks.new)) }
         // Where `room` met the place it reads nothing, and what it met elsewhere stays.
-        ensures met { HasMet (met self.old) place.now → OnOk result
-            (places_met (met self.new) ≡ places_met (met self.old)) }
-        ensures reads { HasMet (met self.old) place.now → IfErr result (λ fault. fault ≡ Write) }
+        ensures met { HasMet (known self.old) place.now → OnOk result
+            (places_met (known self.new) ≡ places_met (known self.old)) }
+        ensures reads { HasMet (known self.old) place.now → IfErr result (λ fault. fault ≡ Write) }
         // It reads before it puts.
         ensures unread { IfErr result (λ fault. fault ≡ Read
             → Keeps B.tells (B.seen blocks.old) (B.seen blocks.new)
-            × (IsTrue B.tells → Knows (shape self.old) (split self.old) (met self.new)
+            × (IsTrue B.tells → Knows (shape self.old) (known self.new)
             (B.seen blocks.new))) }
         ensures count { (B.seen blocks.new).count ≡ (B.seen blocks.old).count }
         ensures size { (B.seen blocks.new).size ≡ (B.seen blocks.old).size }
         ensures cause { HasCause (B.faults blocks.old) (B.faults blocks.new) result }
         ensures shape { shape self.new ≡ shape self.old }
-        ensures split { split self.new ≡ split self.old };
+        ensures split { (known self.new).split ≡ (known self.old).split };
 
     /// The blocks that the last `set` put, until the next call that may change the part.
     fn put_blocks(&self) -> &[u32]

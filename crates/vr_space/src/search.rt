@@ -4,7 +4,7 @@ ghost use Rattle.std.specs.Prelude.{length, map};
 ghost use Rattle.std.specs.Borrow.{Bor};
 ghost use Rattle.std.specs.Option.{option_map};
 ghost use Rattle.std.specs.List.Sorted.{IsStrictlySortedBy};
-ghost use Rattle.vr_types.specs.Content.{place_cmp, record_at};
+ghost use Rattle.vr_types.specs.Content.{place_cmp, item_at, Standing};
 ghost use Rattle.vr_types.specs.Image.{Block};
 ghost use Rattle.vr_ci.specs.Interval as ci;
 ghost use Rattle.vr_seqset.specs.Entry.{IsWhole};
@@ -135,9 +135,9 @@ pub fn entry_count(layout: &Layout, top: &[u8]) -> Option<usize>
 /// The same as `record_at`, of an interval that was read.
 fn record_among<'a>(layout: &Layout, view: &CiView<'a>, place: &[u8]) -> Option<&'a [u8]>
     ensures { All (IsKept layout.now) view.now.items → MatchOption result
-        (record_at (map (placed layout.now) view.now.items) place.now ≡ None)
-        (λ found. record_at (map (placed layout.now) view.now.items) place.now
-        ≡ Some found.now) }
+        (item_at (map (placed layout.now) view.now.items) place.now ≡ None)
+        (λ found. item_at (map (placed layout.now) view.now.items) place.now
+        ≡ Some (Standing found.now)) }
 {
     let mut records = view.iter();
     for i in 0..view.count() {
@@ -153,8 +153,9 @@ fn record_among<'a>(layout: &Layout, view: &CiView<'a>, place: &[u8]) -> Option<
 /// block is no interval of records.
 pub fn record_at<'a>(layout: &Layout, block: &'a [u8], place: &[u8]) -> Option<&'a [u8]>
     ensures { (range : Range) → HoldsRange layout.now range block.now → MatchOption result
-        (record_at (records_of layout.now block.now) place.now ≡ None)
-        (λ found. record_at (records_of layout.now block.now) place.now ≡ Some found.now) }
+        (item_at (records_of layout.now block.now) place.now ≡ None)
+        (λ found. item_at (records_of layout.now block.now) place.now
+        ≡ Some (Standing found.now)) }
 {
     let Ok(view) = CiView::read(Form::Plain, block) else {
         return None;
