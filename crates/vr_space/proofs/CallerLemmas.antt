@@ -33,3 +33,4 @@ pub use Rattle.vr_space.proofs.Framing.{same-stays}
 pub use Rattle.vr_space.proofs.Fewer.{Rise, Under, fewer-room, rise-with, under-both, under-more}
 pub use Rattle.vr_space.proofs.Fewer.{under-self}
 pub use Rattle.vr_space.proofs.Intervals.{interval-owners, interval-stage}
+pub use Rattle.vr_space.proofs.Standing.{item-read, left-is}

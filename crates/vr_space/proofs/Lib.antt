@@ -12,4 +12,5 @@ pub mod Keeping
 pub mod Counting
 pub mod Framing
 pub mod Fewer
+pub mod Standing
 pub mod CallerLemmas
