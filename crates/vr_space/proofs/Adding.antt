@@ -17,7 +17,8 @@ use Rattle.vr_space.specs.Room.{Lengths, length_at}
 use Rattle.vr_space.specs.Known.{Known}
 use Rattle.vr_space.specs.Split.{SplitNow, keyed_stage, keyed_fits, room_after, room_by}
 use Rattle.vr_space.specs.Split.{room_by_split, free_interval}
-use Rattle.vr_space.specs.Keyed.{entries_of, keyed_way}
+use Rattle.vr_space.specs.Keyed.{IsKeyedSound, Keyed, entries_of, keyed_way}
+use Rattle.vr_space.specs.Owners.{Owners}
 use Rattle.vr_space.specs.Part.{Shape, KeyedShape, InPart, StandsFor, Stands, HasOnly, MayHold}
 use Rattle.vr_space.specs.Part.{MayAlsoHold, Nothing, AddsTo, IsSound, IsAtRest, HasKeptRoom}
 use Rattle.vr_space.specs.Part.{way_to, item_of, left_by, SameRecords, SetsOne, IsDueTo, DueMore, IsFirm}
@@ -30,35 +31,38 @@ use Rattle.vr_space.proofs.KeyedSound.{head-ascends, IsBlock}
 
 -- ---- one after another
 
-pub only-weaken : (shape : Shape) (O P : List ℕ → Option Item → Type 0)
+pub only-weaken : (shape : Shape) (owners : Owners) (O P : List ℕ → Option Item → Type 0)
     → ((place : List ℕ) (item : Option Item) → O place item → P place item)
-    → (image : Image) → HasOnly shape O image → HasOnly shape P image
-only-weaken shape O P wider image has = record {
+    → (image : Image) → HasOnly shape owners O image
+    → HasOnly shape owners P image
+only-weaken shape owners O P wider image has = record {
   content = has.content;
   stands = has.stands;
+  within = has.within;
   each = λ place. wider place (item_at has.content place) (has.each place);
 }
 
 -- what is allowed may be allowed more widely
-pub adds-weaken : (shape : Shape) (A C : List ℕ → Option Item → Type 0) (a b : Seen)
-    → AddsTo shape A a b
-    → ((place : List ℕ) (item : Option Item) → A place item → C place item) → AddsTo shape C a b
-adds-weaken shape A C a b call wider =
+pub adds-weaken : (shape : Shape) (owners : Owners) (A C : List ℕ → Option Item → Type 0) (a b : Seen)
+    → AddsTo shape owners A a b
+    → ((place : List ℕ) (item : Option Item) → A place item → C place item)
+    → AddsTo shape owners C a b
+adds-weaken shape owners A C a b call wider =
     let over : (place : List ℕ) (item : Option Item) → MayAlsoHold shape a.may A place item
     → MayAlsoHold shape a.may C place item =
     λ place item. ⊎_elim (λ old. inl old) (λ new. inr (wider place item new)) in
     record {
-      touches = touches-weaken (InPart shape) _ _ a b call.touches
-          (only-weaken shape (MayAlsoHold shape a.may A) (MayAlsoHold shape a.may C) over);
+      touches = touches-weaken (InPart shape owners) _ _ a b call.touches
+          (only-weaken shape owners (MayAlsoHold shape a.may A) (MayAlsoHold shape a.may C) over);
       rest = λ place item holds. over place item (call.rest place item holds);
       sound = call.sound;
     }
 
 -- two calls add what each allows
-pub adds-then : (shape : Shape) (A C : List ℕ → Option Item → Type 0) (a b c : Seen)
-    → AddsTo shape A a b → AddsTo shape C b c
-    → AddsTo shape (λ place item. A place item ⊎ C place item) a c
-adds-then shape A C a b c first second =
+pub adds-then : (shape : Shape) (owners : Owners) (A C : List ℕ → Option Item → Type 0) (a b c : Seen)
+    → AddsTo shape owners A a b → AddsTo shape owners C b c
+    → AddsTo shape owners (λ place item. A place item ⊎ C place item) a c
+adds-then shape owners A C a b c first second =
     let both : List ℕ → Option Item → Type 0 = λ place item. A place item ⊎ C place item in
     let early : (place : List ℕ) (item : Option Item) → MayAlsoHold shape a.may A place item
     → MayAlsoHold shape a.may both place item =
@@ -68,45 +72,50 @@ adds-then shape A C a b c first second =
     λ place item. ⊎_elim (λ old. early place item (first.rest place item old))
     (λ new. inr (inr new)) in
     record {
-      touches = touches-then (InPart shape) _ a b c
-          (touches-weaken (InPart shape) _ _ a b first.touches
-          (only-weaken shape (MayAlsoHold shape a.may A) (MayAlsoHold shape a.may both) early))
-          (touches-weaken (InPart shape) _ _ b c second.touches
-          (only-weaken shape (MayAlsoHold shape b.may C) (MayAlsoHold shape a.may both) late));
+      touches = touches-then (InPart shape owners) _ a b c
+          (touches-weaken (InPart shape owners) _ _ a b first.touches
+          (only-weaken shape owners (MayAlsoHold shape a.may A) (MayAlsoHold shape a.may both) early))
+          (touches-weaken (InPart shape owners) _ _ b c second.touches
+          (only-weaken shape owners (MayAlsoHold shape b.may C) (MayAlsoHold shape a.may both) late));
       rest = λ place item holds. late place item (second.rest place item holds);
       sound = second.sound;
     }
 
 -- a call that adds nothing, and then another
-pub nothing-then : (shape : Shape) (A : List ℕ → Option Item → Type 0) (a b c : Seen)
-    → AddsTo shape Nothing a b → AddsTo shape A b c → AddsTo shape A a c
-nothing-then shape A a b c first second =
-    adds-weaken shape _ A a c (adds-then shape Nothing A a b c first second)
+pub nothing-then : (shape : Shape) (owners : Owners) (A : List ℕ → Option Item → Type 0) (a b c : Seen)
+    → AddsTo shape owners Nothing a b → AddsTo shape owners A b c
+    → AddsTo shape owners A a c
+nothing-then shape owners A a b c first second =
+    adds-weaken shape owners _ A a c (adds-then shape owners Nothing A a b c first second)
     (λ place item. ⊎_elim (λ none. absurd none) (λ new. new))
 
 -- and the other way round
-pub then-nothing : (shape : Shape) (A : List ℕ → Option Item → Type 0) (a b c : Seen)
-    → AddsTo shape A a b → AddsTo shape Nothing b c → AddsTo shape A a c
-then-nothing shape A a b c first second =
-    adds-weaken shape _ A a c (adds-then shape A Nothing a b c first second)
+pub then-nothing : (shape : Shape) (owners : Owners) (A : List ℕ → Option Item → Type 0) (a b c : Seen)
+    → AddsTo shape owners A a b → AddsTo shape owners Nothing b c
+    → AddsTo shape owners A a c
+then-nothing shape owners A a b c first second =
+    adds-weaken shape owners _ A a c (adds-then shape owners A Nothing a b c first second)
     (λ place item. ⊎_elim (λ new. new) (λ none. absurd none))
 
 -- ---- at rest
 
 -- what is at rest is sound
-pub rest-sound : (shape : Shape) (now : Seen) → IsAtRest shape now → IsSound shape now
-rest-sound (KeyedShape part) now rests = rests.sound
+pub rest-sound : (shape : Shape) (owners : Owners) (now : Seen) → IsAtRest shape owners now
+    → IsSound shape owners now
+rest-sound (KeyedShape part) owners now (rests, owned) = (rests.sound, owned)
 
 -- each image stands for a content, of things that may be held
-pub sound-image : (shape : Shape) (now : Seen) → IsSound shape now → (image : Image)
-    → IsImageOn (InPart shape) now.count now.may image → HasOnly shape (MayHold shape now.may) image
-sound-image (KeyedShape part) now sound image left = keyed-image part now sound image left
+pub sound-image : (shape : Shape) (owners : Owners) (now : Seen) → IsSound shape owners now
+    → (image : Image) → IsImageOn (InPart shape owners) now.count now.may image
+    → HasOnly shape owners (MayHold shape now.may) image
+sound-image (KeyedShape part) owners now sound image left =
+    keyed-image part now owners sound image left
 
 -- the current blocks stand for a content
-pub rest-stands : (shape : Shape) (now : Seen) → IsSound shape now → Left now now.cur
-    → Stands shape now.cur
-rest-stands shape now sound left =
-    let has = sound-image shape now sound now.cur (record {
+pub rest-stands : (shape : Shape) (owners : Owners) (now : Seen) → IsSound shape owners now
+    → Left now now.cur → Stands shape now.cur
+rest-stands shape owners now sound left =
+    let has = sound-image shape owners now sound now.cur (record {
       each =
           λ n below is. left.each n below;
     }) in
@@ -124,48 +133,57 @@ content_item (KeyedShape part) image content stands place =
 -- ---- calls that put nothing
 
 module _ (tells : Bool) (told : IsTrue tells) where
-  fewer : (a b : Seen) → Keeps tells a b → (shape : Shape) (n : ℕ) (block : Block) → (n < a.count)
-      × InPart shape n → b.may n block → a.may n block
-  fewer a b call shape n block is may = call.adds_none told n block is.0 may
+  fewer : (a b : Seen) → Keeps tells a b → (part : Keyed) (n : ℕ) (block : Block)
+      → IsBlock part a n → b.may n block → a.may n block
+  fewer a b call part n block is may = call.adds_none told n block is.0 may
 
-  pub sound-keeps : (shape : Shape) (a b : Seen) → Keeps tells a b → IsSound shape a
-      → IsSound shape b
-  sound-keeps (KeyedShape part) a b call sound =
-      keyed-less part a b call.count_same call.size_same (fewer a b call (KeyedShape part)) sound
+  keyed-keeps : (part : Keyed) (a b : Seen) → Keeps tells a b → IsKeyedSound part a
+      → IsKeyedSound part b
+  keyed-keeps part a b call sound =
+      keyed-less part a b call.count_same call.size_same (fewer a b call part) sound
 
-  pub rest-keeps : (shape : Shape) (a b : Seen) → Keeps tells a b → IsAtRest shape a
-      → IsAtRest shape b
-  rest-keeps (KeyedShape part) a b call rests = record {
-    sound = sound-keeps (KeyedShape part) a b call rests.sound;
-    one_head = λ top may. rests.one_head top
-        (call.adds_none told part.head top (omega (arith, rests.sound.area)) may)
-        ∙ sym (ap (λ (image : Image). block_at image part.head) (call.content told));
-  }
+  pub sound-keeps : (shape : Shape) (owners : Owners) (a b : Seen) → Keeps tells a b
+      → IsSound shape owners a → IsSound shape owners b
+  sound-keeps (KeyedShape part) owners a b call (sound, owned) = (keyed-keeps part a b call sound, owned)
 
-  pub room-keeps : (shape : Shape) (kept : Lengths) (a b : Seen) → Keeps tells a b
-      → IsSound shape a → HasKeptRoom shape kept a → HasKeptRoom shape kept b
-  room-keeps (KeyedShape part) kept a b call sound room =
+  pub rest-keeps : (shape : Shape) (owners : Owners) (a b : Seen) → Keeps tells a b
+      → IsAtRest shape owners a → IsAtRest shape owners b
+  rest-keeps (KeyedShape part) owners a b call (rests, owned) = (
+    record {
+      sound = keyed-keeps part a b call rests.sound;
+      one_head = λ top may. rests.one_head top
+          (call.adds_none told part.head top (omega (arith, rests.sound.area)) may)
+          ∙ sym (ap (λ (image : Image). block_at image part.head) (call.content told));
+    },
+    owned,
+  )
+
+  pub room-keeps : (shape : Shape) (owners : Owners) (kept : Lengths) (a b : Seen) → Keeps tells a b
+      → IsSound shape owners a → HasKeptRoom shape kept a
+      → HasKeptRoom shape kept b
+  room-keeps (KeyedShape part) owners kept a b call (sound, owned) room =
       record {
         places = room.places;
         each = λ top may.
             let before : a.may part.head top =
             call.adds_none told part.head top (omega (arith, sound.area)) may in
-            each-less part a b _ None (entries_of top) (fewer a b call (KeyedShape part)) sound.area
+            each-less part a b _ None (entries_of top) (fewer a b call part) sound.area
             (head-in part top (sound.heads top before)) (room.each top before);
       }
 
-  pub keeps-adds : (shape : Shape) (a b : Seen) → Keeps tells a b → IsSound shape a
-      → AddsTo shape Nothing a b
-  keeps-adds (KeyedShape part) a b call sound = record {
-    touches = keeps-touches tells (InPart (KeyedShape part)) _ a b told call
-        (λ image left. only-weaken (KeyedShape part) (MayHold (KeyedShape part) a.may) _
-        (λ place item held. inl held) image (keyed-image part a sound image left));
+  pub keeps-adds : (shape : Shape) (owners : Owners) (a b : Seen) → Keeps tells a b
+      → IsSound shape owners a → AddsTo shape owners Nothing a b
+  keeps-adds (KeyedShape part) owners a b call (sound, owned) = record {
+    touches = keeps-touches tells (InPart (KeyedShape part) owners) _ a b told call
+        (λ image left. only-weaken (KeyedShape part) owners (MayHold (KeyedShape part) a.may) _
+        (λ place item held. inl held) image
+        (keyed-image part a owners (sound, owned) image left));
     rest = λ place item holds. inl
-        (find-more (IsBlock part a) b.may a.may item (fewer a b call (KeyedShape part))
+        (find-more (IsBlock part a) b.may a.may item (fewer a b call part)
         (keyed_way part place)
-        (within-less (IsBlock part a) b.may a.may (fewer a b call (KeyedShape part))
+        (within-less (IsBlock part a) b.may a.may (fewer a b call part)
         (keyed_way part place) (keyed-within part a sound place)) holds);
-    sound = sound-keeps (KeyedShape part) a b call sound;
+    sound = (keyed-keeps part a b call sound, owned);
   }
 
   pub same-keeps : (shape : Shape) (a b : Seen) → Keeps tells a b → SameRecords shape a.cur b.cur
@@ -173,9 +191,9 @@ module _ (tells : Bool) (told : IsTrue tells) where
       ap (λ (image : Image). item_of shape image place) (call.content told)
 
   -- what had to be forced has to be
-  pub due-keeps : (shape : Shape) (a b : Seen) → Keeps tells a b → IsSound shape a
-      → DueMore shape [] a b
-  due-keeps (KeyedShape part) a b call sound listed place due within item holds =
+  pub due-keeps : (shape : Shape) (owners : Owners) (a b : Seen) → Keeps tells a b
+      → IsSound shape owners a → DueMore shape [] a b
+  due-keeps (KeyedShape part) owners a b call (sound, owned) listed place due within item holds =
       let less : (n : ℕ) (block : Block) → IsBlock part a n → MayOnceForced listed b n block
       → MayOnceForced listed a n block =
       λ n block is may. (
@@ -191,25 +209,25 @@ module _ (tells : Bool) (told : IsTrue tells) where
       ∙ sym (ap (λ (image : Image). item_of (KeyedShape part) image place) (call.content told))
 
   -- a force of the blocks that something else might stand in
-  pub forced-firm : (shape : Shape) (listed place : List ℕ) (a b : Seen) → Keeps tells a b
-      → Forced listed a.cur b.may → IsSound shape a → IsDueTo shape listed a place
-      → IsFirm shape b place
-  forced-firm (KeyedShape part) listed place a b call forced sound due item holds =
+  pub forced-firm : (shape : Shape) (owners : Owners) (listed place : List ℕ) (a b : Seen) → Keeps tells a b
+      → Forced listed a.cur b.may → IsSound shape owners a
+      → IsDueTo shape listed a place → IsFirm shape b place
+  forced-firm (KeyedShape part) owners listed place a b call forced (sound, owned) due item holds =
       let less : (n : ℕ) (block : Block) → IsBlock part a n → b.may n block
       → MayOnceForced listed a n block =
       λ n block is may. (call.adds_none told n block is.0 may, λ there. forced n block there may) in
       due item (find-more (IsBlock part a) b.may (MayOnceForced listed a) item less
       (keyed_way part place)
-      (within-less (IsBlock part a) b.may a.may (fewer a b call (KeyedShape part))
+      (within-less (IsBlock part a) b.may a.may (fewer a b call part)
       (keyed_way part place) (keyed-within part a sound place)) holds)
       ∙ ap (λ (image : Image). item_of (KeyedShape part) image place) (sym (call.content told))
 
 -- ---- what has to be forced
 
 -- a place that a crash leaves alone is due to no block
-pub firm-due : (shape : Shape) (listed place : List ℕ) (now : Seen) → IsSound shape now
-    → IsFirm shape now place → IsDueTo shape listed now place
-firm-due (KeyedShape part) listed place now sound firm item holds =
+pub firm-due : (shape : Shape) (owners : Owners) (listed place : List ℕ) (now : Seen)
+    → IsSound shape owners now → IsFirm shape now place → IsDueTo shape listed now place
+firm-due (KeyedShape part) owners listed place now (sound, owned) firm item holds =
     firm item (find-more (IsBlock part now) (MayOnceForced listed now) now.may item
     (λ n block is may. may.0) (keyed_way part place)
     (within-less (IsBlock part now) (MayOnceForced listed now) now.may (λ n block is may. may.0)

@@ -29,7 +29,7 @@ pub use Rattle.vr_space.proofs.Rooms.{room-image, keeps-rooms}
 pub use Rattle.vr_space.proofs.Keeping.{keep-room}
 pub use Rattle.vr_space.proofs.Counting.{kept_fits, kept_room}
 pub use Rattle.vr_space.proofs.Framing.{StaysPart, rest-stays, room-stays, knows-stays, can-stays}
-pub use Rattle.vr_space.proofs.Framing.{same-stays}
+pub use Rattle.vr_space.proofs.Framing.{same-stays, first-owned, one-owner, grows-none}
 pub use Rattle.vr_space.proofs.Fewer.{Rise, Under, fewer-room, rise-with, under-both, under-more}
 pub use Rattle.vr_space.proofs.Fewer.{under-self}
 pub use Rattle.vr_space.proofs.Intervals.{interval-owners, interval-stage}

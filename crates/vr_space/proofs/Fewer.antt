@@ -14,6 +14,7 @@ use Rattle.vr_ci.specs.Interval as ci
 use Rattle.vr_seqset.specs.Entry.{Entry}
 use Rattle.vr_space.specs.Keyed.{EachMayLeave, HoldsRange, Keyed, entries_of, items_of, key_of}
 use Rattle.vr_space.specs.Keyed.{length_of, lengths_of, placed, range_of, records_in}
+use Rattle.vr_space.specs.Owners.{Owners}
 use Rattle.vr_space.specs.Part.{HasKeptRoom, IsSound, KeyedShape, Shape}
 use Rattle.vr_space.specs.Room.{HaveRoom}
 use Rattle.std.specs.Ordering.{ordering_reverse}
@@ -335,9 +336,9 @@ places-fewer key (entry ∷ fewer) (first ∷ kept) less all = ⊎_elim
     (λ further. places-fewer key (entry ∷ fewer) kept further all.1) less
 
 -- Where less is kept there is room too.
-pub fewer-room : (shape : Shape) (fewer kept : Lengths) (now : Seen) → Under fewer kept
-    → IsSound shape now → HasKeptRoom shape kept now → HasKeptRoom shape fewer now
-fewer-room (KeyedShape part) fewer kept now less sound room = record {
+pub fewer-room : (shape : Shape) (owners : Owners) (fewer kept : Lengths) (now : Seen) → Under fewer kept
+    → IsSound shape owners now → HasKeptRoom shape kept now → HasKeptRoom shape fewer now
+fewer-room (KeyedShape part) owners fewer kept now less (sound, owned) room = record {
   places = All-from_recursion (λ (entry : List ℕ × ℕ). length entry.0 ≡ part.key) fewer
       (places-fewer part.key fewer kept less
       (recursion_from_All (λ (entry : List ℕ × ℕ). length entry.0 ≡ part.key) kept room.places));

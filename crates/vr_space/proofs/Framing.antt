@@ -6,14 +6,16 @@ use Rattle.std.proofs.lemmas.List.Elements.{All-weaker}
 use Rattle.vr_types.specs.Image.{Block, block_at}
 use Rattle.vr_types.specs.Seen.{Left, Seen}
 use Rattle.vr_seqset.specs.Entry.{Entry}
-use Rattle.vr_space.specs.Keyed.{IsHead, Keyed, entries_of, entry_block, entry_for}
+use Rattle.vr_space.specs.Keyed.{InArea, IsHead, IsOwned, Keyed, entries_of, entry_block, entry_for}
 use Rattle.vr_space.specs.Known.{Known}
 use Rattle.vr_space.specs.Met.{IsMet}
-use Rattle.vr_space.specs.Part.{CanSet, HasKeptRoom, HasRoomFor, InPart, IsAtRest, IsSound}
+use Rattle.vr_space.specs.Owners.{Owners}
+use Rattle.vr_space.specs.Part.{CanSet, HasKeptRoom, HasRoomFor, IsAtRest, IsSound}
 use Rattle.vr_space.specs.Part.{KeyedShape, Knows, Shape}
 use Rattle.vr_types.specs.Content.{item_at}
 use Rattle.vr_space.specs.Keyed.{records_of, way_in, way_under}
-use Rattle.vr_space.specs.Part.{SameRecords}
+use Rattle.vr_types.specs.declared.unit.PartNo.{PartNo}
+use Rattle.vr_space.specs.Part.{InFirstArea, InPart, MayGrow, SameRecords, part_no}
 use Rattle.vr_space.specs.Way.{found_on}
 use Rattle.vr_space.specs.Room.{Lengths, Range}
 use Rattle.vr_space.specs.Split.{fits_in, keyed_fits, stage_in}
@@ -21,28 +23,50 @@ use Rattle.vr_space.proofs.KeyedSound.{IsBlock, each-less, head-in, keyed-less}
 use Rattle.vr_space.proofs.UnderWay.{found-in, met-stays, way-stays}
 
 -- the part's blocks have what they had, and a crash may leave no more of them
-pub record StaysPart (shape : Shape) (a b : Seen) : Type 0 where
+pub record StaysPart (shape : Shape) (owners : Owners) (a b : Seen) : Type 0 where
   pub count : b.count ≡ a.count
   pub size : b.size ≡ a.size
-  pub same : (n : ℕ) → InPart shape n → block_at b.cur n ≡ block_at a.cur n
-  pub fewer : (n : ℕ) (block : Block) → n < a.count → InPart shape n → b.may n block
-      → a.may n block
+  pub same : (n : ℕ) → InPart shape owners n → block_at b.cur n ≡ block_at a.cur n
+  pub fewer : (n : ℕ) (block : Block) → n < a.count → InPart shape owners n
+      → b.may n block → a.may n block
+
+-- the blocks of a keyed part's area do
+record StaysArea (part : Keyed) (a b : Seen) : Type 0 where
+  count : b.count ≡ a.count
+  size : b.size ≡ a.size
+  same : (n : ℕ) → InArea part n → block_at b.cur n ≡ block_at a.cur n
+  fewer : (n : ℕ) (block : Block) → n < a.count → InArea part n → b.may n block → a.may n block
+
+area-stays : (part : Keyed) (owners : Owners) (a b : Seen) → IsOwned part owners
+    → StaysPart (KeyedShape part) owners a b → StaysArea part a b
+area-stays part owners a b owned stays = record {
+  count = stays.count;
+  size = stays.size;
+  same = λ n inside. stays.same n (owned n inside);
+  fewer = λ n block below inside. stays.fewer n block below (owned n inside);
+}
 
 module _ (a b : Seen) where
-  pub rest-stays : (shape : Shape) → StaysPart shape a b → IsAtRest shape a → IsAtRest shape b
-  rest-stays (KeyedShape part) stays rests =
+  pub rest-stays : (shape : Shape) (owners : Owners) → StaysPart shape owners a b
+      → IsAtRest shape owners a → IsAtRest shape owners b
+  rest-stays (KeyedShape part) owners part-stays (rests, owned) =
+      let stays = area-stays part owners a b owned part-stays in
       let less : (n : ℕ) (block : Block) → IsBlock part a n → b.may n block → a.may n block =
-      λ n block is. stays.fewer n block is.0 is.1 in
-      record {
-        sound = keyed-less part a b stays.count stays.size less rests.sound;
-        one_head = λ top may. rests.one_head top
-            (less part.head top (omega (arith, rests.sound.area), (omega arith, omega arith)) may)
-            ∙ sym (stays.same part.head (omega arith, omega arith));
-      }
+      λ n block is. stays.fewer n block is.0 is.1 in (
+        record {
+          sound = keyed-less part a b stays.count stays.size less rests.sound;
+          one_head = λ top may. rests.one_head top
+              (less part.head top (omega (arith, rests.sound.area), (omega arith, omega arith)) may)
+              ∙ sym (stays.same part.head (omega arith, omega arith));
+        },
+        owned,
+      )
 
-  pub room-stays : (shape : Shape) (kept : Lengths) → StaysPart shape a b → IsSound shape a
-      → HasKeptRoom shape kept a → HasKeptRoom shape kept b
-  room-stays (KeyedShape part) kept stays sound room =
+  pub room-stays : (shape : Shape) (owners : Owners) (kept : Lengths)
+      → StaysPart shape owners a b → IsSound shape owners a → HasKeptRoom shape kept a
+      → HasKeptRoom shape kept b
+  room-stays (KeyedShape part) owners kept part-stays (sound, owned) room =
+      let stays = area-stays part owners a b owned part-stays in
       let less : (n : ℕ) (block : Block) → IsBlock part a n → b.may n block → a.may n block =
       λ n block is. stays.fewer n block is.0 is.1 in
       record {
@@ -54,25 +78,27 @@ module _ (a b : Seen) where
             (head-in part top (sound.heads top before)) (room.each top before);
       }
 
-  pub knows-stays : (shape : Shape) (known : Known) → StaysPart shape a b → IsSound shape a
-      → Left a a.cur → Knows shape known a → Knows shape known b
-  knows-stays (KeyedShape part) known stays sound left knows = record {
-    way = way-stays part known.split a b sound left
-        (λ now some n block named. record {
-          cur = stays.same n block.1;
-          less = λ bytes may. stays.fewer n bytes block.0 block.1 may;
-        }) knows.way;
-    blocks = All-weaker (IsMet part a.cur) (IsMet part b.cur)
-        (λ one is. met-stays part a.cur b.cur one
-        (sound.heads _ (left.each part.head (omega (arith, sound.area))))
-        (stays.same part.head (omega arith, omega arith))
-        (λ inside. stays.same one.number inside) is) known.met knows.blocks;
-  }
+  pub knows-stays : (shape : Shape) (owners : Owners) (known : Known)
+      → StaysPart shape owners a b → IsSound shape owners a → Left a a.cur → Knows shape known a
+      → Knows shape known b
+  knows-stays (KeyedShape part) owners known part-stays (sound, owned) left knows =
+      let stays = area-stays part owners a b owned part-stays in record {
+        way = way-stays part known.split a b sound left
+            (λ now some n block named. record {
+              cur = stays.same n block.1;
+              less = λ bytes may. stays.fewer n bytes block.0 block.1 may;
+            }) knows.way;
+        blocks = All-weaker (IsMet part a.cur) (IsMet part b.cur)
+            (λ one is. met-stays part a.cur b.cur one
+            (sound.heads _ (left.each part.head (omega (arith, sound.area))))
+            (stays.same part.head (omega arith, omega arith))
+            (λ inside. stays.same one.number inside) is) known.met knows.blocks;
+      }
 
   -- the record that fits where the interval is as it was
   fits-stays : (part : Keyed) (kept : Lengths) (place : List ℕ) (n : ℕ)
-      → StaysPart (KeyedShape part) a b → (found : Option (Range × Entry))
-      → ((at : Range × Entry) → found ≡ Some at → InPart (KeyedShape part) (entry_block part at.1))
+      → StaysArea part a b → (found : Option (Range × Entry))
+      → ((at : Range × Entry) → found ≡ Some at → InArea part (entry_block part at.1))
       → fits_in part b.cur kept place n found ≡ fits_in part a.cur kept place n found
   fits-stays part kept place n stays None inside = refl
   fits-stays part kept place n stays (Some at) inside =
@@ -82,7 +108,7 @@ module _ (a b : Seen) where
       (stays.same (entry_block part at.1) (inside at refl))
 
   fits-same : (part : Keyed) (kept : Lengths) (place : List ℕ) (n : ℕ)
-      → StaysPart (KeyedShape part) a b → IsHead part (block_at a.cur part.head)
+      → StaysArea part a b → IsHead part (block_at a.cur part.head)
       → keyed_fits part b.cur kept place n ≡ keyed_fits part a.cur kept place n
   fits-same part kept place n stays head =
       ap (λ (top : Block). fits_in part b.cur kept place n (entry_for None (entries_of top) place))
@@ -93,7 +119,7 @@ module _ (a b : Seen) where
       (omega arith, omega (arith, below)))
 
   room-for : (part : Keyed) (kept : Lengths) (place : List ℕ) (item : Option (List ℕ))
-      → StaysPart (KeyedShape part) a b → IsHead part (block_at a.cur part.head)
+      → StaysArea part a b → IsHead part (block_at a.cur part.head)
       → HasRoomFor (KeyedShape part) a.cur kept place item
       → HasRoomFor (KeyedShape part) b.cur kept place item
   room-for part kept place None stays head has = tt
@@ -101,29 +127,32 @@ module _ (a b : Seen) where
       (λ fits. inl (subst IsTrue (sym (fits-same part kept place (length bytes) stays head)) fits))
       (λ kept-there. inr kept-there) has
 
-  pub can-stays : (shape : Shape) (known : Known) (kept : Lengths) (place : List ℕ)
-      (item : Option (List ℕ)) → StaysPart shape a b → IsSound shape a → Left a a.cur
-      → CanSet shape known a.cur kept place item → CanSet shape known b.cur kept place item
-  can-stays (KeyedShape part) known kept place item stays sound left can = record {
-    no_stage = ap (λ (top : Block). stage_in known.split (entry_for None (entries_of top) place))
-        (stays.same part.head (omega arith, omega arith)) ∙ can.no_stage;
-    room = room-for part kept place item stays
-        (sound.heads _ (left.each part.head (omega (arith, sound.area)))) can.room;
-  }
+  pub can-stays : (shape : Shape) (owners : Owners) (known : Known) (kept : Lengths) (place : List ℕ)
+      (item : Option (List ℕ)) → StaysPart shape owners a b
+      → IsSound shape owners a → Left a a.cur → CanSet shape known a.cur kept place item
+      → CanSet shape known b.cur kept place item
+  can-stays (KeyedShape part) owners known kept place item part-stays (sound, owned) left can =
+      let stays = area-stays part owners a b owned part-stays in record {
+        no_stage = ap (λ (top : Block). stage_in known.split (entry_for None (entries_of top) place))
+            (stays.same part.head (omega arith, omega arith)) ∙ can.no_stage;
+        room = room-for part kept place item stays
+            (sound.heads _ (left.each part.head (omega (arith, sound.area)))) can.room;
+      }
 
   -- each place has the record that it had
-  way-same : (part : Keyed) (place : List ℕ) → StaysPart (KeyedShape part) a b
+  way-same : (part : Keyed) (place : List ℕ) → StaysArea part a b
       → (found : Option (Range × Entry))
-      → ((at : Range × Entry) → found ≡ Some at → InPart (KeyedShape part) (entry_block part at.1))
+      → ((at : Range × Entry) → found ≡ Some at → InArea part (entry_block part at.1))
       → found_on b.cur (way_in part place found) ≡ found_on a.cur (way_in part place found)
   way-same part place stays None inside = refl
   way-same part place stays (Some at) inside =
       ap (λ (block : Block). item_at (records_of part block) place)
       (stays.same (entry_block part at.1) (inside at refl))
 
-  pub same-stays : (shape : Shape) → StaysPart shape a b → IsSound shape a → Left a a.cur
-      → SameRecords shape a.cur b.cur
-  same-stays (KeyedShape part) stays sound left place =
+  pub same-stays : (shape : Shape) (owners : Owners) → StaysPart shape owners a b
+      → IsSound shape owners a → Left a a.cur → SameRecords shape a.cur b.cur
+  same-stays (KeyedShape part) owners part-stays (sound, owned) left place =
+      let stays = area-stays part owners a b owned part-stays in
       let head : IsHead part (block_at a.cur part.head) =
       sound.heads _ (left.each part.head (omega (arith, sound.area))) in
       ap (λ (top : Block). found_on b.cur (way_under part place top))
@@ -131,3 +160,24 @@ module _ (a b : Seen) where
       ∙ way-same part place stays (entry_for None (entries_of (block_at a.cur part.head)) place)
       (λ at is. let below = found-in part (block_at a.cur part.head) place at head is in
       (omega arith, omega (arith, below)))
+
+-- ---- owners
+
+-- a block is of one part
+pub one-owner : (here there : Shape) (owners : Owners) (n : ℕ) → InPart here owners n
+    → InPart there owners n → (part_no here).0 ≡ (part_no there).0
+one-owner here there owners n is also = some-same (sym is ∙ also)
+  where
+    some-same : {one other : ℕ} → Some one ≡ Some other → one ≡ other
+    some-same same = cc
+
+-- a keyed part of one area claims none
+pub grows-none : (shape : Shape) (areas : List (Option PartNo)) (owners : Owners)
+    → MayGrow shape areas owners owners
+grows-none (KeyedShape part) areas owners =
+    record { kept = λ n other is. is; claimed = λ area least n inside. absurd inside }
+
+-- the blocks of the first area are the part's own
+pub first-owned : (shape : Shape) (owners : Owners) (now : Seen) → IsSound shape owners now
+    → (n : ℕ) → InFirstArea shape n → InPart shape owners n
+first-owned (KeyedShape part) owners now (sound, owned) n inside = owned n inside

@@ -24,6 +24,7 @@ use Rattle.vr_space.specs.Keyed.{EachMayLeave, HoldsRange, Keyed}
 use Rattle.vr_space.specs.Keyed.{entries_of}
 use Rattle.vr_space.specs.Keyed.{entry_block, entry_for, items_of, key_of, length_of, lengths_of}
 use Rattle.vr_space.specs.Keyed.{placed, range_of, records_in, records_of}
+use Rattle.vr_space.specs.Owners.{Owners}
 use Rattle.vr_space.specs.Part.{HasKeptRoom, IsPlaceOf, IsSound, KeyedShape, MayHold, Shape}
 use Rattle.vr_space.specs.Room.{HaveRoom, Lengths, Range, is_in, lengthen_by, lengths_in}
 use Rattle.vr_space.specs.Room.{with_length, with_lengths}
@@ -418,12 +419,12 @@ places-with key (entry ∷ kept) place n long all =
 -- ---- the law
 
 -- The record that a crash leaves at a place may be kept, where it is the only one.
-pub keep-room : (shape : Shape) (kept : Lengths) (place : List ℕ) (n : ℕ) (now : Seen)
-    → IsPlaceOf shape place → IsSound shape now → HasKeptRoom shape kept now
+pub keep-room : (shape : Shape) (owners : Owners) (kept : Lengths) (place : List ℕ) (n : ℕ) (now : Seen)
+    → IsPlaceOf shape place → IsSound shape owners now → HasKeptRoom shape kept now
     → ((item : Option Item) → MayHold shape now.may place item
     → (bytes : List ℕ) × (item ≡ Some (Standing bytes)) × (n ≤ length bytes))
     → HasKeptRoom shape (with_length kept place n) now
-keep-room (KeyedShape part) kept place n now long sound room stands = record {
+keep-room (KeyedShape part) owners kept place n now long (sound, owned) room stands = record {
   places = All-from_recursion (λ (entry : List ℕ × ℕ). length entry.0 ≡ part.key)
       (with_length kept place n) (places-with part.key kept place n long
       (recursion_from_All (λ (entry : List ℕ × ℕ). length entry.0 ≡ part.key) kept room.places));

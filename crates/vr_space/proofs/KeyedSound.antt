@@ -22,8 +22,9 @@ use Rattle.vr_space.specs.Way.{MayFind, IsWithin}
 use Rattle.vr_space.specs.Room.{Range}
 use Rattle.vr_space.specs.Keyed.{Keyed, IsHead, HoldsRange, HoldRanges, EachMayLeave, IsKeyedSound}
 use Rattle.vr_space.specs.Keyed.{entries_of, entry_block, range_of, content_from, entry_for, way_in}
-use Rattle.vr_space.specs.Keyed.{keyed_way}
-use Rattle.vr_space.specs.Part.{KeyedShape, InPart, HasOnly, MayHold}
+use Rattle.vr_space.specs.Keyed.{InArea, keyed_way}
+use Rattle.vr_space.specs.Owners.{Owners}
+use Rattle.vr_space.specs.Part.{KeyedShape, InPart, IsSound, HasOnly, MayHold}
 use Rattle.vr_space.proofs.Ways.{found-may}
 use Rattle.vr_space.proofs.KeyedContent.{AscendFrom, way-content}
 
@@ -120,7 +121,7 @@ entry-in area low (entry ∷ entries) place all =
 module _ (part : Keyed) (now : Seen) where
   -- a block of the part that is there
   abbrev pub IsBlock : ℕ → Type 0
-  IsBlock n = (n < now.count) × InPart (KeyedShape part) n
+  IsBlock n = (n < now.count) × InArea part n
 
   way-within : (place : List ℕ) (found : Option (Range × Entry))
       → part.head + part.area < now.count
@@ -151,12 +152,12 @@ module _ (part : Keyed) (now : Seen) where
     ranges-held image (Some entry.high) entries each area all.1 left.1,
   )
 
-  pub keyed-image : IsKeyedSound part now → (image : Image)
-      → IsImageOn (InPart (KeyedShape part)) now.count now.may image
-      → HasOnly (KeyedShape part) (MayHold (KeyedShape part) now.may) image
-  keyed-image sound image left =
+  pub keyed-image : (owners : Owners) → IsSound (KeyedShape part) owners now → (image : Image)
+      → IsImageOn (InPart (KeyedShape part) owners) now.count now.may image
+      → HasOnly (KeyedShape part) owners (MayHold (KeyedShape part) now.may) image
+  keyed-image owners (sound, owned) image left =
       let each : (n : ℕ) → IsBlock n → now.may n (block_at image n) =
-      λ n is. left.each n is.0 is.1 in
+      λ n is. left.each n is.0 (owned n is.1) in
       let top : Block = block_at image part.head in
       let may : now.may part.head top =
       each part.head (omega (arith, sound.area), (omega arith, omega arith)) in
@@ -169,6 +170,7 @@ module _ (part : Keyed) (now : Seen) where
               (head-in part top head) (sound.intervals top may);
           records = refl;
         };
+        within = owned;
         each = λ place. subst
             (λ (item : Option Item). MayFind now.may item (keyed_way part place))
             (sym (way-content part image None (entries_of top) place (head-ascends part top head)

@@ -8,13 +8,14 @@ use Rattle.vr_types.proofs.CallerLemmas.{keeps-touches}
 use Rattle.vr_seqset.specs.Entry.{Entry}
 use Rattle.vr_space.specs.Room.{Lengths, HaveRoom}
 use Rattle.vr_space.specs.Keyed.{Keyed, EachMayLeave, HaveRooms, entries_of, entry_block}
-use Rattle.vr_space.specs.Keyed.{lengths_of}
+use Rattle.vr_space.specs.Keyed.{InArea, lengths_of}
+use Rattle.vr_space.specs.Owners.{Owners}
 use Rattle.vr_space.specs.Part.{Shape, KeyedShape, HasKeptRoom, HasRoom, InPart, IsSound}
 use Rattle.vr_space.proofs.KeyedSound.{AreIn, head-in}
 
 rooms-image : (part : Keyed) (kept : Lengths) (now : Seen) (image : Image) (low : Option (List ℕ))
     (entries : List Entry) → part.head + part.area < now.count
-    → IsImageOn (InPart (KeyedShape part)) now.count now.may image → AreIn part.area entries
+    → IsImageOn (InArea part) now.count now.may image → AreIn part.area entries
     → EachMayLeave part now low entries
     (λ range block. HaveRoom part.size (lengths_of part kept range block))
     → HaveRooms part kept image low entries
@@ -27,19 +28,21 @@ rooms-image part kept now image low (entry ∷ entries) area left inside each = 
 )
 
 -- each image of the part's blocks has room
-pub room-image : (shape : Shape) (kept : Lengths) (now : Seen) → IsSound shape now
-    → HasKeptRoom shape kept now → (image : Image)
-    → IsImageOn (InPart shape) now.count now.may image → HasRoom shape kept image
-room-image (KeyedShape part) kept now sound room image left =
-    let top = left.each part.head (omega (arith, sound.area)) (omega arith, omega arith) in
-    rooms-image part kept now image None (entries_of (block_at image part.head)) sound.area left
+pub room-image : (shape : Shape) (owners : Owners) (kept : Lengths) (now : Seen)
+    → IsSound shape owners now → HasKeptRoom shape kept now → (image : Image)
+    → IsImageOn (InPart shape owners) now.count now.may image → HasRoom shape kept image
+room-image (KeyedShape part) owners kept now (sound, owned) room image left =
+    let mine : IsImageOn (InArea part) now.count now.may image =
+    record { each = λ n below inside. left.each n below (owned n inside) } in
+    let top = mine.each part.head (omega (arith, sound.area)) (omega arith, omega arith) in
+    rooms-image part kept now image None (entries_of (block_at image part.head)) sound.area mine
     (head-in part (block_at image part.head) (sound.heads (block_at image part.head) top))
     (room.each (block_at image part.head) top)
 
 -- and so has that of each moment of a call that puts nothing
-pub keeps-rooms : (tells : Bool) → IsTrue tells → (shape : Shape) (kept : Lengths) (a b : Seen)
-    → Keeps tells a b → IsSound shape a → HasKeptRoom shape kept a
-    → Touches (InPart shape) (HasRoom shape kept) a b
-keeps-rooms tells told shape kept a b call sound room =
-    keeps-touches tells (InPart shape) (HasRoom shape kept) a b told call
-    (room-image shape kept a sound room)
+pub keeps-rooms : (tells : Bool) → IsTrue tells → (shape : Shape) (owners : Owners) (kept : Lengths) (a b : Seen)
+    → Keeps tells a b → IsSound shape owners a → HasKeptRoom shape kept a
+    → Touches (InPart shape owners) (HasRoom shape kept) a b
+keeps-rooms tells told shape owners kept a b call sound room =
+    keeps-touches tells (InPart shape owners) (HasRoom shape kept) a b told call
+    (room-image shape owners kept a sound room)

@@ -17,12 +17,13 @@ use Rattle.vr_seqset.specs.Entry.{Entry}
 use Rattle.vr_seqset.specs.Numbers.{intervals_used}
 use Rattle.vr_space.specs.Room.{Range}
 use Rattle.vr_space.specs.Keyed.{Keyed, IsHead, HoldsRange, IsKeyedSound, entries_of, entry_for}
-use Rattle.vr_space.specs.Keyed.{records_in}
+use Rattle.vr_space.specs.Keyed.{InArea, records_in}
 use Rattle.vr_space.specs.Known.{Known}
 use Rattle.vr_space.specs.Split.{SplitNow, free_from, free_interval}
 use Rattle.vr_space.specs.UnderWay.{IsBegun, IsCopied, IsSwitched, IsReadyFor, KeyedUnderWay}
 use Rattle.vr_space.specs.UnderWay.{interval_block, above_cut}
 use Rattle.vr_space.specs.Met.{Met, IsMet}
+use Rattle.vr_space.specs.Owners.{Owners}
 use Rattle.vr_space.specs.Part.{Shape, KeyedShape, InPart, IsSound, IsUnderWay, Knows}
 use Rattle.vr_space.proofs.KeyedSound.{IsBlock, entry-in, head-in}
 
@@ -164,7 +165,7 @@ way-stays part (Some split) a b sound left stay is =
 -- what was met is as it was where its block and the head stay
 pub met-stays : (part : Keyed) (a b : Image) (met : Met) → IsHead part (block_at a part.head)
     → block_at b part.head ≡ block_at a part.head
-    → (InPart (KeyedShape part) met.number → block_at b met.number ≡ block_at a met.number)
+    → (InArea part met.number → block_at b met.number ≡ block_at a met.number)
     → IsMet part a met → IsMet part b met
 met-stays part a b met head top still is =
     let below : slice_index is.entry.intervals 0 < part.area =
@@ -178,9 +179,9 @@ met-stays part a b met head top still is =
 
 module _ (tells : Bool) (told : IsTrue tells) where
   -- a call that puts nothing leaves a split under way
-  pub way-keeps : (shape : Shape) (known : Known) (a b : Seen) → Keeps tells a b
-      → IsSound shape a → Left a a.cur → IsUnderWay shape known a → IsUnderWay shape known b
-  way-keeps (KeyedShape part) known a b call sound left is =
+  pub way-keeps : (shape : Shape) (owners : Owners) (known : Known) (a b : Seen) → Keeps tells a b
+      → IsSound shape owners a → Left a a.cur → IsUnderWay shape known a → IsUnderWay shape known b
+  way-keeps (KeyedShape part) owners known a b call (sound, owned) left is =
       way-stays part known.split a b sound left
       (λ now some n block named. record {
         cur = ap (λ (image : Image). block_at image n) (call.content told);
@@ -190,7 +191,7 @@ module _ (tells : Bool) (told : IsTrue tells) where
   -- and so does a put into a block that it has nothing to do with
   pub way-puts : (part : Keyed) (split : Option SplitNow) (n : ℕ) (bytes : Block) (a b : Seen)
       → Puts tells n bytes a b → IsKeyedSound part a → Left a a.cur
-      → ((now : SplitNow) → split ≡ Some now → (m : ℕ) → InPart (KeyedShape part) m
+      → ((now : SplitNow) → split ≡ Some now → (m : ℕ) → InArea part m
       → IsSplitBlock part now m → m ≢ n)
       → KeyedUnderWay part split a → KeyedUnderWay part split b
   way-puts part split n bytes a b call sound left apart is =
@@ -205,33 +206,35 @@ module _ (tells : Bool) (told : IsTrue tells) where
 
   -- as into one outside the part
   way-outside : (part : Keyed) (split : Option SplitNow) (n : ℕ) (bytes : Block) (a b : Seen)
-      → Puts tells n bytes a b → (InPart (KeyedShape part) n → ⊥) → IsKeyedSound part a
+      → Puts tells n bytes a b → (InArea part n → ⊥) → IsKeyedSound part a
       → Left a a.cur → KeyedUnderWay part split a → KeyedUnderWay part split b
   way-outside part split n bytes a b call outside sound left is =
       way-puts part split n bytes a b call sound left
       (λ now some m inside named same.
-      outside (subst (InPart (KeyedShape part)) same inside)) is
+      outside (subst (InArea part) same inside)) is
 
   -- what a part knows of its blocks stays where nothing is put
-  pub knows-keeps : (shape : Shape) (known : Known) (a b : Seen) → Keeps tells a b
-      → IsSound shape a → Left a a.cur → Knows shape known a → Knows shape known b
-  knows-keeps (KeyedShape part) known a b call sound left knows = record {
-    way = way-keeps (KeyedShape part) known a b call sound left knows.way;
+  pub knows-keeps : (shape : Shape) (owners : Owners) (known : Known) (a b : Seen) → Keeps tells a b
+      → IsSound shape owners a → Left a a.cur → Knows shape known a
+      → Knows shape known b
+  knows-keeps (KeyedShape part) owners known a b call (sound, owned) left knows = record {
+    way = way-keeps (KeyedShape part) owners known a b call (sound, owned) left knows.way;
     blocks = subst (λ (image : Image). All (IsMet part image) known.met) (sym (call.content told))
         knows.blocks;
   }
 
   -- and where something is put outside the part
-  pub knows-puts : (shape : Shape) (known : Known) (n : ℕ) (bytes : Block) (a b : Seen)
-      → Puts tells n bytes a b → (InPart shape n → ⊥) → IsSound shape a → Left a a.cur
-      → Knows shape known a → Knows shape known b
-  knows-puts (KeyedShape part) known n bytes a b call outside sound left knows =
+  pub knows-puts : (shape : Shape) (owners : Owners) (known : Known) (n : ℕ) (bytes : Block) (a b : Seen)
+      → Puts tells n bytes a b → (InPart shape owners n → ⊥)
+      → IsSound shape owners a → Left a a.cur → Knows shape known a → Knows shape known b
+  knows-puts (KeyedShape part) owners known n bytes a b call beyond (sound, owned) left knows =
+      let outside : InArea part n → ⊥ = λ inside. beyond (owned n inside) in
       let top : Block = block_at a.cur part.head in
       let head : IsHead part top = sound.heads _ (left.each part.head (omega (arith, sound.area)))
       in
-      let still : (m : ℕ) → InPart (KeyedShape part) m → block_at b.cur m ≡ block_at a.cur m =
+      let still : (m : ℕ) → InArea part m → block_at b.cur m ≡ block_at a.cur m =
       λ m inside. cur-elsewhere tells a b m n bytes told
-      (λ same. outside (subst (InPart (KeyedShape part)) same inside)) call in
+      (λ same. outside (subst (InArea part) same inside)) call in
       record {
         way = way-outside part known.split n bytes a b call outside sound left knows.way;
         blocks = All-weaker (IsMet part a.cur) (IsMet part b.cur)

@@ -20,6 +20,7 @@ use Rattle.vr_ci.specs.Reading.{items_at, rdfs_in}
 use Rattle.vr_seqset.specs.Entry.{Entry}
 use Rattle.vr_seqset.specs.SequenceSet.{IsSequenceSet}
 use Rattle.vr_seqset.specs.Reading.{record_in}
+use Rattle.vr_space.specs.Owners.{Owners}
 use Rattle.vr_space.specs.Way.{Way, Found, Reads}
 use Rattle.vr_space.specs.Room.{Lengths, Range, is_in, lengths_in, with_lengths, HaveRoom}
 
@@ -34,6 +35,14 @@ pub record Keyed : Type 0 where
   pub key : ℕ
   pub offset : ℕ
   pub most : ℕ
+
+-- the blocks of its area
+abbrev pub InArea : Keyed → ℕ → Type 0
+InArea part n = (part.head ≤ n) × (n ≤ part.head + part.area)
+
+-- they are the part's own
+abbrev pub IsOwned : Keyed → Owners → Type 0
+IsOwned part owners = (n : ℕ) → InArea part n → owners n ≡ Some part.part
 
 -- the key of a record
 abbrev pub key_of : Keyed → List ℕ → List ℕ

@@ -2,6 +2,7 @@ pub mod Way
 pub mod Room
 pub mod Lent
 pub mod Whence
+pub mod Owners
 pub mod Keyed
 pub mod Split
 pub mod UnderWay

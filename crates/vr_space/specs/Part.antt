@@ -15,7 +15,7 @@ use Rattle.std.specs.declared.cmp.Ordering.TheVariants.{Less}
 use Rattle.vr_types.specs.Content.{place_cmp}
 use Rattle.vr_types.specs.declared.unit.PartNo.{PartNo}
 use Rattle.vr_types.specs.declared.unit.StageKind.{StageKind}
-use Rattle.vr_types.specs.declared.unit.StageKind.TheVariants.{CaClaim, Post}
+use Rattle.vr_types.specs.declared.unit.StageKind.TheVariants.{CaClaim, Extend, Post}
 use Rattle.vr_types.specs.Space.{least_free}
 use Rattle.std.specs.Prelude.{slice_set}
 use Rattle.vr_space.specs.declared.whence.Whence.{Whence}
@@ -27,7 +27,8 @@ use Rattle.vr_space.specs.Known.{Known}
 use Rattle.vr_space.specs.Split.{keyed_room, keyed_stage, keyed_fits}
 use Rattle.vr_space.specs.UnderWay.{KeyedUnderWay}
 use Rattle.vr_space.specs.Met.{IsMet}
-use Rattle.vr_space.specs.Keyed.{Keyed, keyed_way, KeyedStandsFor, IsKeyedSound, IsKeyedAtRest}
+use Rattle.vr_space.specs.Owners.{Owners}
+use Rattle.vr_space.specs.Keyed.{InArea, IsOwned, Keyed, keyed_way, KeyedStandsFor, IsKeyedSound, IsKeyedAtRest}
 use Rattle.vr_space.specs.Keyed.{KeepsRoom, HaveRooms, IsValid, entries_of, key_of}
 
 -- Where a part is on its blocks and how they are spelled, by its kind.
@@ -50,9 +51,13 @@ place_length (KeyedShape part) = part.key
 abbrev pub IsLengthOf : Shape → ℕ → Type 0
 IsLengthOf (KeyedShape part) n = (part.offset + part.key ≤ n) × (n ≤ part.most)
 
--- the blocks of its areas
-abbrev pub InPart : Shape → ℕ → Type 0
-InPart (KeyedShape part) n = (part.head ≤ n) × (n ≤ part.head + part.area)
+-- the blocks of its first area
+abbrev pub InFirstArea : Shape → ℕ → Type 0
+InFirstArea (KeyedShape part) n = InArea part n
+
+-- the blocks that are its own
+abbrev pub InPart : Shape → Owners → ℕ → Type 0
+InPart shape owners n = owners n ≡ Some (part_no shape).0
 
 -- a place that a record of the part may have
 abbrev pub IsPlaceOf : Shape → List ℕ → Type 0
@@ -74,13 +79,21 @@ Stands shape image = (content : Content) × StandsFor shape image content
 abbrev pub way_to : Shape → List ℕ → Way
 way_to (KeyedShape part) place = keyed_way part place
 
--- every content that a crash may leave of a block is in order
-abbrev pub IsSound : Shape → Seen → Type 0
-IsSound (KeyedShape part) now = IsKeyedSound part now
+-- every content that a crash may leave of a block is in order, and leads to blocks of the part alone
+abbrev pub IsSound : Shape → Owners → Seen → Type 0
+IsSound (KeyedShape part) owners now = IsKeyedSound part now × IsOwned part owners
 
 -- and blocks that say where others are have one content
-abbrev pub IsAtRest : Shape → Seen → Type 0
-IsAtRest (KeyedShape part) now = IsKeyedAtRest part now
+abbrev pub IsAtRest : Shape → Owners → Seen → Type 0
+IsAtRest (KeyedShape part) owners now = IsKeyedAtRest part now × IsOwned part owners
+
+-- the same, whichever blocks are the part's
+abbrev pub IsQuiet : Shape → Seen → Type 0
+IsQuiet shape now = (owners : Owners) × IsAtRest shape owners now
+
+-- the image leads to blocks of the part alone
+abbrev pub StaysIn : Shape → Owners → Image → Type 0
+StaysIn (KeyedShape part) owners image = IsOwned part owners
 
 -- whatever a crash leaves of an interval, what is kept for its places has room beside it
 abbrev pub HasKeptRoom : Shape → Lengths → Seen → Type 0
@@ -121,22 +134,25 @@ abbrev pub MayAlsoHold : Shape → (ℕ → Block → Type 0) → (List ℕ → 
     → Option Item → Type 0
 MayAlsoHold shape may A place item = MayHold shape may place item ⊎ A place item
 
--- The image stands for some content, and each place of it has what O allows.
-pub record HasOnly (shape : Shape) (O : List ℕ → Option Item → Type 0) (image : Image) : Type 0
-  where
-    pub content : Content
-    pub stands : StandsFor shape image content
-    pub each : (place : List ℕ) → O place (item_at content place)
+-- The image stands for some content in blocks of the part alone, and each place of it has what O
+-- allows.
+pub record HasOnly (shape : Shape) (owners : Owners) (O : List ℕ → Option Item
+    → Type 0) (image : Image) : Type 0 where
+  pub content : Content
+  pub stands : StandsFor shape image content
+  pub within : StaysIn shape owners image
+  pub each : (place : List ℕ) → O place (item_at content place)
 
 -- Calls that put into the part's blocks alone made `new` of `old`, and added at most what A allows
 -- to what its places may hold: in each image of each of their moments, whether they failed or not,
 -- and from then on.
-pub record AddsTo (shape : Shape) (A : List ℕ → Option Item → Type 0) (old new : Seen) : Type 0
-  where
-    pub touches : Touches (InPart shape) (HasOnly shape (MayAlsoHold shape old.may A)) old new
-    pub rest : (place : List ℕ) (item : Option Item) → MayHold shape new.may place item
-        → MayAlsoHold shape old.may A place item
-    pub sound : IsSound shape new
+pub record AddsTo (shape : Shape) (owners : Owners) (A : List ℕ → Option Item
+    → Type 0) (old new : Seen) : Type 0 where
+  pub touches : Touches (InPart shape owners)
+      (HasOnly shape owners (MayAlsoHold shape old.may A)) old new
+  pub rest : (place : List ℕ) (item : Option Item) → MayHold shape new.may place item
+      → MayAlsoHold shape old.may A place item
+  pub sound : IsSound shape owners new
 
 -- each place has the item that it had
 abbrev pub SameRecords : Shape → Image → Image → Type 0
@@ -217,7 +233,20 @@ IsClaimed part old new = (area : ℕ) × (least_free old ≡ Some area)
 abbrev pub OwnersAfter : PartNo → StageKind → List (Option PartNo) → List (Option PartNo) → Type 0
 OwnersAfter part CaClaim old new = IsClaimed part old new
 OwnersAfter part Post old new = (new ≡ old) ⊎ IsClaimed part old new
+OwnersAfter part Extend old new = (new ≡ old) ⊎ IsClaimed part old new
 OwnersAfter part stage old new = new ≡ old
+
+-- the blocks of an area that a stage of the part may claim: a keyed part stays in its one area
+abbrev pub InClaimed : Shape → ℕ → ℕ → Type 0
+InClaimed (KeyedShape part) area n = ⊥
+
+-- The part has the blocks that it had, and those of the least free area too, as a stage may claim
+-- it; and no other part has less.
+pub record MayGrow (shape : Shape) (areas : List (Option PartNo)) (owners grown : Owners) : Type 0
+  where
+    pub kept : (n part : ℕ) → owners n ≡ Some part → grown n ≡ Some part
+    pub claimed : (area : ℕ) → least_free areas ≡ Some area → (n : ℕ) → InClaimed shape area n
+        → InPart shape grown n
 
 abbrev pub given : Option (Bor (List ℕ)) → Option (List ℕ)
 given None = None

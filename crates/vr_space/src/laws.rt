@@ -2,6 +2,7 @@
 ghost use Rattle.std.specs.Prelude.{◌≡◌, ◌≤◌, ℕ, List, Option, Some, length};
 ghost use Rattle.vr_types.specs.Content.{Content, IsContent, Item, Standing, item_at};
 ghost use Rattle.vr_types.specs.Image.{Image};
+ghost use Rattle.vr_space.specs.Owners.{Owners};
 ghost use Rattle.vr_space.specs.Part.{Shape, StandsFor, HasKeptRoom, IsPlaceOf, IsSound, MayHold};
 ghost use Rattle.vr_space.specs.Part.{Stands, fits_at, item_of, room_of};
 ghost use Rattle.vr_space.specs.Known.{Known};
@@ -31,7 +32,7 @@ pub fn content_is_read()
 /// no room.
 pub fn kept_takes_no_room<B: Blocks>(blocks: &B)
     ensures { (shape : Shape) (kept : Lengths) (place : List ℕ) (n : ℕ) → IsPlaceOf shape place
-        → IsSound shape (B.seen blocks.now) → HasKeptRoom shape kept (B.seen blocks.now)
+        → (owners : Owners) → IsSound shape owners (B.seen blocks.now) → HasKeptRoom shape kept (B.seen blocks.now)
         → ((item : Option Item) → MayHold shape (B.seen blocks.now).may place item
         → (bytes : List ℕ) × (item ≡ Some (Standing bytes)) × (n ≤ length bytes))
         → HasKeptRoom shape (with_length kept place n) (B.seen blocks.now) }

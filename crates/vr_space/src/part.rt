@@ -1,5 +1,5 @@
 //! The contract of every part of a volume.
-ghost use Rattle.std.specs.Prelude.{◌≡◌, ◌≤◌, ℕ, List, Option, [], None, Some, IsTrue, length};
+ghost use Rattle.std.specs.Prelude.{◌≡◌, ◌<◌, ◌≤◌, ℕ, List, Option, [], None, Some, IsTrue, length};
 ghost use Rattle.std.specs.Prelude.{IfOk, OnOk, IfErr, OnErr, MatchOption, All};
 ghost use Rattle.std.specs.Borrow.{sem};
 ghost use Rattle.std.specs.Io.BufRead.{Rests};
@@ -12,6 +12,7 @@ ghost use Rattle.vr_types.specs.declared.unit.StageKind.{StageKind};
 ghost use Rattle.vr_space.specs.declared.room.Room.TheVariants as answers;
 ghost use Rattle.vr_space.specs.Known.{Known, HasMet, places_met};
 ghost use Rattle.vr_space.specs.Met.{met_next};
+ghost use Rattle.vr_space.specs.Owners.{Owners};
 ghost use Rattle.vr_space.specs.Part.{
   Shape,
   part_no,
@@ -27,6 +28,8 @@ ghost use Rattle.vr_space.specs.Part.{
   IsGiven,
   Stands,
   IsAtRest,
+  MayGrow,
+  IsQuiet,
   HasKeptRoom,
   HasRoom,
   IsStageDue,
@@ -144,7 +147,7 @@ pub trait Part {
         requires on { IsOn (shape self.old) (B.seen blocks.old) }
         requires place { IsPlaceOf (shape self.old) place.now }
         requires length { IsLengthOf (shape self.old) length }
-        requires rests { IsTrue B.tells → IsAtRest (shape self.old) (B.seen blocks.old) }
+        requires rests { IsTrue B.tells → IsQuiet (shape self.old) (B.seen blocks.old) }
         requires room { IsTrue B.tells → HasKeptRoom (shape self.old)
             (K.kept kept.now (part_no (shape self.old))) (B.seen blocks.old) }
         requires knows { IsTrue B.tells → Knows (shape self.old) (known self.old)
@@ -159,17 +162,27 @@ pub trait Part {
             OwnersAfter (part_no (shape self.old)) kind space.old space.new) }
         ensures owners_stay { OnErr result (space.new ≡ space.old) }
         // At every moment, whether it fails or not.
-        ensures adds { IsTrue B.tells → AddsTo (shape self.old) Nothing
-            (B.seen blocks.old) (B.seen blocks.new) }
+        ensures adds { IsTrue B.tells → (owners grown : Owners)
+            → MayGrow (shape self.old) space.old owners grown
+            → IsAtRest (shape self.old) owners (B.seen blocks.old)
+            → AddsTo (shape self.old) grown Nothing (B.seen blocks.old) (B.seen blocks.new) }
         ensures same { IsTrue B.tells → SameRecords (shape self.old)
             (B.seen blocks.old).cur (B.seen blocks.new).cur }
         ensures due { IsTrue B.tells → OnOk result
             (DueMore (shape self.old) [] (B.seen blocks.old) (B.seen blocks.new)) }
-        ensures rests { IsTrue B.tells → OnOk result
-            (IsAtRest (shape self.old) (B.seen blocks.new)) }
+        ensures rests { IsTrue B.tells → (owners grown : Owners)
+            → MayGrow (shape self.old) space.old owners grown
+            → IsAtRest (shape self.old) owners (B.seen blocks.old)
+            → OnOk result (IsAtRest (shape self.old) grown (B.seen blocks.new)) }
+        ensures stays { IsTrue B.tells → (owners : Owners) → space.new ≡ space.old
+            → IsAtRest (shape self.old) owners (B.seen blocks.old)
+            → OnOk result (IsAtRest (shape self.old) owners (B.seen blocks.new)) }
         ensures room { IsTrue B.tells → HasKeptRoom (shape self.old)
             (K.kept kept.now (part_no (shape self.old))) (B.seen blocks.new) }
-        ensures rooms { IsTrue B.tells → Touches (InPart (shape self.old))
+        ensures rooms { IsTrue B.tells → (owners grown : Owners)
+            → MayGrow (shape self.old) space.old owners grown
+            → IsAtRest (shape self.old) owners (B.seen blocks.old)
+            → Touches (InPart (shape self.old) grown)
             (HasRoom (shape self.old) (K.kept kept.now (part_no (shape self.old))))
             (B.seen blocks.old) (B.seen blocks.new) }
         ensures knows { IsTrue B.tells → OnOk result
@@ -196,7 +209,7 @@ pub trait Part {
         requires on { IsOn (shape self.old) (B.seen blocks.old) }
         requires place { IsPlaceOf (shape self.old) place.now }
         requires record { IsGiven (shape self.old) place.now bytes }
-        requires rests { IsTrue B.tells → IsAtRest (shape self.old) (B.seen blocks.old) }
+        requires rests { IsTrue B.tells → IsQuiet (shape self.old) (B.seen blocks.old) }
         requires room { IsTrue B.tells → HasKeptRoom (shape self.old)
             (K.kept kept.now (part_no (shape self.old))) (B.seen blocks.old) }
         requires knows { IsTrue B.tells → Knows (shape self.old) (known self.old)
@@ -205,7 +218,9 @@ pub trait Part {
             (B.seen blocks.old).cur (K.kept kept.now (part_no (shape self.old))) place.now
             (given bytes) }
         // At every moment, whether it fails or not.
-        ensures adds { IsTrue B.tells → AddsTo (shape self.old)
+        ensures adds { IsTrue B.tells → (owners : Owners)
+            → IsAtRest (shape self.old) owners (B.seen blocks.old)
+            → AddsTo (shape self.old) owners
             (Just place.now (left_by (shape self.old)
             (item_of (shape self.old) (B.seen blocks.old).cur place.now) (given bytes.entry)))
             (B.seen blocks.old) (B.seen blocks.new) }
@@ -214,12 +229,15 @@ pub trait Part {
         ensures due { IsTrue B.tells → OnOk result
             (DueMoreAt (shape self.old) place.now (put self.new)
             (B.seen blocks.old) (B.seen blocks.new)) }
-        ensures put { OnOk result (All (InPart (shape self.old)) (put self.new)) }
-        ensures rests { IsTrue B.tells → OnOk result
-            (IsAtRest (shape self.old) (B.seen blocks.new)) }
+        ensures put { OnOk result (All (λ n. n < (B.seen blocks.new).count) (put self.new)) }
+        ensures rests { IsTrue B.tells → (owners : Owners)
+            → IsAtRest (shape self.old) owners (B.seen blocks.old)
+            → OnOk result (IsAtRest (shape self.old) owners (B.seen blocks.new)) }
         ensures room { IsTrue B.tells → HasKeptRoom (shape self.old)
             (K.kept kept.now (part_no (shape self.old))) (B.seen blocks.new) }
-        ensures rooms { IsTrue B.tells → Touches (InPart (shape self.old))
+        ensures rooms { IsTrue B.tells → (owners : Owners)
+            → IsAtRest (shape self.old) owners (B.seen blocks.old)
+            → Touches (InPart (shape self.old) owners)
             (HasRoom (shape self.old) (K.kept kept.now (part_no (shape self.old))))
             (B.seen blocks.old) (B.seen blocks.new) }
         ensures knows { IsTrue B.tells → OnOk result
