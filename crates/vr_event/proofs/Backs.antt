@@ -6,16 +6,14 @@ use Rattle.std.specs.List.{Contains}
 use Rattle.std.proofs.lemmas.Bool.{true≢false}
 use Rattle.std.proofs.lemmas.Bool.Decides.{Decides-eqb}
 use Rattle.std.proofs.lemmas.List.Elements.{All-nil}
-use Rattle.std.specs.Prelude.{option_map}
-use Rattle.vr_types.specs.Content.{Content, Standing}
+use Rattle.vr_types.specs.Content.{Content}
 use Rattle.vr_types.specs.Locks.{same_unit}
 use Rattle.vr_types.specs.Seen.{Seen}
 use Rattle.vr_types.specs.declared.geometry.Geometry.{Geometry}
 use Rattle.vr_types.specs.declared.unit.PartNo.{PartNo}
 use Rattle.vr_types.specs.declared.unit.Unit.{Unit as UnitOfRecovery}
-use Rattle.vr_space.specs.Met.{Met}
-use Rattle.vr_space.specs.Part.{IsDueTo, KeyedShape, Shape, part_no}
-use Rattle.vr_space.specs.Split.{SplitNow}
+use Rattle.vr_space.specs.Known.{Known}
+use Rattle.vr_space.specs.Part.{IsDueTo, Shape, part_no}
 use Rattle.vr_log.specs.LogNow.{LogNow}
 use Rattle.vr_history.specs.Effects.{without_last}
 use Rattle.vr_history.specs.State.{BeforeImage, State}
@@ -25,7 +23,6 @@ use Rattle.vr_undo.specs.declared.record.KeptRecord.{KeptRecord}
 use Rattle.vr_volume.specs.Laid.{shape_by}
 use Rattle.vr_volume.specs.PutBack.{images_of, oldest}
 use Rattle.vr_volume.specs.Rests.{IsPartAtRest, IsVolumeAtRest}
-use Rattle.vr_volume.specs.Safe.{item_held}
 use Rattle.vr_volume.specs.Steps.{Changing, IsChangeOf, IsPutBack}
 use Rattle.vr_volume.proofs.Moving.{catalog-stays}
 use Rattle.vr_volume.proofs.Rested.{place-some}
@@ -45,11 +42,11 @@ use Rattle.vr_event.proofs.Worked.{all-both}
 
 -- The log has an image of its place.
 pub place-back : (geometry : Geometry) (number : ℕ) (log : LogNow) (images : List BeforeImage)
-    (old new : State) (change : Changing) (shape : Shape) (split : Option SplitNow)
-    (met : List Met) (place : List ℕ) (found : Option (List ℕ)) (now : Seen)
-    → IsToBack geometry number log images old new change shape split met place found now
+    (old new : State) (change : Changing) (shape : Shape) (known : Known) (place : List ℕ)
+    (found : Option (List ℕ)) (now : Seen)
+    → IsToBack geometry number log images old new change shape known place found now
     → oldest images (part_no shape).0 place ≢ None
-place-back geometry number log images old new change shape split met place found now to =
+place-back geometry number log images old new change shape known place found now to =
     place-some geometry number log images old now to.volume change shape place found to.given
     (put-some geometry log old new change to.volume.laid to.volume.logged to.of to.step)
 
@@ -86,7 +83,7 @@ module _ (number : ℕ) (store : StoreNow) (unit : UnitOfRecovery) (old new : St
       (now : PartNow) (into : IsPartAt change.part.0 before now store.parts parts)
       (same : but_split now ≡ but_split before)
       (sets : IsSetIn store.log.geometry number store.log (images_in store.undo)
-      (images_in store.undo) old new before.shape now.split now.met change.place
+      (images_in store.undo) old new before.shape now.known change.place
       (blocks_of unit changed) a b)
       (had : (n : ℕ) → Contains (blocks_of unit store.changed) n
       → Contains (blocks_of unit changed) n)
@@ -105,7 +102,7 @@ module _ (number : ℕ) (store : StoreNow) (unit : UnitOfRecovery) (old new : St
           → IsDueTo shape listed b q
       due-other listed apart due =
           subst (λ (s : Shape). IsDueTo s listed b q) has.is
-          (sets.others_due has.part.shape has.part.split has.part.met
+          (sets.others_due has.part.shape has.part.known
           (λ is. apart (sym (number-at (record store { undo = [] }) a set p has.part has.found) ∙ is
           ∙ number-at (record store { undo = [] }) a set change.part.0 before found))
           (among-all (IsRestedPart store old a) store.parts p has.part stored.parts has.found)
@@ -166,7 +163,7 @@ module _ (number : ℕ) (store : StoreNow) (unit : UnitOfRecovery) (old new : St
       volume = subst (λ (i : List BeforeImage).
           IsVolumeAtRest store.log.geometry number store.log i new b) (sym images) sets.volume;
       parts = subst (λ (i : List BeforeImage). All (λ (p : PartNow).
-          IsPartAtRest store.log.geometry i new p.shape p.split p.met b) parts) (sym images) each;
+          IsPartAtRest store.log.geometry i new p.shape p.known b) parts) (sym images) each;
       whole = λ p shape laid. shapes-same parts store.parts same-parts p
           ∙ stored.whole p shape (laid-old p shape laid);
       befores = befores ∙ ap (without_last unit) stored.befores
@@ -178,25 +175,22 @@ module _ (number : ℕ) (store : StoreNow) (unit : UnitOfRecovery) (old new : St
     }
       where
         P : PartNow → Type 0
-        P p = IsPartAtRest store.log.geometry (images_in store.undo) new p.shape p.split p.met b
+        P p = IsPartAtRest store.log.geometry (images_in store.undo) new p.shape p.known b
 
         each : All P parts
         each = subst (All P) (sym into.is)
             (all-with (λ (p : PartNow). IsPartSet store.log a p × IsRestedPart store old a p) P
             change.part.0 now
-            (λ p apart both. sets.others p.shape p.split p.met
+            (λ p apart both. sets.others p.shape p.known
             (λ is. apart (ap (λ (n : PartNo). n.0) (sym both.0.number) ∙ is
             ∙ number-at (record store { undo = [] }) a set change.part.0 before found)) both.1)
             (subst (λ (s : Shape). IsPartAtRest store.log.geometry (images_in store.undo) new s
-            now.split now.met b) (sym (ap (λ (p : PartNow). p.shape) same)) sets.part)
+            now.known b) (sym (ap (λ (p : PartNow). p.shape) same)) sets.part)
             store.parts set.apart
             (all-both (IsPartSet store.log a) (IsRestedPart store old a) store.parts set.parts
             stored.parts))
 
 -- ---- one that was taken out
-
-held : (shape : Shape) (found : Option (List ℕ)) → option_map Standing found ≡ item_held shape found
-held (KeyedShape part) found = refl
 
 set-bare : (store : StoreNow) (now : Seen) → IsSet store now
     → IsSet (record store { undo = [] }) now
@@ -217,9 +211,9 @@ module _ (number : ℕ) (store : StoreNow) (unit : UnitOfRecovery) (part : PartN
     (from : IsTakenFrom number store unit state a) where
   -- the part is at rest
   pub taken-part : IsPartAtRest store.log.geometry (images_in store.undo) state before.shape
-      before.split before.met a
+      before.known a
   taken-part = subst (λ (i : List BeforeImage).
-      IsPartAtRest store.log.geometry i state before.shape before.split before.met a)
+      IsPartAtRest store.log.geometry i state before.shape before.known a)
       (sym from.images)
       (among-all (IsRestedPart (record store { undo = from.undo }) state a) store.parts part.0
       before from.stored.parts found)
@@ -228,7 +222,7 @@ module _ (number : ℕ) (store : StoreNow) (unit : UnitOfRecovery) (part : PartN
       (of : IsChangeOf store.log.geometry state (back_at unit part place was item))
       (back : IsPutBack (back_at unit part place was item) state new) where
     pub to-back : IsToBack store.log.geometry number store.log (images_in store.undo) state new
-        (back_at unit part place was item) before.shape before.split before.met place item a
+        (back_at unit part place was item) before.shape before.known place item a
     to-back = record {
       volume = subst (λ (i : List BeforeImage).
           IsVolumeAtRest store.log.geometry number store.log i state a) (sym from.images)
@@ -239,7 +233,7 @@ module _ (number : ℕ) (store : StoreNow) (unit : UnitOfRecovery) (part : PartN
       given = record {
         part = part-number-at store a set part before found;
         place_is = refl;
-        item = held before.shape item;
+        item = refl;
       };
     }
 
@@ -247,7 +241,7 @@ module _ (number : ℕ) (store : StoreNow) (unit : UnitOfRecovery) (part : PartN
     pub stored-taken : (b : Seen) (changed : List ChangedBy) (parts : List PartNow) (now : PartNow)
         → IsPartAt part.0 before now store.parts parts → but_split now ≡ but_split before
         → IsSetIn store.log.geometry number store.log (images_in store.undo)
-        (images_in store.undo) state new before.shape now.split now.met place
+        (images_in store.undo) state new before.shape now.known place
         (blocks_of unit changed) a b
         → ((n : ℕ) → Contains (blocks_of unit store.changed) n
         → Contains (blocks_of unit changed) n)
@@ -259,5 +253,5 @@ module _ (number : ℕ) (store : StoreNow) (unit : UnitOfRecovery) (part : PartN
         (back_at unit part place was item) a (set-bare store a set) from.stored before
         found refl of back b store.undo changed parts now into same
         (subst (λ (i : List BeforeImage). IsSetIn store.log.geometry number store.log i i state new
-        before.shape now.split now.met place (blocks_of unit changed) a b) from.images sets)
+        before.shape now.known place (blocks_of unit changed) a b) from.images sets)
         had others from.images from.befores (ap (map place_of) from.images)

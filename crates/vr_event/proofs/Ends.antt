@@ -1,5 +1,5 @@
 -- What the calls that end a unit leave of a store.
-use Rattle.std.proofs.Common.{◌≡◌, ◌<◌, ℕ, Bool, true, false, not, IsTrue, List, [], ◌∷◌, Option, Some}
+use Rattle.std.proofs.Common.{◌≡◌, ◌<◌, ℕ, Bool, true, false, not, IsTrue, List, [], ◌∷◌, Some}
 use Rattle.std.proofs.Common.{refl, sym, ap, subst, ◌∙◌, arith, filter}
 use Rattle.std.specs.Prelude.{All}
 use Rattle.std.proofs.lemmas.Bool.{true≢false}
@@ -13,9 +13,8 @@ use Rattle.vr_types.specs.Regions.{Touches}
 use Rattle.vr_types.specs.Seen.{Left, Seen}
 use Rattle.vr_types.specs.declared.geometry.Geometry.{Geometry}
 use Rattle.vr_types.specs.declared.unit.Unit.{Unit as UnitOfRecovery}
-use Rattle.vr_space.specs.Met.{Met}
+use Rattle.vr_space.specs.Known.{Known}
 use Rattle.vr_space.specs.Part.{IsDueTo, IsSound, Shape, item_of}
-use Rattle.vr_space.specs.Split.{SplitNow}
 use Rattle.vr_space.proofs.CallerLemmas.{StaysPart}
 use Rattle.vr_log.specs.Live.{live_in}
 use Rattle.vr_log.specs.LogNow.{IsOf, LogNow}
@@ -33,7 +32,6 @@ use Rattle.vr_volume.specs.EndedLog.{IsEndedLog}
 use Rattle.vr_volume.specs.Laid.{shape_by}
 use Rattle.vr_volume.specs.PutBack.{images_of, is_image_of, oldest}
 use Rattle.vr_volume.specs.Rests.{IsPartAtRest, IsVolumeAtRest}
-use Rattle.vr_volume.specs.Safe.{item_held}
 use Rattle.vr_volume.specs.Steps.{IsEndedIn}
 use Rattle.vr_volume.proofs.Apart.{part-past}
 use Rattle.vr_volume.proofs.Calls.{stays-part}
@@ -108,8 +106,8 @@ module _ (store : StoreNow) (a : Seen) (set : IsSet store a) (volume : ℕ) (old
       rested = among-all (IsRestedPart store old a) store.parts part has.part stored.parts has.found
 
       reads : (place : List ℕ)
-          → item_held shape (item_of shape a.cur place) ≡ item_at (old.contents part) place
-      reads place = subst (λ (s : Shape). item_held s (item_of s a.cur place)
+          → item_of shape a.cur place ≡ item_at (old.contents part) place
+      reads place = subst (λ (s : Shape). item_of s a.cur place
           ≡ item_at (old.contents part) place) has.is
           (rested.reads place ∙ ap (λ (n : ℕ). item_at (old.contents n) place)
           (number-at store a set part has.part has.found))
@@ -134,9 +132,9 @@ module _ (store : StoreNow) (a : Seen) (set : IsSet store a) (volume : ℕ) (old
       → blocks_of other changed ≡ blocks_of other store.changed)
       (made : IsEndedIn unit old new)
       (rests : IsVolumeAtRest store.log.geometry volume log (images_in undo) new b)
-      (parts : (shape : Shape) (split : Option SplitNow) (met : List Met)
-      → IsPartAtRest store.log.geometry (images_in store.undo) old shape split met a
-      → IsPartAtRest store.log.geometry (images_in undo) new shape split met b) where
+      (parts : (shape : Shape) (known : Known)
+      → IsPartAtRest store.log.geometry (images_in store.undo) old shape known a
+      → IsPartAtRest store.log.geometry (images_in undo) new shape known b) where
     laid-old : (part : ℕ) (shape : Shape)
         → shape_by log.geometry (new.contents 0) part ≡ Some shape
         → shape_by store.log.geometry (old.contents 0) part ≡ Some shape
@@ -209,8 +207,8 @@ module _ (store : StoreNow) (a : Seen) (set : IsSet store a) (volume : ℕ) (old
           (IsRestedPart (record store { log = log; undo = undo; changed = changed }) new b)
           (λ part rested. subst
           (λ (g : Geometry).
-          IsPartAtRest g (images_in undo) new part.shape part.split part.met b)
-          (sym ended.geometry) (parts part.shape part.split part.met rested))
+          IsPartAtRest g (images_in undo) new part.shape part.known b)
+          (sym ended.geometry) (parts part.shape part.known rested))
           store.parts stored.parts;
       whole = λ part shape laid. stored.whole part shape (laid-old part shape laid);
       befores = befores

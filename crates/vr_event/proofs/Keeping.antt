@@ -62,7 +62,7 @@ module _ (tells : Bool) (told : IsTrue tells) (a b : Seen) (call : Keeps tells a
         (images_in store.undo) state stored.volume;
     parts = All-weaker (IsRestedPart store state a) (IsRestedPart store state b)
         (λ part. part-keeps tells told a b call store.log.geometry (images_in store.undo) state
-        part.shape part.split part.met left) store.parts stored.parts;
+        part.shape part.known left) store.parts stored.parts;
     whole = stored.whole;
     befores = stored.befores;
     logged = stored.logged;

@@ -202,17 +202,17 @@ module _ (store : StoreNow) (now : Seen) (number : ℕ) (state : State)
       → HasNoStage store now.cur last.part last.place
       → IsSettable store now.cur last.part last.place item
   can-back None old none = if-some
-      (λ (part : PartNow). stage_of part.shape part.split now.cur last.place ≡ None)
-      (λ (part : PartNow). CanSet part.shape part.split now.cur
+      (λ (part : PartNow). stage_of part.shape part.known now.cur last.place ≡ None)
+      (λ (part : PartNow). CanSet part.shape part.known now.cur
       (lengths_kept (images_in store.undo) last.part) last.place None)
       (λ part is. record { no_stage = is; room = tt }) (part_among store.parts last.part) none
   can-back (Some bytes) old none =
       let kept = kept-length (images_in store.undo) last.part last.place bytes last last-there old in
       if-some
-      (λ (part : PartNow). stage_of part.shape part.split now.cur last.place ≡ None)
-      (λ (part : PartNow). CanSet part.shape part.split now.cur
+      (λ (part : PartNow). stage_of part.shape part.known now.cur last.place ≡ None)
+      (λ (part : PartNow). CanSet part.shape part.known now.cur
       (lengths_kept (images_in store.undo) last.part) last.place (Some bytes))
-      (λ part is. can-set-kept part.shape part.split now.cur
+      (λ part is. can-set-kept part.shape part.known now.cur
       (lengths_kept (images_in store.undo) last.part) last.place bytes kept.0 kept.1 kept.2 is)
       (part_among store.parts last.part) none
 

@@ -57,7 +57,8 @@ use Rattle.vr_record_file.specs.Now.{state_now, with_event}
 use Rattle.vr_record_file.proofs.Standing.{logged_in_the_way}
 use Rattle.vr_undo.specs.Records.{before_of, images_in, is_logged_in}
 use Rattle.vr_undo.proofs.CallerLemmas.{logged-at}
-use Rattle.vr_space.specs.Part.{item_of}
+use Rattle.vr_space.specs.Part.{record_read}
+use Rattle.vr_space.proofs.CallerLemmas.{item-read}
 use Rattle.vr_types.specs.Faults.{Faults}
 use Rattle.vr_event.specs.Cause.{HasReplyCause, IsEnteredFor}
 use Rattle.vr_event.specs.Changing.{IsMadeOf, has_logged, need_with}
@@ -65,7 +66,6 @@ use Rattle.vr_event.specs.Putting.{IsChange, IsReadyAt, IsReadyFor, IsToMake, ne
 use Rattle.vr_event.specs.Store.{IsStored, PartNow, StoreNow, part_among}
 use Rattle.vr_event.specs.Volume.{IsHeld, IsWhole, VolumeNow}
 use Rattle.vr_event.proofs.Recorded.{number-at, record-read, rested-at}
-use Rattle.vr_event.proofs.Puts.{held-is}
 use Rattle.vr_event.proofs.Weighs.{asks-change}
 
 none-some : {X : Type 0} {x : X} → None ≡ Some x → ⊥
@@ -359,14 +359,14 @@ module _ {B : Type 0} (seen : B → Seen) (opening : State) (volume : VolumeNow 
       → IsToMake volume.number volume.store unit part place old state (seen volume.blocks)
   to-make one found =
       let set = whole.set going in
-      let found-there : item_of one.shape (seen volume.blocks).cur place ≡ old =
+      let found-there : record_read one.shape (seen volume.blocks).cur place ≡ old =
       record-read volume.store (seen volume.blocks) set volume.number state part.0 one found stored
       place
       ∙ sym (ap (λ (n : ℕ). record_at (state.contents n) place) base) ∙ sym ready.at.old_is in
       record {
         stored = stored;
         stands = ap (λ (o : Option (List ℕ)). option_map Standing o) (sym found-there)
-            ∙ sym (held-is one.shape (item_of one.shape (seen volume.blocks).cur place))
+            ∙ sym (item-read one.shape (seen volume.blocks).cur place)
             ∙ (rested-at volume.store (seen volume.blocks) set volume.number state part.0 one found
             stored).reads place
             ∙ ap (λ (n : ℕ). item_at (state.contents n) place)

@@ -79,13 +79,13 @@ module _ (store : StoreNow) (image : Image) (part : ℕ) (place : List ℕ) wher
   room-ready item n = of (part_among store.parts part)
     where
       of : (found : Option PartNow)
-          → IfSome found (λ (one : PartNow). Ready ≡ room_of one.shape one.split image
+          → IfSome found (λ (one : PartNow). Ready ≡ room_of one.shape one.known image
           (free_count store.space) kept place n)
           → IfSome item (λ (bytes : List ℕ). n ≡ length bytes)
-          → IfSome found (λ (one : PartNow). IsFitting one.shape one.split image kept place item)
+          → IfSome found (λ (one : PartNow). IsFitting one.shape one.known image kept place item)
       of None is long = tt
       of (Some one) is long =
-          let both = ready-can one.shape one.split image (free_count store.space) kept place n
+          let both = ready-can one.shape one.known image (free_count store.space) kept place n
           (sym is) in
           record { no_stage = both.0; room = by_item item long both.1 }
         where
@@ -102,12 +102,12 @@ module _ (store : StoreNow) (image : Image) (part : ℕ) (place : List ℕ) wher
   room-full n need left = of (part_among store.parts part)
     where
       of : (found : Option PartNow)
-          → IfSome found (λ (one : PartNow). NoSpace need left ≡ room_of one.shape one.split image
+          → IfSome found (λ (one : PartNow). NoSpace need left ≡ room_of one.shape one.known image
           (free_count store.space) kept place n)
-          → IfSome found (λ (one : PartNow). IsFitting one.shape one.split image kept place None)
+          → IfSome found (λ (one : PartNow). IsFitting one.shape one.known image kept place None)
       of None is = tt
       of (Some one) is = record {
-        no_stage = room-no-stage one.shape one.split image (free_count store.space) kept place n
+        no_stage = room-no-stage one.shape one.known image (free_count store.space) kept place n
             need left (inr (sym is));
         room = tt;
       }

@@ -1,6 +1,6 @@
 -- What is left of a record that was set once its blocks are noted, or forced.
 use Rattle.std.proofs.Common.{inl, inr, ⊎_elim, ℕ, Bool, IsTrue, List, [], ◌++◌}
-use Rattle.std.proofs.Common.{Option, refl, ap, ◌∙◌, arith}
+use Rattle.std.proofs.Common.{refl, ap, ◌∙◌, arith}
 use Rattle.std.specs.List.{Contains}
 use Rattle.std.proofs.lemmas.List.Elements.{Contains-append_cases, Contains-append_left}
 use Rattle.std.proofs.lemmas.List.Elements.{Contains-append_right}
@@ -10,9 +10,8 @@ use Rattle.vr_types.specs.Moments.{Guards}
 use Rattle.vr_types.specs.Seen.{Left, Seen}
 use Rattle.vr_types.specs.declared.geometry.Geometry.{Geometry}
 use Rattle.vr_types.proofs.CallerLemmas.{during-weaken, guards-then}
-use Rattle.vr_space.specs.Met.{Met}
+use Rattle.vr_space.specs.Known.{Known}
 use Rattle.vr_space.specs.Part.{DueMoreAt, IsSound, Shape}
-use Rattle.vr_space.specs.Split.{SplitNow}
 use Rattle.vr_space.proofs.CallerLemmas.{due-keeps, due-then, rest-sound}
 use Rattle.vr_log.specs.LogNow.{LogNow}
 use Rattle.vr_history.specs.State.{BeforeImage, State}
@@ -71,21 +70,21 @@ module _ (tells : Bool) (told : IsTrue tells) (b c : Seen) (call : Keeps tells b
 
   -- The volume and its parts stay as the record that was set left them.
   pub set-noted : (geometry : Geometry) (number : ℕ) (log : LogNow) (images after : List BeforeImage)
-      (old new : State) (shape : Shape) (split : Option SplitNow) (met : List Met)
+      (old new : State) (shape : Shape) (known : Known)
       (place put listed : List ℕ) (a : Seen) → IsSound shape a → Left b b.cur
-      → IsSetIn geometry number log images after old new shape split met place put a b
+      → IsSetIn geometry number log images after old new shape known place put a b
       → IsNoted put listed b.cur c.may
-      → IsSetIn geometry number log images after old new shape split met place listed a c
-  set-noted geometry number log images after old new shape split met place put listed a before left
+      → IsSetIn geometry number log images after old new shape known place listed a c
+  set-noted geometry number log images after old new shape known place put listed a before left
       set noted = record {
         volume = volume-keeps tells told b c call geometry number log after new set.volume;
-        part = part-keeps tells told b c call geometry after new shape split met left set.part;
-        others = λ other split' met' apart rested. part-keeps tells told b c call geometry after new
-            other split' met' left (set.others other split' met' apart rested);
-        others_due = λ other split' met' apart rested. due-then other [] a b c
-            (set.others_due other split' met' apart rested)
+        part = part-keeps tells told b c call geometry after new shape known left set.part;
+        others = λ other known' apart rested. part-keeps tells told b c call geometry after new
+            other known' left (set.others other known' apart rested);
+        others_due = λ other known' apart rested. due-then other [] a b c
+            (set.others_due other known' apart rested)
             (due-keeps tells told other b c call
-            (rest-sound other b (set.others other split' met' apart rested).rests));
+            (rest-sound other b (set.others other known' apart rested).rests));
         due = due-after shape place put a set.due before (rest-sound shape b set.part.rests) listed
             noted;
       }

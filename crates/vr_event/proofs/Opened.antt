@@ -90,7 +90,7 @@ module _ (number : ℕ) (log : LogNow) (parts : List PartNow) (contents : ℕ �
       (content_item part.shape now.cur has.content has.stands place) (has.each place)
 
   part-rests : Left now now.cur → (part : PartNow) → IsPartOpened log.geometry contents now part
-      → IsPartAtRest log.geometry [] state part.shape part.split part.met now
+      → IsPartAtRest log.geometry [] state part.shape part.known now
   part-rests left part opened = record {
     laid = opened.laid;
     on = opened.on;

@@ -8,7 +8,7 @@ use Rattle.vr_types.specs.Content.{Standing, item_at, record_of}
 use Rattle.vr_types.specs.Seen.{Left, Seen}
 use Rattle.vr_types.specs.declared.unit.PartNo.{PartNo}
 use Rattle.vr_types.specs.declared.unit.Unit.{Unit as UnitOfRecovery}
-use Rattle.vr_space.specs.Part.{CanSet, HasRoomFor, IsPlaceOf, KeyedShape, Shape, fits_at, item_of}
+use Rattle.vr_space.specs.Part.{CanSet, HasRoomFor, IsPlaceOf, fits_at, item_of}
 use Rattle.vr_space.specs.Room.{Lengths}
 use Rattle.vr_space.proofs.CallerLemmas.{kept_fits, rest-sound, rest-stands}
 use Rattle.vr_log.specs.declared.record.LogRecord.{LogRecord}
@@ -18,7 +18,6 @@ use Rattle.vr_undo.specs.declared.record.KeptRecord.{KeptRecord}
 use Rattle.vr_undo.proofs.CallerLemmas.{kept-append, kept_more}
 use Rattle.vr_volume.specs.PutBack.{length_of, lengths_kept}
 use Rattle.vr_volume.specs.Rests.{IsPartAtRest}
-use Rattle.vr_volume.specs.Safe.{item_held}
 use Rattle.vr_event.specs.Changing.{IsKeptFor, IsPrepared, IsReadyBy, IsSettable, has_logged}
 use Rattle.vr_event.specs.Changing.{need_with, with_kept}
 use Rattle.vr_event.specs.Putting.{HasRoomAt, IsFitting, IsToMake, need_at}
@@ -26,11 +25,7 @@ use Rattle.vr_event.specs.Store.{ChangedBy, IsSet, IsStored, PartNow, StoreNow, 
 use Rattle.vr_event.specs.Store.{part_among, shape_among}
 use Rattle.vr_event.specs.declared.preparing.Prepared.{Prepared}
 use Rattle.vr_event.proofs.Kept.{stored-changed}
-use Rattle.vr_event.proofs.Readying.{held-same, numbered, rested, undo-images}
-
-pub held-is : (shape : Shape) (found : Option (List ℕ))
-    → item_held shape found ≡ option_map Standing found
-held-is (KeyedShape part) found = refl
+use Rattle.vr_event.proofs.Readying.{numbered, rested, undo-images}
 
 module _ (store kept : StoreNow) (now : Seen) (unit : UnitOfRecovery) (part : PartNo)
     (place : List ℕ) (was : Option (List ℕ)) (prepared : Prepared)
@@ -111,16 +106,14 @@ module _ (store kept : StoreNow) (now : Seen) (unit : UnitOfRecovery) (part : Pa
     images-are = undo-images volume kept unit part place prepared was state now ready one found set
         at None
 
-    its-rest : IsPartAtRest kept.log.geometry (images_in store.undo) state one.shape one.split
-        one.met now
+    its-rest : IsPartAtRest kept.log.geometry (images_in store.undo) state one.shape one.known now
     its-rest = rested volume kept unit part place prepared was state now ready one found set at None
 
-    reads : item_of one.shape now.cur place ≡ was
-    reads = held-same one.shape (item_of one.shape now.cur place) was
-        (its-rest.reads place
+    reads : item_of one.shape now.cur place ≡ option_map Standing was
+    reads = its-rest.reads place
         ∙ ap (λ (n : ℕ). item_at (state.contents n) place)
         (numbered volume kept unit part place prepared was state now ready one found set at None)
-        ∙ sym to.stands ∙ sym (held-is one.shape was))
+        ∙ sym to.stands
 
     -- a record that stands takes no more room once it is kept
     fits-kept : (m : ℕ) (there : Bool)
@@ -133,7 +126,8 @@ module _ (store kept : StoreNow) (now : Seen) (unit : UnitOfRecovery) (part : Pa
         (kept-append (images_in store.undo) change-image part.0)
         ∙ by_mine (part.0 == part.0) was reads
       where
-        by_mine : (mine : Bool) (item : Option (List ℕ)) → item_of one.shape now.cur place ≡ item
+        by_mine : (mine : Bool) (item : Option (List ℕ))
+            → item_of one.shape now.cur place ≡ option_map Standing item
             → fits_at one.shape now.cur (kept_more (lengths (images_in store.undo))
             (cond mine (length_of place (option_and_then record_of (option_map Standing item)))
             None)) place m
@@ -146,8 +140,8 @@ module _ (store kept : StoreNow) (now : Seen) (unit : UnitOfRecovery) (part : Pa
             (omega arith) place m
 
     can-kept : (item : Option (List ℕ))
-        → IsFitting one.shape one.split now.cur (lengths (images_in store.undo)) place item
-        → CanSet one.shape one.split now.cur (lengths (images_in kept.undo)) place item
+        → IsFitting one.shape one.known now.cur (lengths (images_in store.undo)) place item
+        → CanSet one.shape one.known now.cur (lengths (images_in kept.undo)) place item
     can-kept item fits = record { no_stage = fits.no_stage; room = by_item item fits.room }
       where
         by_item : (item : Option (List ℕ))
@@ -171,7 +165,7 @@ module _ (store kept : StoreNow) (now : Seen) (unit : UnitOfRecovery) (part : Pa
       (subst (λ (parts : List PartNow). IfSome (shape_among parts part.0)
       (λ shape. IsPlaceOf shape place)) (sym parts-same) places)
       (subst (λ (parts : List PartNow). IfSome (part_among parts part.0)
-      (λ (one : PartNow). IsFitting one.shape one.split now.cur
+      (λ (one : PartNow). IsFitting one.shape one.known now.cur
       (lengths_kept (images_in store.undo) part.0) place item)) (sym parts-same) room)
     where
       parts-same : kept.parts ≡ store.parts
@@ -180,9 +174,9 @@ module _ (store kept : StoreNow) (now : Seen) (unit : UnitOfRecovery) (part : Pa
       of : (found : Option PartNow) → part_among kept.parts part.0 ≡ found
           → IfSome (option_map (λ (one : PartNow). one.shape) found)
           (λ shape. IsPlaceOf shape place)
-          → IfSome found (λ (one : PartNow). IsFitting one.shape one.split now.cur
+          → IfSome found (λ (one : PartNow). IsFitting one.shape one.known now.cur
           (lengths_kept (images_in store.undo) part.0) place item)
-          → IfSome found (λ (one : PartNow). CanSet one.shape one.split now.cur
+          → IfSome found (λ (one : PartNow). CanSet one.shape one.known now.cur
           (lengths_kept (images_in kept.undo) part.0) place item)
       of None is place-of fits = tt
       of (Some one) is place-of fits =

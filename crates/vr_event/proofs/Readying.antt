@@ -9,10 +9,9 @@ use Rattle.vr_types.specs.Seen.{Left, Seen}
 use Rattle.vr_types.specs.declared.geometry.Geometry.{Geometry}
 use Rattle.vr_types.specs.declared.unit.PartNo.{PartNo}
 use Rattle.vr_types.specs.declared.unit.Unit.{Unit as UnitOfRecovery}
-use Rattle.vr_space.specs.Met.{Met}
-use Rattle.vr_space.specs.Part.{HasKeptRoom, IsFirm, IsPlaceOf, KeyedShape, Shape, item_of, part_no}
+use Rattle.vr_space.specs.Known.{Known}
+use Rattle.vr_space.specs.Part.{HasKeptRoom, IsFirm, IsPlaceOf, Shape, part_no}
 use Rattle.vr_space.specs.Room.{Lengths}
-use Rattle.vr_space.specs.Split.{SplitNow}
 use Rattle.vr_history.specs.Effects.{image_kept, with_change}
 use Rattle.vr_history.specs.State.{BeforeImage, State, is_kept, is_logged}
 use Rattle.vr_log.specs.LogNow.{LogNow, first_of, with_record}
@@ -24,7 +23,7 @@ use Rattle.vr_volume.specs.Committed.{committed_by}
 use Rattle.vr_volume.specs.Laid.{shape_by}
 use Rattle.vr_volume.specs.PutBack.{images_of, lengths_kept, oldest}
 use Rattle.vr_volume.specs.Rests.{IsGivenFor, IsPartAtRest}
-use Rattle.vr_volume.specs.Safe.{IsSafe, IsSafeBy, item_held}
+use Rattle.vr_volume.specs.Safe.{IsSafe, IsSafeBy}
 use Rattle.vr_volume.specs.Steps.{Changing, IsChangeOf, image_by}
 use Rattle.vr_volume.proofs.Befores.{safe-more}
 use Rattle.vr_volume.proofs.Committing.{catalog-same}
@@ -37,32 +36,6 @@ use Rattle.vr_event.proofs.Among.{among-all}
 use Rattle.vr_event.proofs.Recorded.{number-at}
 use Rattle.vr_event.proofs.Setting.{first-here, images-more, lengths-same, step-first}
 use Rattle.vr_event.proofs.Steps.{change-by, images, step-made}
-
-held-map : (shape : Shape) (found : Option (List ℕ))
-    → item_held shape found ≡ option_map Standing found
-held-map (KeyedShape part) found = refl
-
-standing-same : (one other : List ℕ) → Standing one ≡ Standing other → one ≡ other
-standing-same one other same = cc
-
-map-same : (one other : Option (List ℕ)) → option_map Standing one ≡ option_map Standing other
-    → one ≡ other
-map-same None None same = refl
-map-same None (Some other) same = absurd cc
-map-same (Some one) None same = absurd cc
-map-same (Some one) (Some other) same = of (some-same same)
-  where
-    some-same : {X : Type 0} {x y : X} → Some x ≡ Some y → x ≡ y
-    some-same is = cc
-
-    of : Standing one ≡ Standing other → Some one ≡ Some other
-    of is = ap Some (standing-same one other is)
-
--- what is held is the item of one record alone
-pub held-same : (shape : Shape) (one other : Option (List ℕ))
-    → item_held shape one ≡ item_held shape other → one ≡ other
-held-same shape one other same =
-    map-same one other (sym (held-map shape one) ∙ same ∙ held-map shape other)
 
 -- by all records of a log
 all-safe : (geometry : Geometry) (number : ℕ) (log : LogNow)
@@ -83,20 +56,20 @@ all-safe geometry number log committed a forced safe =
 
 module _ (geometry : Geometry) (number : ℕ) (log : LogNow) (images after : List BeforeImage)
     (old new : State) (change : Changing) (prepared : Prepared) (shape : Shape)
-    (split : Option SplitNow) (met : List Met) (place : List ℕ) (found : Option (List ℕ))
-    (a : Seen) (to : IsToSet geometry number log images after old new change prepared shape split
-    met place found a) (left : Left a a.cur) (at : IsPlaceOf shape place) where
+    (known : Known) (place : List ℕ) (found : Option (List ℕ)) (a : Seen)
+    (to : IsToSet geometry number log images after old new change prepared shape known place found
+    a) (left : Left a a.cur) (at : IsPlaceOf shape place) where
   room-first : prepared.logged ≡ false
       → HasKeptRoom shape (lengths_kept after (part_no shape).0) a
   room-first logged =
       let rec : LogRecord = records.Before change.unit (part_no shape) place change.old in
-      let step = step-first geometry number log images after old new change prepared shape split
-      met place found a to logged in
-      let more = images-more geometry number log images after old new change prepared shape split
-      met place found a to logged in
-      let first = first-here geometry number log images after old new change prepared shape split
-      met place found a to logged at in
-      let laid = laid-by-more geometry number log images after old new change a shape split met
+      let step = step-first geometry number log images after old new change prepared shape known
+      place found a to logged in
+      let more = images-more geometry number log images after old new change prepared shape known
+      place found a to logged in
+      let first = first-here geometry number log images after old new change prepared shape known
+      place found a to logged at in
+      let laid = laid-by-more geometry number log images after old new change a shape known
       place found to.volume to.part to.of step to.given more in
       let by = all-safe geometry number (with_record log rec) (committed_by old) a
       (omega (arith, first.forced, length-append log.records (rec ∷ [])))
@@ -111,22 +84,22 @@ module _ (geometry : Geometry) (number : ℕ) (log : LogNow) (images after : Lis
       by_logged : (there : Bool) → prepared.logged ≡ there
           → HasKeptRoom shape (lengths_kept after (part_no shape).0) a
       by_logged true logged = subst (λ (lengths : Lengths). HasKeptRoom shape lengths a)
-          (sym (lengths-same geometry number log images after old new change prepared shape split
-          met place found a to logged)) to.part.room
+          (sym (lengths-same geometry number log images after old new change prepared shape known
+          place found a to logged)) to.part.room
       by_logged false logged = room-first logged
 
   -- a place that no unit has logged has what stands there, whatever a crash leaves
   pub firm-to : oldest (images_of log.records) (part_no shape).0 place ≡ None
       → IsFirm shape a place
-  firm-to none item holds = held-same shape item (item_of shape a.cur place)
-      (((all-safe geometry number log (committed_by old) a (omega (arith, to.volume.forced))
+  firm-to none item holds =
+      ((all-safe geometry number log (committed_by old) a (omega (arith, to.volume.forced))
       to.volume.safe).parts (part_no shape).0 shape
       (ap (λ (c : Content). shape_by geometry c (part_no shape).0)
       (catalog-same geometry old to.volume.laid log.records) ∙ to.part.laid)).items place item holds
       none
       ∙ item-there geometry old to.volume.laid log to.volume.logged to.volume.forced
       (part_no shape).0 place none
-      ∙ sym (to.part.reads place))
+      ∙ sym (to.part.reads place)
 
 -- ---- what is to be set
 
@@ -150,7 +123,7 @@ module _ (number : ℕ) (store : StoreNow) (unit : UnitOfRecovery) (part : PartN
   abbrev pub kept : List BeforeImage
   kept = images number store unit part place prepared was old a ready
 
-  pub rested : IsPartAtRest store.log.geometry kept old before.shape before.split before.met a
+  pub rested : IsPartAtRest store.log.geometry kept old before.shape before.known a
   rested = among-all (IsRestedPart (record store { undo = ready.kept.old }) old a) store.parts
       part.0 before ready.kept.stored.parts found
 
@@ -171,7 +144,7 @@ module _ (number : ℕ) (store : StoreNow) (unit : UnitOfRecovery) (part : PartN
   given = record {
     part = no-same (part_no before.shape) part numbered;
     place_is = refl;
-    item = sym (held-map before.shape item);
+    item = refl;
   }
 
   pub undo-images : images_in store.undo
@@ -187,7 +160,7 @@ module _ (number : ℕ) (store : StoreNow) (unit : UnitOfRecovery) (part : PartN
   pub to-set : (need : ℕ) (after : State) → IsMadeOf unit part place new-item need old after
       → need ≡ need_with prepared.logged store.log prepared.rec
       → IsToSet store.log.geometry number store.log kept (images_in store.undo) old after change
-      prepared before.shape before.split before.met place item a
+      prepared before.shape before.known place item a
   to-set need after made needs = record {
     volume = ready.kept.stored.volume;
     part = rested;
@@ -211,6 +184,6 @@ module _ (number : ℕ) (store : StoreNow) (unit : UnitOfRecovery) (part : PartN
   }
 
   pub to-any : IsToSet store.log.geometry number store.log kept (images_in store.undo) old made-state
-      change prepared before.shape before.split before.met place item a
+      change prepared before.shape before.known place item a
   to-any = to-set (need_with prepared.logged store.log prepared.rec) made-state
       (record { contents = refl; befores = refl; logged = refl; used = refl; numbers = refl }) refl

@@ -5,14 +5,13 @@ use Rattle.std.specs.Prelude.{IfSome}
 use Rattle.std.specs.Option.{option_and_then, option_map}
 use Rattle.std.specs.declared.cmp.Ordering.{Ordering}
 use Rattle.std.specs.declared.cmp.Ordering.TheVariants.{Less, Equal, Greater}
-use Rattle.vr_types.specs.Content.{Content, Standing, found_by, item_at, place_cmp, record_at}
+use Rattle.vr_types.specs.Content.{Content, Item, found_by, item_at, place_cmp, record_at}
 use Rattle.vr_types.specs.Content.{record_of}
 use Rattle.vr_types.specs.Seen.{Left, Seen}
-use Rattle.vr_space.specs.Part.{KeyedShape, Shape, Stands as StandFor, item_of}
+use Rattle.vr_space.specs.Part.{Shape, Stands as StandFor, item_of, record_read}
 use Rattle.vr_space.proofs.CallerLemmas.{rest-sound, rest-stands}
 use Rattle.vr_history.specs.State.{State}
 use Rattle.vr_volume.specs.Laid.{shape_by}
-use Rattle.vr_volume.specs.Safe.{item_held}
 use Rattle.vr_event.specs.Store.{IsPartSet, IsRestedPart, IsSet, IsStored, PartNow, Stands}
 use Rattle.vr_event.specs.Store.{StoreNow}
 use Rattle.vr_event.specs.Store.{part_among, shape_among}
@@ -48,14 +47,10 @@ record-item (placed ∷ content) place =
     by_order Equal further = refl
     by_order Greater further = further
 
-unheld : (found : Option (List ℕ)) → found ≡ option_and_then record_of (option_map Standing found)
-unheld None = refl
-unheld (Some bytes) = refl
-
-held-record : (shape : Shape) (content : Content) (place : List ℕ) (found : Option (List ℕ))
-    → item_held shape found ≡ item_at content place → found ≡ record_at content place
-held-record (KeyedShape part) content place found is =
-    unheld found ∙ ap (option_and_then record_of) is ∙ sym (record-item content place)
+item-record : (content : Content) (place : List ℕ) (item : Option Item)
+    → item ≡ item_at content place → option_and_then record_of item ≡ record_at content place
+item-record content place item is =
+    ap (option_and_then record_of) is ∙ sym (record-item content place)
 
 -- ---- in a store
 
@@ -96,9 +91,9 @@ module _ (store : StoreNow) (now : Seen) (set : IsSet store now) where
   pub record-read : (volume : ℕ) (state : State) (number : ℕ) (part : PartNow)
       → part_among store.parts number ≡ Some part → IsStored volume store state now
       → (place : List ℕ)
-      → item_of part.shape now.cur place ≡ record_at (state.contents number) place
+      → record_read part.shape now.cur place ≡ record_at (state.contents number) place
   record-read volume state number part found stored place =
-      held-record part.shape (state.contents number) place (item_of part.shape now.cur place)
+      item-record (state.contents number) place (item_of part.shape now.cur place)
       ((rested-at volume state number part found stored).reads place
       ∙ ap (λ (n : ℕ). item_at (state.contents n) place) (number-at number part found))
 

@@ -5,9 +5,8 @@ use Rattle.vr_types.specs.Moments.{Guards}
 use Rattle.vr_types.specs.Seen.{Seen}
 use Rattle.vr_types.specs.declared.geometry.Geometry.{Geometry}
 use Rattle.vr_types.specs.declared.unit.PartNo.{PartNo}
-use Rattle.vr_space.specs.Met.{Met}
+use Rattle.vr_space.specs.Known.{Known}
 use Rattle.vr_space.specs.Part.{DueMore, DueMoreAt, IsPlaceOf, Shape, part_no}
-use Rattle.vr_space.specs.Split.{SplitNow}
 use Rattle.vr_log.specs.LogNow.{LogNow}
 use Rattle.vr_log.specs.declared.record.LogRecord.{LogRecord}
 use Rattle.vr_log.specs.declared.record.LogRecord.TheVariants as records
@@ -33,9 +32,9 @@ step-puts true log change old new step =
 
 module _ (geometry : Geometry) (number : ℕ) (log : LogNow) (images after : List BeforeImage)
     (old new : State) (change : Changing) (prepared : Prepared) (shape : Shape)
-    (split : Option SplitNow) (met : List Met) (place : List ℕ) (found : Option (List ℕ))
-    (a : Seen) (to : IsToSet geometry number log images after old new change prepared shape split
-    met place found a) where
+    (known : Known) (place : List ℕ) (found : Option (List ℕ)) (a : Seen)
+    (to : IsToSet geometry number log images after old new change prepared shape known place found
+    a) where
   pub same-part : (part_no shape).0 ≡ change.part.0
   same-part = ap (λ (p : PartNo). p.0) to.given.part
 
@@ -72,26 +71,26 @@ module _ (geometry : Geometry) (number : ℕ) (log : LogNow) (images after : Lis
     guards-again b = subst (λ (l : Bool). Guards a b (IsSafeImage geometry number
         (log_with l log prepared.rec) (committed_by old))) (sym logged)
 
-    pub set-again : (b : Seen) (after-split : Option SplitNow) (now : List Met) (put : List ℕ)
+    pub set-again : (b : Seen) (now : Known) (put : List ℕ)
         → IsVolumeAtRest geometry number log images new b
-        × IsPartAtRest geometry images new shape after-split now b
-        → ((other : Shape) (split : Option SplitNow) (met : List Met)
+        × IsPartAtRest geometry images new shape now b
+        → ((other : Shape) (known : Known)
         → (part_no other).0 ≢ (part_no shape).0
-        → IsPartAtRest geometry images old other split met a
-        → IsPartAtRest geometry images new other split met b)
-        → ((other : Shape) (split : Option SplitNow) (met : List Met)
+        → IsPartAtRest geometry images old other known a
+        → IsPartAtRest geometry images new other known b)
+        → ((other : Shape) (known : Known)
         → (part_no other).0 ≢ (part_no shape).0
-        → IsPartAtRest geometry images old other split met a → DueMore other [] a b)
+        → IsPartAtRest geometry images old other known a → DueMore other [] a b)
         → DueMoreAt shape place put a b
-        → IsSetIn geometry number log images after old new shape after-split now place put a b
-    set-again b after-split now put rests others others_due due = record {
+        → IsSetIn geometry number log images after old new shape now place put a b
+    set-again b now put rests others others_due due = record {
       volume = subst (λ (i : List BeforeImage). IsVolumeAtRest geometry number log i new b)
           (sym images-same) rests.0;
-      part = subst (λ (i : List BeforeImage). IsPartAtRest geometry i new shape after-split now b)
+      part = subst (λ (i : List BeforeImage). IsPartAtRest geometry i new shape now b)
           (sym images-same) rests.1;
-      others = λ other split met apart rested.
-          subst (λ (i : List BeforeImage). IsPartAtRest geometry i new other split met b)
-          (sym images-same) (others other split met apart rested);
+      others = λ other known apart rested.
+          subst (λ (i : List BeforeImage). IsPartAtRest geometry i new other known b)
+          (sym images-same) (others other known apart rested);
       others_due = others_due;
       due = due;
     }
@@ -105,13 +104,13 @@ module _ (geometry : Geometry) (number : ℕ) (log : LogNow) (images after : Lis
     step-first = subst (λ (b : Bool). IsStep b log change old new) logged to.step
 
     pub rec-here : prepared.rec ≡ records.Before change.unit (part_no shape) place change.old
-    rec-here = to.rec ∙ rec-is geometry number log images after old new change a shape split met
+    rec-here = to.rec ∙ rec-is geometry number log images after old new change a shape known
         place found to.volume to.part to.of step-first to.given images-more
 
     pub first-here : IsPlaceOf shape place
         → IsFirstBefore geometry log (committed_by old) change.unit (part_no shape) place
         change.old
-    first-here at = first-of geometry number log images after old new change a shape split met
+    first-here at = first-of geometry number log images after old new change a shape known
         place found to.volume to.part to.of step-first to.given images-more at
 
     pub laid-here : IsLaidBy geometry (log.records ++ prepared.rec ∷ []) (committed_by old)
@@ -119,7 +118,7 @@ module _ (geometry : Geometry) (number : ℕ) (log : LogNow) (images after : Lis
     laid-here = subst (λ (rec : LogRecord). IsLaidBy geometry (log.records ++ rec ∷ [])
         (committed_by old) (part_no shape).0 shape (lengths_kept after (part_no shape).0))
         (sym rec-here)
-        (laid-by-more geometry number log images after old new change a shape split met place found
+        (laid-by-more geometry number log images after old new change a shape known place found
         to.volume to.part to.of step-first to.given images-more)
 
     pub guards-first : (b : Seen)

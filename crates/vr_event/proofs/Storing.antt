@@ -110,14 +110,14 @@ module _ (number : ℕ) (store : StoreNow) (unit : UnitOfRecovery) (part : PartN
       (made : IsMadeOf unit part place made-of need old after)
       (needs : need ≡ need_with prepared.logged store.log prepared.rec) (left : Left a a.cur) where
     abbrev its-to : IsToSet store.log.geometry number store.log images (images_in store.undo) old
-        after its-change prepared before.shape before.split before.met place item a
+        after its-change prepared before.shape before.known place item a
     its-to = to-set number store unit part place prepared was old a ready before found set at item
         need after made needs
 
     catalog-same-set : after.contents 0 ≡ old.contents 0
     catalog-same-set = catalog-stays store.log.geometry old after its-change its-to.volume.laid
         its-to.of (to-puts store.log.geometry number store.log images (images_in store.undo) old
-        after its-change prepared before.shape before.split before.met place item a its-to)
+        after its-change prepared before.shape before.known place item a its-to)
 
     -- ---- what was due
 
@@ -154,7 +154,7 @@ module _ (number : ℕ) (store : StoreNow) (unit : UnitOfRecovery) (part : PartN
         (firm-due before.shape (blocks_of u store.changed) place a
         (rest-sound before.shape a its-to.part.rests)
         (firm-to store.log.geometry number store.log images (images_in store.undo) old after
-        its-change prepared before.shape before.split before.met place item a its-to left at
+        its-change prepared before.shape before.known place item a its-to left at
         (ap (λ (n : ℕ). oldest (images_of store.log.records) n place)
         (numbered number store unit part place prepared was old a ready before found set at item)
         ∙ ap (λ (i : List BeforeImage). oldest i part.0 place) (sym stored.volume.kept) ∙ none)))
@@ -203,7 +203,7 @@ module _ (number : ℕ) (store : StoreNow) (unit : UnitOfRecovery) (part : PartN
         (into : IsPartAt part.0 before now store.parts parts) (number-same : now.number ≡ before.number)
         (shape-same : now.shape ≡ before.shape)
         (sets : IsSetIn store.log.geometry number log images (images_in store.undo) old after
-        before.shape now.split now.met place (blocks_of unit changed) a b)
+        before.shape now.known place (blocks_of unit changed) a b)
         (had : (n : ℕ) → Contains (blocks_of unit store.changed) n
         → Contains (blocks_of unit changed) n)
         (others : (other : UnitOfRecovery) → same_unit other unit ≡ false
@@ -223,7 +223,7 @@ module _ (number : ℕ) (store : StoreNow) (unit : UnitOfRecovery) (part : PartN
             → IsDueTo shape listed b q
         due-other listed apart due =
             subst (λ (s : Shape). IsDueTo s listed b q) has.is
-            (sets.others_due has.part.shape has.part.split has.part.met
+            (sets.others_due has.part.shape has.part.known
             (λ same. apart (sym there-no ∙ same
             ∙ numbered number store unit part place prepared was old a ready before found set at
             item))
@@ -280,14 +280,12 @@ module _ (number : ℕ) (store : StoreNow) (unit : UnitOfRecovery) (part : PartN
           (ap (λ (n : PartNo). record {
             number = n;
             shape = now.shape;
-            split = None;
-            met = [];
+            known = record { split = None; met = [] };
           }) number-same
           ∙ ap (λ (s : Shape). record {
             number = before.number;
             shape = s;
-            split = None;
-            met = [];
+            known = record { split = None; met = [] };
           }) shape-same) store.parts into.found
 
       -- the store as the call left it
@@ -340,8 +338,8 @@ module _ (number : ℕ) (store : StoreNow) (unit : UnitOfRecovery) (part : PartN
         volume = subst (λ (g : Geometry). Rattle.vr_volume.specs.Rests.IsVolumeAtRest g number log
             (images_in store.undo) after b) (sym geometry-same) sets.volume;
         parts = subst (λ (g : Geometry). All (λ (p : PartNow).
-            Rattle.vr_volume.specs.Rests.IsPartAtRest g (images_in store.undo) after p.shape p.split
-            p.met b) parts) (sym geometry-same) each;
+            Rattle.vr_volume.specs.Rests.IsPartAtRest g (images_in store.undo) after p.shape p.known
+            b) parts) (sym geometry-same) each;
         whole = λ p shape laid. shapes-same parts store.parts same-parts p
             ∙ stored.whole p shape (laid-old log.geometry geometry-same p shape laid);
         befores = befores-same;
@@ -353,19 +351,19 @@ module _ (number : ℕ) (store : StoreNow) (unit : UnitOfRecovery) (part : PartN
         where
           P : PartNow → Type 0
           P p = Rattle.vr_volume.specs.Rests.IsPartAtRest store.log.geometry (images_in store.undo)
-              after p.shape p.split p.met b
+              after p.shape p.known b
 
           each : All P parts
           each = subst (All P) (sym into.is)
               (all-with (λ (p : PartNow). IsPartSet store.log a p
               × IsRestedPart (record store { undo = ready.kept.old }) old a p) P part.0 now
-              (λ p apart both. sets.others p.shape p.split p.met
+              (λ p apart both. sets.others p.shape p.known
               (λ same. apart (ap (λ (n : PartNo). n.0) (sym both.0.number) ∙ same
               ∙ numbered number store unit part place prepared was old a ready before found set at
               item))
               both.1)
               (subst (λ (s : Shape). Rattle.vr_volume.specs.Rests.IsPartAtRest store.log.geometry
-              (images_in store.undo) after s now.split now.met b) (sym shape-same) sets.part)
+              (images_in store.undo) after s now.known b) (sym shape-same) sets.part)
               store.parts set.apart
               (all-both (IsPartSet store.log a)
               (IsRestedPart (record store { undo = ready.kept.old }) old a) store.parts set.parts

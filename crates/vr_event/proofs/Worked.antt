@@ -11,9 +11,8 @@ use Rattle.vr_types.specs.Blocks.{Keeps}
 use Rattle.vr_types.specs.Seen.{Left, Seen}
 use Rattle.vr_types.specs.declared.geometry.Geometry.{Geometry}
 use Rattle.vr_types.specs.declared.unit.PartNo.{PartNo}
-use Rattle.vr_space.specs.Met.{Met}
+use Rattle.vr_space.specs.Known.{Known}
 use Rattle.vr_space.specs.Part.{DueMore, InPart, IsOn, Knows, Shape, part_no}
-use Rattle.vr_space.specs.Split.{SplitNow}
 use Rattle.vr_space.proofs.CallerLemmas.{due-keeps, rest-sound}
 use Rattle.vr_history.specs.State.{BeforeImage, State}
 use Rattle.vr_undo.specs.Records.{befores_of, images_in}
@@ -157,12 +156,11 @@ module _ (store : StoreNow) (number : ℕ) (before after : PartNow) (new : List 
 
 -- a part at rest is so with what it met since
 pub rested-met : (geometry : Geometry) (images : List BeforeImage) (state : State)
-    (shape same : Shape) (split after : Option SplitNow) (met now : List Met) (b : Seen)
-    → same ≡ shape → after ≡ split → IsPartAtRest geometry images state shape split met b
-    → Knows shape split now b → IsPartAtRest geometry images state same after now b
-rested-met geometry images state shape same split after met now b shapes splits part knows =
-    subst (λ (s : Shape). IsPartAtRest geometry images state s after now b) (sym shapes)
-    (subst (λ (s : Option SplitNow). IsPartAtRest geometry images state shape s now b) (sym splits)
+    (shape same : Shape) (known now : Known) (b : Seen) → same ≡ shape
+    → IsPartAtRest geometry images state shape known b
+    → Knows shape now b → IsPartAtRest geometry images state same now b
+rested-met geometry images state shape same known now b shapes part knows =
+    subst (λ (s : Shape). IsPartAtRest geometry images state s now b) (sym shapes)
     (record {
       laid = part.laid;
       on = part.on;
@@ -170,23 +168,23 @@ rested-met geometry images state shape same split after met now b shapes splits 
       room = part.room;
       knows = knows;
       reads = part.reads;
-    }))
+    })
 
 module _ (tells : Bool) (told : IsTrue tells) (a b : Seen) (call : Keeps tells a b)
     (left : Left a a.cur) (store : StoreNow) (number : ℕ) (before after : PartNow)
     (new : List PartNow) (space : List (Option PartNo))
-    (at : IsPartAt number before after store.parts new) (same : but_split after ≡ but_split before)
-    (splits : after.split ≡ before.split) where
+    (at : IsPartAt number before after store.parts new)
+    (same : but_split after ≡ but_split before) where
   pub stored-met : (volume : ℕ) (state : State) → IsSet store a → IsStored volume store state a
-      → Knows before.shape before.split after.met b
+      → Knows before.shape after.known b
       → IsStored volume (record store { parts = new; space = space }) state b
   stored-met volume state set stored knows =
       stored-worked store number before after new space at same volume state a b set stored
       (volume-keeps tells told a b call store.log.geometry volume store.log (images_in store.undo)
       state stored.volume)
       (rested-met store.log.geometry (images_in store.undo) state before.shape after.shape
-      before.split after.split before.met after.met b
-      (ap (λ (part : PartNow). part.shape) same) splits (kept before mine) knows)
+      before.known after.known b (ap (λ (part : PartNow). part.shape) same) (kept before mine)
+      knows)
       (λ other apart rested. kept other rested)
       (due-keeps tells told before.shape a b call (rest-sound before.shape a mine.rests))
       (λ other apart rested. due-keeps tells told other.shape a b call
@@ -197,4 +195,4 @@ module _ (tells : Bool) (told : IsTrue tells) (a b : Seen) (call : Keeps tells a
 
       kept : (part : PartNow) → IsRestedPart store state a part → IsRestedPart store state b part
       kept part rested = part-keeps tells told a b call store.log.geometry (images_in store.undo)
-          state part.shape part.split part.met left rested
+          state part.shape part.known left rested

@@ -34,7 +34,7 @@ is_stage (NoSpace need free) = false
 -- no stage of a split is left at a place
 abbrev pub HasNoStage : StoreNow → Image → ℕ → List ℕ → Type 0
 HasNoStage store image number place = IfSome (part_among store.parts number)
-    (λ (part : PartNow). stage_of part.shape part.split image place ≡ None)
+    (λ (part : PartNow). stage_of part.shape part.known image place ≡ None)
 
 -- where a record of a length is to be set at a place, a stage comes first, or none
 abbrev pub IsMetBy : Bool → StoreNow → Image → ℕ → List ℕ → ℕ → Type 0

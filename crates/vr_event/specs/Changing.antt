@@ -10,9 +10,8 @@ use Rattle.vr_types.specs.Seen.{Seen}
 use Rattle.vr_types.specs.declared.geometry.Geometry.{Geometry}
 use Rattle.vr_types.specs.declared.unit.PartNo.{PartNo}
 use Rattle.vr_types.specs.declared.unit.Unit.{Unit as UnitOfRecovery}
-use Rattle.vr_space.specs.Met.{Met}
+use Rattle.vr_space.specs.Known.{Known}
 use Rattle.vr_space.specs.Part.{CanSet, DueMore, DueMoreAt, Shape, part_no}
-use Rattle.vr_space.specs.Split.{SplitNow}
 use Rattle.vr_log.specs.Live.{live_in, need_of}
 use Rattle.vr_log.specs.LogNow.{LogNow, with_record as with_logged}
 use Rattle.vr_log.specs.declared.record.LogRecord.{LogRecord}
@@ -125,17 +124,16 @@ pub record IsReady (store : StoreNow) (unit : UnitOfRecovery) (part : PartNo) (p
 -- the record may be set in the part of this number
 abbrev pub IsSettable : StoreNow → Image → ℕ → List ℕ → Option (List ℕ) → Type 0
 IsSettable store image number place item =
-    IfSome (part_among store.parts number) (λ (part : PartNow). CanSet part.shape part.split image
+    IfSome (part_among store.parts number) (λ (part : PartNow). CanSet part.shape part.known image
     (lengths_kept (images_in store.undo) number) place item)
 
 -- What a call that sets a record has to know: the volume and the part are at rest by the state, and
 -- the change of the state is the one that was prepared, whose before-image is kept.
 pub record IsToSet (geometry : Geometry) (number : ℕ) (log : LogNow) (images after : List BeforeImage)
     (old new : State) (change : Changing) (prepared : Prepared) (shape : Shape)
-    (split : Option SplitNow) (met : List Met) (place : List ℕ) (found : Option (List ℕ))
-    (now : Seen) : Type 0 where
+    (known : Known) (place : List ℕ) (found : Option (List ℕ)) (now : Seen) : Type 0 where
   pub volume : IsVolumeAtRest geometry number log images old now
-  pub part : IsPartAtRest geometry images old shape split met now
+  pub part : IsPartAtRest geometry images old shape known now
   pub of : IsChangeOf geometry old change
   pub step : IsStep prepared.logged log change old new
   pub rec : prepared.rec ≡ records.Before change.unit change.part change.place change.old
@@ -151,15 +149,13 @@ IsNoted put listed blocks may =
 -- and each other part are at rest by the new state, and of what was due only the place is due to
 -- what the call put, too.
 pub record IsSetIn (geometry : Geometry) (number : ℕ) (log : LogNow) (images after : List BeforeImage)
-    (old new : State) (shape : Shape) (split : Option SplitNow) (met : List Met) (place : List ℕ)
-    (put : List ℕ) (a b : Seen) : Type 0 where
+    (old new : State) (shape : Shape) (known : Known) (place put : List ℕ)
+    (a b : Seen) : Type 0 where
   pub volume : IsVolumeAtRest geometry number log after new b
-  pub part : IsPartAtRest geometry after new shape split met b
-  pub others : (other : Shape) (split : Option SplitNow) (met : List Met)
-      → (part_no other).0 ≢ (part_no shape).0
-      → IsPartAtRest geometry images old other split met a
-      → IsPartAtRest geometry after new other split met b
-  pub others_due : (other : Shape) (split : Option SplitNow) (met : List Met)
-      → (part_no other).0 ≢ (part_no shape).0
-      → IsPartAtRest geometry images old other split met a → DueMore other [] a b
+  pub part : IsPartAtRest geometry after new shape known b
+  pub others : (other : Shape) (known : Known) → (part_no other).0 ≢ (part_no shape).0
+      → IsPartAtRest geometry images old other known a
+      → IsPartAtRest geometry after new other known b
+  pub others_due : (other : Shape) (known : Known) → (part_no other).0 ≢ (part_no shape).0
+      → IsPartAtRest geometry images old other known a → DueMore other [] a b
   pub due : DueMoreAt shape place put a b

@@ -1,7 +1,7 @@
 -- A volume as it is opened: its log has no record, no unit of recovery keeps anything, and whatever a
 -- crash leaves of its parts has their items. The rules are this project's own.
 use Rattle.std.specs.Prelude.{◌≡◌, ℕ, ◌+◌, List, [], ◌∷◌, All, Option, Some, None}
-use Rattle.vr_types.specs.Content.{Ascends, Content, item_at}
+use Rattle.vr_types.specs.Content.{Ascends, Content, Item, item_at}
 use Rattle.vr_types.specs.Seen.{Seen}
 use Rattle.vr_types.specs.declared.geometry.Geometry.{Geometry}
 use Rattle.vr_types.specs.declared.unit.PartNo.{PartNo}
@@ -12,7 +12,7 @@ use Rattle.vr_history.specs.State.{Owned}
 use Rattle.vr_volume.specs.CatalogRules.{IsCatalog}
 use Rattle.vr_attach.specs.Laid.{AreApart}
 use Rattle.vr_volume.specs.Laid.{shape_by}
-use Rattle.vr_volume.specs.Safe.{IsSafe, item_held}
+use Rattle.vr_volume.specs.Safe.{IsSafe}
 use Rattle.vr_event.specs.Store.{PartNow, StoreNow, shape_among}
 
 -- the areas that parts have, the first of which has this number
@@ -38,9 +38,9 @@ pub record IsPartOpened (geometry : Geometry) (contents : ℕ → Content) (now 
   pub on : IsOn part.shape now
   pub rests : IsAtRest part.shape now
   pub room : HasKeptRoom part.shape [] now
-  pub knows : Knows part.shape part.split part.met now
-  pub holds : (place : List ℕ) (found : Option (List ℕ)) → MayHold part.shape now.may place found
-      → item_held part.shape found ≡ item_at (contents (part_no part.shape).0) place
+  pub knows : Knows part.shape part.known now
+  pub holds : (place : List ℕ) (found : Option Item) → MayHold part.shape now.may place found
+      → found ≡ item_at (contents (part_no part.shape).0) place
 
 -- The volume is safe with these contents committed, and each part that they lay is one of these.
 pub record IsOpened (number : ℕ) (log : LogNow) (parts : List PartNow) (contents : ℕ → Content)

@@ -11,10 +11,10 @@ with_part number after (part ∷ parts) =
 
 -- a part but for what it met, and but for its split under way too
 abbrev pub but_met : PartNow → PartNow
-but_met part = record part { met = [] }
+but_met part = record part { known = record part.known { met = [] } }
 
 abbrev pub but_split : PartNow → PartNow
-but_split part = record part { split = None; met = [] }
+but_split part = record part { known = record { split = None; met = [] } }
 
 -- each other part stays as it is
 abbrev pub OthersStay : ℕ → List PartNow → List PartNow → Type 0

@@ -18,10 +18,9 @@ use Rattle.vr_types.specs.declared.unit.Unit.{Unit as UnitOfRecovery}
 use Rattle.vr_catalog.specs.Definition.{key_of}
 use Rattle.vr_catalog.specs.declared.definition.Definition.{Definition}
 use Rattle.vr_catalog.specs.declared.entry.CatEntry.{CatEntry}
-use Rattle.vr_space.specs.Met.{HasMet}
+use Rattle.vr_space.specs.Known.{HasMet, Known}
 use Rattle.vr_space.specs.Part.{IsLengthOf, IsPlaceOf, IsRecordOf, Shape, fits_at, stage_of}
 use Rattle.vr_space.specs.Room.{Lengths}
-use Rattle.vr_space.specs.Split.{SplitNow}
 use Rattle.vr_log.specs.declared.record.LogRecord.TheVariants.{Before}
 use Rattle.vr_history.specs.Case.{Case, new_record}
 use Rattle.vr_history.specs.Change.{place_changed, record_held}
@@ -111,7 +110,7 @@ FitsItem parts part place item = IfSome item (λ (bytes : List ℕ).
 
 abbrev pub HasMetAt : List PartNow → ℕ → List ℕ → Type 0
 HasMetAt parts part place =
-    IfSome (part_among parts part) (λ (one : PartNow). HasMet one.met place)
+    IfSome (part_among parts part) (λ (one : PartNow). HasMet one.known place)
 
 -- ---- what a change comes to
 
@@ -156,14 +155,14 @@ MayWeigh case (Stage place n) = first_of (file_refusals case) ≡ None
 MayWeigh case (Ready place old reply names) = IsReadyFor case place old reply names
 
 -- no stage of a split is left at the place, and the record, if any, has room there
-pub record IsFitting (shape : Shape) (split : Option SplitNow) (image : Image) (kept : Lengths)
+pub record IsFitting (shape : Shape) (known : Known) (image : Image) (kept : Lengths)
     (place : List ℕ) (item : Option (List ℕ)) : Type 0 where
-  pub no_stage : stage_of shape split image place ≡ None
+  pub no_stage : stage_of shape known image place ≡ None
   pub room : IfSome item (λ (bytes : List ℕ). IsTrue (fits_at shape image kept place (length bytes)))
 
 abbrev pub HasRoomAt : StoreNow → Image → ℕ → List ℕ → Option (List ℕ) → Type 0
 HasRoomAt store image part place item =
-    IfSome (part_among store.parts part) (λ (one : PartNow). IsFitting one.shape one.split image
+    IfSome (part_among store.parts part) (λ (one : PartNow). IsFitting one.shape one.known image
     (lengths_kept (images_in store.undo) part) place item)
 
 -- the stage is due, or the record has room

@@ -12,11 +12,11 @@ use Rattle.vr_event.specs.Store.{PartNow, StoreNow, part_among}
 -- units may put back
 abbrev pub IsRoomAt : StoreNow → Image → ℕ → List ℕ → ℕ → Room → Type 0
 IsRoomAt store image number place n room =
-    IfSome (part_among store.parts number) (λ (part : PartNow). room ≡ room_of part.shape part.split
+    IfSome (part_among store.parts number) (λ (part : PartNow). room ≡ room_of part.shape part.known
     image (free_count store.space) (lengths_kept (images_in store.undo) number) place n)
 
 -- a stage comes before such a record
 abbrev pub IsDueAt : StoreNow → Image → ℕ → List ℕ → ℕ → Type 0
 IsDueAt store image number place n =
-    IfSome (part_among store.parts number) (λ (part : PartNow). IsStageDue part.shape part.split
+    IfSome (part_among store.parts number) (λ (part : PartNow). IsStageDue part.shape part.known
     image (free_count store.space) (lengths_kept (images_in store.undo) number) place n)

@@ -12,9 +12,8 @@ use Rattle.vr_types.specs.Locks.{same_unit}
 use Rattle.vr_types.specs.Seen.{Seen}
 use Rattle.vr_types.specs.declared.unit.PartNo.{PartNo}
 use Rattle.vr_types.specs.declared.unit.Unit.{Unit as UnitOfRecovery}
-use Rattle.vr_space.specs.Met.{Met}
+use Rattle.vr_space.specs.Known.{Known}
 use Rattle.vr_space.specs.Part.{InPart, IsOn, IsPlaceOf, IsRecordOf, Shape, part_no}
-use Rattle.vr_space.specs.Split.{SplitNow}
 use Rattle.vr_log.specs.Live.{live_in}
 use Rattle.vr_log.specs.LogNow.{IsOf, LogNow}
 use Rattle.vr_history.specs.State.{BeforeImage, State}
@@ -30,16 +29,14 @@ use Rattle.vr_event.specs.declared.changed.UnitBlocks.{UnitBlocks}
 pub record PartNow : Type 0 where
   pub number : PartNo
   pub shape : Shape
-  pub split : Option SplitNow
-  pub met : List Met
+  pub known : Known
 
-abbrev pub part_now : {P : Type 0} → (P → Shape) → (P → Option SplitNow) → (P → List Met) → Laid P
+abbrev pub part_now : {P : Type 0} → (P → Shape) → (P → Known) → Laid P
     → PartNow
-part_now shape split met laid = record {
+part_now shape known laid = record {
   number = laid.number;
   shape = shape laid.part;
-  split = split laid.part;
-  met = met laid.part;
+  known = known laid.part;
 }
 
 -- the part of a number
@@ -76,12 +73,12 @@ pub record StoreNow : Type 0 where
   pub space : List (Option PartNo)
 
 -- a store, by its fields
-abbrev pub store_of : {P : Type 0} → (P → Shape) → (P → Option SplitNow) → (P → List Met) → LogNow
+abbrev pub store_of : {P : Type 0} → (P → Shape) → (P → Known) → LogNow
     → List KeptRecord → List (Laid P) → List UnitBlocks → List (Option PartNo) → StoreNow
-store_of shape split met log undo parts changed space = record {
+store_of shape known log undo parts changed space = record {
   log = log;
   undo = undo;
-  parts = map (part_now shape split met) parts;
+  parts = map (part_now shape known) parts;
   changed = map changed_by changed;
   space = space;
 }
@@ -122,7 +119,7 @@ pub record IsSet (store : StoreNow) (now : Seen) : Type 0 where
 
 abbrev pub IsRestedPart : StoreNow → State → Seen → PartNow → Type 0
 IsRestedPart store state now part =
-    IsPartAtRest store.log.geometry (images_in store.undo) state part.shape part.split part.met now
+    IsPartAtRest store.log.geometry (images_in store.undo) state part.shape part.known now
 
 -- The volume is at rest by the state, and so is each of its parts, of which none is missing. The
 -- before-images are the state's, and once the blocks that a unit changed are forced, a crash leaves

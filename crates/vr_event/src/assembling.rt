@@ -37,9 +37,9 @@ impl<B: Blocks, P: Part> Volume<B, P> {
         log: UndoLog,
         space: Space,
     ) -> Volume<B, P>
-        ensures whole { IsSet (opened_store log (map (part_now P.shape P.split P.met) parts.items)
+        ensures whole { IsSet (opened_store log (map (part_now P.shape P.known) parts.items)
             space) (B.seen blocks) → log.geometry ≡ geometry
-            → ((part : ℕ) → shape_among (map (part_now P.shape P.split P.met) parts.items) part
+            → ((part : ℕ) → shape_among (map (part_now P.shape P.known) parts.items) part
             ≡ shape_in geometry catalog part) → IsWhole B.seen result }
         ensures held { IsTrue B.tells → (contents : ℕ → Content)
             → catalog ≡ entries_in (contents 0)
@@ -47,11 +47,11 @@ impl<B: Blocks, P: Part> Volume<B, P> {
             → log.broken ≡ false → length space ≡ area_count geometry
             → AllByRecursion (λ area. has_part (parts_laid catalog) area.part ≡ true)
             (owned_in space)
-            → IsOpened number log (map (part_now P.shape P.split P.met) parts.items) contents
+            → IsOpened number log (map (part_now P.shape P.known) parts.items) contents
             (B.seen blocks)
             → IsHeld B.seen (opening_state contents (owned_in space)) result }
         ensures store { result.store
-            ≡ opened_store log (map (part_now P.shape P.split P.met) parts.items) space }
+            ≡ opened_store log (map (part_now P.shape P.known) parts.items) space }
         ensures blocks { result.blocks ≡ blocks }
         ensures number { result.number ≡ number }
         ensures geometry { result.file.geometry ≡ geometry }

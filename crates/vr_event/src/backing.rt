@@ -9,7 +9,7 @@ ghost use Rattle.vr_types.specs.Locks.{same_unit};
 ghost use Rattle.vr_types.specs.Moments.{Guards};
 ghost use Rattle.vr_types.specs.declared.fault.DeviceFault.TheVariants.{Read, Write};
 ghost use Rattle.vr_types.specs.declared.unit.Unit.{Unit as UnitOfRecovery};
-ghost use Rattle.vr_space.specs.Met.{HasMet};
+ghost use Rattle.vr_space.specs.Known.{HasMet};
 ghost use Rattle.vr_space.specs.Part.{IsLengthOf, IsPlaceOf};
 ghost use Rattle.vr_space.specs.declared.room.Room.{Room as RoomOf};
 ghost use Rattle.vr_space.specs.declared.room.Room.TheVariants as answers;
@@ -84,7 +84,7 @@ impl<P: Part> Store<P> {
         ensures due { IsTrue B.tells → IfOk result (λ due. OnLast self.old unit (λ last.
             IsMetBy due self.new (B.seen blocks.new).cur last.part last.place length)) }
         ensures met { OnOk result (OnLast self.old unit (λ last.
-            IfSome (part_among self.new.parts last.part) (λ part. HasMet part.met last.place))) }
+            IfSome (part_among self.new.parts last.part) (λ part. HasMet part.known last.place))) }
         ensures shapes { (number : ℕ)
             → shape_among self.new.parts number ≡ shape_among self.old.parts number }
         ensures set { IsSet self.new (B.seen blocks.new) }
@@ -206,7 +206,7 @@ impl<P: Part> Store<P> {
             ≡ record self.old { parts = self.new.parts; changed = self.new.changed } }
         // Where room was asked for at the place, no read is made of it.
         ensures reads { IfSome (part_among self.old.parts before.now.part.0)
-            (λ part. HasMet part.met before.now.place) → IfErr result (λ fault. fault ≡ Write) }
+            (λ part. HasMet part.known before.now.place) → IfErr result (λ fault. fault ≡ Write) }
         ensures cause { HasCause (B.faults blocks.old) (B.faults blocks.new) result }
     {
         match &before.old {
@@ -229,7 +229,7 @@ impl<P: Part> Store<P> {
         requires set { IsSet self.old (B.seen blocks.old) }
         requires some { last_of_unit self.old unit ≢ None }
         requires met { OnLast self.old unit (λ last.
-            IfSome (part_among self.old.parts last.part) (λ part. HasMet part.met last.place)) }
+            IfSome (part_among self.old.parts last.part) (λ part. HasMet part.known last.place)) }
         requires stands { IsTrue B.tells → Stands self.old (B.seen blocks.old) }
         requires no_stage { IsTrue B.tells → OnLast self.old unit (λ last.
             HasNoStage self.old (B.seen blocks.old).cur last.part last.place) }

@@ -7,7 +7,7 @@ ghost use Rattle.vr_types.specs.Blocks.{Keeps};
 ghost use Rattle.vr_types.specs.Faults.{HasCause};
 ghost use Rattle.vr_types.specs.Moments.{Guards};
 ghost use Rattle.vr_types.specs.declared.request.Request.TheVariants.{Backout};
-ghost use Rattle.vr_space.specs.Met.{HasMet};
+ghost use Rattle.vr_space.specs.Known.{HasMet};
 ghost use Rattle.vr_space.specs.Part.{IsLengthOf};
 ghost use Rattle.vr_catalog.specs.Catalog.{definition_of};
 ghost use Rattle.vr_history.specs.Merged.{last_stamp};
@@ -81,7 +81,7 @@ impl<B: Blocks, P: Part> Volume<B, P> {
             IsMetBy due self.new.store (B.seen self.new.blocks).cur last.part last.place length)) }
         ensures met { OnOk result (OnLast self.new.store unit (λ last.
             IfSome (part_among self.new.store.parts last.part)
-            (λ part. HasMet part.met last.place))) }
+            (λ part. HasMet part.known last.place))) }
         ensures some { last_of_unit self.new.store unit ≡ last_of_unit self.old.store unit }
         ensures length { OnLast self.new.store unit (λ last.
             IfSome (shape_among self.new.store.parts last.part) (λ shape.
@@ -176,7 +176,7 @@ impl<B: Blocks, P: Part> Volume<B, P> {
         requires some { last_of_unit self.old.store unit ≢ None }
         requires met { OnLast self.old.store unit (λ last.
             IfSome (part_among self.old.store.parts last.part)
-            (λ part. HasMet part.met last.place)) }
+            (λ part. HasMet part.known last.place)) }
         requires no_stage { IsTrue B.tells → OnLast self.old.store unit (λ last.
             HasNoStage self.old.store (B.seen self.old.blocks).cur last.part last.place) }
         requires request { request ≡ Backout }

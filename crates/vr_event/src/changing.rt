@@ -9,7 +9,7 @@ ghost use Rattle.vr_types.specs.Faults.{HasWriteCause};
 ghost use Rattle.vr_types.specs.Locks.{same_unit};
 ghost use Rattle.vr_types.specs.Moments.{Guards};
 ghost use Rattle.vr_types.specs.declared.unit.Unit.{Unit as UnitOfRecovery};
-ghost use Rattle.vr_space.specs.Met.{HasMet};
+ghost use Rattle.vr_space.specs.Known.{HasMet};
 ghost use Rattle.vr_space.specs.Part.{
   CanSet,
   HasKeptRoom,
@@ -73,24 +73,24 @@ fn put_at<B: Blocks, P: Part>(
     requires rests { IsTrue B.tells → IsAtRest (P.shape part.old) (B.seen blocks.old) }
     requires room { IsTrue B.tells → HasKeptRoom (P.shape part.old)
         (lengths_kept (images_in undo.now) (part_no (P.shape part.old)).0) (B.seen blocks.old) }
-    requires knows { IsTrue B.tells → Knows (P.shape part.old) (P.split part.old)
-        (P.met part.old) (B.seen blocks.old) }
-    requires can { IsTrue B.tells → CanSet (P.shape part.old) (P.split part.old)
+    requires knows { IsTrue B.tells → Knows (P.shape part.old) (P.known part.old)
+        (B.seen blocks.old) }
+    requires can { IsTrue B.tells → CanSet (P.shape part.old) (P.known part.old)
         (B.seen blocks.old).cur (lengths_kept (images_in undo.now) (part_no (P.shape part.old)).0)
         place.now (given bytes) }
     ensures made { IsTrue B.tells → OnOk result ((volume : ℕ) (old new : State)
         (change : Changing) (images : List BeforeImage)
         → IsToSet log.old.geometry volume log.old images (images_in undo.now) old new change
-        prepared.now (P.shape part.old) (P.split part.old) (P.met part.old) place.now
+        prepared.now (P.shape part.old) (P.known part.old) place.now
         (given bytes.entry) (B.seen blocks.old)
         → IsSetIn log.old.geometry volume log.new images (images_in undo.now) old new
-        (P.shape part.old) (P.split part.new) (P.met part.new) place.now (P.put part.new)
+        (P.shape part.old) (P.known part.new) place.now (P.put part.new)
         (B.seen blocks.old) (B.seen blocks.new)) }
     // At every moment, whether it fails or not.
     ensures moments { IsTrue B.tells → (volume : ℕ) (old new : State) (change : Changing)
         (images : List BeforeImage)
         → IsToSet log.old.geometry volume log.old images (images_in undo.now) old new change
-        prepared.now (P.shape part.old) (P.split part.old) (P.met part.old) place.now
+        prepared.now (P.shape part.old) (P.known part.old) place.now
         (given bytes.entry) (B.seen blocks.old)
         → Guards (B.seen blocks.old) (B.seen blocks.new) (IsSafeImage log.old.geometry volume
         (log_with prepared.now.logged log.old prepared.now.rec) (committed_by old)) }
@@ -103,14 +103,14 @@ fn put_at<B: Blocks, P: Part>(
     ensures count { OnOk result ((B.seen blocks.new).count ≡ (B.seen blocks.old).count) }
     ensures size { OnOk result ((B.seen blocks.new).size ≡ (B.seen blocks.old).size) }
     ensures part { OnOk result (P.shape part.new ≡ P.shape part.old) }
-    ensures split { OnOk result (P.split part.new ≡ P.split part.old) }
+    ensures split { OnOk result ((P.known part.new).split ≡ (P.known part.old).split) }
     ensures full { prepared.now.logged ≡ false
         → IsFullWhere log.old (need_of (live_in log.old.records) prepared.now.rec) result }
     ensures never_full { prepared.now.logged ≡ true → IfErr result (λ no. IsFullNo no → ⊥) }
     ensures unchanged { IfErr result (λ no. IsFullNo no
         → (log.new ≡ log.old) × (blocks.new ≡ blocks.old) × (part.new ≡ part.old)) }
     // Where the place is met, no read is made of it.
-    ensures reads { HasMet (P.met part.old) place.now → IfErr result (λ no. no ≢ Read) }
+    ensures reads { HasMet (P.known part.old) place.now → IfErr result (λ no. no ≢ Read) }
     ensures cause { HasChangeCause (B.faults blocks.old) (B.faults blocks.new) result }
 {
     if prepared.logged {
@@ -177,25 +177,25 @@ fn set_at<B: Blocks, P: Part>(
     requires rests { IsTrue B.tells → IsAtRest (P.shape part.old) (B.seen blocks.old) }
     requires room { IsTrue B.tells → HasKeptRoom (P.shape part.old)
         (lengths_kept (images_in undo.now) (part_no (P.shape part.old)).0) (B.seen blocks.old) }
-    requires knows { IsTrue B.tells → Knows (P.shape part.old) (P.split part.old)
-        (P.met part.old) (B.seen blocks.old) }
-    requires can { IsTrue B.tells → CanSet (P.shape part.old) (P.split part.old)
+    requires knows { IsTrue B.tells → Knows (P.shape part.old) (P.known part.old)
+        (B.seen blocks.old) }
+    requires can { IsTrue B.tells → CanSet (P.shape part.old) (P.known part.old)
         (B.seen blocks.old).cur (lengths_kept (images_in undo.now) (part_no (P.shape part.old)).0)
         place.now (given bytes) }
     ensures made { IsTrue B.tells → OnOk result ((volume : ℕ) (old new : State)
         (change : Changing) (images : List BeforeImage)
         → IsToSet log.old.geometry volume log.old images (images_in undo.now) old new change
-        prepared.now (P.shape part.old) (P.split part.old) (P.met part.old) place.now
+        prepared.now (P.shape part.old) (P.known part.old) place.now
         (given bytes.entry) (B.seen blocks.old)
         → IsSetIn log.old.geometry volume log.new images (images_in undo.now) old new
-        (P.shape part.old) (P.split part.new) (P.met part.new) place.now
+        (P.shape part.old) (P.known part.new) place.now
         (blocks_of unit (map changed_by changed.new.items)) (B.seen blocks.old)
         (B.seen blocks.new)) }
     // At every moment, whether it fails or not.
     ensures moments { IsTrue B.tells → (volume : ℕ) (old new : State) (change : Changing)
         (images : List BeforeImage)
         → IsToSet log.old.geometry volume log.old images (images_in undo.now) old new change
-        prepared.now (P.shape part.old) (P.split part.old) (P.met part.old) place.now
+        prepared.now (P.shape part.old) (P.known part.old) place.now
         (given bytes.entry) (B.seen blocks.old)
         → Guards (B.seen blocks.old) (B.seen blocks.new) (IsSafeImage log.old.geometry volume
         (log_with prepared.now.logged log.old prepared.now.rec) (committed_by old)) }
@@ -216,7 +216,7 @@ fn set_at<B: Blocks, P: Part>(
     ensures count { OnOk result ((B.seen blocks.new).count ≡ (B.seen blocks.old).count) }
     ensures size { OnOk result ((B.seen blocks.new).size ≡ (B.seen blocks.old).size) }
     ensures part { OnOk result (P.shape part.new ≡ P.shape part.old) }
-    ensures split { OnOk result (P.split part.new ≡ P.split part.old) }
+    ensures split { OnOk result ((P.known part.new).split ≡ (P.known part.old).split) }
     ensures full { prepared.now.logged ≡ false
         → IsFullWhere log.old (need_of (live_in log.old.records) prepared.now.rec) result }
     ensures never_full { prepared.now.logged ≡ true → IfErr result (λ no. IsFullNo no → ⊥) }
@@ -224,7 +224,7 @@ fn set_at<B: Blocks, P: Part>(
         → (log.new ≡ log.old) × (blocks.new ≡ blocks.old) × (part.new ≡ part.old)
         × (changed.new ≡ changed.old)) }
     // Where the place is met, no read is made of it.
-    ensures reads { HasMet (P.met part.old) place.now → IfErr result (λ no. no ≢ Read) }
+    ensures reads { HasMet (P.known part.old) place.now → IfErr result (λ no. no ≢ Read) }
     ensures cause { HasChangeCause (B.faults blocks.old) (B.faults blocks.new) result }
 {
     put_at(blocks, log, part, undo, place, prepared, bytes)?;
@@ -287,7 +287,7 @@ impl<P: Part> Store<P> {
             → (self.new ≡ self.old) × (blocks.new ≡ blocks.old)) }
         // Where room was asked for at the place, no read is made of it.
         ensures reads { IfSome (part_among self.old.parts number.0)
-            (λ part. HasMet part.met place.now) → IfErr result (λ no. no ≢ Read) }
+            (λ part. HasMet part.known place.now) → IfErr result (λ no. no ≢ Read) }
         ensures cause { HasChangeCause (B.faults blocks.old) (B.faults blocks.new) result }
     {
         match index_of(&self.parts, number) {

@@ -6,7 +6,6 @@ ghost use Rattle.vr_types.specs.Content.{Standing};
 ghost use Rattle.vr_types.specs.Moments.{Guards};
 ghost use Rattle.vr_types.specs.LogSpace.{IsLogFull};
 ghost use Rattle.vr_types.specs.declared.unit.Mode.TheVariants.{Exclusive};
-ghost use Rattle.vr_space.specs.Met.{HasMet};
 ghost use Rattle.vr_space.specs.Part.{IsGiven, IsPlaceOf, given};
 ghost use Rattle.vr_log.specs.Live.{EndsLive, live_in, need_of, used_by};
 ghost use Rattle.vr_log.specs.Records.{HasLengths};

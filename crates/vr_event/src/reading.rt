@@ -2,7 +2,7 @@
 ghost use Rattle.std.specs.Prelude.{◌≡◌, ℕ, IsTrue, IfOk, IfSome};
 ghost use Rattle.vr_types.specs.Blocks.{Keeps};
 ghost use Rattle.vr_types.specs.Content.{record_at};
-ghost use Rattle.vr_space.specs.Part.{IsOn, IsPlaceOf, Stands as StandFor, item_of};
+ghost use Rattle.vr_space.specs.Part.{IsOn, IsPlaceOf, Stands as StandFor, record_read};
 ghost use Rattle.vr_history.specs.State.{State};
 ghost use Rattle.vr_event.specs.Cause.{HasLookCause};
 ghost use Rattle.vr_event.specs.Store.{IsSet, IsStored, Stands, shape_among};
@@ -57,10 +57,9 @@ fn copy_at<B: Blocks, P: Part>(
     requires place { IsPlaceOf (P.shape part.old) place.now }
     requires stands { IsTrue B.tells → StandFor (P.shape part.old) (B.seen blocks.old).cur }
     ensures found { IsTrue B.tells → IfOk result (λ found.
-        found ≡ item_of (P.shape part.old) (B.seen blocks.old).cur place.now) }
+        found ≡ record_read (P.shape part.old) (B.seen blocks.old).cur place.now) }
     ensures shape { P.shape part.new ≡ P.shape part.old }
-    ensures split { P.split part.new ≡ P.split part.old }
-    ensures met { P.met part.new ≡ P.met part.old }
+    ensures known { P.known part.new ≡ P.known part.old }
     ensures keeps { Keeps B.tells (B.seen blocks.old) (B.seen blocks.new) }
     ensures cause { HasLookCause (B.faults blocks.old) (B.faults blocks.new) result }
 {

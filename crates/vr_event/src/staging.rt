@@ -4,7 +4,7 @@ ghost use Rattle.vr_types.specs.Blocks.{Keeps};
 ghost use Rattle.vr_types.specs.Faults.{HasCause};
 ghost use Rattle.vr_types.specs.Moments.{Guards};
 ghost use Rattle.vr_types.specs.declared.fault.DeviceFault.TheVariants.{Read};
-ghost use Rattle.vr_space.specs.Met.{HasMet};
+ghost use Rattle.vr_space.specs.Known.{HasMet};
 ghost use Rattle.vr_space.specs.Part.{IsLengthOf, IsPlaceOf, OwnersAfter};
 ghost use Rattle.vr_space.specs.Split.{IsIntervalStage};
 ghost use Rattle.vr_space.specs.declared.room.Room.TheVariants as answers;
@@ -38,34 +38,34 @@ pub(crate) fn ask_at<B: Blocks, P: Part>(
     place: &Place,
     length: u32,
 ) -> Result<Room, DeviceFault>
-    requires set { IsSet (store_of P.shape P.split P.met log.now undo.now parts.old.items
+    requires set { IsSet (store_of P.shape P.known log.now undo.now parts.old.items
         changed.now.items space.now) (B.seen blocks.old) }
-    requires part { part_among (map (part_now P.shape P.split P.met) parts.old.items) number.0
+    requires part { part_among (map (part_now P.shape P.known) parts.old.items) number.0
         ≢ None }
-    requires place { IfSome (shape_among (map (part_now P.shape P.split P.met) parts.old.items)
+    requires place { IfSome (shape_among (map (part_now P.shape P.known) parts.old.items)
         number.0) (λ shape. IsPlaceOf shape place.now) }
-    requires length { IfSome (shape_among (map (part_now P.shape P.split P.met) parts.old.items)
+    requires length { IfSome (shape_among (map (part_now P.shape P.known) parts.old.items)
         number.0) (λ shape. IsLengthOf shape length) }
-    requires stands { IsTrue B.tells → Stands (store_of P.shape P.split P.met log.now undo.now
+    requires stands { IsTrue B.tells → Stands (store_of P.shape P.known log.now undo.now
         parts.old.items changed.now.items space.now) (B.seen blocks.old) }
-    ensures answer { IsTrue B.tells → IfOk result (λ room. IsRoomAt (store_of P.shape P.split P.met
+    ensures answer { IsTrue B.tells → IfOk result (λ room. IsRoomAt (store_of P.shape P.known
         log.now undo.now parts.old.items changed.now.items space.now) (B.seen blocks.old).cur
         number.0 place.now length room) }
-    ensures still { IsTrue B.tells → IfOk result (λ room. IsRoomAt (store_of P.shape P.split P.met
+    ensures still { IsTrue B.tells → IfOk result (λ room. IsRoomAt (store_of P.shape P.known
         log.now undo.now parts.new.items changed.now.items space.now) (B.seen blocks.new).cur
         number.0 place.now length room) }
     ensures met { OnOk result (IfSome
-        (part_among (map (part_now P.shape P.split P.met) parts.new.items) number.0)
-        (λ part. HasMet part.met place.now)) }
-    ensures set { IsSet (store_of P.shape P.split P.met log.now undo.now parts.new.items
+        (part_among (map (part_now P.shape P.known) parts.new.items) number.0)
+        (λ part. HasMet part.known place.now)) }
+    ensures set { IsSet (store_of P.shape P.known log.now undo.now parts.new.items
         changed.now.items space.now) (B.seen blocks.new) }
     ensures stored { IsTrue B.tells → (volume : ℕ) (state : State)
-        → IsStored volume (store_of P.shape P.split P.met log.now undo.now parts.old.items
+        → IsStored volume (store_of P.shape P.known log.now undo.now parts.old.items
         changed.now.items space.now) state (B.seen blocks.old)
-        → IsStored volume (store_of P.shape P.split P.met log.now undo.now parts.new.items
+        → IsStored volume (store_of P.shape P.known log.now undo.now parts.new.items
         changed.now.items space.now) state (B.seen blocks.new) }
-    ensures parts { OnlyMet number.0 (map (part_now P.shape P.split P.met) parts.old.items)
-        (map (part_now P.shape P.split P.met) parts.new.items) }
+    ensures parts { OnlyMet number.0 (map (part_now P.shape P.known) parts.old.items)
+        (map (part_now P.shape P.known) parts.new.items) }
     ensures keeps { Keeps B.tells (B.seen blocks.old) (B.seen blocks.new) }
     ensures cause { HasCause (B.faults blocks.old) (B.faults blocks.new) result }
 {
@@ -88,35 +88,35 @@ pub(crate) fn advance_at<B: Blocks, P: Part>(
     place: &Place,
     length: u32,
 ) -> Result<StageKind, DeviceFault>
-    requires set { IsSet (store_of P.shape P.split P.met log.now undo.now parts.old.items
+    requires set { IsSet (store_of P.shape P.known log.now undo.now parts.old.items
         changed.now.items space.old) (B.seen blocks.old) }
-    requires part { part_among (map (part_now P.shape P.split P.met) parts.old.items) number.0
+    requires part { part_among (map (part_now P.shape P.known) parts.old.items) number.0
         ≢ None }
-    requires place { IfSome (shape_among (map (part_now P.shape P.split P.met) parts.old.items)
+    requires place { IfSome (shape_among (map (part_now P.shape P.known) parts.old.items)
         number.0) (λ shape. IsPlaceOf shape place.now) }
-    requires length { IfSome (shape_among (map (part_now P.shape P.split P.met) parts.old.items)
+    requires length { IfSome (shape_among (map (part_now P.shape P.known) parts.old.items)
         number.0) (λ shape. IsLengthOf shape length) }
-    requires stands { IsTrue B.tells → Stands (store_of P.shape P.split P.met log.now undo.now
+    requires stands { IsTrue B.tells → Stands (store_of P.shape P.known log.now undo.now
         parts.old.items changed.now.items space.old) (B.seen blocks.old) }
-    requires due { IsTrue B.tells → IsDueAt (store_of P.shape P.split P.met log.now undo.now
+    requires due { IsTrue B.tells → IsDueAt (store_of P.shape P.known log.now undo.now
         parts.old.items changed.now.items space.old) (B.seen blocks.old).cur number.0 place.now
         length }
-    ensures stage { IsTrue B.tells → IfOk result (λ kind. IsRoomAt (store_of P.shape P.split P.met
+    ensures stage { IsTrue B.tells → IfOk result (λ kind. IsRoomAt (store_of P.shape P.known
         log.now undo.now parts.old.items changed.now.items space.old) (B.seen blocks.old).cur
         number.0 place.now length (answers.Stage kind)) }
     ensures owners { IfOk result (λ kind. OwnersAfter number kind space.old space.new) }
     ensures owners_stay { OnErr result (space.new ≡ space.old) }
     ensures interval { IsTrue B.tells → IfOk result IsIntervalStage }
-    ensures set { IsSet (store_of P.shape P.split P.met log.now undo.now parts.new.items
+    ensures set { IsSet (store_of P.shape P.known log.now undo.now parts.new.items
         changed.now.items space.new) (B.seen blocks.new) }
     ensures stored { IsTrue B.tells → OnOk result ((volume : ℕ) (state : State)
-        → IsStored volume (store_of P.shape P.split P.met log.now undo.now parts.old.items
+        → IsStored volume (store_of P.shape P.known log.now undo.now parts.old.items
         changed.now.items space.old) state (B.seen blocks.old)
-        → IsStored volume (store_of P.shape P.split P.met log.now undo.now parts.new.items
+        → IsStored volume (store_of P.shape P.known log.now undo.now parts.new.items
         changed.now.items space.new) state (B.seen blocks.new)) }
     // At every moment, whether it fails or not.
     ensures moments { IsTrue B.tells → (volume : ℕ) (state : State)
-        → IsStored volume (store_of P.shape P.split P.met log.now undo.now parts.old.items
+        → IsStored volume (store_of P.shape P.known log.now undo.now parts.old.items
         changed.now.items space.old) state (B.seen blocks.old)
         → Guards (B.seen blocks.old) (B.seen blocks.new)
         (IsSafeImage log.now.geometry volume log.now (committed_by state)) }
@@ -124,12 +124,12 @@ pub(crate) fn advance_at<B: Blocks, P: Part>(
     ensures unread { IfErr result (λ fault. fault ≡ Read
         → Keeps B.tells (B.seen blocks.old) (B.seen blocks.new)
         × (IsTrue B.tells → (volume : ℕ) (state : State)
-        → IsStored volume (store_of P.shape P.split P.met log.now undo.now parts.old.items
+        → IsStored volume (store_of P.shape P.known log.now undo.now parts.old.items
         changed.now.items space.old) state (B.seen blocks.old)
-        → IsStored volume (store_of P.shape P.split P.met log.now undo.now parts.new.items
+        → IsStored volume (store_of P.shape P.known log.now undo.now parts.new.items
         changed.now.items space.new) state (B.seen blocks.new))) }
-    ensures parts { OnlySplit number.0 (map (part_now P.shape P.split P.met) parts.old.items)
-        (map (part_now P.shape P.split P.met) parts.new.items) }
+    ensures parts { OnlySplit number.0 (map (part_now P.shape P.known) parts.old.items)
+        (map (part_now P.shape P.known) parts.new.items) }
     ensures cause { HasCause (B.faults blocks.old) (B.faults blocks.new) result }
 {
     match index_of(parts, number) {
@@ -166,7 +166,7 @@ impl<P: Part> Store<P> {
         ensures still { IsTrue B.tells → IfOk result (λ room.
             IsRoomAt self.new (B.seen blocks.new).cur number.0 place.now length room) }
         ensures met { OnOk result (IfSome (part_among self.new.parts number.0)
-            (λ part. HasMet part.met place.now)) }
+            (λ part. HasMet part.known place.now)) }
         ensures set { IsSet self.new (B.seen blocks.new) }
         ensures stored { IsTrue B.tells → (volume : ℕ) (state : State)
             → IsStored volume self.old state (B.seen blocks.old)

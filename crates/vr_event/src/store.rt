@@ -31,7 +31,7 @@ impl<P: Part> Model for Store<P> {
     ghost view = { λ store. record {
       log = store.log;
       undo = store.undo;
-      parts = map (part_now P.shape P.split P.met) store.parts.items;
+      parts = map (part_now P.shape P.known) store.parts.items;
       changed = map changed_by store.changed.items;
       space = store.space;
     } };
@@ -47,7 +47,7 @@ impl<P: Part> Store<P> {
         ensures { result ≡ record {
           log = log;
           undo = [];
-          parts = map (part_now P.shape P.split P.met) parts.items;
+          parts = map (part_now P.shape P.known) parts.items;
           changed = [];
           space = space;
         } }

@@ -7,7 +7,7 @@ ghost use Rattle.vr_types.specs.Locks.{same_unit};
 ghost use Rattle.vr_types.specs.Moments.{Guards};
 ghost use Rattle.vr_types.specs.declared.fault.DeviceFault.TheVariants.{Write};
 ghost use Rattle.vr_types.specs.declared.unit.Unit.{Unit as UnitOfRecovery};
-ghost use Rattle.vr_space.specs.Met.{HasMet};
+ghost use Rattle.vr_space.specs.Known.{HasMet};
 ghost use Rattle.vr_space.specs.Part.{
   CanSet,
   HasKeptRoom,
@@ -61,24 +61,24 @@ fn set_back<B: Blocks, P: Part>(
     requires rests { IsTrue B.tells → IsAtRest (P.shape part.old) (B.seen blocks.old) }
     requires room { IsTrue B.tells → HasKeptRoom (P.shape part.old)
         (lengths_kept (images_in undo.now) (part_no (P.shape part.old)).0) (B.seen blocks.old) }
-    requires knows { IsTrue B.tells → Knows (P.shape part.old) (P.split part.old)
-        (P.met part.old) (B.seen blocks.old) }
-    requires can { IsTrue B.tells → CanSet (P.shape part.old) (P.split part.old)
+    requires knows { IsTrue B.tells → Knows (P.shape part.old) (P.known part.old)
+        (B.seen blocks.old) }
+    requires can { IsTrue B.tells → CanSet (P.shape part.old) (P.known part.old)
         (B.seen blocks.old).cur (lengths_kept (images_in undo.now) (part_no (P.shape part.old)).0)
         place.now (given bytes) }
     ensures back { IsTrue B.tells → OnOk result ((volume : ℕ) (old new : State)
         (change : Changing)
         → IsToBack log.now.geometry volume log.now (images_in undo.now) old new change
-        (P.shape part.old) (P.split part.old) (P.met part.old) place.now (given bytes.entry)
+        (P.shape part.old) (P.known part.old) place.now (given bytes.entry)
         (B.seen blocks.old)
         → IsSetIn log.now.geometry volume log.now (images_in undo.now) (images_in undo.now) old new
-        (P.shape part.old) (P.split part.new) (P.met part.new) place.now
+        (P.shape part.old) (P.known part.new) place.now
         (blocks_of unit (map changed_by changed.new.items)) (B.seen blocks.old)
         (B.seen blocks.new)) }
     // At every moment, whether it fails or not.
     ensures moments { IsTrue B.tells → (volume : ℕ) (old new : State) (change : Changing)
         → IsToBack log.now.geometry volume log.now (images_in undo.now) old new change
-        (P.shape part.old) (P.split part.old) (P.met part.old) place.now (given bytes.entry)
+        (P.shape part.old) (P.known part.old) place.now (given bytes.entry)
         (B.seen blocks.old)
         → Guards (B.seen blocks.old) (B.seen blocks.new)
         (IsSafeImage log.now.geometry volume log.now (committed_by old)) }
@@ -94,9 +94,9 @@ fn set_back<B: Blocks, P: Part>(
     ensures count { (B.seen blocks.new).count ≡ (B.seen blocks.old).count }
     ensures size { (B.seen blocks.new).size ≡ (B.seen blocks.old).size }
     ensures part { P.shape part.new ≡ P.shape part.old }
-    ensures split { P.split part.new ≡ P.split part.old }
+    ensures split { (P.known part.new).split ≡ (P.known part.old).split }
     // Where the place is met, no read is made of it.
-    ensures reads { HasMet (P.met part.old) place.now → IfErr result (λ fault. fault ≡ Write) }
+    ensures reads { HasMet (P.known part.old) place.now → IfErr result (λ fault. fault ≡ Write) }
     ensures cause { HasCause (B.faults blocks.old) (B.faults blocks.new) result }
 {
     set_again(blocks, log, part, undo, place, bytes)?;
@@ -146,7 +146,7 @@ impl<P: Part> Store<P> {
             ≡ record self.old { parts = self.new.parts; changed = self.new.changed } }
         // Where room was asked for at the place, no read is made of it.
         ensures reads { IfSome (part_among self.old.parts number.0)
-            (λ part. HasMet part.met place.now) → IfErr result (λ fault. fault ≡ Write) }
+            (λ part. HasMet part.known place.now) → IfErr result (λ fault. fault ≡ Write) }
         ensures cause { HasCause (B.faults blocks.old) (B.faults blocks.new) result }
     {
         match index_of(&self.parts, number) {

@@ -14,18 +14,17 @@ returns-in_err-set_again-clause-moments g c told volume old new change images to
     let after = images_in c.args.undo.now in
     let prepared = c.args.prepared.now in
     let shape = g.P.Part.shape c.args.part.now in
-    let split = g.P.Part.split c.args.part.now in
-    let met = g.P.Part.met c.args.part.now in
+    let known = g.P.Part.known c.args.part.now in
     let place = c.args.place.now in
     let found = given c.args.bytes in
     let a = g.B.Blocks.seen c.args.blocks.now in
     let logged = c.if-prepared.true in
-    guards-again log.geometry volume log images after old new change prepared shape split met place
+    guards-again log.geometry volume log images after old new change prepared shape known place
     found a to logged (g.B.Blocks.seen c.set_again.new.blocks)
     (c.set_again.ensures.any_moment told volume old images to.volume to.part
-    (place-logged log.geometry volume log images after old new change prepared shape split met place
+    (place-logged log.geometry volume log images after old new change prepared shape known place
     found a to logged)
-    (lengths-same log.geometry volume log images after old new change prepared shape split met place
+    (lengths-same log.geometry volume log images after old new change prepared shape known place
     found a to logged))
 
 pub returns-in_ok-set_again-clause-moments : goal.returns-in_ok-set_again-clause-moments
@@ -34,18 +33,17 @@ returns-in_ok-set_again-clause-moments g c told volume old new change images to 
     let after = images_in c.args.undo.now in
     let prepared = c.args.prepared.now in
     let shape = g.P.Part.shape c.args.part.now in
-    let split = g.P.Part.split c.args.part.now in
-    let met = g.P.Part.met c.args.part.now in
+    let known = g.P.Part.known c.args.part.now in
     let place = c.args.place.now in
     let found = given c.args.bytes in
     let a = g.B.Blocks.seen c.args.blocks.now in
     let logged = c.if-prepared.true in
-    guards-again log.geometry volume log images after old new change prepared shape split met place
+    guards-again log.geometry volume log images after old new change prepared shape known place
     found a to logged (g.B.Blocks.seen c.set_again.new.blocks)
     (c.set_again.ensures.any_moment told volume old images to.volume to.part
-    (place-logged log.geometry volume log images after old new change prepared shape split met place
+    (place-logged log.geometry volume log images after old new change prepared shape known place
     found a to logged)
-    (lengths-same log.geometry volume log images after old new change prepared shape split met place
+    (lengths-same log.geometry volume log images after old new change prepared shape known place
     found a to logged))
 
 pub returns-in_ok-set_again-clause-made : goal.returns-in_ok-set_again-clause-made
@@ -54,33 +52,32 @@ returns-in_ok-set_again-clause-made g c told volume old new change images to =
     let after = images_in c.args.undo.now in
     let prepared = c.args.prepared.now in
     let shape = g.P.Part.shape c.args.part.now in
-    let split = g.P.Part.split c.args.part.now in
-    let met = g.P.Part.met c.args.part.now in
+    let known = g.P.Part.known c.args.part.now in
     let place = c.args.place.now in
     let found = given c.args.bytes in
     let a = g.B.Blocks.seen c.args.blocks.now in
     let logged = c.if-prepared.true in
     let ensured = c.in_ok-set_again.ensures in
-    let same = same-part log.geometry volume log images after old new change prepared shape split
-    met place found a to in
+    let same = same-part log.geometry volume log images after old new change prepared shape known
+    place found a to in
     let lengths = lengths-same log.geometry volume log images after old new change prepared shape
-    split met place found a to logged in
-    set-again log.geometry volume log images after old new change prepared shape split met place
+    known place found a to logged in
+    set-again log.geometry volume log images after old new change prepared shape known place
     found a to logged (g.B.Blocks.seen c.set_again.new.blocks)
-    (g.P.Part.split c.set_again.new.part) (g.P.Part.met c.set_again.new.part)
+    (g.P.Part.known c.set_again.new.part)
     (g.P.Part.put c.set_again.new.part)
     (⊎_elim
     (λ next. ensured.next told volume old new change images to.volume to.part to.of next to.given
     lengths)
     (λ again. ensured.again told volume old new change images to.volume to.part to.of again to.given
     lengths)
-    (step-again log.geometry volume log images after old new change prepared shape split met place
+    (step-again log.geometry volume log images after old new change prepared shape known place
     found a to logged))
-    (λ other split' met' apart rested. ensured.others told volume old new change images other split'
-    met' to.volume to.part to.of
-    (to-puts log.geometry volume log images after old new change prepared shape split met place
+    (λ other known' apart rested. ensured.others told volume old new change images other known'
+    to.volume to.part to.of
+    (to-puts log.geometry volume log images after old new change prepared shape known place
     found a to) to.given.part (λ is. apart (is ∙ sym same)) rested)
-    (λ other split' met' apart rested. ensured.others_due told volume images old other split' met'
+    (λ other known' apart rested. ensured.others_due told volume images old other known'
     to.volume to.part apart rested)
     (ensured.due told)
 
@@ -90,21 +87,20 @@ returns-in_err-change-clause-moments g c told volume old new change images to =
     let after = images_in c.args.undo.now in
     let prepared = c.args.prepared.now in
     let shape = g.P.Part.shape c.args.part.now in
-    let split = g.P.Part.split c.args.part.now in
-    let met = g.P.Part.met c.args.part.now in
+    let known = g.P.Part.known c.args.part.now in
     let place = c.args.place.now in
     let found = given c.args.bytes in
     let a = g.B.Blocks.seen c.args.blocks.now in
     let logged = c.if-prepared.false in
-    guards-first log.geometry volume log images after old new change prepared shape split met place
+    guards-first log.geometry volume log images after old new change prepared shape known place
     found a to logged (g.B.Blocks.seen c.change.new.blocks)
     (c.change.ensures.any_moment told volume (committed_by old) change.unit change.old
-    (rec-here log.geometry volume log images after old new change prepared shape split met place
+    (rec-here log.geometry volume log images after old new change prepared shape known place
     found a to logged)
     to.volume.safe
-    (first-here log.geometry volume log images after old new change prepared shape split met place
+    (first-here log.geometry volume log images after old new change prepared shape known place
     found a to logged c.requires.place)
-    (laid-here log.geometry volume log images after old new change prepared shape split met place
+    (laid-here log.geometry volume log images after old new change prepared shape known place
     found a to logged))
 
 pub returns-in_ok-change-clause-moments : goal.returns-in_ok-change-clause-moments
@@ -113,21 +109,20 @@ returns-in_ok-change-clause-moments g c told volume old new change images to =
     let after = images_in c.args.undo.now in
     let prepared = c.args.prepared.now in
     let shape = g.P.Part.shape c.args.part.now in
-    let split = g.P.Part.split c.args.part.now in
-    let met = g.P.Part.met c.args.part.now in
+    let known = g.P.Part.known c.args.part.now in
     let place = c.args.place.now in
     let found = given c.args.bytes in
     let a = g.B.Blocks.seen c.args.blocks.now in
     let logged = c.if-prepared.false in
-    guards-first log.geometry volume log images after old new change prepared shape split met place
+    guards-first log.geometry volume log images after old new change prepared shape known place
     found a to logged (g.B.Blocks.seen c.change.new.blocks)
     (c.change.ensures.any_moment told volume (committed_by old) change.unit change.old
-    (rec-here log.geometry volume log images after old new change prepared shape split met place
+    (rec-here log.geometry volume log images after old new change prepared shape known place
     found a to logged)
     to.volume.safe
-    (first-here log.geometry volume log images after old new change prepared shape split met place
+    (first-here log.geometry volume log images after old new change prepared shape known place
     found a to logged c.requires.place)
-    (laid-here log.geometry volume log images after old new change prepared shape split met place
+    (laid-here log.geometry volume log images after old new change prepared shape known place
     found a to logged))
 
 pub returns-in_ok-change-clause-made : goal.returns-in_ok-change-clause-made
@@ -136,29 +131,28 @@ returns-in_ok-change-clause-made g c told volume old new change images to =
     let after = images_in c.args.undo.now in
     let prepared = c.args.prepared.now in
     let shape = g.P.Part.shape c.args.part.now in
-    let split = g.P.Part.split c.args.part.now in
-    let met = g.P.Part.met c.args.part.now in
+    let known = g.P.Part.known c.args.part.now in
     let place = c.args.place.now in
     let found = given c.args.bytes in
     let a = g.B.Blocks.seen c.args.blocks.now in
     let logged = c.if-prepared.false in
     let ensured = c.in_ok-change.ensures in
-    let same = same-part log.geometry volume log images after old new change prepared shape split
-    met place found a to in
+    let same = same-part log.geometry volume log images after old new change prepared shape known
+    place found a to in
     let step = step-first log.geometry volume log images after old new change prepared shape
-    split met place found a to logged in
+    known place found a to logged in
     let more = images-more log.geometry volume log images after old new change prepared shape
-    split met place found a to logged in
+    known place found a to logged in
     let rests = ensured.at_rest told volume old new change images after to.volume to.part to.of step
     to.rec to.given more refl in
     record {
       volume = rests.0;
       part = rests.1;
-      others = λ other split' met' apart rested. ensured.others told volume old new change images
-          after other split' met' to.volume to.part to.of step to.given.part more
+      others = λ other known' apart rested. ensured.others told volume old new change images
+          after other known' to.volume to.part to.of step to.given.part more
           (λ is. apart (is ∙ sym same)) rested;
-      others_due = λ other split' met' apart rested. ensured.others_due told volume images old other
-          split' met' to.volume to.part apart rested;
+      others_due = λ other known' apart rested. ensured.others_due told volume images old other
+          known' to.volume to.part apart rested;
       due = ensured.due told;
     }
 

@@ -39,7 +39,7 @@ returns-clause-made g c told volume old new change images to =
     let listed = blocks_of c.args.unit (map changed_by c.note_put.new.changed.items) in
     set-noted g.B.Blocks.tells told b d c.note_put.ensures.keeps log.geometry volume
     c.put_at.new.log images (images_in c.args.undo.now) old new shape
-    (g.P.Part.split c.put_at.new.part) (g.P.Part.met c.put_at.new.part) c.args.place.now put listed
+    (g.P.Part.known c.put_at.new.part) c.args.place.now put listed
     a (rest-sound shape a to.part.rests) (g.met.B.Blocks.cur_may c.put_at.new.blocks told)
     (c.in_ok-put_at.ensures.made told volume old new change images to)
     (subst (λ (p : List ℕ). IsNoted p listed b.cur d.may) c.put_blocks.ensures

@@ -1,5 +1,5 @@
 use Rattle.std.proofs.Common.{refl, sym, ap, subst, map}
-use Rattle.std.proofs.Common.{set, [], None, rules, IsTrue}
+use Rattle.std.proofs.Common.{set, None, rules, IsTrue}
 use Rattle.vr_types.specs.declared.unit.PartNo.{PartNo}
 use Rattle.vr_types.specs.Space.{free_count}
 use Rattle.vr_space.specs.Part.{IsLengthOf, IsPlaceOf, OwnersAfter, Shape, part_no}
@@ -12,7 +12,7 @@ use Rattle.vr_volume.proofs.Rested.{laid-rest}
 use Rattle.vr_event.specs.Parts.{but_split}
 use Rattle.vr_event.specs.Store.{StoreNow, part_now, store_of}
 use Rattle.vr_event.proofs.Kept.{err-as}
-use Rattle.vr_event.proofs.PartsAt.{laid-at, laid-found, none-laid, only-split, part-of}
+use Rattle.vr_event.proofs.PartsAt.{laid-at, laid-found, none-laid, only-split, part-split}
 use Rattle.vr_event.proofs.Recorded.{at-shape, number-at, part-number-at, rested-at, set-at}
 use Rattle.vr_event.proofs.Rooms.{due-at, room-at}
 use Rattle.vr_event.proofs.Worked.{set-worked, stored-met, stored-worked}
@@ -21,15 +21,14 @@ use Rattle.vr_event.proofs.staging.advance_at.Goals as goal
 pub do_stage-requires : goal.do_stage-requires
 do_stage-requires g c =
     let shape = g.P.Part.shape in
-    let split = g.P.Part.split in
-    let met = g.P.Part.met in
-    let store : StoreNow = store_of shape split met c.args.log.now c.args.undo.now
+    let known = g.P.Part.known in
+    let store : StoreNow = store_of shape known c.args.log.now c.args.undo.now
     c.args.parts.now.items c.args.changed.now.items c.args.space.now in
     let a = g.B.Blocks.seen c.args.blocks.now in
     let laid = c.index_mut.result.now in
     let number = c.args.number.0 in
-    let part = part_now shape split met laid in
-    let found = laid-found shape split met c.args.parts.now.items number c.deref.result.now
+    let part = part_now shape known laid in
+    let found = laid-found shape known c.args.parts.now.items number c.deref.result.now
     c.index_of.result store.parts c.deref.ensures.value
     refl c.index_of.ensures c.in-Some.at c.in-Some.is
     laid c.index_mut.ensures.value in
@@ -53,32 +52,32 @@ do_stage-requires g c =
 
 pub unreachable-requires : goal.unreachable-requires
 unreachable-requires g c = c.requires.part
-    (none-laid g.P.Part.shape g.P.Part.split g.P.Part.met c.args.parts.now.items c.args.number.0
-    c.deref.result.now c.index_of.result (map (part_now g.P.Part.shape g.P.Part.split g.P.Part.met) c.args.parts.now.items) c.deref.ensures.value
+    (none-laid g.P.Part.shape g.P.Part.known c.args.parts.now.items c.args.number.0
+    c.deref.result.now c.index_of.result (map (part_now g.P.Part.shape g.P.Part.known)
+    c.args.parts.now.items) c.deref.ensures.value
     refl c.index_of.ensures c.in-None.is)
 
 pub returns-in_err-kind-in-Some : goal.returns-in_err-kind-in-Some
 returns-in_err-kind-in-Some g c =
     let shape = g.P.Part.shape in
-    let split = g.P.Part.split in
-    let met = g.P.Part.met in
-    let store : StoreNow = store_of shape split met c.args.log.now c.args.undo.now
+    let known = g.P.Part.known in
+    let store : StoreNow = store_of shape known c.args.log.now c.args.undo.now
     c.args.parts.now.items c.args.changed.now.items c.args.space.now in
     let a = g.B.Blocks.seen c.args.blocks.now in
     let b = g.B.Blocks.seen c.do_stage.new.blocks in
     let laid = c.index_mut.result.now in
     let number = c.args.number.0 in
     let space = c.do_stage.new.space in
-    let before = part_now shape split met laid in
-    let after = part_now shape split met
+    let before = part_now shape known laid in
+    let after = part_now shape known
     (record { number = laid.number; part = c.do_stage.new.part }) in
-    let at = laid-at shape split met c.args.parts.now.items number c.deref.result.now c.index_of.result
+    let at = laid-at shape known c.args.parts.now.items number c.deref.result.now c.index_of.result
     store.parts c.deref.ensures.value refl
     c.index_of.ensures c.in-Some.at c.in-Some.is laid
     (record { number = laid.number; part = c.do_stage.new.part }) c.index_mut.ensures.value in
-    let parts = map (part_now shape split met) (set c.args.parts.now.items c.in-Some.at
+    let parts = map (part_now shape known) (set c.args.parts.now.items c.in-Some.at
     (record { number = laid.number; part = c.do_stage.new.part })) in
-    let same = ap (λ (s : Shape). but_split (part-of laid.number s None []))
+    let same = ap (λ (s : Shape). but_split (part-split laid.number s None))
     c.do_stage.ensures.shape in
     record {
       stage = search rules;
@@ -92,7 +91,7 @@ returns-in_err-kind-in-Some g c =
           (c.do_stage.ensures.safe told store.log.geometry volume store.log (committed_by state)
           stored.volume.safe
           (laid-rest store.log.geometry volume store.log (images_in store.undo) state a
-          stored.volume before.shape before.split before.met
+          stored.volume before.shape before.known
           (rested-at store a c.requires.set volume state number before at.found stored) _ refl)).0;
       unread = err-as c.from_residual.result c.in_err-kind-in-Some.field-0.0 _
           c.from_residual.ensures.1
@@ -101,7 +100,7 @@ returns-in_err-kind-in-Some g c =
             kept.0,
             λ told volume state stored. stored-met g.B.Blocks.tells told a b kept.0
                 (g.met.B.Blocks.cur_may c.args.blocks.now told) store number before after parts
-                space at same c.in_err-kind-in-Some.ensures.split volume state c.requires.set
+                space at same volume state c.requires.set
                 stored (kept.1 told),
           ));
       parts = only-split number before after store.parts parts at refl same;
@@ -111,9 +110,8 @@ returns-in_err-kind-in-Some g c =
 pub returns : goal.returns
 returns g c =
     let shape = g.P.Part.shape in
-    let split = g.P.Part.split in
-    let met = g.P.Part.met in
-    let store : StoreNow = store_of shape split met c.args.log.now c.args.undo.now
+    let known = g.P.Part.known in
+    let store : StoreNow = store_of shape known c.args.log.now c.args.undo.now
     c.args.parts.now.items c.args.changed.now.items c.args.space.now in
     let a = g.B.Blocks.seen c.args.blocks.now in
     let b = g.B.Blocks.seen c.do_stage.new.blocks in
@@ -122,16 +120,16 @@ returns g c =
     let space = c.do_stage.new.space in
     let done = c.in_ok-kind-in-Some in
     let images = images_in store.undo in
-    let before = part_now shape split met laid in
-    let after = part_now shape split met
+    let before = part_now shape known laid in
+    let after = part_now shape known
     (record { number = laid.number; part = c.do_stage.new.part }) in
-    let at = laid-at shape split met c.args.parts.now.items number c.deref.result.now c.index_of.result
+    let at = laid-at shape known c.args.parts.now.items number c.deref.result.now c.index_of.result
     store.parts c.deref.ensures.value refl
     c.index_of.ensures c.in-Some.at c.in-Some.is laid
     (record { number = laid.number; part = c.do_stage.new.part }) c.index_mut.ensures.value in
-    let parts = map (part_now shape split met) (set c.args.parts.now.items c.in-Some.at
+    let parts = map (part_now shape known) (set c.args.parts.now.items c.in-Some.at
     (record { number = laid.number; part = c.do_stage.new.part })) in
-    let same = ap (λ (s : Shape). but_split (part-of laid.number s None []))
+    let same = ap (λ (s : Shape). but_split (part-split laid.number s None))
     c.do_stage.ensures.shape in
     record {
       stage = λ told. room-at store c.args.space.now c.args.undo.now refl refl number before
@@ -143,7 +141,7 @@ returns g c =
           done.ensures.owners;
       interval = λ told.
           let stands = c.requires.stands told in
-          interval-stage before.shape before.split a a.cur (free_count c.args.space.now)
+          interval-stage before.shape before.known a a.cur (free_count c.args.space.now)
           (lengths_kept (images_in c.args.undo.now) (part_no before.shape).0) c.args.place.now
           c.args.length done.kind
           (rested-at store a c.requires.set stands.number stands.state number before at.found
@@ -157,18 +155,18 @@ returns g c =
           refl in
           stored-worked store number before after parts space at same volume state a b
           c.requires.set stored rest.0
-          (subst (λ (s : Shape). IsPartAtRest store.log.geometry images state s after.split
-          after.met b) (sym c.do_stage.ensures.shape) rest.1)
+          (subst (λ (s : Shape). IsPartAtRest store.log.geometry images state s after.known b)
+          (sym c.do_stage.ensures.shape) rest.1)
           (λ other apart rested. done.ensures.others told volume store.log images state
-          other.shape other.split other.met stored.volume mine apart rested)
+          other.shape other.known stored.volume mine apart rested)
           (done.ensures.due told)
           (λ other apart rested. done.ensures.others_due told volume store.log images state
-          other.shape other.split other.met stored.volume mine apart rested);
+          other.shape other.known stored.volume mine apart rested);
       moments = λ told volume state stored.
           (c.do_stage.ensures.safe told store.log.geometry volume store.log (committed_by state)
           stored.volume.safe
           (laid-rest store.log.geometry volume store.log images state a stored.volume before.shape
-          before.split before.met
+          before.known
           (rested-at store a c.requires.set volume state number before at.found stored) _ refl)).0;
       unread = search rules;
       parts = only-split number before after store.parts parts at refl same;

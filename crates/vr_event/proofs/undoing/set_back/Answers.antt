@@ -16,8 +16,8 @@ returns-in_err-set_again-clause-moments g c told volume old new change to =
     let images = images_in c.args.undo.now in
     c.set_again.ensures.any_moment told volume old images to.volume to.part
     (place-back c.args.log.now.geometry volume c.args.log.now images old new change
-    (g.P.Part.shape c.args.part.now) (g.P.Part.split c.args.part.now)
-    (g.P.Part.met c.args.part.now) c.args.place.now (given c.args.bytes)
+    (g.P.Part.shape c.args.part.now) (g.P.Part.known c.args.part.now) c.args.place.now
+    (given c.args.bytes)
     (g.B.Blocks.seen c.args.blocks.now) to) refl
 
 pub returns-in_err-note_put-clause-moments : goal.returns-in_err-note_put-clause-moments
@@ -30,8 +30,8 @@ returns-in_err-note_put-clause-moments g c told volume old new change to =
     (IsSafeImage log.geometry volume log (committed_by old))
     (c.set_again.ensures.any_moment told volume old images to.volume to.part
     (place-back log.geometry volume log images old new change
-    (g.P.Part.shape c.args.part.now) (g.P.Part.split c.args.part.now)
-    (g.P.Part.met c.args.part.now) c.args.place.now (given c.args.bytes)
+    (g.P.Part.shape c.args.part.now) (g.P.Part.known c.args.part.now) c.args.place.now
+    (given c.args.bytes)
     (g.B.Blocks.seen c.args.blocks.now) to) refl)
 
 pub returns-clause-moments : goal.returns-clause-moments
@@ -44,8 +44,8 @@ returns-clause-moments g c told volume old new change to =
     (IsSafeImage log.geometry volume log (committed_by old))
     (c.set_again.ensures.any_moment told volume old images to.volume to.part
     (place-back log.geometry volume log images old new change
-    (g.P.Part.shape c.args.part.now) (g.P.Part.split c.args.part.now)
-    (g.P.Part.met c.args.part.now) c.args.place.now (given c.args.bytes)
+    (g.P.Part.shape c.args.part.now) (g.P.Part.known c.args.part.now) c.args.place.now
+    (given c.args.bytes)
     (g.B.Blocks.seen c.args.blocks.now) to) refl)
 
 pub returns-clause-back : goal.returns-clause-back
@@ -63,17 +63,17 @@ returns-clause-back g c told volume old new change to =
     let rests = done.back told volume old new change images to.volume to.part to.of to.step to.given
     refl in
     set-noted g.B.Blocks.tells told b d c.note_put.ensures.keeps log.geometry volume log images
-    images old new shape (g.P.Part.split c.set_again.new.part) (g.P.Part.met c.set_again.new.part)
+    images old new shape (g.P.Part.known c.set_again.new.part)
     c.args.place.now put listed a (rest-sound shape a to.part.rests)
     (g.met.B.Blocks.cur_may c.set_again.new.blocks told)
     (record {
       volume = rests.0;
       part = rests.1;
-      others = λ other split met apart rested. done.others told volume old new change images other
-          split met to.volume to.part to.of to.step.contents to.given.part
+      others = λ other known apart rested. done.others told volume old new change images other
+          known to.volume to.part to.of to.step.contents to.given.part
           (λ is. apart (is ∙ sym same)) rested;
-      others_due = λ other split met apart rested. done.others_due told volume images old other
-          split met to.volume to.part apart rested;
+      others_due = λ other known apart rested. done.others_due told volume images old other
+          known to.volume to.part apart rested;
       due = done.due told;
     })
     (subst (λ (p : List ℕ). IsNoted p listed b.cur d.may) c.put_blocks.ensures

@@ -14,7 +14,7 @@ advance_at-requires-clause-part g c =
     let unit = c.args.unit in
     let inside = c.self.inside in
     let before = c.in-Some.before.now in
-    let parts = map (part_now g.P.Part.shape g.P.Part.split g.P.Part.met) inside.parts.items in
+    let parts = map (part_now g.P.Part.shape g.P.Part.known) inside.parts.items in
     let set = subst (λ (s : StoreNow). IsSet s (g.B.Blocks.seen c.args.blocks.now))
     (sym c.self.view_is) c.requires.set in
     (last-has (IsFitImage parts) unit (befores_of inside.undo) (image_of unit before) set.kept
@@ -26,7 +26,7 @@ advance_at-requires-clause-place g c =
     let unit = c.args.unit in
     let inside = c.self.inside in
     let before = c.in-Some.before.now in
-    let parts = map (part_now g.P.Part.shape g.P.Part.split g.P.Part.met) inside.parts.items in
+    let parts = map (part_now g.P.Part.shape g.P.Part.known) inside.parts.items in
     let set = subst (λ (s : StoreNow). IsSet s (g.B.Blocks.seen c.args.blocks.now))
     (sym c.self.view_is) c.requires.set in
     (last-has (IsFitImage parts) unit (befores_of inside.undo) (image_of unit before) set.kept
@@ -36,10 +36,9 @@ advance_at-requires-clause-place g c =
 pub returns-in_err-kind-in-Some-clause-shapes : goal.returns-in_err-kind-in-Some-clause-shapes
 returns-in_err-kind-in-Some-clause-shapes g c number =
     let shape = g.P.Part.shape in
-    let split = g.P.Part.split in
-    let met = g.P.Part.met in
-    let old = map (part_now shape split met) c.self.inside.parts.items in
-    let new = map (part_now shape split met) c.advance_at.new.parts.items in
+    let known = g.P.Part.known in
+    let old = map (part_now shape known) c.self.inside.parts.items in
+    let new = map (part_now shape known) c.advance_at.new.parts.items in
     shapes-same new old c.advance_at.ensures.parts.parts number
     ∙ ap (λ (s : StoreNow). shape_among s.parts number) c.self.view_is
 
@@ -61,10 +60,9 @@ returns-in_err-kind-in-Some-clause-unread g c =
 pub returns-clause-shapes : goal.returns-clause-shapes
 returns-clause-shapes g c number =
     let shape = g.P.Part.shape in
-    let split = g.P.Part.split in
-    let met = g.P.Part.met in
-    let old = map (part_now shape split met) c.self.inside.parts.items in
-    let new = map (part_now shape split met) c.advance_at.new.parts.items in
+    let known = g.P.Part.known in
+    let old = map (part_now shape known) c.self.inside.parts.items in
+    let new = map (part_now shape known) c.advance_at.new.parts.items in
     shapes-same new old c.advance_at.ensures.parts.parts number
     ∙ ap (λ (s : StoreNow). shape_among s.parts number) c.self.view_is
 

@@ -23,7 +23,7 @@ returns-in_err-end_unit-clause-moments g c told volume state stored keeps =
     let store : StoreNow = record {
       log = inside.log;
       undo = inside.undo;
-      parts = map (part_now g.P.Part.shape g.P.Part.split g.P.Part.met) inside.parts.items;
+      parts = map (part_now g.P.Part.shape g.P.Part.known) inside.parts.items;
       changed = map changed_by inside.changed.items;
       space = inside.space;
     } in
@@ -44,7 +44,7 @@ returns-clause-moments g c told volume state stored keeps =
     let store : StoreNow = record {
       log = inside.log;
       undo = inside.undo;
-      parts = map (part_now g.P.Part.shape g.P.Part.split g.P.Part.met) inside.parts.items;
+      parts = map (part_now g.P.Part.shape g.P.Part.known) inside.parts.items;
       changed = map changed_by inside.changed.items;
       space = inside.space;
     } in
@@ -66,7 +66,7 @@ returns-clause-ended g c told volume old new stored current keeps made below =
     let store : StoreNow = record {
       log = inside.log;
       undo = inside.undo;
-      parts = map (part_now g.P.Part.shape g.P.Part.split g.P.Part.met) inside.parts.items;
+      parts = map (part_now g.P.Part.shape g.P.Part.known) inside.parts.items;
       changed = map changed_by inside.changed.items;
       space = inside.space;
     } in
@@ -84,7 +84,7 @@ returns-clause-ended g c told volume old new stored current keeps made below =
     done.images done.befores done.logged c.forget.ensures.others made
     (done.rests told store.log.geometry volume old new stored.volume current
     (firm store a set volume old stored unit none) keeps made generation)
-    (λ shape split met rested. done.others told store.log.geometry old new shape split met refl made
+    (λ shape known rested. done.others told store.log.geometry old new shape known refl made
     rested))
     c.requires.set c.requires.none_left below stored
 
@@ -97,7 +97,7 @@ returns-clause-set g c =
     let store : StoreNow = record {
       log = inside.log;
       undo = inside.undo;
-      parts = map (part_now g.P.Part.shape g.P.Part.split g.P.Part.met) inside.parts.items;
+      parts = map (part_now g.P.Part.shape g.P.Part.known) inside.parts.items;
       changed = map changed_by inside.changed.items;
       space = inside.space;
     } in

@@ -14,7 +14,7 @@ returns-in_err-left-clause-stored g c told volume state =
     let store : StoreNow = record {
       log = inside.log;
       undo = inside.undo;
-      parts = map (part_now g.P.Part.shape g.P.Part.split g.P.Part.met) inside.parts.items;
+      parts = map (part_now g.P.Part.shape g.P.Part.known) inside.parts.items;
       changed = map changed_by inside.changed.items;
       space = inside.space;
     } in
@@ -39,7 +39,7 @@ returns-clause-stored g c told volume state =
     let store : StoreNow = record {
       log = inside.log;
       undo = inside.undo;
-      parts = map (part_now g.P.Part.shape g.P.Part.split g.P.Part.met) inside.parts.items;
+      parts = map (part_now g.P.Part.shape g.P.Part.known) inside.parts.items;
       changed = map changed_by inside.changed.items;
       space = inside.space;
     } in
@@ -64,7 +64,7 @@ returns-in_err-left-clause-set g c =
     let store : StoreNow = record {
       log = inside.log;
       undo = inside.undo;
-      parts = map (part_now g.P.Part.shape g.P.Part.split g.P.Part.met) inside.parts.items;
+      parts = map (part_now g.P.Part.shape g.P.Part.known) inside.parts.items;
       changed = map changed_by inside.changed.items;
       space = inside.space;
     } in
@@ -84,7 +84,7 @@ returns-clause-set g c =
     let store : StoreNow = record {
       log = inside.log;
       undo = inside.undo;
-      parts = map (part_now g.P.Part.shape g.P.Part.split g.P.Part.met) inside.parts.items;
+      parts = map (part_now g.P.Part.shape g.P.Part.known) inside.parts.items;
       changed = map changed_by inside.changed.items;
       space = inside.space;
     } in

@@ -12,5 +12,5 @@ returns g c =
     c.is_laid.ensures
     ∙ ap (λ (items : List (Laid g.row.P.Denot)).
     list_any (λ (laid : Laid g.row.P.Denot). laid.number.0 == number) items) c.deref.ensures.value
-    ∙ any-laid g.P.Part.shape g.P.Part.split g.P.Part.met number c.self.inside.parts.items
+    ∙ any-laid g.P.Part.shape g.P.Part.known number c.self.inside.parts.items
     ∙ ap (λ (s : StoreNow). is_some (part_among s.parts number)) c.self.view_is

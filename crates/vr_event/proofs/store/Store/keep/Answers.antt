@@ -56,7 +56,7 @@ returns-in_err-first-clause-set g c set =
     set-changed _ now (map changed_by c.make_room.new.changed.items) c.keep.new.self
     c.make_room.ensures.each
     (subst (λ (undo : List KeptRecord). All (IsFitImage
-    (map (part_now g.P.Part.shape g.P.Part.split g.P.Part.met) c.self.inside.parts.items))
+    (map (part_now g.P.Part.shape g.P.Part.known) c.self.inside.parts.items))
     (befores_of undo))
     (sym c.in_err-first.ensures.err) is-set.kept) is-set
 
@@ -73,7 +73,7 @@ pub returns-clause-set : goal.returns-clause-set
 returns-clause-set g c set =
     let now = g.B.Blocks.seen c.args.blocks.now in
     let is-set = subst (λ (store : StoreNow). IsSet store now) (sym c.self.view_is) set in
-    let parts = map (part_now g.P.Part.shape g.P.Part.split g.P.Part.met)
+    let parts = map (part_now g.P.Part.shape g.P.Part.known)
     c.self.inside.parts.items in
     set-changed _ now (map changed_by c.make_room.new.changed.items) c.keep.new.self
     c.make_room.ensures.each

@@ -2,7 +2,7 @@ use Rattle.std.proofs.Common.{◌≡◌, ℕ, List, Option, sym, ap, subst, ◌�
 use Rattle.std.proofs.lemmas.Result.{IfOk-weaker}
 use Rattle.vr_types.specs.Content.{record_at}
 use Rattle.vr_types.proofs.CallerLemmas.{keeps-none}
-use Rattle.vr_space.specs.Part.{IsPlaceOf, Shape, item_of}
+use Rattle.vr_space.specs.Part.{IsPlaceOf, Shape, record_read}
 use Rattle.vr_history.specs.State.{State}
 use Rattle.vr_log.specs.LogNow.{LogNow}
 use Rattle.vr_undo.specs.declared.record.KeptRecord.{KeptRecord}
@@ -17,14 +17,13 @@ use Rattle.vr_event.proofs.store.Store.look.Goals as goal
 pub copy_at-requires : goal.copy_at-requires
 copy_at-requires g c =
     let shape = g.P.Part.shape in
-    let split = g.P.Part.split in
-    let met = g.P.Part.met in
+    let known = g.P.Part.known in
     let store = c.args.self.now in
     let a = g.B.Blocks.seen c.args.blocks.now in
     let laid = c.index_mut.result.now in
     let number = c.args.number.0 in
-    let part = part_now shape split met laid in
-    let found = laid-found shape split met c.self.inside.parts.items number c.deref.result.now
+    let part = part_now shape known laid in
+    let found = laid-found shape known c.self.inside.parts.items number c.deref.result.now
     c.index_of.result store.parts c.deref.ensures.value
     (ap (λ (s : StoreNow). s.parts) c.self.view_is) c.index_of.ensures c.in-Some.at c.in-Some.is
     laid c.index_mut.ensures.value in
@@ -44,27 +43,26 @@ store-of log undo changed space parts =
 pub returns-in-Some : goal.returns-in-Some
 returns-in-Some g c =
     let shape = g.P.Part.shape in
-    let split = g.P.Part.split in
-    let met = g.P.Part.met in
+    let known = g.P.Part.known in
     let store = c.args.self.now in
     let inside = c.self.inside in
     let a = g.B.Blocks.seen c.args.blocks.now in
     let b = g.B.Blocks.seen c.copy_at.new.blocks in
     let laid = c.index_mut.result.now in
     let number = c.args.number.0 in
-    let part = part_now shape split met laid in
-    let found = laid-found shape split met inside.parts.items number c.deref.result.now
+    let part = part_now shape known laid in
+    let found = laid-found shape known inside.parts.items number c.deref.result.now
     c.index_of.result store.parts c.deref.ensures.value
     (ap (λ (s : StoreNow). s.parts) c.self.view_is) c.index_of.ensures c.in-Some.at c.in-Some.is
     laid c.index_mut.ensures.value in
     let same = ap
     (store-of inside.log inside.undo (map changed_by inside.changed.items) inside.space)
-    (laid-same shape split met inside.parts.items c.in-Some.at laid c.copy_at.new.part
-    c.index_mut.ensures.value c.copy_at.ensures.shape c.copy_at.ensures.split c.copy_at.ensures.met)
+    (laid-same shape known inside.parts.items c.in-Some.at laid c.copy_at.new.part
+    c.index_mut.ensures.value c.copy_at.ensures.shape c.copy_at.ensures.known)
     ∙ c.self.view_is in
     record {
       found = λ told. IfOk-weaker c.copy_at.result
-          (λ (got : Option (List ℕ)). got ≡ item_of part.shape a.cur c.args.place.now)
+          (λ (got : Option (List ℕ)). got ≡ record_read part.shape a.cur c.args.place.now)
           (λ (got : Option (List ℕ)). (volume : ℕ) (state : State) → IsStored volume store state a
           → got ≡ record_at (state.contents number) c.args.place.now)
           (λ got is volume state stored. is
@@ -85,7 +83,7 @@ returns-in-Some g c =
 pub returns-in-None-clause-found : goal.returns-in-None-clause-found
 returns-in-None-clause-found g c told volume state stored =
     none-read c.args.self.now (g.B.Blocks.seen c.args.blocks.now) volume state c.args.number.0
-    (none-laid g.P.Part.shape g.P.Part.split g.P.Part.met c.self.inside.parts.items c.args.number.0
+    (none-laid g.P.Part.shape g.P.Part.known c.self.inside.parts.items c.args.number.0
     c.deref.result.now c.index_of.result c.args.self.now.parts c.deref.ensures.value
     (ap (λ (s : StoreNow). s.parts) c.self.view_is) c.index_of.ensures c.in-None.is) stored
     c.args.place.now

@@ -1,9 +1,9 @@
-use Rattle.std.proofs.Common.{◌≡◌, ◌≢◌, ◌<◌, ℕ, [], Option, None, Result, Ok, Err, IfErr, IsTrue}
+use Rattle.std.proofs.Common.{◌≡◌, ◌≢◌, ◌<◌, ℕ, Option, None, Result, Ok, Err, IfErr, IsTrue}
 use Rattle.std.proofs.Common.{refl, sym, ap, subst, ◌∙◌, map, set}
 use Rattle.std.specs.Prelude.{All, IfSome}
 use Rattle.std.specs.Result.{IsErrAnd}
 use Rattle.vr_types.specs.Moments.{Guards}
-use Rattle.vr_space.specs.Met.{HasMet}
+use Rattle.vr_space.specs.Known.{HasMet}
 use Rattle.vr_space.specs.Part.{CanSet, IsGiven, IsPlaceOf, Shape, given}
 use Rattle.vr_space.specs.Split.{SplitNow}
 use Rattle.vr_log.specs.Live.{live_in}
@@ -18,7 +18,7 @@ use Rattle.vr_event.specs.Parts.{OnlyMet}
 use Rattle.vr_event.specs.Store.{ChangedBy, IsSet, PartNow, StoreNow, changed_by, part_among}
 use Rattle.vr_event.specs.Store.{part_now, shape_among}
 use Rattle.vr_event.proofs.Fits.{ends-before, idle-made}
-use Rattle.vr_event.proofs.PartsAt.{laid-at, laid-found, none-laid, only-met, part-of}
+use Rattle.vr_event.proofs.PartsAt.{laid-at, laid-found, none-laid, only-met, part-split}
 use Rattle.vr_event.proofs.Readying.{change, kept, made-state, rested, room-to, to-any, to-set}
 use Rattle.vr_event.proofs.Recorded.{at-shape, number-at, set-at}
 use Rattle.vr_event.proofs.Storing.{set-logged, stored-made}
@@ -28,8 +28,7 @@ use Rattle.vr_event.proofs.store.Store.make.Goals as goal
 pub set_at-requires : goal.set_at-requires
 set_at-requires g c =
     let shape = g.P.Part.shape in
-    let split = g.P.Part.split in
-    let met = g.P.Part.met in
+    let known = g.P.Part.known in
     let inside = c.self.inside in
     let unit = c.args.unit in
     let number = c.args.number.0 in
@@ -41,12 +40,12 @@ set_at-requires g c =
     let v : StoreNow = record {
       log = inside.log;
       undo = inside.undo;
-      parts = map (part_now shape split met) inside.parts.items;
+      parts = map (part_now shape known) inside.parts.items;
       changed = map changed_by inside.changed.items;
       space = inside.space;
     } in
-    let before = part_now shape split met laid in
-    let found = laid-found shape split met inside.parts.items number c.deref.result.now
+    let before = part_now shape known laid in
+    let found = laid-found shape known inside.parts.items number c.deref.result.now
     c.index_of.result v.parts c.deref.ensures.value refl c.index_of.ensures c.in-Some.at
     c.in-Some.is laid
     c.index_mut.ensures.value in
@@ -80,16 +79,16 @@ set_at-requires g c =
           before found is-set at-place item)
           (change (some told).number v unit c.args.number place prepared (some told).was (some told).state a (some told).ready
           before found is-set at-place item)
-          prepared before.shape before.split before.met place item a
+          prepared before.shape before.known place item a
           (to-any (some told).number v unit c.args.number place prepared (some told).was (some told).state a (some told).ready
           before found is-set at-place item)
           (g.met.B.Blocks.cur_may c.args.blocks.now told) at-place;
       knows = λ told. (mine told).knows;
-      can = λ told. subst (λ (n : ℕ). CanSet before.shape before.split a.cur
+      can = λ told. subst (λ (n : ℕ). CanSet before.shape before.known a.cur
           (lengths_kept (images_in v.undo) n) place item)
           (sym (number-at v a is-set number before found))
           (subst (λ (one : Option PartNow). IfSome one (λ (part : PartNow). CanSet part.shape
-          part.split a.cur (lengths_kept (images_in v.undo) number) place item)) found
+          part.known a.cur (lengths_kept (images_in v.undo) number) place item)) found
           (subst (λ (s : StoreNow). IsSettable s a.cur number place item) (sym c.self.view_is)
           (c.requires.can told)));
     }
@@ -97,8 +96,7 @@ set_at-requires g c =
 pub returns-in_err-set_at-in-Some-clause-moments : goal.returns-in_err-set_at-in-Some-clause-moments
 returns-in_err-set_at-in-Some-clause-moments g c told volume was old ready =
     let shape = g.P.Part.shape in
-    let split = g.P.Part.split in
-    let met = g.P.Part.met in
+    let known = g.P.Part.known in
     let inside = c.self.inside in
     let unit = c.args.unit in
     let number = c.args.number.0 in
@@ -110,12 +108,12 @@ returns-in_err-set_at-in-Some-clause-moments g c told volume was old ready =
     let v : StoreNow = record {
       log = inside.log;
       undo = inside.undo;
-      parts = map (part_now shape split met) inside.parts.items;
+      parts = map (part_now shape known) inside.parts.items;
       changed = map changed_by inside.changed.items;
       space = inside.space;
     } in
-    let before = part_now shape split met laid in
-    let found = laid-found shape split met inside.parts.items number c.deref.result.now
+    let before = part_now shape known laid in
+    let found = laid-found shape known inside.parts.items number c.deref.result.now
     c.index_of.result v.parts c.deref.ensures.value refl c.index_of.ensures c.in-Some.at
     c.in-Some.is laid
     c.index_mut.ensures.value in
@@ -141,8 +139,7 @@ returns-in_err-set_at-in-Some-clause-moments g c told volume was old ready =
 pub returns-clause-moments : goal.returns-clause-moments
 returns-clause-moments g c told volume was old ready =
     let shape = g.P.Part.shape in
-    let split = g.P.Part.split in
-    let met = g.P.Part.met in
+    let known = g.P.Part.known in
     let inside = c.self.inside in
     let unit = c.args.unit in
     let number = c.args.number.0 in
@@ -154,12 +151,12 @@ returns-clause-moments g c told volume was old ready =
     let v : StoreNow = record {
       log = inside.log;
       undo = inside.undo;
-      parts = map (part_now shape split met) inside.parts.items;
+      parts = map (part_now shape known) inside.parts.items;
       changed = map changed_by inside.changed.items;
       space = inside.space;
     } in
-    let before = part_now shape split met laid in
-    let found = laid-found shape split met inside.parts.items number c.deref.result.now
+    let before = part_now shape known laid in
+    let found = laid-found shape known inside.parts.items number c.deref.result.now
     c.index_of.result v.parts c.deref.ensures.value refl c.index_of.ensures c.in-Some.at
     c.in-Some.is laid
     c.index_mut.ensures.value in
@@ -185,8 +182,7 @@ returns-clause-moments g c told volume was old ready =
 pub returns-clause-made : goal.returns-clause-made
 returns-clause-made g c told volume was old after need ready made needs =
     let shape = g.P.Part.shape in
-    let split = g.P.Part.split in
-    let met = g.P.Part.met in
+    let known = g.P.Part.known in
     let inside = c.self.inside in
     let unit = c.args.unit in
     let number = c.args.number.0 in
@@ -198,12 +194,12 @@ returns-clause-made g c told volume was old after need ready made needs =
     let v : StoreNow = record {
       log = inside.log;
       undo = inside.undo;
-      parts = map (part_now shape split met) inside.parts.items;
+      parts = map (part_now shape known) inside.parts.items;
       changed = map changed_by inside.changed.items;
       space = inside.space;
     } in
-    let before = part_now shape split met laid in
-    let found = laid-found shape split met inside.parts.items number c.deref.result.now
+    let before = part_now shape known laid in
+    let found = laid-found shape known inside.parts.items number c.deref.result.now
     c.index_of.result v.parts c.deref.ensures.value refl c.index_of.ensures c.in-Some.at
     c.in-Some.is laid
     c.index_mut.ensures.value in
@@ -211,10 +207,10 @@ returns-clause-made g c told volume was old after need ready made needs =
     let at-place = at-shape (λ (s : Shape). IsPlaceOf s place) v.parts number before found
     (subst (λ (s : StoreNow). IfSome (shape_among s.parts number) (λ s. IsPlaceOf s place))
     (sym c.self.view_is) c.requires.place) in
-    let now = part_now shape split met (record { number = laid.number; part = c.set_at.new.part }) in
-    let parts = map (part_now shape split met) (set inside.parts.items c.in-Some.at
+    let now = part_now shape known (record { number = laid.number; part = c.set_at.new.part }) in
+    let parts = map (part_now shape known) (set inside.parts.items c.in-Some.at
     (record { number = laid.number; part = c.set_at.new.part })) in
-    let at = laid-at shape split met inside.parts.items number c.deref.result.now
+    let at = laid-at shape known inside.parts.items number c.deref.result.now
     c.index_of.result v.parts c.deref.ensures.value refl c.index_of.ensures c.in-Some.at
     c.in-Some.is laid
     (record { number = laid.number; part = c.set_at.new.part }) c.index_mut.ensures.value in
@@ -241,8 +237,7 @@ returns-clause-made g c told volume was old after need ready made needs =
 pub returns-clause-set : goal.returns-clause-set
 returns-clause-set g c =
     let shape = g.P.Part.shape in
-    let split = g.P.Part.split in
-    let met = g.P.Part.met in
+    let known = g.P.Part.known in
     let inside = c.self.inside in
     let unit = c.args.unit in
     let number = c.args.number.0 in
@@ -254,12 +249,12 @@ returns-clause-set g c =
     let v : StoreNow = record {
       log = inside.log;
       undo = inside.undo;
-      parts = map (part_now shape split met) inside.parts.items;
+      parts = map (part_now shape known) inside.parts.items;
       changed = map changed_by inside.changed.items;
       space = inside.space;
     } in
-    let before = part_now shape split met laid in
-    let found = laid-found shape split met inside.parts.items number c.deref.result.now
+    let before = part_now shape known laid in
+    let found = laid-found shape known inside.parts.items number c.deref.result.now
     c.index_of.result v.parts c.deref.ensures.value refl c.index_of.ensures c.in-Some.at
     c.in-Some.is laid
     c.index_mut.ensures.value in
@@ -267,10 +262,10 @@ returns-clause-set g c =
     let at-place = at-shape (λ (s : Shape). IsPlaceOf s place) v.parts number before found
     (subst (λ (s : StoreNow). IfSome (shape_among s.parts number) (λ s. IsPlaceOf s place))
     (sym c.self.view_is) c.requires.place) in
-    let now = part_now shape split met (record { number = laid.number; part = c.set_at.new.part }) in
-    let parts = map (part_now shape split met) (set inside.parts.items c.in-Some.at
+    let now = part_now shape known (record { number = laid.number; part = c.set_at.new.part }) in
+    let parts = map (part_now shape known) (set inside.parts.items c.in-Some.at
     (record { number = laid.number; part = c.set_at.new.part })) in
-    let at = laid-at shape split met inside.parts.items number c.deref.result.now
+    let at = laid-at shape known inside.parts.items number c.deref.result.now
     c.index_of.result v.parts c.deref.ensures.value refl c.index_of.ensures c.in-Some.at
     c.in-Some.is laid
     (record { number = laid.number; part = c.set_at.new.part }) c.index_mut.ensures.value in
@@ -283,14 +278,13 @@ returns-clause-set g c =
     (subst (λ (count : ℕ). All (λ (by : ChangedBy). All (λ n. n < count) by.blocks) changed)
     (sym ensured.count) (c.set_at.ensures.each is-set.changed))
     (set-worked v number before now parts v.space at
-    (ap (λ (s : Shape). part-of laid.number s None []) ensured.part)
+    (ap (λ (s : Shape). part-split laid.number s None) ensured.part)
     a b ensured.count ensured.size is-set)
 
 pub returns-clause-parts : goal.returns-clause-parts
 returns-clause-parts g c =
     let shape = g.P.Part.shape in
-    let split = g.P.Part.split in
-    let met = g.P.Part.met in
+    let known = g.P.Part.known in
     let inside = c.self.inside in
     let unit = c.args.unit in
     let number = c.args.number.0 in
@@ -302,12 +296,12 @@ returns-clause-parts g c =
     let v : StoreNow = record {
       log = inside.log;
       undo = inside.undo;
-      parts = map (part_now shape split met) inside.parts.items;
+      parts = map (part_now shape known) inside.parts.items;
       changed = map changed_by inside.changed.items;
       space = inside.space;
     } in
-    let before = part_now shape split met laid in
-    let found = laid-found shape split met inside.parts.items number c.deref.result.now
+    let before = part_now shape known laid in
+    let found = laid-found shape known inside.parts.items number c.deref.result.now
     c.index_of.result v.parts c.deref.ensures.value refl c.index_of.ensures c.in-Some.at
     c.in-Some.is laid
     c.index_mut.ensures.value in
@@ -315,10 +309,10 @@ returns-clause-parts g c =
     let at-place = at-shape (λ (s : Shape). IsPlaceOf s place) v.parts number before found
     (subst (λ (s : StoreNow). IfSome (shape_among s.parts number) (λ s. IsPlaceOf s place))
     (sym c.self.view_is) c.requires.place) in
-    let now = part_now shape split met (record { number = laid.number; part = c.set_at.new.part }) in
-    let parts = map (part_now shape split met) (set inside.parts.items c.in-Some.at
+    let now = part_now shape known (record { number = laid.number; part = c.set_at.new.part }) in
+    let parts = map (part_now shape known) (set inside.parts.items c.in-Some.at
     (record { number = laid.number; part = c.set_at.new.part })) in
-    let at = laid-at shape split met inside.parts.items number c.deref.result.now
+    let at = laid-at shape known inside.parts.items number c.deref.result.now
     c.index_of.result v.parts c.deref.ensures.value refl c.index_of.ensures c.in-Some.at
     c.in-Some.is laid
     (record { number = laid.number; part = c.set_at.new.part }) c.index_mut.ensures.value in
@@ -327,8 +321,8 @@ returns-clause-parts g c =
     let ensured = c.in_ok-set_at-in-Some.ensures in
     subst (λ (s : StoreNow). OnlyMet number s.parts parts) c.self.view_is
     (only-met number before now v.parts parts at refl
-    (ap (λ (s : Shape). part-of laid.number s (split c.set_at.new.part) []) ensured.part
-    ∙ ap (λ (s : Option SplitNow). part-of laid.number (shape laid.part) s []) ensured.split))
+    (ap (λ (s : Shape). part-split laid.number s (known c.set_at.new.part).split) ensured.part
+    ∙ ap (λ (s : Option SplitNow). part-split laid.number (shape laid.part) s) ensured.split))
 
 err-as : (result : Result (Unit {0}) LogNo) (cause : LogNo) (P : LogNo → Type 0)
     → IsErrAnd result (λ answer. answer ≡ cause) → P cause → IfErr result P
@@ -338,8 +332,7 @@ err-as (Err answer) cause P is holds = subst P (sym is) holds
 pub returns-in_err-set_at-in-Some-clause-reads : goal.returns-in_err-set_at-in-Some-clause-reads
 returns-in_err-set_at-in-Some-clause-reads g c asked =
     let shape = g.P.Part.shape in
-    let split = g.P.Part.split in
-    let met = g.P.Part.met in
+    let known = g.P.Part.known in
     let inside = c.self.inside in
     let unit = c.args.unit in
     let number = c.args.number.0 in
@@ -351,12 +344,12 @@ returns-in_err-set_at-in-Some-clause-reads g c asked =
     let v : StoreNow = record {
       log = inside.log;
       undo = inside.undo;
-      parts = map (part_now shape split met) inside.parts.items;
+      parts = map (part_now shape known) inside.parts.items;
       changed = map changed_by inside.changed.items;
       space = inside.space;
     } in
-    let before = part_now shape split met laid in
-    let found = laid-found shape split met inside.parts.items number c.deref.result.now
+    let before = part_now shape known laid in
+    let found = laid-found shape known inside.parts.items number c.deref.result.now
     c.index_of.result v.parts c.deref.ensures.value refl c.index_of.ensures c.in-Some.at
     c.in-Some.is laid
     c.index_mut.ensures.value in
@@ -364,16 +357,16 @@ returns-in_err-set_at-in-Some-clause-reads g c asked =
     let at-place = at-shape (λ (s : Shape). IsPlaceOf s place) v.parts number before found
     (subst (λ (s : StoreNow). IfSome (shape_among s.parts number) (λ s. IsPlaceOf s place))
     (sym c.self.view_is) c.requires.place) in
-    let here : HasMet before.met place =
-    subst (λ (one : Option PartNow). IfSome one (λ (part : PartNow). HasMet part.met place)) found
-    (subst (λ (s : StoreNow). IfSome (part_among s.parts number) (λ part. HasMet part.met place))
+    let here : HasMet before.known place =
+    subst (λ (one : Option PartNow). IfSome one (λ (part : PartNow). HasMet part.known place)) found
+    (subst (λ (s : StoreNow). IfSome (part_among s.parts number) (λ part. HasMet part.known place))
     (sym c.self.view_is) asked) in
     err-as c.from_residual.result c.in_err-set_at-in-Some.field-0.0 (λ no. no ≢ Read)
     c.from_residual.ensures.1 (c.in_err-set_at-in-Some.ensures.reads here)
 
 pub unreachable-requires : goal.unreachable-requires
 unreachable-requires g c =
-    c.requires.part (none-laid g.P.Part.shape g.P.Part.split g.P.Part.met c.self.inside.parts.items
+    c.requires.part (none-laid g.P.Part.shape g.P.Part.known c.self.inside.parts.items
     c.args.number.0 c.deref.result.now c.index_of.result c.args.self.now.parts
     c.deref.ensures.value (ap (λ (s : StoreNow). s.parts) c.self.view_is)
     c.index_of.ensures c.in-None.is)

@@ -10,7 +10,7 @@ ask_at-requires-clause-part g c =
     let unit = c.args.unit in
     let inside = c.self.inside in
     let before = c.in-Some.before.now in
-    let parts = map (part_now g.P.Part.shape g.P.Part.split g.P.Part.met) inside.parts.items in
+    let parts = map (part_now g.P.Part.shape g.P.Part.known) inside.parts.items in
     let set = subst (λ (s : StoreNow). IsSet s (g.B.Blocks.seen c.args.blocks.now))
     (sym c.self.view_is) c.requires.set in
     (last-has (IsFitImage parts) unit (befores_of inside.undo) (image_of unit before) set.kept
@@ -22,7 +22,7 @@ ask_at-requires-clause-place g c =
     let unit = c.args.unit in
     let inside = c.self.inside in
     let before = c.in-Some.before.now in
-    let parts = map (part_now g.P.Part.shape g.P.Part.split g.P.Part.met) inside.parts.items in
+    let parts = map (part_now g.P.Part.shape g.P.Part.known) inside.parts.items in
     let set = subst (λ (s : StoreNow). IsSet s (g.B.Blocks.seen c.args.blocks.now))
     (sym c.self.view_is) c.requires.set in
     (last-has (IsFitImage parts) unit (befores_of inside.undo) (image_of unit before) set.kept
@@ -32,10 +32,9 @@ ask_at-requires-clause-place g c =
 pub returns-in_err-room-in-Some-clause-shapes : goal.returns-in_err-room-in-Some-clause-shapes
 returns-in_err-room-in-Some-clause-shapes g c number =
     let shape = g.P.Part.shape in
-    let split = g.P.Part.split in
-    let met = g.P.Part.met in
-    let old = map (part_now shape split met) c.self.inside.parts.items in
-    let new = map (part_now shape split met) c.ask_at.new.parts.items in
+    let known = g.P.Part.known in
+    let old = map (part_now shape known) c.self.inside.parts.items in
+    let new = map (part_now shape known) c.ask_at.new.parts.items in
     shapes-same new old (split-met new old c.ask_at.ensures.parts.parts) number
     ∙ ap (λ (s : StoreNow). shape_among s.parts number) c.self.view_is
 
@@ -48,10 +47,9 @@ returns-in_err-room-in-Some-clause-stored g c told volume state stored =
 pub returns-clause-shapes : goal.returns-clause-shapes
 returns-clause-shapes g c number =
     let shape = g.P.Part.shape in
-    let split = g.P.Part.split in
-    let met = g.P.Part.met in
-    let old = map (part_now shape split met) c.self.inside.parts.items in
-    let new = map (part_now shape split met) c.ask_at.new.parts.items in
+    let known = g.P.Part.known in
+    let old = map (part_now shape known) c.self.inside.parts.items in
+    let new = map (part_now shape known) c.ask_at.new.parts.items in
     shapes-same new old (split-met new old c.ask_at.ensures.parts.parts) number
     ∙ ap (λ (s : StoreNow). shape_among s.parts number) c.self.view_is
 

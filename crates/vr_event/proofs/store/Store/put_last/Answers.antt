@@ -23,7 +23,7 @@ put_before-requires-clause-set g c =
     let v : StoreNow = record {
       log = inside.log;
       undo = inside.undo;
-      parts = map (part_now g.P.Part.shape g.P.Part.split g.P.Part.met) inside.parts.items;
+      parts = map (part_now g.P.Part.shape g.P.Part.known) inside.parts.items;
       changed = map changed_by inside.changed.items;
       space = inside.space;
     } in
@@ -39,7 +39,7 @@ put_before-requires-clause-part g c =
     let v : StoreNow = record {
       log = inside.log;
       undo = inside.undo;
-      parts = map (part_now g.P.Part.shape g.P.Part.split g.P.Part.met) inside.parts.items;
+      parts = map (part_now g.P.Part.shape g.P.Part.known) inside.parts.items;
       changed = map changed_by inside.changed.items;
       space = inside.space;
     } in
@@ -59,7 +59,7 @@ put_before-requires-clause-place g c =
     let v : StoreNow = record {
       log = inside.log;
       undo = inside.undo;
-      parts = map (part_now g.P.Part.shape g.P.Part.split g.P.Part.met) inside.parts.items;
+      parts = map (part_now g.P.Part.shape g.P.Part.known) inside.parts.items;
       changed = map changed_by inside.changed.items;
       space = inside.space;
     } in
@@ -79,7 +79,7 @@ put_before-requires-clause-item g c =
     let v : StoreNow = record {
       log = inside.log;
       undo = inside.undo;
-      parts = map (part_now g.P.Part.shape g.P.Part.split g.P.Part.met) inside.parts.items;
+      parts = map (part_now g.P.Part.shape g.P.Part.known) inside.parts.items;
       changed = map changed_by inside.changed.items;
       space = inside.space;
     } in
@@ -99,7 +99,7 @@ put_before-requires-clause-can g c told =
     let v : StoreNow = record {
       log = inside.log;
       undo = inside.undo;
-      parts = map (part_now g.P.Part.shape g.P.Part.split g.P.Part.met) inside.parts.items;
+      parts = map (part_now g.P.Part.shape g.P.Part.known) inside.parts.items;
       changed = map changed_by inside.changed.items;
       space = inside.space;
     } in
@@ -110,7 +110,7 @@ put_before-requires-clause-can g c told =
     let none = subst (λ (s : StoreNow). OnLast s unit (λ one. HasNoStage s a.cur one.part one.place))
     (sym c.self.view_is) (c.requires.no_stage told) in
     subst (λ (images : List BeforeImage). IfSome (part_among v.parts before.part.0)
-    (λ (part : PartNow). CanSet part.shape part.split a.cur (lengths_kept images before.part.0)
+    (λ (part : PartNow). CanSet part.shape part.known a.cur (lengths_kept images before.part.0)
     before.place before.old)) (sym c.take_one.ensures.images)
     (can-back v a stands.number stands.state stands.stored unit (image_of unit before) last before.old
     refl
@@ -125,7 +125,7 @@ returns-in_err-put_before-in-Some-clause-moments g c told volume old stored curr
     let v : StoreNow = record {
       log = inside.log;
       undo = inside.undo;
-      parts = map (part_now g.P.Part.shape g.P.Part.split g.P.Part.met) inside.parts.items;
+      parts = map (part_now g.P.Part.shape g.P.Part.known) inside.parts.items;
       changed = map changed_by inside.changed.items;
       space = inside.space;
     } in
@@ -150,7 +150,7 @@ returns-in_err-put_before-in-Some-clause-shapes g c number =
     let v : StoreNow = record {
       log = inside.log;
       undo = inside.undo;
-      parts = map (part_now g.P.Part.shape g.P.Part.split g.P.Part.met) inside.parts.items;
+      parts = map (part_now g.P.Part.shape g.P.Part.known) inside.parts.items;
       changed = map changed_by inside.changed.items;
       space = inside.space;
     } in
@@ -167,7 +167,7 @@ returns-clause-back g c told volume old new stored current back =
     let v : StoreNow = record {
       log = inside.log;
       undo = inside.undo;
-      parts = map (part_now g.P.Part.shape g.P.Part.split g.P.Part.met) inside.parts.items;
+      parts = map (part_now g.P.Part.shape g.P.Part.known) inside.parts.items;
       changed = map changed_by inside.changed.items;
       space = inside.space;
     } in
@@ -189,7 +189,7 @@ returns-clause-moments g c told volume old stored current =
     let v : StoreNow = record {
       log = inside.log;
       undo = inside.undo;
-      parts = map (part_now g.P.Part.shape g.P.Part.split g.P.Part.met) inside.parts.items;
+      parts = map (part_now g.P.Part.shape g.P.Part.known) inside.parts.items;
       changed = map changed_by inside.changed.items;
       space = inside.space;
     } in
@@ -214,7 +214,7 @@ returns-clause-shapes g c number =
     let v : StoreNow = record {
       log = inside.log;
       undo = inside.undo;
-      parts = map (part_now g.P.Part.shape g.P.Part.split g.P.Part.met) inside.parts.items;
+      parts = map (part_now g.P.Part.shape g.P.Part.known) inside.parts.items;
       changed = map changed_by inside.changed.items;
       space = inside.space;
     } in

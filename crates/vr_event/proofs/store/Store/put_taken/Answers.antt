@@ -1,9 +1,9 @@
-use Rattle.std.proofs.Common.{◌<◌, ℕ, [], Option, None, IsTrue, refl, sym, ap, subst, map, set}
+use Rattle.std.proofs.Common.{◌<◌, ℕ, Option, None, IsTrue, refl, sym, ap, subst, map, set}
 use Rattle.std.proofs.Common.{◌∙◌}
 use Rattle.std.specs.Prelude.{All, IfSome}
 use Rattle.std.proofs.lemmas.Result.{on_ok_weaker}
 use Rattle.vr_types.specs.Moments.{Guards}
-use Rattle.vr_space.specs.Met.{HasMet}
+use Rattle.vr_space.specs.Known.{HasMet}
 use Rattle.vr_space.specs.Part.{CanSet, IsGiven, IsPlaceOf, Shape, given}
 use Rattle.vr_space.specs.Split.{SplitNow}
 use Rattle.vr_undo.specs.Records.{images_in}
@@ -17,7 +17,7 @@ use Rattle.vr_event.specs.Parts.{OnlyMet}
 use Rattle.vr_event.specs.Store.{ChangedBy, IsSet, PartNow, StoreNow, changed_by, part_among}
 use Rattle.vr_event.specs.Store.{part_now, shape_among}
 use Rattle.vr_event.proofs.Backs.{stored-taken, taken-part, to-back}
-use Rattle.vr_event.proofs.PartsAt.{laid-at, laid-found, none-laid, only-met, part-of}
+use Rattle.vr_event.proofs.PartsAt.{laid-at, laid-found, none-laid, only-met, part-split}
 use Rattle.vr_event.proofs.Recorded.{at-shape, number-at, set-at}
 use Rattle.vr_event.proofs.Storing.{set-logged}
 use Rattle.vr_event.proofs.Worked.{set-worked}
@@ -26,8 +26,7 @@ use Rattle.vr_event.proofs.store.Store.put_taken.Goals as goal
 pub set_back-requires-clause-on : goal.set_back-requires-clause-on
 set_back-requires-clause-on g c =
     let shape = g.P.Part.shape in
-    let split = g.P.Part.split in
-    let met = g.P.Part.met in
+    let known = g.P.Part.known in
     let inside = c.self.inside in
     let unit = c.args.unit in
     let number = c.args.number.0 in
@@ -38,12 +37,12 @@ set_back-requires-clause-on g c =
     let v : StoreNow = record {
       log = inside.log;
       undo = inside.undo;
-      parts = map (part_now shape split met) inside.parts.items;
+      parts = map (part_now shape known) inside.parts.items;
       changed = map changed_by inside.changed.items;
       space = inside.space;
     } in
-    let before = part_now shape split met laid in
-    let found = laid-found shape split met inside.parts.items number c.deref.result.now
+    let before = part_now shape known laid in
+    let found = laid-found shape known inside.parts.items number c.deref.result.now
     c.index_of.result v.parts c.deref.ensures.value refl c.index_of.ensures c.in-Some.at
     c.in-Some.is laid
     c.index_mut.ensures.value in
@@ -53,8 +52,7 @@ set_back-requires-clause-on g c =
 pub set_back-requires-clause-apart : goal.set_back-requires-clause-apart
 set_back-requires-clause-apart g c =
     let shape = g.P.Part.shape in
-    let split = g.P.Part.split in
-    let met = g.P.Part.met in
+    let known = g.P.Part.known in
     let inside = c.self.inside in
     let unit = c.args.unit in
     let number = c.args.number.0 in
@@ -65,12 +63,12 @@ set_back-requires-clause-apart g c =
     let v : StoreNow = record {
       log = inside.log;
       undo = inside.undo;
-      parts = map (part_now shape split met) inside.parts.items;
+      parts = map (part_now shape known) inside.parts.items;
       changed = map changed_by inside.changed.items;
       space = inside.space;
     } in
-    let before = part_now shape split met laid in
-    let found = laid-found shape split met inside.parts.items number c.deref.result.now
+    let before = part_now shape known laid in
+    let found = laid-found shape known inside.parts.items number c.deref.result.now
     c.index_of.result v.parts c.deref.ensures.value refl c.index_of.ensures c.in-Some.at
     c.in-Some.is laid
     c.index_mut.ensures.value in
@@ -80,8 +78,7 @@ set_back-requires-clause-apart g c =
 pub set_back-requires-clause-place : goal.set_back-requires-clause-place
 set_back-requires-clause-place g c =
     let shape = g.P.Part.shape in
-    let split = g.P.Part.split in
-    let met = g.P.Part.met in
+    let known = g.P.Part.known in
     let inside = c.self.inside in
     let unit = c.args.unit in
     let number = c.args.number.0 in
@@ -92,12 +89,12 @@ set_back-requires-clause-place g c =
     let v : StoreNow = record {
       log = inside.log;
       undo = inside.undo;
-      parts = map (part_now shape split met) inside.parts.items;
+      parts = map (part_now shape known) inside.parts.items;
       changed = map changed_by inside.changed.items;
       space = inside.space;
     } in
-    let before = part_now shape split met laid in
-    let found = laid-found shape split met inside.parts.items number c.deref.result.now
+    let before = part_now shape known laid in
+    let found = laid-found shape known inside.parts.items number c.deref.result.now
     c.index_of.result v.parts c.deref.ensures.value refl c.index_of.ensures c.in-Some.at
     c.in-Some.is laid
     c.index_mut.ensures.value in
@@ -109,8 +106,7 @@ set_back-requires-clause-place g c =
 pub set_back-requires-clause-item : goal.set_back-requires-clause-item
 set_back-requires-clause-item g c =
     let shape = g.P.Part.shape in
-    let split = g.P.Part.split in
-    let met = g.P.Part.met in
+    let known = g.P.Part.known in
     let inside = c.self.inside in
     let unit = c.args.unit in
     let number = c.args.number.0 in
@@ -121,12 +117,12 @@ set_back-requires-clause-item g c =
     let v : StoreNow = record {
       log = inside.log;
       undo = inside.undo;
-      parts = map (part_now shape split met) inside.parts.items;
+      parts = map (part_now shape known) inside.parts.items;
       changed = map changed_by inside.changed.items;
       space = inside.space;
     } in
-    let before = part_now shape split met laid in
-    let found = laid-found shape split met inside.parts.items number c.deref.result.now
+    let before = part_now shape known laid in
+    let found = laid-found shape known inside.parts.items number c.deref.result.now
     c.index_of.result v.parts c.deref.ensures.value refl c.index_of.ensures c.in-Some.at
     c.in-Some.is laid
     c.index_mut.ensures.value in
@@ -138,8 +134,7 @@ set_back-requires-clause-item g c =
 pub set_back-requires-clause-rests : goal.set_back-requires-clause-rests
 set_back-requires-clause-rests g c told =
     let shape = g.P.Part.shape in
-    let split = g.P.Part.split in
-    let met = g.P.Part.met in
+    let known = g.P.Part.known in
     let inside = c.self.inside in
     let unit = c.args.unit in
     let number = c.args.number.0 in
@@ -150,12 +145,12 @@ set_back-requires-clause-rests g c told =
     let v : StoreNow = record {
       log = inside.log;
       undo = inside.undo;
-      parts = map (part_now shape split met) inside.parts.items;
+      parts = map (part_now shape known) inside.parts.items;
       changed = map changed_by inside.changed.items;
       space = inside.space;
     } in
-    let before = part_now shape split met laid in
-    let found = laid-found shape split met inside.parts.items number c.deref.result.now
+    let before = part_now shape known laid in
+    let found = laid-found shape known inside.parts.items number c.deref.result.now
     c.index_of.result v.parts c.deref.ensures.value refl c.index_of.ensures c.in-Some.at
     c.in-Some.is laid
     c.index_mut.ensures.value in
@@ -169,8 +164,7 @@ set_back-requires-clause-rests g c told =
 pub set_back-requires-clause-room : goal.set_back-requires-clause-room
 set_back-requires-clause-room g c told =
     let shape = g.P.Part.shape in
-    let split = g.P.Part.split in
-    let met = g.P.Part.met in
+    let known = g.P.Part.known in
     let inside = c.self.inside in
     let unit = c.args.unit in
     let number = c.args.number.0 in
@@ -181,12 +175,12 @@ set_back-requires-clause-room g c told =
     let v : StoreNow = record {
       log = inside.log;
       undo = inside.undo;
-      parts = map (part_now shape split met) inside.parts.items;
+      parts = map (part_now shape known) inside.parts.items;
       changed = map changed_by inside.changed.items;
       space = inside.space;
     } in
-    let before = part_now shape split met laid in
-    let found = laid-found shape split met inside.parts.items number c.deref.result.now
+    let before = part_now shape known laid in
+    let found = laid-found shape known inside.parts.items number c.deref.result.now
     c.index_of.result v.parts c.deref.ensures.value refl c.index_of.ensures c.in-Some.at
     c.in-Some.is laid
     c.index_mut.ensures.value in
@@ -200,8 +194,7 @@ set_back-requires-clause-room g c told =
 pub set_back-requires-clause-knows : goal.set_back-requires-clause-knows
 set_back-requires-clause-knows g c told =
     let shape = g.P.Part.shape in
-    let split = g.P.Part.split in
-    let met = g.P.Part.met in
+    let known = g.P.Part.known in
     let inside = c.self.inside in
     let unit = c.args.unit in
     let number = c.args.number.0 in
@@ -212,12 +205,12 @@ set_back-requires-clause-knows g c told =
     let v : StoreNow = record {
       log = inside.log;
       undo = inside.undo;
-      parts = map (part_now shape split met) inside.parts.items;
+      parts = map (part_now shape known) inside.parts.items;
       changed = map changed_by inside.changed.items;
       space = inside.space;
     } in
-    let before = part_now shape split met laid in
-    let found = laid-found shape split met inside.parts.items number c.deref.result.now
+    let before = part_now shape known laid in
+    let found = laid-found shape known inside.parts.items number c.deref.result.now
     c.index_of.result v.parts c.deref.ensures.value refl c.index_of.ensures c.in-Some.at
     c.in-Some.is laid
     c.index_mut.ensures.value in
@@ -231,8 +224,7 @@ set_back-requires-clause-knows g c told =
 pub set_back-requires-clause-can : goal.set_back-requires-clause-can
 set_back-requires-clause-can g c told =
     let shape = g.P.Part.shape in
-    let split = g.P.Part.split in
-    let met = g.P.Part.met in
+    let known = g.P.Part.known in
     let inside = c.self.inside in
     let unit = c.args.unit in
     let number = c.args.number.0 in
@@ -243,29 +235,28 @@ set_back-requires-clause-can g c told =
     let v : StoreNow = record {
       log = inside.log;
       undo = inside.undo;
-      parts = map (part_now shape split met) inside.parts.items;
+      parts = map (part_now shape known) inside.parts.items;
       changed = map changed_by inside.changed.items;
       space = inside.space;
     } in
-    let before = part_now shape split met laid in
-    let found = laid-found shape split met inside.parts.items number c.deref.result.now
+    let before = part_now shape known laid in
+    let found = laid-found shape known inside.parts.items number c.deref.result.now
     c.index_of.result v.parts c.deref.ensures.value refl c.index_of.ensures c.in-Some.at
     c.in-Some.is laid
     c.index_mut.ensures.value in
     let is-set = subst (λ (s : StoreNow). IsSet s a) (sym c.self.view_is) c.requires.set in
-    subst (λ (n : ℕ). CanSet before.shape before.split a.cur
+    subst (λ (n : ℕ). CanSet before.shape before.known a.cur
     (lengths_kept (images_in v.undo) n) place item)
     (sym (number-at v a is-set number before found))
     (subst (λ (one : Option PartNow). IfSome one (λ (part : PartNow). CanSet part.shape
-    part.split a.cur (lengths_kept (images_in v.undo) number) place item)) found
+    part.known a.cur (lengths_kept (images_in v.undo) number) place item)) found
     (subst (λ (s : StoreNow). IsSettable s a.cur number place item) (sym c.self.view_is)
     (c.requires.can told)))
 
 pub returns-clause-back : goal.returns-clause-back
 returns-clause-back g c told =
     let shape = g.P.Part.shape in
-    let split = g.P.Part.split in
-    let met = g.P.Part.met in
+    let known = g.P.Part.known in
     let inside = c.self.inside in
     let unit = c.args.unit in
     let number = c.args.number.0 in
@@ -276,27 +267,27 @@ returns-clause-back g c told =
     let v : StoreNow = record {
       log = inside.log;
       undo = inside.undo;
-      parts = map (part_now shape split met) inside.parts.items;
+      parts = map (part_now shape known) inside.parts.items;
       changed = map changed_by inside.changed.items;
       space = inside.space;
     } in
-    let before = part_now shape split met laid in
-    let found = laid-found shape split met inside.parts.items number c.deref.result.now
+    let before = part_now shape known laid in
+    let found = laid-found shape known inside.parts.items number c.deref.result.now
     c.index_of.result v.parts c.deref.ensures.value refl c.index_of.ensures c.in-Some.at
     c.in-Some.is laid
     c.index_mut.ensures.value in
     let is-set = subst (λ (s : StoreNow). IsSet s a) (sym c.self.view_is) c.requires.set in
-    let now = part_now shape split met
+    let now = part_now shape known
     (record { number = laid.number; part = c.set_back.new.part }) in
-    let parts = map (part_now shape split met) (set inside.parts.items c.in-Some.at
+    let parts = map (part_now shape known) (set inside.parts.items c.in-Some.at
     (record { number = laid.number; part = c.set_back.new.part })) in
-    let at = laid-at shape split met inside.parts.items number c.deref.result.now
+    let at = laid-at shape known inside.parts.items number c.deref.result.now
     c.index_of.result v.parts c.deref.ensures.value refl c.index_of.ensures c.in-Some.at
     c.in-Some.is laid
     (record { number = laid.number; part = c.set_back.new.part }) c.index_mut.ensures.value in
     let changed = map changed_by c.set_back.new.changed.items in
     let b = g.B.Blocks.seen c.set_back.new.blocks in
-    let same = ap (λ (s : Shape). part-of laid.number s None []) c.set_back.ensures.part in
+    let same = ap (λ (s : Shape). part-split laid.number s None) c.set_back.ensures.part in
     on_ok_weaker c.set_back.result
     (λ back volume was old new from of put.
     let by = subst (λ (s : StoreNow). IsTakenFrom volume s unit old a) (sym c.self.view_is) from in
@@ -312,8 +303,7 @@ returns-clause-back g c told =
 pub returns-clause-moments : goal.returns-clause-moments
 returns-clause-moments g c told volume was old new from of put =
     let shape = g.P.Part.shape in
-    let split = g.P.Part.split in
-    let met = g.P.Part.met in
+    let known = g.P.Part.known in
     let inside = c.self.inside in
     let unit = c.args.unit in
     let number = c.args.number.0 in
@@ -324,12 +314,12 @@ returns-clause-moments g c told volume was old new from of put =
     let v : StoreNow = record {
       log = inside.log;
       undo = inside.undo;
-      parts = map (part_now shape split met) inside.parts.items;
+      parts = map (part_now shape known) inside.parts.items;
       changed = map changed_by inside.changed.items;
       space = inside.space;
     } in
-    let before = part_now shape split met laid in
-    let found = laid-found shape split met inside.parts.items number c.deref.result.now
+    let before = part_now shape known laid in
+    let found = laid-found shape known inside.parts.items number c.deref.result.now
     c.index_of.result v.parts c.deref.ensures.value refl c.index_of.ensures c.in-Some.at
     c.in-Some.is laid
     c.index_mut.ensures.value in
@@ -345,8 +335,7 @@ returns-clause-moments g c told volume was old new from of put =
 pub returns-clause-set : goal.returns-clause-set
 returns-clause-set g c =
     let shape = g.P.Part.shape in
-    let split = g.P.Part.split in
-    let met = g.P.Part.met in
+    let known = g.P.Part.known in
     let inside = c.self.inside in
     let unit = c.args.unit in
     let number = c.args.number.0 in
@@ -357,27 +346,27 @@ returns-clause-set g c =
     let v : StoreNow = record {
       log = inside.log;
       undo = inside.undo;
-      parts = map (part_now shape split met) inside.parts.items;
+      parts = map (part_now shape known) inside.parts.items;
       changed = map changed_by inside.changed.items;
       space = inside.space;
     } in
-    let before = part_now shape split met laid in
-    let found = laid-found shape split met inside.parts.items number c.deref.result.now
+    let before = part_now shape known laid in
+    let found = laid-found shape known inside.parts.items number c.deref.result.now
     c.index_of.result v.parts c.deref.ensures.value refl c.index_of.ensures c.in-Some.at
     c.in-Some.is laid
     c.index_mut.ensures.value in
     let is-set = subst (λ (s : StoreNow). IsSet s a) (sym c.self.view_is) c.requires.set in
-    let now = part_now shape split met
+    let now = part_now shape known
     (record { number = laid.number; part = c.set_back.new.part }) in
-    let parts = map (part_now shape split met) (set inside.parts.items c.in-Some.at
+    let parts = map (part_now shape known) (set inside.parts.items c.in-Some.at
     (record { number = laid.number; part = c.set_back.new.part })) in
-    let at = laid-at shape split met inside.parts.items number c.deref.result.now
+    let at = laid-at shape known inside.parts.items number c.deref.result.now
     c.index_of.result v.parts c.deref.ensures.value refl c.index_of.ensures c.in-Some.at
     c.in-Some.is laid
     (record { number = laid.number; part = c.set_back.new.part }) c.index_mut.ensures.value in
     let changed = map changed_by c.set_back.new.changed.items in
     let b = g.B.Blocks.seen c.set_back.new.blocks in
-    let same = ap (λ (s : Shape). part-of laid.number s None []) c.set_back.ensures.part in
+    let same = ap (λ (s : Shape). part-split laid.number s None) c.set_back.ensures.part in
     set-logged (record v { parts = parts }) v.log changed b refl is-set.sound is-set.idle
     (subst (λ (count : ℕ). All (λ (by : ChangedBy). All (λ n. n < count) by.blocks) changed)
     (sym c.set_back.ensures.count) (c.set_back.ensures.each is-set.changed))
@@ -387,8 +376,7 @@ returns-clause-set g c =
 pub returns-clause-parts : goal.returns-clause-parts
 returns-clause-parts g c =
     let shape = g.P.Part.shape in
-    let split = g.P.Part.split in
-    let met = g.P.Part.met in
+    let known = g.P.Part.known in
     let inside = c.self.inside in
     let unit = c.args.unit in
     let number = c.args.number.0 in
@@ -399,39 +387,38 @@ returns-clause-parts g c =
     let v : StoreNow = record {
       log = inside.log;
       undo = inside.undo;
-      parts = map (part_now shape split met) inside.parts.items;
+      parts = map (part_now shape known) inside.parts.items;
       changed = map changed_by inside.changed.items;
       space = inside.space;
     } in
-    let before = part_now shape split met laid in
-    let found = laid-found shape split met inside.parts.items number c.deref.result.now
+    let before = part_now shape known laid in
+    let found = laid-found shape known inside.parts.items number c.deref.result.now
     c.index_of.result v.parts c.deref.ensures.value refl c.index_of.ensures c.in-Some.at
     c.in-Some.is laid
     c.index_mut.ensures.value in
     let is-set = subst (λ (s : StoreNow). IsSet s a) (sym c.self.view_is) c.requires.set in
-    let now = part_now shape split met
+    let now = part_now shape known
     (record { number = laid.number; part = c.set_back.new.part }) in
-    let parts = map (part_now shape split met) (set inside.parts.items c.in-Some.at
+    let parts = map (part_now shape known) (set inside.parts.items c.in-Some.at
     (record { number = laid.number; part = c.set_back.new.part })) in
-    let at = laid-at shape split met inside.parts.items number c.deref.result.now
+    let at = laid-at shape known inside.parts.items number c.deref.result.now
     c.index_of.result v.parts c.deref.ensures.value refl c.index_of.ensures c.in-Some.at
     c.in-Some.is laid
     (record { number = laid.number; part = c.set_back.new.part }) c.index_mut.ensures.value in
     let changed = map changed_by c.set_back.new.changed.items in
     let b = g.B.Blocks.seen c.set_back.new.blocks in
-    let same = ap (λ (s : Shape). part-of laid.number s None []) c.set_back.ensures.part in
+    let same = ap (λ (s : Shape). part-split laid.number s None) c.set_back.ensures.part in
     subst (λ (s : StoreNow). OnlyMet number s.parts parts) c.self.view_is
     (only-met number before now v.parts parts at refl
-    (ap (λ (s : Shape). part-of laid.number s (split c.set_back.new.part) [])
+    (ap (λ (s : Shape). part-split laid.number s (known c.set_back.new.part).split)
     c.set_back.ensures.part
-    ∙ ap (λ (s : Option SplitNow). part-of laid.number (shape laid.part) s [])
+    ∙ ap (λ (s : Option SplitNow). part-split laid.number (shape laid.part) s)
     c.set_back.ensures.split))
 
 pub returns-clause-reads : goal.returns-clause-reads
 returns-clause-reads g c asked =
     let shape = g.P.Part.shape in
-    let split = g.P.Part.split in
-    let met = g.P.Part.met in
+    let known = g.P.Part.known in
     let inside = c.self.inside in
     let unit = c.args.unit in
     let number = c.args.number.0 in
@@ -442,24 +429,25 @@ returns-clause-reads g c asked =
     let v : StoreNow = record {
       log = inside.log;
       undo = inside.undo;
-      parts = map (part_now shape split met) inside.parts.items;
+      parts = map (part_now shape known) inside.parts.items;
       changed = map changed_by inside.changed.items;
       space = inside.space;
     } in
-    let before = part_now shape split met laid in
-    let found = laid-found shape split met inside.parts.items number c.deref.result.now
+    let before = part_now shape known laid in
+    let found = laid-found shape known inside.parts.items number c.deref.result.now
     c.index_of.result v.parts c.deref.ensures.value refl c.index_of.ensures c.in-Some.at
     c.in-Some.is laid
     c.index_mut.ensures.value in
     let is-set = subst (λ (s : StoreNow). IsSet s a) (sym c.self.view_is) c.requires.set in
     c.set_back.ensures.reads
-    (subst (λ (one : Option PartNow). IfSome one (λ (part : PartNow). HasMet part.met place)) found
-    (subst (λ (s : StoreNow). IfSome (part_among s.parts number) (λ part. HasMet part.met place))
+    (subst (λ (one : Option PartNow). IfSome one (λ (part : PartNow). HasMet part.known place))
+    found
+    (subst (λ (s : StoreNow). IfSome (part_among s.parts number) (λ part. HasMet part.known place))
     (sym c.self.view_is) asked))
 
 pub unreachable-requires : goal.unreachable-requires
 unreachable-requires g c =
-    c.requires.part (none-laid g.P.Part.shape g.P.Part.split g.P.Part.met c.self.inside.parts.items
+    c.requires.part (none-laid g.P.Part.shape g.P.Part.known c.self.inside.parts.items
     c.args.number.0 c.deref.result.now c.index_of.result c.args.self.now.parts
     c.deref.ensures.value (ap (λ (s : StoreNow). s.parts) c.self.view_is)
     c.index_of.ensures c.in-None.is)

@@ -22,7 +22,7 @@ pub returns-then-prepared-clause-set : goal.returns-then-prepared-clause-set
 returns-then-prepared-clause-set g c set =
     let now = g.B.Blocks.seen c.args.blocks.now in
     let inside = c.self.inside in
-    let parts = map (part_now g.P.Part.shape g.P.Part.split g.P.Part.met) inside.parts.items in
+    let parts = map (part_now g.P.Part.shape g.P.Part.known) inside.parts.items in
     let is-set = subst (λ (store : StoreNow). IsSet store now) (sym c.self.view_is) set in
     set-changed _ now (map changed_by inside.changed.items) c.unkeep.new.self
     (λ count all. all)

@@ -27,6 +27,6 @@ returns-clause-held g c told contents catalog keyed geometry records sound count
           (sym same)
           (subst (λ (s : StoreNow). IsStored c.args.number s opening seen) (sym c.new.ensures)
           (opened-stored c.args.number c.args.log
-          (map (part_now g.P.Part.shape g.P.Part.split g.P.Part.met) c.args.parts.items) contents
+          (map (part_now g.P.Part.shape g.P.Part.known) c.args.parts.items) contents
           space seen records sound opened (g.met.B.Blocks.cur_may c.args.blocks told)));
     }
