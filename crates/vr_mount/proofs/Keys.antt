@@ -79,7 +79,8 @@ none_elsewhere (KeyedShape part) image stands place other =
     let keys : AreKeys part.key content =
     subst (AreKeys part.key) (sym stands.1.records)
     (keys-content part image None (entries_of (block_at image part.head)) stands.1.intervals) in
-    ap (option_and_then record_of) (sym (content_item (KeyedShape part) image content stands.1 place)
+    ap (option_and_then record_of)
+    (sym (content_item (KeyedShape part) image content stands.1 place)
     ∙ none-record place content (none_of part.key content place keys other))
 
 -- one of that length is the part's

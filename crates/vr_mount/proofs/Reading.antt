@@ -27,15 +27,15 @@ use Rattle.vr_mount.specs.declared.no.ListNo.TheVariants.{Memory}
 
 -- ---- what is at a place
 
-record-by : (order : Ordering) (item : Item) (further : Option Item) (record_further : Option (List ℕ))
-    → record_further ≡ option_and_then record_of further
+record-by : (order : Ordering) (item : Item) (further : Option Item)
+    (record_further : Option (List ℕ)) → record_further ≡ option_and_then record_of further
     → found_by order (record_of item) record_further
     ≡ option_and_then record_of (found_by order (Some item) further)
 record-by Less item further record_further same = same
 record-by Equal item further record_further same = refl
 record-by Greater item further record_further same = same
 
--- the record at a place is the one that the item there is
+-- the record at a place is that of the item there
 item-record : (content : Content) (place : List ℕ)
     → record_at content place ≡ option_and_then record_of (item_at content place)
 item-record [] place = refl
