@@ -17,11 +17,12 @@ use Rattle.vr_space.specs.Keyed.{lengths_of, entry_for}
 use Rattle.vr_space.specs.Split.{SplitNow, free_interval, keyed_room, room_by, room_by_split}
 use Rattle.vr_space.specs.Met.{Met, IsMet}
 use Rattle.vr_space.specs.Split.{room_after, stage_in, fits_in}
-use Rattle.vr_space.specs.Part.{KeyedShape, Stands, InPart, Nothing, HasRoom}
+use Rattle.vr_space.specs.Part.{KeyedShape, Stands, InPart, IsSound, Nothing, HasRoom}
 use Rattle.vr_space.proofs.CallerLemmas.{rest-stands, found-in, nothing-then, records-then}
 use Rattle.vr_space.proofs.CallerLemmas.{keeps-adds, same-keeps, keeps-rooms, room-keeps}
 use Rattle.vr_space.proofs.CallerLemmas.{due-then, due-keeps}
 use Rattle.vr_split.specs.Switching.{KeepsPart, IsStageDone}
+use Rattle.vr_split.proofs.CallerLemmas.{all_of, all-owned}
 use Rattle.vr_split.specs.Splits.{stage_now}
 use Rattle.vr_keyed.specs.Advance.{IsDue}
 use Rattle.vr_keyed.specs.Planned.{LacksRoom}
@@ -69,7 +70,8 @@ module _ (part : Keyed) (now : Seen) (left : Left now now.cur) (rests : IsKeyedA
   head = rests.sound.heads (block_at now.cur part.head) top-may
 
   stands : Stands (KeyedShape part) now.cur
-  stands = rest-stands (KeyedShape part) now rests.sound left
+  stands =
+      rest-stands (KeyedShape part) (all_of part) now (rests.sound, all-owned part) left
 
   -- it lacks room, and an interval is free
   pub due-new : IsDueNew
@@ -198,29 +200,38 @@ copy-stage part (Some split) after image kept place n none due copy kind is = ab
 
 module _ (tells : Bool) (told : IsTrue tells) (part : Keyed) (kept : Lengths) (a b c : Seen)
     (call : Keeps tells a b) (rests : IsKeyedAtRest part a) (room : KeepsRoom part kept a) where
+  -- whichever blocks are the part's
+  any-sound : IsSound (KeyedShape part) (all_of part) a
+  any-sound = (rests.sound, all-owned part)
+
   pub part-after : KeepsPart part kept b c → KeepsPart part kept a c
   part-after after = record {
-    adds = nothing-then (KeyedShape part) Nothing a b c
-        (keeps-adds tells told (KeyedShape part) a b call rests.sound) after.adds;
+    adds = λ owners owned. nothing-then (KeyedShape part) owners Nothing a b c
+        (keeps-adds tells told (KeyedShape part) owners a b call (rests.sound, owned))
+        (after.adds owners owned);
     same = records-then (KeyedShape part) a.cur b.cur c.cur
         (same-keeps tells told (KeyedShape part) a b call) after.same;
     room = after.room;
-    rooms = touches-then (InPart (KeyedShape part)) (HasRoom (KeyedShape part) kept) a b c
-        (keeps-rooms tells told (KeyedShape part) kept a b call rests.sound room) after.rooms;
+    rooms = λ owners owned. touches-then (InPart (KeyedShape part) owners)
+        (HasRoom (KeyedShape part) kept) a b c
+        (keeps-rooms tells told (KeyedShape part) owners kept a b call (rests.sound, owned) room)
+        (after.rooms owners owned);
   }
 
   -- or nothing more
   pub part-kept : KeepsPart part kept a b
   part-kept = record {
-    adds = keeps-adds tells told (KeyedShape part) a b call rests.sound;
+    adds = λ owners owned. keeps-adds tells told (KeyedShape part) owners a b call
+        (rests.sound, owned);
     same = same-keeps tells told (KeyedShape part) a b call;
-    room = room-keeps tells told (KeyedShape part) kept a b call rests.sound room;
-    rooms = keeps-rooms tells told (KeyedShape part) kept a b call rests.sound room;
+    room = room-keeps tells told (KeyedShape part) (all_of part) kept a b call any-sound room;
+    rooms = λ owners owned. keeps-rooms tells told (KeyedShape part) owners kept a b call
+        (rests.sound, owned) room;
   }
 
   pub done-after : IsStageDone part b c → IsStageDone part a c
   done-after after = record {
     rests = after.rests;
     due = due-then (KeyedShape part) [] a b c
-        (due-keeps tells told (KeyedShape part) a b call rests.sound) after.due;
+        (due-keeps tells told (KeyedShape part) (all_of part) a b call any-sound) after.due;
   }

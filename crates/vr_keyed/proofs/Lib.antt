@@ -19,3 +19,4 @@ pub mod StageKinds
 pub mod Keeping
 pub mod Attaching
 pub mod Walking
+pub mod Owning

@@ -9,12 +9,14 @@ use Rattle.vr_types.specs.Seen.{Seen, Left}
 use Rattle.vr_types.specs.Blocks.{Keeps}
 use Rattle.vr_types.proofs.CallerLemmas.{touches-then}
 use Rattle.vr_space.specs.Room.{Lengths}
-use Rattle.vr_space.specs.Keyed.{Keyed}
+use Rattle.vr_space.specs.Keyed.{Keyed, KeepsRoom}
 use Rattle.vr_space.specs.Known.{Known}
 use Rattle.vr_space.specs.Met.{Met}
-use Rattle.vr_space.specs.Part.{KeyedShape, InPart, HasRoom, CanSet, SetsOne, Just}
+use Rattle.vr_space.specs.Part.{KeyedShape, InPart, IsSound, HasRoom, CanSet, SetsOne, Just}
+use Rattle.vr_space.specs.Part.{Nothing}
 use Rattle.vr_space.proofs.CallerLemmas.{rest-keeps, room-keeps, way-keeps, keeps-adds, keeps-rooms}
-use Rattle.vr_space.proofs.CallerLemmas.{nothing-then, due-keeps, due-at-then}
+use Rattle.vr_space.proofs.CallerLemmas.{adds-weaken, nothing-then, due-keeps, due-at-then}
+use Rattle.vr_split.proofs.CallerLemmas.{all_of, all-owned}
 use Rattle.vr_keyed.specs.Slots.{HasMetPlace, met_places}
 use Rattle.vr_keyed.specs.Ready.{IsReady, MaySet, IsSetNow}
 
@@ -22,11 +24,20 @@ module _ (part : Keyed) (kept : Lengths) (known : Known) (place : List ℕ)
     (item : Option (List ℕ)) (tells : Bool) (told : IsTrue tells) (a m : Seen)
     (call : Keeps tells a m) (left : Left a a.cur) (ready : IsReady part kept known place item a)
   where
+    -- whichever blocks are the part's
+    any-sound : IsSound (KeyedShape part) (all_of part) a
+    any-sound = (ready.rests.sound, all-owned part)
+
+    room-still : KeepsRoom part kept m
+    room-still =
+        room-keeps tells told (KeyedShape part) (all_of part) kept a m call any-sound ready.room
+
     pub ready-keeps : IsReady part kept known place item m
     ready-keeps = record {
-      rests = rest-keeps tells told (KeyedShape part) a m call ready.rests;
-      room = room-keeps tells told (KeyedShape part) kept a m call ready.rests.sound ready.room;
-      way = way-keeps tells told (KeyedShape part) known a m call ready.rests.sound left
+      rests = (rest-keeps tells told (KeyedShape part) (all_of part) a m call
+          (ready.rests, all-owned part)).0;
+      room = room-still;
+      way = way-keeps tells told (KeyedShape part) (all_of part) known a m call any-sound left
           ready.way;
       can = subst (λ (image : Image). CanSet (KeyedShape part) known image kept place item)
           (sym (call.content told)) ready.can;
@@ -36,23 +47,27 @@ module _ (part : Keyed) (kept : Lengths) (known : Known) (place : List ℕ)
     -- where nothing more is done
     pub may-keeps : MaySet part kept place item a m
     may-keeps = record {
-      adds = Rattle.vr_space.proofs.CallerLemmas.adds-weaken (KeyedShape part)
-          Rattle.vr_space.specs.Part.Nothing (Just place (option_map Standing item)) a m
-          (keeps-adds tells told (KeyedShape part) a m call ready.rests.sound)
+      adds = λ owners owned. adds-weaken (KeyedShape part) owners Nothing
+          (Just place (option_map Standing item)) a m
+          (keeps-adds tells told (KeyedShape part) owners a m call (ready.rests.sound, owned))
           (λ p i none. absurd none);
-      room = room-keeps tells told (KeyedShape part) kept a m call ready.rests.sound ready.room;
-      rooms = keeps-rooms tells told (KeyedShape part) kept a m call ready.rests.sound
-          ready.room;
+      room = room-still;
+      rooms = λ owners owned. keeps-rooms tells told (KeyedShape part) owners kept a m call
+          (ready.rests.sound, owned) ready.room;
     }
 
     pub may-then : (b : Seen) → MaySet part kept place item m b → MaySet part kept place item a b
     may-then b may = record {
-      adds = nothing-then (KeyedShape part) (Just place (option_map Standing item)) a m b
-          (keeps-adds tells told (KeyedShape part) a m call ready.rests.sound) may.adds;
+      adds = λ owners owned. nothing-then (KeyedShape part) owners
+          (Just place (option_map Standing item)) a m b
+          (keeps-adds tells told (KeyedShape part) owners a m call (ready.rests.sound, owned))
+          (may.adds owners owned);
       room = may.room;
-      rooms = touches-then (InPart (KeyedShape part)) (HasRoom (KeyedShape part) kept) a m b
-          (keeps-rooms tells told (KeyedShape part) kept a m call ready.rests.sound ready.room)
-          may.rooms;
+      rooms = λ owners owned. touches-then (InPart (KeyedShape part) owners)
+          (HasRoom (KeyedShape part) kept) a m b
+          (keeps-rooms tells told (KeyedShape part) owners kept a m call
+          (ready.rests.sound, owned) ready.room)
+          (may.rooms owners owned);
     }
 
     pub done-then : (b : Seen) (put : List ℕ) → IsSetNow part known put place item m b
@@ -61,7 +76,7 @@ module _ (part : Keyed) (kept : Lengths) (known : Known) (place : List ℕ)
       set = subst (λ (image : Image). SetsOne (KeyedShape part) place item image b.cur)
           (call.content told) done.set;
       due = due-at-then (KeyedShape part) place put a m b
-          (due-keeps tells told (KeyedShape part) a m call ready.rests.sound) done.due;
+          (due-keeps tells told (KeyedShape part) (all_of part) a m call any-sound) done.due;
       rests = done.rests;
       way = done.way;
     }

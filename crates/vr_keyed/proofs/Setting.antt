@@ -29,14 +29,14 @@ use Rattle.vr_space.specs.Way.{found_on, MayFind, MayOnceForced}
 use Rattle.vr_space.specs.Room.{Lengths, Range, HaveRoom, is_in, weight, with_length}
 use Rattle.vr_space.specs.Keyed.{Keyed, IsHead, IsKept, HoldsRange, EachMayLeave, items_of, key_of}
 use Rattle.vr_space.specs.Keyed.{records_of, lengths_of, entries_of, entry_block, entry_for}
-use Rattle.vr_space.specs.Keyed.{range_of}
-use Rattle.vr_space.specs.Keyed.{way_in}
+use Rattle.vr_space.specs.Keyed.{InArea, range_of, way_in}
 use Rattle.vr_space.specs.Known.{Known}
 use Rattle.vr_space.specs.Split.{SplitNow, stage_at, stage_in}
 use Rattle.vr_space.specs.Met.{Met, IsMet}
-use Rattle.vr_space.specs.Part.{KeyedShape, InPart, IsRecordOf, HasRoomFor, IsDueTo, SetsOne, item_of}
+use Rattle.vr_space.specs.Part.{KeyedShape, IsRecordOf, HasRoomFor, IsDueTo, SetsOne, item_of}
 use Rattle.vr_space.proofs.CallerLemmas.{found-in, IsSplitBlock, way-puts, same_is_equal}
 use Rattle.vr_split.specs.Switching.{OfBlock}
+use Rattle.vr_split.proofs.CallerLemmas.{all_of, all-owned}
 use Rattle.vr_split.proofs.CallerLemmas.{now-entries, KeepsOthers, of-found, set-adds, head-still}
 use Rattle.vr_split.proofs.CallerLemmas.{led-is, rest-after, room-after, rooms-after}
 use Rattle.vr_split.proofs.CallerLemmas.{sets-one, due-put, head-apart, of-same, found-range}
@@ -173,7 +173,7 @@ module _ (part : Keyed) (kept : Lengths) (known : Known) (place : List ℕ)
   other : met.number ≢ part.head
   other same = omega (arith, is.number, same)
 
-  pub inside-part : InPart (KeyedShape part) met.number
+  pub inside-part : InArea part met.number
   inside-part = (omega (arith, is.number), omega (arith, is.number, in-area))
 
   within : met.number < a.count
@@ -303,7 +303,7 @@ module _ (part : Keyed) (kept : Lengths) (known : Known) (place : List ℕ)
             inside-part ready.room of-holds of-room;
       }
 
-      off-split : (now : SplitNow) → known.split ≡ Some now → (m : ℕ) → InPart (KeyedShape part) m
+      off-split : (now : SplitNow) → known.split ≡ Some now → (m : ℕ) → InArea part m
           → IsSplitBlock part now m → m ≢ met.number
       off-split now some m within_part named same =
           let stage : stage_at known.split is.entry ≡ None =
@@ -377,7 +377,7 @@ module _ (part : Keyed) (kept : Lengths) (known : Known) (place : List ℕ)
             (once.1 (within_list met.number (Contains-push [] met.number)))
             ∙ sym (read-now q found leads_q there)) either) due;
         rests = rest-after part tells told a b met.number bytes ready.rests call other
-            may-set.adds.sound;
+            (may-set.adds (all_of part) (all-owned part)).sound.0;
         way = way-puts tells told part known.split met.number bytes a b call ready.rests.sound left
             off-split ready.way;
       }

@@ -6,9 +6,10 @@ use Rattle.vr_types.specs.Image.{Block}
 use Rattle.vr_types.specs.Regions.{Touches}
 use Rattle.vr_types.specs.Seen.{Seen}
 use Rattle.vr_space.specs.Room.{Lengths}
-use Rattle.vr_space.specs.Keyed.{Keyed, IsKeyedAtRest, KeepsRoom}
+use Rattle.vr_space.specs.Keyed.{Keyed, IsKeyedAtRest, IsOwned, KeepsRoom}
 use Rattle.vr_space.specs.Known.{Known}
 use Rattle.vr_space.specs.Met.{Met}
+use Rattle.vr_space.specs.Owners.{Owners}
 use Rattle.vr_space.specs.Part.{KeyedShape, InPart, IsRecordOf, CanSet, AddsTo, Just, SetsOne}
 use Rattle.vr_space.specs.Part.{DueMoreAt, HasRoom, IsUnderWay}
 
@@ -22,12 +23,15 @@ pub record IsReady (part : Keyed) (kept : Lengths) (known : Known) (place : List
   pub valid : IfSome bytes (IsRecordOf (KeyedShape part) place)
 
 -- Whether it failed or not: at most this is added at the place, and there is room for what is kept,
--- in the image of each moment and from then on.
+-- in the image of each moment and from then on: whichever blocks are the part's, beside those of
+-- its area.
 pub record MaySet (part : Keyed) (kept : Lengths) (place : List ℕ) (bytes : Option (List ℕ))
     (old new : Seen) : Type 0 where
-  pub adds : AddsTo (KeyedShape part) (Just place (option_map Standing bytes)) old new
+  pub adds : (owners : Owners) → IsOwned part owners
+      → AddsTo (KeyedShape part) owners (Just place (option_map Standing bytes)) old new
   pub room : KeepsRoom part kept new
-  pub rooms : Touches (InPart (KeyedShape part)) (HasRoom (KeyedShape part) kept) old new
+  pub rooms : (owners : Owners) → IsOwned part owners
+      → Touches (InPart (KeyedShape part) owners) (HasRoom (KeyedShape part) kept) old new
 
 -- It is set: these blocks have to be forced for it, and the part is at rest, with the split that
 -- was under way.

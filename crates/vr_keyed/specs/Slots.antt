@@ -3,9 +3,8 @@ use Rattle.std.specs.Prelude.{◌≡◌, ◌<◌, ℕ, Bool, true, false, List, 
 use Rattle.std.specs.Prelude.{None, Contains, map, take, vec_len}
 use Rattle.vr_types.specs.Image.{Block}
 use Rattle.vr_seqset.specs.Entry.{Entry}
-use Rattle.vr_space.specs.Keyed.{Keyed, entries_of, entry_block, entry_for}
+use Rattle.vr_space.specs.Keyed.{InArea, Keyed, entries_of, entry_block, entry_for}
 use Rattle.vr_space.specs.Met.{Met}
-use Rattle.vr_space.specs.Part.{KeyedShape, InPart}
 use Rattle.vr_keyed.specs.declared.slot.Slot.{Slot}
 use Rattle.vr_keyed.specs.declared.slots.Slots.{Slots}
 
@@ -28,7 +27,7 @@ pub record IsSlotOf (part : Keyed) (slot : Slot) : Type 0 where
   pub place : slot.place.room ≡ part.key
   pub low : slot.low.room ≡ part.key
   pub high : slot.high.room ≡ part.key
-  pub number : InPart (KeyedShape part) slot.number
+  pub number : InArea part slot.number
   pub bytes : vec_len slot.bytes ≡ part.size
 
 -- The head leads from the place to the block, by an entry of the range.

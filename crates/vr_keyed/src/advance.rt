@@ -5,7 +5,6 @@ ghost use Rattle.std.specs.Prelude.{IfOk, IfErr, OnOk, OnErr, IfSome, IsSome, Is
 ghost use Rattle.vr_types.specs.Image.{Image, block_at};
 ghost use Rattle.vr_types.specs.Blocks.{Keeps};
 ghost use Rattle.vr_types.specs.Faults.{HasCause};
-ghost use Rattle.vr_types.specs.Regions.{Touches};
 ghost use Rattle.vr_types.specs.declared.fault.DeviceFault.TheVariants.{Read};
 ghost use Rattle.vr_types.specs.declared.unit.StageKind.TheVariants as stages;
 ghost use Rattle.vr_space.specs.declared.room.Room.TheVariants as answers;
@@ -14,17 +13,7 @@ ghost use Rattle.vr_space.specs.Keyed.{IsKeyedAtRest, KeepsRoom};
 ghost use Rattle.vr_space.specs.Split.{SplitNow, keyed_room};
 ghost use Rattle.vr_space.specs.UnderWay.{KeyedUnderWay};
 ghost use Rattle.vr_space.specs.Met.{IsMet};
-ghost use Rattle.vr_space.specs.Part.{
-  KeyedShape,
-  IsOn,
-  InPart,
-  AddsTo,
-  Nothing,
-  SameRecords,
-  DueMore,
-  HasRoom,
-  part_no,
-};
+ghost use Rattle.vr_space.specs.Part.{KeyedShape, IsOn, part_no};
 ghost use Rattle.vr_split.specs.Switching.{KeepsPart, IsStageDone};
 ghost use Rattle.vr_split.specs.Splits.{stage_now, after_stage, after_fault};
 ghost use Rattle.vr_keyed.specs.Lent.{HasRoomFor};

@@ -5,8 +5,8 @@ ghost use Rattle.std.specs.Io.BufRead.{Rests};
 ghost use Rattle.vr_types.specs.Image.{block_at};
 ghost use Rattle.vr_types.specs.Blocks.{Keeps};
 ghost use Rattle.vr_types.specs.Faults.{HasCause};
-ghost use Rattle.vr_space.specs.Keyed.{IsHead};
-ghost use Rattle.vr_space.specs.Part.{KeyedShape, IsOn, InPart, Stands, record_read};
+ghost use Rattle.vr_space.specs.Keyed.{InArea, IsHead};
+ghost use Rattle.vr_space.specs.Part.{KeyedShape, IsOn, Stands, record_read};
 ghost use Rattle.vr_keyed.specs.Look.{LeadsTo};
 
 use vr_space::{Layout, entry_for, record_at};
@@ -20,7 +20,7 @@ fn block_for<B: Blocks>(blocks: &mut B, layout: &Layout, place: &[u8]) -> Result
         → IsHead layout.now (block_at (B.seen blocks.old).cur layout.now.head) }
     ensures leads { IsTrue B.tells → IfOk result
         (LeadsTo layout.now (block_at (B.seen blocks.old).cur layout.now.head) place.now) }
-    ensures inside { IfOk result (InPart (KeyedShape layout.now)) }
+    ensures inside { IfOk result (InArea layout.now) }
     ensures keeps { Keeps B.tells (B.seen blocks.old) (B.seen blocks.new) }
     ensures cause { HasCause (B.faults blocks.old) (B.faults blocks.new) result }
 {

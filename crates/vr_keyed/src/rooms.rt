@@ -4,9 +4,9 @@ ghost use Rattle.std.specs.List.{slice_get};
 ghost use Rattle.vr_types.specs.Image.{block_at};
 ghost use Rattle.vr_types.specs.Blocks.{Keeps};
 ghost use Rattle.vr_types.specs.Faults.{HasCause};
-ghost use Rattle.vr_space.specs.Keyed.{HoldsRange, IsHead, entries_of};
+ghost use Rattle.vr_space.specs.Keyed.{HoldsRange, InArea, IsHead, entries_of};
 ghost use Rattle.vr_space.specs.Lent.{range_lent};
-ghost use Rattle.vr_space.specs.Part.{HasRoom, InPart, IsOn, KeyedShape, Stands, part_no};
+ghost use Rattle.vr_space.specs.Part.{HasRoom, IsOn, KeyedShape, Stands, part_no};
 ghost use Rattle.vr_attach.specs.Damage.{HoldsNth};
 ghost use Rattle.vr_keyed.specs.Lent.{ArePlaces, HasRoomFor};
 ghost use Rattle.vr_keyed.specs.Rooms.{HasRoomIn, HasRoomNth, HaveRoomsAll};
@@ -26,7 +26,7 @@ fn has_room_in<B: Blocks, K: Kept>(
     weights: &mut Weights,
 ) -> Result<bool, DeviceFault>
     requires on { IsOn (KeyedShape layout.now) (B.seen blocks.old) }
-    requires inside { InPart (KeyedShape layout.now) number }
+    requires inside { InArea layout.now number }
     requires kept { ArePlaces layout.now.key (K.kept kept.now (part_no (KeyedShape layout.now))) }
     requires weights { HasRoomFor layout.now weights.old }
     ensures room { IsTrue B.tells → HoldsRange layout.now (range_lent range.now)

@@ -6,10 +6,10 @@ ghost use Rattle.vr_types.specs.Blocks.{Keeps};
 ghost use Rattle.vr_types.specs.Faults.{HasCause, HasWriteCause};
 ghost use Rattle.vr_types.specs.declared.fault.DeviceFault.TheVariants.{Read, Write};
 ghost use Rattle.vr_space.specs.Room.{Lengths};
-ghost use Rattle.vr_space.specs.Keyed.{Keyed, IsHead};
+ghost use Rattle.vr_space.specs.Keyed.{InArea, Keyed, IsHead};
 ghost use Rattle.vr_space.specs.Known.{Known};
 ghost use Rattle.vr_space.specs.Met.{IsMet};
-ghost use Rattle.vr_space.specs.Part.{KeyedShape, IsOn, InPart, given};
+ghost use Rattle.vr_space.specs.Part.{KeyedShape, IsOn, given};
 ghost use Rattle.vr_keyed.specs.Slots.{IsSlotOf, AreSlotsOf, IsFirst, met_in, mets};
 ghost use Rattle.vr_keyed.specs.Slots.{HasMetPlace, met_places};
 ghost use Rattle.vr_keyed.specs.Ready.{IsReady, MaySet, IsSetNow, put_of, refreshed};
@@ -76,7 +76,7 @@ fn put_set<B: Blocks>(
     ensures met { IsTrue B.tells → OnOk result ((kept : Lengths) (known : Known)
         → IsReady layout.now kept known place.now (given bytes.entry) (B.seen blocks.old)
         → All (IsMet layout.now (B.seen blocks.new).cur) (mets slots.new)) }
-    ensures put { IfOk result (λ put. All (InPart (KeyedShape layout.now)) (put_of put)) }
+    ensures put { IfOk result (λ put. All (InArea layout.now) (put_of put)) }
     ensures count { (B.seen blocks.new).count ≡ (B.seen blocks.old).count }
     ensures size { (B.seen blocks.new).size ≡ (B.seen blocks.old).size }
     ensures cause { HasWriteCause (B.faults blocks.old) (B.faults blocks.new) result }
@@ -119,7 +119,7 @@ fn set_second<B: Blocks>(
     ensures met { IsTrue B.tells → OnOk result ((kept : Lengths) (known : Known)
         → IsReady layout.now kept known place.now (given bytes.entry) (B.seen blocks.old)
         → All (IsMet layout.now (B.seen blocks.new).cur) (mets slots.new)) }
-    ensures put { IfOk result (λ put. All (InPart (KeyedShape layout.now)) (put_of put)) }
+    ensures put { IfOk result (λ put. All (InArea layout.now) (put_of put)) }
     ensures count { (B.seen blocks.new).count ≡ (B.seen blocks.old).count }
     ensures size { (B.seen blocks.new).size ≡ (B.seen blocks.old).size }
     ensures cause { HasWriteCause (B.faults blocks.old) (B.faults blocks.new) result }
@@ -167,7 +167,7 @@ pub(crate) fn set<B: Blocks>(
     ensures unread { IfErr result (λ fault. fault ≡ Read
         → Keeps B.tells (B.seen blocks.old) (B.seen blocks.new)
         × (IsTrue B.tells → All (IsMet layout.now (B.seen blocks.new).cur) (mets slots.new))) }
-    ensures put { IfOk result (λ put. All (InPart (KeyedShape layout.now)) (put_of put)) }
+    ensures put { IfOk result (λ put. All (InArea layout.now) (put_of put)) }
     ensures count { (B.seen blocks.new).count ≡ (B.seen blocks.old).count }
     ensures size { (B.seen blocks.new).size ≡ (B.seen blocks.old).size }
     ensures cause { HasCause (B.faults blocks.old) (B.faults blocks.new) result }

@@ -17,7 +17,8 @@ use Rattle.vr_space.specs.Way.{found_on, MayFind, MayOnceForced}
 use Rattle.vr_space.specs.Room.{Lengths, Range, HaveRoom}
 use Rattle.vr_space.specs.Keyed.{Keyed, HoldsRange, IsKeyedSound, IsKeyedAtRest}
 use Rattle.vr_space.specs.Keyed.{KeepsRoom, lengths_of, entries_of, entry_block, records_of}
-use Rattle.vr_space.specs.Keyed.{entry_for, way_in, way_under}
+use Rattle.vr_space.specs.Keyed.{InArea, IsOwned, entry_for, way_in, way_under}
+use Rattle.vr_space.specs.Owners.{Owners}
 use Rattle.vr_space.specs.Part.{KeyedShape, SetsOne, IsDueTo, HasRoom, InPart, item_of}
 use Rattle.vr_space.proofs.CallerLemmas.{each-less, head-in, entry-in, room-image}
 use Rattle.vr_split.proofs.Puts.{also, OfBlock, each-also, now-entries, KeepsOthers, equal_or}
@@ -84,16 +85,17 @@ module _ (part : Keyed) (tells : Bool) (told : IsTrue tells) (a b : Seen) (n : �
 
     -- and so has the image of each moment
     pub rooms-after : (kept : Lengths) → IsKeyedAtRest part a → Puts tells n bytes a b
-        → n ≢ part.head → InPart (KeyedShape part) n → KeepsRoom part kept a
+        → n ≢ part.head → InArea part n → KeepsRoom part kept a
         → OfBlock part n None (now-entries part a n bytes) (λ range. HoldsRange part range bytes)
         → OfBlock part n None (now-entries part a n bytes)
         (λ range. HaveRoom part.size (lengths_of part kept range bytes))
-        → Touches (InPart (KeyedShape part)) (HasRoom (KeyedShape part) kept) a b
-    rooms-after kept rests call other inside room holds of =
-        puts-touches tells (InPart (KeyedShape part)) (HasRoom (KeyedShape part) kept) n bytes a b
-        told inside call
-        (room-image (KeyedShape part) kept (also a n bytes)
-        (interval-sound part a n bytes rests other holds) (room-also kept rests other room of))
+        → (owners : Owners) → IsOwned part owners
+        → Touches (InPart (KeyedShape part) owners) (HasRoom (KeyedShape part) kept) a b
+    rooms-after kept rests call other inside room holds of owners owned =
+        puts-touches tells (InPart (KeyedShape part) owners) (HasRoom (KeyedShape part) kept) n
+        bytes a b told (owned n inside) call
+        (room-image (KeyedShape part) owners kept (also a n bytes)
+        (interval-sound part a n bytes rests other holds, owned) (room-also kept rests other room of))
 
     -- how a place is read by way of the same head
     read-after : Puts tells n bytes a b → n ≢ part.head → (place : List ℕ)

@@ -1,5 +1,6 @@
 -- What the crates above cite: how the entries of a head lead, and what a put into an interval
--- leaves of a keyed part; and lengths with a place more.
+-- leaves of a keyed part, whichever blocks are its own; and lengths with a place more.
+pub use Rattle.vr_split.proofs.Owned.{all_of, all-owned}
 pub use Rattle.vr_split.proofs.Puts.{also, now-entries, KeepsOthers, of-found, set-adds, head-still}
 pub use Rattle.vr_split.proofs.Puts.{current-held, led-is, after-put, equal_or}
 pub use Rattle.vr_split.proofs.After.{rest-after, room-after, rooms-after, sets-one, due-put}

@@ -23,7 +23,7 @@ use Rattle.vr_space.specs.Room.{Lengths, Range, HaveRoom, is_in, weight}
 use Rattle.vr_space.specs.Keyed.{Keyed, HoldsRange, EachMayLeave, IsKeyedSound, IsKeyedAtRest}
 use Rattle.vr_space.specs.Keyed.{KeepsRoom, entries_of, items_of, length_of}
 use Rattle.vr_space.specs.Keyed.{lengths_of, placed, range_of, key_of}
-use Rattle.vr_space.specs.Part.{KeyedShape}
+use Rattle.vr_space.specs.Part.{KeyedShape, IsSound}
 use Rattle.vr_space.specs.Split.{SplitNow}
 use Rattle.vr_space.specs.UnderWay.{KeyedUnderWay, IsBegun, IsCopied, IsSwitched, interval_block}
 use Rattle.vr_space.proofs.CallerLemmas.{keeps-adds, same-keeps, room-keeps, rest-keeps, due-keeps}
@@ -36,6 +36,7 @@ use Rattle.vr_split.proofs.Ready.{head-now, old-holds, old-block, into-block, in
 use Rattle.vr_split.proofs.Ready.{can-halve, into-in}
 use Rattle.vr_split.proofs.EachStage.{can-copy, can-switch, can-clean, clean-holds, settled-old}
 use Rattle.vr_split.proofs.EachStage.{copied-after, switched-after}
+use Rattle.vr_split.proofs.Owned.{all_of, all-owned}
 use Rattle.vr_split.proofs.StageLemmas.{keeps-then, done-then}
 
 -- ---- room where nothing is kept
@@ -88,34 +89,45 @@ none-kept part now sound = record {
 
 module _ (part : Keyed) (tells : Bool) (told : IsTrue tells) (a m : Seen) (call : Keeps tells a m)
     (rests : IsKeyedAtRest part a) where
+  -- whichever blocks are the part's
+  any-sound : IsSound (KeyedShape part) (all_of part) a
+  any-sound = (rests.sound, all-owned part)
+
+  kept-room : (kept : Lengths) → KeepsRoom part kept a → KeepsRoom part kept m
+  kept-room kept room =
+      room-keeps tells told (KeyedShape part) (all_of part) kept a m call any-sound room
+
   pub kept-part : (kept : Lengths) → KeepsRoom part kept a → KeepsPart part kept a m
   kept-part kept room = record {
-    adds = keeps-adds tells told (KeyedShape part) a m call rests.sound;
+    adds = λ owners owned. keeps-adds tells told (KeyedShape part) owners a m call
+        (rests.sound, owned);
     same = same-keeps tells told (KeyedShape part) a m call;
-    room = room-keeps tells told (KeyedShape part) kept a m call rests.sound room;
-    rooms = keeps-rooms tells told (KeyedShape part) kept a m call rests.sound room;
+    room = kept-room kept room;
+    rooms = λ owners owned. keeps-rooms tells told (KeyedShape part) owners kept a m call
+        (rests.sound, owned) room;
   }
 
   pub kept-rest : IsKeyedAtRest part m
-  kept-rest = rest-keeps tells told (KeyedShape part) a m call rests
+  kept-rest =
+      (rest-keeps tells told (KeyedShape part) (all_of part) a m call (rests, all-owned part)).0
 
   pub kept-resting : (kept : Lengths) → KeepsRoom part kept a → IsResting part kept m
   kept-resting kept room = record {
     rests = kept-rest;
-    room = room-keeps tells told (KeyedShape part) kept a m call rests.sound room;
+    room = kept-room kept room;
   }
 
   pub kept-done : IsStageDone part a m
   kept-done = record {
     rests = kept-rest;
-    due = due-keeps tells told (KeyedShape part) a m call rests.sound;
+    due = due-keeps tells told (KeyedShape part) (all_of part) a m call any-sound;
   }
 
   pub kept-way : (split : SplitNow) → Left a a.cur → KeyedUnderWay part (Some split) a
       → KeyedUnderWay part (Some split) m
   kept-way split left way =
-      way-keeps tells told (KeyedShape part) (record { split = Some split; met = [] }) a m call
-      rests.sound left way
+      way-keeps tells told (KeyedShape part) (all_of part)
+      (record { split = Some split; met = [] }) a m call any-sound left way
 
   pub then-part : (kept : Lengths) (b : Seen) → KeepsRoom part kept a → KeepsPart part kept m b
       → KeepsPart part kept a b

@@ -15,7 +15,8 @@ use Rattle.vr_space.specs.Way.{found_on, MayFind}
 use Rattle.vr_space.specs.Room.{Range}
 use Rattle.vr_space.specs.Keyed.{Keyed, HoldsRange, EachMayLeave, IsKeyedSound}
 use Rattle.vr_space.specs.Keyed.{IsKeyedAtRest, entries_of, entry_block, records_of, range_of}
-use Rattle.vr_space.specs.Keyed.{entry_for, way_in, way_under, keyed_way}
+use Rattle.vr_space.specs.Keyed.{InArea, IsOwned, entry_for, way_in, way_under, keyed_way}
+use Rattle.vr_space.specs.Owners.{Owners}
 use Rattle.vr_space.specs.Part.{KeyedShape, InPart, HasOnly, MayHold, MayAlsoHold, AddsTo}
 use Rattle.vr_space.specs.Part.{Nothing, Just, SameRecords, item_of}
 use Rattle.vr_space.proofs.CallerLemmas.{found-may, find-more, within-less}
@@ -38,27 +39,31 @@ also a n bytes = record {
 -- too, and that A allows what may be held then.
 pub puts-adds : (part : Keyed) (tells : Bool) (A : List ℕ → Option Item
     → Type 0) (n : ℕ) (bytes : Block) (a b : Seen) → IsTrue tells → Puts tells n bytes a b
-    → InPart (KeyedShape part) n → IsKeyedSound part (also a n bytes)
+    → InArea part n → IsKeyedSound part (also a n bytes)
     → ((place : List ℕ) (item : Option Item)
     → MayHold (KeyedShape part) (MayAlso a.may n bytes) place item
-    → MayAlsoHold (KeyedShape part) a.may A place item) → AddsTo (KeyedShape part) A a b
-puts-adds part tells A n bytes a b told call inside sound allowed =
+    → MayAlsoHold (KeyedShape part) a.may A place item) → (owners : Owners)
+    → IsOwned part owners → AddsTo (KeyedShape part) owners A a b
+puts-adds part tells A n bytes a b told call inside sound allowed owners owned =
     let within : (k : ℕ) (block : Block) → IsBlock part (also a n bytes) k → b.may k block
     → MayAlso a.may n bytes k block = λ k block is may. call.adds told k block is.0 may in
     record {
-      touches = puts-touches tells (InPart (KeyedShape part))
-          (HasOnly (KeyedShape part) (MayAlsoHold (KeyedShape part) a.may A)) n bytes a b told
-          inside call
-          (λ image left. only-weaken (KeyedShape part)
+      touches = puts-touches tells (InPart (KeyedShape part) owners)
+          (HasOnly (KeyedShape part) owners (MayAlsoHold (KeyedShape part) a.may A)) n bytes a b
+          told (owned n inside) call
+          (λ image left. only-weaken (KeyedShape part) owners
           (MayHold (KeyedShape part) (MayAlso a.may n bytes))
           (MayAlsoHold (KeyedShape part) a.may A) allowed image
-          (keyed-image part (also a n bytes) sound image left));
+          (keyed-image part (also a n bytes) owners (sound, owned) image left));
       rest = λ place item holds. allowed place item
           (find-more (IsBlock part (also a n bytes)) b.may (MayAlso a.may n bytes) item within
           (keyed_way part place)
           (within-less (IsBlock part (also a n bytes)) b.may (MayAlso a.may n bytes) within
           (keyed_way part place) (keyed-within part (also a n bytes) sound place)) holds);
-      sound = keyed-less part (also a n bytes) b call.count_same call.size_same within sound;
+      sound = (
+        keyed-less part (also a n bytes) b call.count_same call.size_same within sound,
+        owned,
+      );
     }
 
 -- ---- a put into an interval
@@ -187,9 +192,10 @@ module _ (part : Keyed) (tells : Bool) (told : IsTrue tells) (a b : Seen) (n : �
 
     -- an interval is written with the records that it has
     pub rewrite-adds : IsKeyedAtRest part a → Left a a.cur → Puts tells n bytes a b → n ≢ part.head
-        → InPart (KeyedShape part) n
+        → InArea part n
         → OfBlock part n None (now-entries part a n bytes) (λ range. HoldsRange part range bytes)
-        → KeepsRecords part a n bytes → AddsTo (KeyedShape part) Nothing a b
+        → KeepsRecords part a n bytes → (owners : Owners) → IsOwned part owners
+        → AddsTo (KeyedShape part) owners Nothing a b
     rewrite-adds rests left call other inside of keeps =
         puts-adds part tells Nothing n bytes a b told call inside
         (interval-sound part a n bytes rests other of)
@@ -201,9 +207,10 @@ module _ (part : Keyed) (tells : Bool) (told : IsTrue tells) (a b : Seen) (n : �
 
     -- it is written with one record changed
     pub set-adds : (at : List ℕ) (new : Option Item) → IsKeyedAtRest part a → Left a a.cur
-        → Puts tells n bytes a b → n ≢ part.head → InPart (KeyedShape part) n
+        → Puts tells n bytes a b → n ≢ part.head → InArea part n
         → OfBlock part n None (now-entries part a n bytes) (λ range. HoldsRange part range bytes)
-        → KeepsOthers part a n bytes at new → AddsTo (KeyedShape part) (Just at new) a b
+        → KeepsOthers part a n bytes at new → (owners : Owners) → IsOwned part owners
+        → AddsTo (KeyedShape part) owners (Just at new) a b
     set-adds at new rests left call other inside of keeps =
         puts-adds part tells (Just at new) n bytes a b told call inside
         (interval-sound part a n bytes rests other of)
@@ -222,7 +229,8 @@ module _ (part : Keyed) (tells : Bool) (told : IsTrue tells) (a b : Seen) (n : �
 
     -- a free interval is written
     pub free-adds : IsKeyedAtRest part a → Left a a.cur → Puts tells n bytes a b → n ≢ part.head
-        → InPart (KeyedShape part) n → IsFreeBlock → AddsTo (KeyedShape part) Nothing a b
+        → InArea part n → IsFreeBlock → (owners : Owners) → IsOwned part owners
+        → AddsTo (KeyedShape part) owners Nothing a b
     free-adds rests left call other inside free =
         rewrite-adds rests left call other inside (of-none None (now-entries part a n bytes) free)
         (λ place at is here. absurd

@@ -13,6 +13,7 @@ use Rattle.vr_space.specs.Part.{KeyedShape, Nothing, SameRecords, HasRoom, InPar
 use Rattle.vr_space.proofs.CallerLemmas.{nothing-then, records-then, due-then}
 use Rattle.vr_split.specs.Switching.{OfBlock, IsIntervalBlock, IsResting, CanReplace, KeepsPart}
 use Rattle.vr_split.specs.Switching.{IsStageDone}
+use Rattle.vr_split.proofs.Owned.{all_of, all-owned}
 use Rattle.vr_split.proofs.Puts.{rewrite-adds, rewrite-same}
 use Rattle.vr_split.proofs.After.{rest-after, room-after, rooms-after, due-put}
 
@@ -41,7 +42,8 @@ module _ (part : Keyed) (tells : Bool) (told : IsTrue tells) (a b : Seen) (n : �
       → Only b n (λ block. block ≡ bytes) → IsStageDone part a b
   done-replace resting block below left can call only = record {
     rests = rest-after part tells told a b n bytes resting.rests call (other-than block)
-        (keeps-replace resting block below left can call).adds.sound;
+        ((keeps-replace resting block below left can call).adds (all_of part)
+        (all-owned part)).sound.0;
     due = λ listed place due within. due-put part tells told a b n bytes listed place resting.rests
         left call (other-than block)
         (λ at leads here there once. ap (λ (x : Block). item_at (records_of part x) place)
@@ -54,11 +56,13 @@ module _ (part : Keyed) (kept : Lengths) where
   pub keeps-then : (a b c : Seen) → KeepsPart part kept a b → KeepsPart part kept b c
       → KeepsPart part kept a c
   keeps-then a b c first second = record {
-    adds = nothing-then (KeyedShape part) Nothing a b c first.adds second.adds;
+    adds = λ owners owned. nothing-then (KeyedShape part) owners Nothing a b c
+        (first.adds owners owned) (second.adds owners owned);
     same = records-then (KeyedShape part) a.cur b.cur c.cur first.same second.same;
     room = second.room;
-    rooms = touches-then (InPart (KeyedShape part)) (HasRoom (KeyedShape part) kept) a b c
-        first.rooms second.rooms;
+    rooms = λ owners owned. touches-then (InPart (KeyedShape part) owners)
+        (HasRoom (KeyedShape part) kept) a b c (first.rooms owners owned)
+        (second.rooms owners owned);
   }
 
   pub done-then : (a b c : Seen) → IsStageDone part a b → IsStageDone part b c

@@ -14,7 +14,8 @@ use Rattle.vr_space.specs.Way.{found_on, MayFind, MayOnceForced}
 use Rattle.vr_space.specs.Room.{Lengths, Range, HaveRoom}
 use Rattle.vr_space.specs.Keyed.{Keyed, IsHead, HoldsRange, EachMayLeave, IsKeyedSound}
 use Rattle.vr_space.specs.Keyed.{IsKeyedAtRest, KeepsRoom, lengths_of, entries_of, entry_block}
-use Rattle.vr_space.specs.Keyed.{records_of, entry_for, way_in, way_under}
+use Rattle.vr_space.specs.Keyed.{IsOwned, records_of, entry_for, way_in, way_under}
+use Rattle.vr_space.specs.Owners.{Owners}
 use Rattle.vr_space.specs.Part.{KeyedShape, AddsTo, Nothing, MayHold, SameRecords}
 use Rattle.vr_space.specs.Part.{DueMore, HasRoom, InPart, item_of}
 use Rattle.vr_space.proofs.CallerLemmas.{each-less, head-in, entry-in, room-image}
@@ -80,7 +81,7 @@ module _ (part : Keyed) (tells : Bool) (told : IsTrue tells) (a b : Seen) (top :
 
   pub switch-adds : (kept : Lengths) → IsKeyedSound part a → Left a a.cur
       → Puts tells part.head top a b → CanSwitch part kept top a
-      → AddsTo (KeyedShape part) Nothing a b
+      → (owners : Owners) → IsOwned part owners → AddsTo (KeyedShape part) owners Nothing a b
   switch-adds kept sound left call can =
       puts-adds part tells Nothing part.head top a b told call (omega arith, omega arith)
       (switch-sound kept sound can)
@@ -184,12 +185,13 @@ module _ (part : Keyed) (tells : Bool) (told : IsTrue tells) (a b : Seen) (top :
   -- and so has the image of each moment
   pub switch-rooms : (kept : Lengths) → IsKeyedSound part a → Puts tells part.head top a b
       → CanSwitch part kept top a → KeepsRoom part kept a
-      → Touches (InPart (KeyedShape part)) (HasRoom (KeyedShape part) kept) a b
-  switch-rooms kept sound call can room =
-      puts-touches tells (InPart (KeyedShape part)) (HasRoom (KeyedShape part) kept) part.head top
-      a b told (omega arith, omega arith) call
-      (room-image (KeyedShape part) kept (also a part.head top) (switch-sound kept sound can)
-      (room-also kept can room))
+      → (owners : Owners) → IsOwned part owners
+      → Touches (InPart (KeyedShape part) owners) (HasRoom (KeyedShape part) kept) a b
+  switch-rooms kept sound call can room owners owned =
+      puts-touches tells (InPart (KeyedShape part) owners) (HasRoom (KeyedShape part) kept)
+      part.head top a b told (owned part.head (omega arith, omega arith)) call
+      (room-image (KeyedShape part) owners kept (also a part.head top)
+      (switch-sound kept sound can, owned) (room-also kept can room))
 
   -- once the new head is stable the part is at rest
   pub switch-rest : IsKeyedSound part b → Only b part.head (λ head. head ≡ top)

@@ -8,7 +8,8 @@ use Rattle.vr_seqset.specs.Entry.{Entry}
 use Rattle.vr_space.specs.Room.{Lengths, Range, HaveRoom}
 use Rattle.vr_space.specs.Keyed.{Keyed, IsHead, HoldsRange, EachMayLeave, IsKeyedAtRest, KeepsRoom}
 use Rattle.vr_space.specs.Keyed.{lengths_of, entries_of, entry_block, entry_for, records_of}
-use Rattle.vr_space.specs.Keyed.{range_of, way_under}
+use Rattle.vr_space.specs.Keyed.{IsOwned, range_of, way_under}
+use Rattle.vr_space.specs.Owners.{Owners}
 use Rattle.vr_space.specs.Part.{KeyedShape, AddsTo, Nothing, SameRecords, DueMore, HasRoom, InPart}
 use Rattle.vr_space.specs.Part.{item_of}
 
@@ -66,12 +67,14 @@ pub record IsResting (part : Keyed) (kept : Lengths) (now : Seen) : Type 0 where
 
 -- A stage made `new` of `old`, whether it failed or not: it adds nothing to what places may hold,
 -- each has the record that it had, and there is room for what is kept, in the image of each moment
--- and from then on.
+-- and from then on: whichever blocks are the part's, beside those of its area.
 pub record KeepsPart (part : Keyed) (kept : Lengths) (old new : Seen) : Type 0 where
-  pub adds : AddsTo (KeyedShape part) Nothing old new
+  pub adds : (owners : Owners) → IsOwned part owners
+      → AddsTo (KeyedShape part) owners Nothing old new
   pub same : SameRecords (KeyedShape part) old.cur new.cur
   pub room : KeepsRoom part kept new
-  pub rooms : Touches (InPart (KeyedShape part)) (HasRoom (KeyedShape part) kept) old new
+  pub rooms : (owners : Owners) → IsOwned part owners
+      → Touches (InPart (KeyedShape part) owners) (HasRoom (KeyedShape part) kept) old new
 
 -- It is done: the part is at rest, and nothing more has to be forced than before.
 pub record IsStageDone (part : Keyed) (old new : Seen) : Type 0 where

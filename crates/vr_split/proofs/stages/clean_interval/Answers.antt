@@ -2,8 +2,10 @@ use Rattle.std.proofs.Common.{◌≢◌, sym, ap, ◌∙◌, ⊎_elim, arith}
 use Rattle.vr_types.specs.Content.{item_at}
 use Rattle.vr_types.specs.Image.{Block}
 use Rattle.vr_types.specs.Seen.{Left}
-use Rattle.vr_space.specs.Keyed.{records_of}
+use Rattle.vr_space.specs.Keyed.{IsOwned, records_of}
+use Rattle.vr_space.specs.Owners.{Owners}
 use Rattle.vr_space.specs.Part.{KeyedShape, AddsTo, Nothing, SameRecords}
+use Rattle.vr_split.proofs.Owned.{all_of, all-owned}
 use Rattle.vr_split.proofs.Puts.{rewrite-adds, rewrite-same}
 use Rattle.vr_split.proofs.After.{rest-after, room-after, rooms-after, due-put}
 use Rattle.vr_split.proofs.stages.clean_interval.Goals as goal
@@ -18,7 +20,8 @@ returns-clause-keeps g c told part kept block resting settled can =
     let call = c.put.ensures.after in
     let left : Left a a.cur = g.met.B.Blocks.cur_may c.args.blocks.now told in
     let other : n ≢ part.head = λ same. omega (arith, block.low, same) in
-    let adds : AddsTo (KeyedShape part) Nothing a b =
+    let adds : (owners : Owners) → IsOwned part owners
+    → AddsTo (KeyedShape part) owners Nothing a b =
     rewrite-adds part B.tells told a b n bytes resting.rests left call other
     (omega (arith, block.low), block.high) can.holds can.records in
     let same : SameRecords (KeyedShape part) a.cur b.cur =
@@ -33,7 +36,8 @@ returns-clause-keeps g c told part kept block resting settled can =
             (omega (arith, block.low), block.high) resting.room can.holds can.room;
       },
       record {
-        rests = rest-after part B.tells told a b n bytes resting.rests call other adds.sound;
+        rests = rest-after part B.tells told a b n bytes resting.rests call other
+            (adds (all_of part) (all-owned part)).sound.0;
         due = λ listed place due within. due-put part B.tells told a b n bytes listed place
             resting.rests left call other
             (λ at leads here left_there once. ⊎_elim

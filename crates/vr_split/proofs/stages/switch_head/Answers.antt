@@ -2,6 +2,7 @@ use Rattle.std.proofs.Common.{◌≡◌, ℕ, sym, subst, arith}
 use Rattle.vr_types.specs.Image.{block_at}
 use Rattle.vr_types.specs.Seen.{Left, Only}
 use Rattle.vr_types.specs.Blocks.{Puts}
+use Rattle.vr_split.proofs.Owned.{all_of, all-owned}
 use Rattle.vr_split.proofs.Switch.{switch-adds, switch-same, switch-room, switch-rooms}
 use Rattle.vr_split.proofs.Switch.{switch-rest, switch-due}
 use Rattle.vr_split.proofs.stages.switch_head.Goals as goal
@@ -58,7 +59,7 @@ returns-clause-done g c told part kept head resting can =
     record {
       rests = switch-rest part B.tells told a b c.args.top.now
           (switch-adds part B.tells told a b c.args.top.now kept resting.rests.sound left call
-          can).sound only
+          can (all_of part) (all-owned part)).sound.0 only
           (only (block_at b.cur part.head)
           ((g.met.B.Blocks.cur_may c.settle.new.blocks told).each part.head
           (omega (arith, resting.rests.sound.area, c.settle.ensures.after.count_same))));

@@ -1,7 +1,10 @@
 use Rattle.std.proofs.Common.{◌≢◌, arith}
 use Rattle.vr_types.specs.Seen.{Left}
 use Rattle.vr_types.proofs.CallerLemmas.{cur-elsewhere}
+use Rattle.vr_space.specs.Keyed.{IsOwned}
+use Rattle.vr_space.specs.Owners.{Owners}
 use Rattle.vr_space.specs.Part.{KeyedShape, AddsTo, Nothing, SameRecords}
+use Rattle.vr_split.proofs.Owned.{all_of, all-owned}
 use Rattle.vr_split.proofs.Puts.{free-adds, rewrite-same, of-found, now-entries}
 use Rattle.vr_split.proofs.After.{rest-after, room-after, rooms-after, due-put, of-nothing}
 use Rattle.vr_split.proofs.stages.write_free.Goals as goal
@@ -16,7 +19,8 @@ returns-clause-keeps g c told part kept block resting free =
     let call = c.put.ensures.after in
     let left : Left a a.cur = g.met.B.Blocks.cur_may c.args.blocks.now told in
     let other : n ≢ part.head = λ same. omega (arith, block.low, same) in
-    let adds : AddsTo (KeyedShape part) Nothing a b =
+    let adds : (owners : Owners) → IsOwned part owners
+    → AddsTo (KeyedShape part) owners Nothing a b =
     free-adds part B.tells told a b n bytes resting.rests left call other
     (omega (arith, block.low), block.high) free in
     let same : SameRecords (KeyedShape part) a.cur b.cur =
@@ -34,7 +38,8 @@ returns-clause-keeps g c told part kept block resting free =
             (of-nothing part n _ _ (now-entries part a n bytes) free);
       },
       record {
-        rests = rest-after part B.tells told a b n bytes resting.rests call other adds.sound;
+        rests = rest-after part B.tells told a b n bytes resting.rests call other
+            (adds (all_of part) (all-owned part)).sound.0;
         due = λ listed place due within. due-put part B.tells told a b n bytes listed place
             resting.rests left call other
             (λ at leads here left_there once. absurd

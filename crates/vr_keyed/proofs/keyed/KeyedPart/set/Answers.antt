@@ -1,4 +1,4 @@
-use Rattle.std.proofs.Common.{◌≡◌, List, ℕ, All, Option, rules, sym, ap, subst}
+use Rattle.std.proofs.Common.{◌≡◌, ◌<◌, List, ℕ, arith, All, Option, rules, sym, ap, subst}
 use Rattle.std.specs.Prelude.{IfErr}
 use Rattle.std.specs.Option.{option_map}
 use Rattle.std.proofs.lemmas.Result.{IfErr-weaker}
@@ -7,21 +7,22 @@ use Rattle.vr_types.specs.Blocks.{Keeps}
 use Rattle.vr_types.specs.Regions.{Touches}
 use Rattle.vr_types.specs.declared.fault.DeviceFault.TheVariants.{Read, Write}
 use Rattle.vr_space.specs.Room.{Lengths}
-use Rattle.vr_space.specs.Keyed.{Keyed as Layouts, KeepsRoom, IsKeyedAtRest}
+use Rattle.vr_space.specs.Keyed.{Keyed as Layouts, InArea, KeepsRoom, IsKeyedAtRest, IsOwned}
 use Rattle.vr_space.specs.Split.{SplitNow}
 use Rattle.vr_space.specs.Known.{Known}
 use Rattle.vr_space.specs.UnderWay.{KeyedUnderWay}
 use Rattle.vr_space.specs.Met.{Met, IsMet}
 use Rattle.vr_space.specs.Part.{KeyedShape, AddsTo, Just, SetsOne, DueMoreAt, HasRoom, InPart, Knows}
 use Rattle.vr_space.specs.Part.{given, part_no}
-use Rattle.vr_space.proofs.CallerLemmas.{way-keeps}
+use Rattle.vr_space.proofs.CallerLemmas.{rest-sound, way-keeps}
 use Rattle.vr_keyed.specs.Owned.{Owned, known_of}
 use Rattle.vr_keyed.specs.Slots.{HasMetPlace, mets}
 use Rattle.vr_keyed.specs.Ready.{IsReady, put_of}
+use Rattle.vr_keyed.proofs.Owning.{all-below}
 use Rattle.vr_keyed.proofs.keyed.KeyedPart.set.Goals as goal
 
 pub returns-in_err-put-clause-adds : goal.returns-in_err-put-clause-adds
-returns-in_err-put-clause-adds g c told =
+returns-in_err-put-clause-adds g c told owners still =
     let B = g.B.Blocks in
     let now = c.args.self.now in
     let place = c.args.place.now in
@@ -32,7 +33,7 @@ returns-in_err-put-clause-adds g c told =
     let b = B.seen c.set.new.blocks in
     let same : c.self.inside.layout ≡ now.part = ap (λ (o : Owned). o.part) c.self.view_is in
     let here : IsReady now.part kept known place item a = record {
-      rests = c.requires.rests told;
+      rests = (c.requires.rests told).1.0;
       room = c.requires.room told;
       way = (c.requires.knows told).way;
       can = c.requires.can told;
@@ -43,9 +44,11 @@ returns-in_err-put-clause-adds g c told =
     subst (λ (p : Layouts). IsReady p kept known c.as_slice.result.now item a) (sym same)
     (subst (λ (q : List ℕ). IsReady now.part kept known q item a) (sym spot) here) in
     let may = c.set.ensures.may told kept known ready in
-    subst (λ (p : Layouts). AddsTo (KeyedShape p) (Just place (option_map Standing item)) a b) same
-    (subst (λ (q : List ℕ). AddsTo (KeyedShape c.self.inside.layout) (Just q (option_map Standing item)) a b) spot
-    may.adds)
+    subst (λ (p : Layouts). IsOwned p owners
+    → AddsTo (KeyedShape p) owners (Just place (option_map Standing item)) a b) same
+    (subst (λ (q : List ℕ). IsOwned c.self.inside.layout owners
+    → AddsTo (KeyedShape c.self.inside.layout) owners (Just q (option_map Standing item)) a b) spot
+    (may.adds owners)) still.1
 
 pub returns-in_err-put-clause-room : goal.returns-in_err-put-clause-room
 returns-in_err-put-clause-room g c told =
@@ -59,7 +62,7 @@ returns-in_err-put-clause-room g c told =
     let b = B.seen c.set.new.blocks in
     let same : c.self.inside.layout ≡ now.part = ap (λ (o : Owned). o.part) c.self.view_is in
     let here : IsReady now.part kept known place item a = record {
-      rests = c.requires.rests told;
+      rests = (c.requires.rests told).1.0;
       room = c.requires.room told;
       way = (c.requires.knows told).way;
       can = c.requires.can told;
@@ -73,7 +76,7 @@ returns-in_err-put-clause-room g c told =
     subst (λ (p : Layouts). KeepsRoom p kept b) same may.room
 
 pub returns-in_err-put-clause-rooms : goal.returns-in_err-put-clause-rooms
-returns-in_err-put-clause-rooms g c told =
+returns-in_err-put-clause-rooms g c told owners still =
     let B = g.B.Blocks in
     let now = c.args.self.now in
     let place = c.args.place.now in
@@ -84,7 +87,7 @@ returns-in_err-put-clause-rooms g c told =
     let b = B.seen c.set.new.blocks in
     let same : c.self.inside.layout ≡ now.part = ap (λ (o : Owned). o.part) c.self.view_is in
     let here : IsReady now.part kept known place item a = record {
-      rests = c.requires.rests told;
+      rests = (c.requires.rests told).1.0;
       room = c.requires.room told;
       way = (c.requires.knows told).way;
       can = c.requires.can told;
@@ -95,11 +98,12 @@ returns-in_err-put-clause-rooms g c told =
     subst (λ (p : Layouts). IsReady p kept known c.as_slice.result.now item a) (sym same)
     (subst (λ (q : List ℕ). IsReady now.part kept known q item a) (sym spot) here) in
     let may = c.set.ensures.may told kept known ready in
-    subst (λ (p : Layouts). Touches (InPart (KeyedShape p)) (HasRoom (KeyedShape p) kept) a b)
-    same may.rooms
+    subst (λ (p : Layouts). IsOwned p owners
+    → Touches (InPart (KeyedShape p) owners) (HasRoom (KeyedShape p) kept) a b) same
+    (may.rooms owners) still.1
 
 pub returns-clause-adds : goal.returns-clause-adds
-returns-clause-adds g c told =
+returns-clause-adds g c told owners still =
     let B = g.B.Blocks in
     let now = c.args.self.now in
     let place = c.args.place.now in
@@ -110,7 +114,7 @@ returns-clause-adds g c told =
     let b = B.seen c.set.new.blocks in
     let same : c.self.inside.layout ≡ now.part = ap (λ (o : Owned). o.part) c.self.view_is in
     let here : IsReady now.part kept known place item a = record {
-      rests = c.requires.rests told;
+      rests = (c.requires.rests told).1.0;
       room = c.requires.room told;
       way = (c.requires.knows told).way;
       can = c.requires.can told;
@@ -121,9 +125,11 @@ returns-clause-adds g c told =
     subst (λ (p : Layouts). IsReady p kept known c.as_slice.result.now item a) (sym same)
     (subst (λ (q : List ℕ). IsReady now.part kept known q item a) (sym spot) here) in
     let may = c.set.ensures.may told kept known ready in
-    subst (λ (p : Layouts). AddsTo (KeyedShape p) (Just place (option_map Standing item)) a b) same
-    (subst (λ (q : List ℕ). AddsTo (KeyedShape c.self.inside.layout) (Just q (option_map Standing item)) a b) spot
-    may.adds)
+    subst (λ (p : Layouts). IsOwned p owners
+    → AddsTo (KeyedShape p) owners (Just place (option_map Standing item)) a b) same
+    (subst (λ (q : List ℕ). IsOwned c.self.inside.layout owners
+    → AddsTo (KeyedShape c.self.inside.layout) owners (Just q (option_map Standing item)) a b) spot
+    (may.adds owners)) still.1
 
 pub returns-clause-room : goal.returns-clause-room
 returns-clause-room g c told =
@@ -137,7 +143,7 @@ returns-clause-room g c told =
     let b = B.seen c.set.new.blocks in
     let same : c.self.inside.layout ≡ now.part = ap (λ (o : Owned). o.part) c.self.view_is in
     let here : IsReady now.part kept known place item a = record {
-      rests = c.requires.rests told;
+      rests = (c.requires.rests told).1.0;
       room = c.requires.room told;
       way = (c.requires.knows told).way;
       can = c.requires.can told;
@@ -151,7 +157,7 @@ returns-clause-room g c told =
     subst (λ (p : Layouts). KeepsRoom p kept b) same may.room
 
 pub returns-clause-rooms : goal.returns-clause-rooms
-returns-clause-rooms g c told =
+returns-clause-rooms g c told owners still =
     let B = g.B.Blocks in
     let now = c.args.self.now in
     let place = c.args.place.now in
@@ -162,7 +168,7 @@ returns-clause-rooms g c told =
     let b = B.seen c.set.new.blocks in
     let same : c.self.inside.layout ≡ now.part = ap (λ (o : Owned). o.part) c.self.view_is in
     let here : IsReady now.part kept known place item a = record {
-      rests = c.requires.rests told;
+      rests = (c.requires.rests told).1.0;
       room = c.requires.room told;
       way = (c.requires.knows told).way;
       can = c.requires.can told;
@@ -173,8 +179,9 @@ returns-clause-rooms g c told =
     subst (λ (p : Layouts). IsReady p kept known c.as_slice.result.now item a) (sym same)
     (subst (λ (q : List ℕ). IsReady now.part kept known q item a) (sym spot) here) in
     let may = c.set.ensures.may told kept known ready in
-    subst (λ (p : Layouts). Touches (InPart (KeyedShape p)) (HasRoom (KeyedShape p) kept) a b)
-    same may.rooms
+    subst (λ (p : Layouts). IsOwned p owners
+    → Touches (InPart (KeyedShape p) owners) (HasRoom (KeyedShape p) kept) a b) same
+    (may.rooms owners) still.1
 
 pub returns-clause-set : goal.returns-clause-set
 returns-clause-set g c told =
@@ -188,7 +195,7 @@ returns-clause-set g c told =
     let b = B.seen c.set.new.blocks in
     let same : c.self.inside.layout ≡ now.part = ap (λ (o : Owned). o.part) c.self.view_is in
     let here : IsReady now.part kept known place item a = record {
-      rests = c.requires.rests told;
+      rests = (c.requires.rests told).1.0;
       room = c.requires.room told;
       way = (c.requires.knows told).way;
       can = c.requires.can told;
@@ -215,7 +222,7 @@ returns-clause-due g c told =
     let b = B.seen c.set.new.blocks in
     let same : c.self.inside.layout ≡ now.part = ap (λ (o : Owned). o.part) c.self.view_is in
     let here : IsReady now.part kept known place item a = record {
-      rests = c.requires.rests told;
+      rests = (c.requires.rests told).1.0;
       room = c.requires.room told;
       way = (c.requires.knows told).way;
       can = c.requires.can told;
@@ -232,8 +239,19 @@ returns-clause-due g c told =
     (subst (λ (q : List ℕ). DueMoreAt (KeyedShape c.self.inside.layout) q
     (put_of c.in_ok-put.put) a b) spot done.due))
 
+pub returns-clause-put : goal.returns-clause-put
+returns-clause-put g c =
+    let now = c.args.self.now in
+    let b = g.B.Blocks.seen c.set.new.blocks in
+    let same : c.self.inside.layout ≡ now.part = ap (λ (o : Owned). o.part) c.self.view_is in
+    subst (λ (put : List ℕ). All (λ n. n < b.count) put) (sym c.note_put.ensures.put)
+    (all-below now.part b.count (put_of c.in_ok-put.put)
+    (omega (arith, c.requires.on.0, c.set.ensures.count))
+    (subst (λ (p : Layouts). All (InArea p) (put_of c.in_ok-put.put)) same
+    c.in_ok-put.ensures.put))
+
 pub returns-clause-rests : goal.returns-clause-rests
-returns-clause-rests g c told =
+returns-clause-rests g c told owners still =
     let B = g.B.Blocks in
     let now = c.args.self.now in
     let place = c.args.place.now in
@@ -244,7 +262,7 @@ returns-clause-rests g c told =
     let b = B.seen c.set.new.blocks in
     let same : c.self.inside.layout ≡ now.part = ap (λ (o : Owned). o.part) c.self.view_is in
     let here : IsReady now.part kept known place item a = record {
-      rests = c.requires.rests told;
+      rests = (c.requires.rests told).1.0;
       room = c.requires.room told;
       way = (c.requires.knows told).way;
       can = c.requires.can told;
@@ -255,7 +273,7 @@ returns-clause-rests g c told =
     subst (λ (p : Layouts). IsReady p kept known c.as_slice.result.now item a) (sym same)
     (subst (λ (q : List ℕ). IsReady now.part kept known q item a) (sym spot) here) in
     let done = c.in_ok-put.ensures.done told kept known ready in
-    subst (λ (p : Layouts). IsKeyedAtRest p b) same done.rests
+    (subst (λ (p : Layouts). IsKeyedAtRest p b) same done.rests, still.1)
 
 pub returns-clause-knows : goal.returns-clause-knows
 returns-clause-knows g c told =
@@ -269,7 +287,7 @@ returns-clause-knows g c told =
     let b = B.seen c.set.new.blocks in
     let same : c.self.inside.layout ≡ now.part = ap (λ (o : Owned). o.part) c.self.view_is in
     let here : IsReady now.part kept known place item a = record {
-      rests = c.requires.rests told;
+      rests = (c.requires.rests told).1.0;
       room = c.requires.room told;
       way = (c.requires.knows told).way;
       can = c.requires.can told;
@@ -316,8 +334,10 @@ returns-in_err-put-clause-unread g c =
       λ told. record {
         way = subst (λ (split : Option SplitNow). KeyedUnderWay now.part split b)
             (sym (ap (λ (o : Owned). o.split) c.self.view_is))
-            (way-keeps B.tells told (KeyedShape now.part) (known_of now) a b (keeps is).0
-            (c.requires.rests told).sound (g.met.B.Blocks.cur_may c.args.blocks.now told)
+            (way-keeps B.tells told (KeyedShape now.part) (c.requires.rests told).0
+            (known_of now) a b (keeps is).0
+            (rest-sound (KeyedShape now.part) (c.requires.rests told).0 a
+            (c.requires.rests told).1) (g.met.B.Blocks.cur_may c.args.blocks.now told)
             (c.requires.knows told).way);
         blocks = subst (λ (p : Layouts). All (IsMet p b.cur) (mets c.set.new.slots)) same
             ((keeps is).1 told);
