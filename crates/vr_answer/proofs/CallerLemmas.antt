@@ -29,13 +29,19 @@ use Rattle.vr_answer.specs.Looked.{place_looked_at}
 use Rattle.vr_answer.specs.Tried.{file_refusals, record_refusals}
 -- what an entry leaves
 pub use Rattle.vr_answer.proofs.AfterLemmas.{after_backout, after_change, after_commit}
-pub use Rattle.vr_answer.proofs.AfterLemmas.{after_endreq, after_read, after_refused, names_at}
+pub use Rattle.vr_answer.proofs.AfterLemmas.{after_end, after_endreq, after_least, after_lost}
+pub use Rattle.vr_answer.proofs.AfterLemmas.{after_next, after_point, after_read, after_refused}
+pub use Rattle.vr_answer.proofs.AfterLemmas.{names_at}
 -- before-images are under locks, and locks are taken as the record file says
 pub use Rattle.vr_answer.proofs.KeptLemmas.{kept_in_the_way, kept_throughout}
 -- an exclusive lock is there once it is taken, stays as others are taken, and as another unit ends
 pub use Rattle.vr_answer.proofs.KeptLemmas.{any_left, kept_with, other_held, taken}
+-- what a read comes to; the records of a content that are listed are those that stand; and a record
+-- that another unit may bring back is listed where one of its before-images brings it back
+pub use Rattle.vr_answer.proofs.LeastLemmas.{comes_least, comes_named, found_least, kept_any}
+pub use Rattle.vr_answer.proofs.LeastLemmas.{listed_standing, standing_listed}
 -- no alternate index stands over a part, and no pair of one moves; what a file is on, which is
--- key-sequenced; and the place that a read names
+-- key-sequenced; and the place that a direct read names
 pub use Rattle.vr_answer.proofs.OpeningLemmas.{IsKeyed, definition_keyed, keyed_here, moves_none}
 pub use Rattle.vr_answer.proofs.OpeningLemmas.{opened_is}
 pub use Rattle.vr_answer.proofs.PlaceLemmas.{read_is}
