@@ -1,5 +1,5 @@
 //! Laws of the answer, each the contract of a function that does nothing.
-ghost use Rattle.std.specs.Prelude.{◌≡◌, ◌<◌, ◌++◌, ◌∷◌, [], ℕ, false, IsTrue, List, None, Option};
+ghost use Rattle.std.specs.Prelude.{◌≡◌, ◌++◌, ◌∷◌, [], ℕ, false, IsTrue, List, None, Option};
 ghost use Rattle.std.specs.Prelude.{Some};
 ghost use Rattle.vr_catalog.specs.declared.definition.Definition.{Definition as Stated};
 ghost use Rattle.vr_types.specs.declared.reply.Refusal.{Refusal as RefusalOf};
@@ -29,7 +29,7 @@ ghost use Rattle.vr_answer.specs.Kept.{IsUnderLock, KeptUnderLocks};
 ghost use Rattle.vr_answer.specs.Least as least;
 ghost use Rattle.vr_answer.specs.Looked.{place_looked_at};
 ghost use Rattle.vr_history.specs.Opened.{Cluster, opened as opened_of};
-ghost use Rattle.vr_history.specs.RefusedRoom.{free_areas, log_full as full};
+ghost use Rattle.vr_history.specs.RefusedRoom.{log_full as full};
 ghost use Rattle.vr_history.specs.Replies as replies;
 ghost use Rattle.vr_answer.specs.Tried.{file_refusals, record_refusals};
 
@@ -66,19 +66,18 @@ pub fn answer_comes_in_order()
         → replies.IsAnswered case (replies.done_by case case.request) }
 {}
 
-/// What may come in place of the answer once `refused_by_file` refuses nothing: `NoSpace` of a
-/// key-sequenced cluster, where the record refuses nothing either and more areas are needed than
-/// are free (`room`); `Memory` where memory ran out on a request on a file (`memory`); and a fault
+/// What may come in place of the answer once `refused_by_file` refuses nothing: that an area is
+/// lacked for a key-sequenced cluster, where the record refuses nothing either (`room`); `Memory`
+/// where memory ran out on a request on a file (`memory`); and a fault
 /// of a write, or of a read (`write`, `read`). A request that looks at a place may read (`looks`).
 pub fn may_come_instead()
-    ensures room { (case : Asked) (definition : Stated) (bytes : List ℕ) (need : ℕ)
+    ensures room { (case : Asked) (definition : Stated) (bytes : List ℕ)
         → replies.first_of (file_refusals case) ≡ None
         → replies.first_of (record_refusals case) ≡ None
         → opened_of case ≡ Cluster definition
         → definition.kind ≡ kinds.Keyed
         → new_record case.request ≡ Some bytes
-        → free_areas case < need
-        → replies.LacksRoom case (Refused (refusals.NoSpace need (free_areas case))) }
+        → replies.LacksRoom case (Refused replies.lacks_area) }
     ensures memory { (case : Asked)
         → replies.first_of (file_refusals case) ≡ None
         → IsTrue (replies.may_want case.request)
