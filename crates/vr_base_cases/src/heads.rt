@@ -117,9 +117,9 @@ pub fn write(block: &mut [u8], rest: &str, out: &mut String) -> Answer {
     let next = if next.is_empty() {
         None
     } else {
-        Some(u32::from(small_of(next)?))
+        Some(word_of(next)?)
     };
-    if !vr_types::is_block_size(block.len()) || used > intervals {
+    if !vr_types::is_block_size(block.len()) || used > intervals || next == Some(u32::MAX) {
         return Err(Stop::Line);
     }
     write_roster(used, part, next, intervals, block);
@@ -183,5 +183,33 @@ fn numbers(alloc: Global, entry: &SeqEntry<'_>) -> Result<Vec<u16>, AllocError>
     for j in 0..entry.intervals() {
         out.push(entry.interval(j))?;
     }
+    Ok(out)
+}
+
+/// The roster of the block, written again over other bytes: `INTERVALS EDIT..`. It has to be the
+/// same block.
+pub fn copy_roster(alloc: Global, block: &[u8], rest: &str, out: &mut String) -> Answer {
+    let (intervals, edits) = first_word(rest);
+    let intervals = small_of(intervals)?;
+    let bytes = edited(alloc, block, edits)?;
+    let copy = copied_roster(alloc, bytes.as_slice(), intervals)?;
+    say(out, if copy == bytes { "same" } else { "other" })
+}
+
+/// Reads a roster, and writes what was read over other bytes. Nothing comes of a block that is no
+/// roster's.
+fn copied_roster(alloc: Global, block: &[u8], intervals: u16) -> Result<Vec<u8>, AllocError> {
+    let view = match RosterView::read(block, intervals) {
+        Ok(view) => view,
+        Err(_) => return Ok(Vec::new(alloc)),
+    };
+    let mut out = vec![in alloc; 0xAA; block.len()]?;
+    write_roster(
+        view.used(),
+        view.part(),
+        view.next(),
+        intervals,
+        out.as_mut_slice(),
+    );
     Ok(out)
 }

@@ -2,7 +2,7 @@
 
 use crate::answers::{Answer, Stop, say, say_number};
 use crate::block::{first_word, small_of};
-use crate::{plain_intervals, plain_literals, plain_names, plain_records};
+use crate::{plain_intervals, plain_literals, plain_names, plain_records, plain_rosters};
 use std::alloc::{AllocError, Global};
 use vr_ci::Form;
 
@@ -64,11 +64,12 @@ impl Judged {
 }
 
 /// Judges all small inputs of a kind, or all blocks close to the block: `names`, `literals`,
-/// `spellings`, `numbers`, `sizes`, `record INTERVALS`, `plain` or `slots LENGTH`.
+/// `spellings`, `numbers`, `sizes`, `record INTERVALS`, `roster INTERVALS`, `plain` or
+/// `slots LENGTH`.
 pub fn judge(alloc: Global, block: &[u8], rest: &str, out: &mut String) -> Answer {
     let (kind, number) = first_word(rest);
     let judged = match kind {
-        "record" | "plain" | "slots" => judge_blocks(alloc, block, kind, number),
+        "record" | "roster" | "plain" | "slots" => judge_blocks(alloc, block, kind, number),
         _ => judge_inputs(alloc, kind),
     };
     match judged {
@@ -81,6 +82,7 @@ pub fn judge(alloc: Global, block: &[u8], rest: &str, out: &mut String) -> Answe
 fn judge_blocks(alloc: Global, block: &[u8], kind: &str, number: &str) -> Result<Judged, Stop> {
     let judged = match kind {
         "record" => plain_records::judge(alloc, block, small_of(number)?),
+        "roster" => plain_rosters::judge(alloc, block, small_of(number)?),
         "plain" => plain_intervals::judge(alloc, Form::Plain, block),
         _ => plain_intervals::judge(alloc, slots_of(number)?, block),
     };

@@ -15,6 +15,7 @@ mod plain_intervals;
 mod plain_literals;
 mod plain_names;
 mod plain_records;
+mod plain_rosters;
 mod question;
 mod texts;
 mod values;

@@ -5,7 +5,7 @@ use std::alloc::{AllocError, Global};
 use vr_seqset::{SeqFault, SeqView};
 
 /// The number in two bytes.
-fn two(bytes: &[u8], at: usize) -> usize {
+pub fn two(bytes: &[u8], at: usize) -> usize {
     let high = bytes.get(at).copied().unwrap_or(0);
     let low = bytes.get(at.saturating_add(1)).copied().unwrap_or(0);
     high as usize * 256 + low as usize
@@ -132,15 +132,21 @@ fn later_fault(
     }
 }
 
+/// The block with another byte, where a change is 256 times its place, and the byte.
+pub fn changed(alloc: Global, block: &[u8], change: usize) -> Result<Vec<u8>, AllocError> {
+    let mut bytes = Vec::from_slice(alloc, block)?;
+    if let Some(byte) = bytes.get_mut(change / 256) {
+        *byte = (change % 256) as u8;
+    }
+    Ok(bytes)
+}
+
 /// Judges every block that differs in one byte of the first 60 from a block of an area of
 /// `intervals` intervals.
 pub fn judge(alloc: Global, block: &[u8], intervals: u16) -> Result<Judged, AllocError> {
     let mut judged = Judged::new(alloc);
     for change in 0..15_360usize {
-        let mut bytes = Vec::from_slice(alloc, block)?;
-        if let Some(byte) = bytes.get_mut(change / 256) {
-            *byte = (change % 256) as u8;
-        }
+        let bytes = changed(alloc, block, change)?;
         let fault = first_fault(alloc, bytes.as_slice(), usize::from(intervals))?;
         let read = SeqView::read(bytes.as_slice(), intervals).err();
         judged.count_bytes(alloc, read == fault, bytes.as_slice())?;

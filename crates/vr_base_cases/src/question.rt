@@ -51,6 +51,7 @@ fn head(alloc: Global, block: &mut [u8], rest: &str, out: &mut String) -> Answer
         "find" => heads::find(alloc, block, rest, out),
         "roster" => heads::roster(alloc, block, rest, out),
         "write-roster" => heads::write(block, rest, out),
+        "copy-roster" => heads::copy_roster(alloc, block, rest, out),
         "limit" => heads::limit(rest, out),
         _ => Err(Stop::Line),
     }
