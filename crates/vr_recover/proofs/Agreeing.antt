@@ -1,18 +1,16 @@
 -- What a volume that recovers has in common with what is found as it is opened, and why what is
 -- shown refuses it.
-use Rattle.std.proofs.Common.{◌≡◌, ◌≢◌, ◌⊎◌, ⊎_elim, inl, inr, ℕ, ◌+◌, ◌<◌, ◌≤◌, Bool, true, false}
-use Rattle.std.proofs.Common.{List, [], ◌∷◌, Option, Some, None, length, refl, sym, ap, subst, ◌∙◌}
-use Rattle.std.proofs.Common.{arith, cond, map, get_or}
+use Rattle.std.proofs.Common.{◌≡◌, ◌≢◌, ⊎_elim, ℕ, ◌≤◌, Bool, true, false}
+use Rattle.std.proofs.Common.{List, [], ◌∷◌, Some, length, refl, sym, ap, subst, ◌∙◌}
+use Rattle.std.proofs.Common.{cond, map, get_or}
 use Rattle.std.specs.Prelude.{All, IfSome, nat_eq, slice_get}
 use Rattle.std.specs.List.{IsDistinct}
 use Rattle.std.specs.Option.{option_and_then}
 use Rattle.std.proofs.lemmas.Bool.{ne_eqb, true≢false}
-use Rattle.std.proofs.lemmas.List.{length-map}
 use Rattle.std.proofs.lemmas.List.Elements.{All-head, All-tail}
-use Rattle.std.proofs.lemmas.Option.{get_or_from_slice_get, slice_get-get_or, slice_get-map}
-use Rattle.std.proofs.lemmas.Option.{slice_get_within}
+use Rattle.std.proofs.lemmas.Option.{slice_get-get_or, slice_get-map}
 use Rattle.vr_types.specs.Content.{Content, record_of}
-use Rattle.vr_types.specs.Geometry.{IsAllowed, area_count, head_block}
+use Rattle.vr_types.specs.Geometry.{IsAllowed, area_count}
 use Rattle.vr_types.specs.Image.{Image, block_at}
 use Rattle.vr_types.specs.Seen.{Seen}
 use Rattle.vr_types.specs.declared.geometry.Geometry.{Geometry}
@@ -21,25 +19,24 @@ use Rattle.vr_catalog.specs.Definition.{catalog_definition}
 use Rattle.vr_catalog.specs.declared.entry.CatEntry.{CatEntry}
 use Rattle.vr_attach.specs.CatalogRules.{IsCatalog}
 use Rattle.vr_attach.specs.Header.{header_block}
-use Rattle.vr_attach.specs.Laid.{AreApart, catalog_shape, keyed_part, shape_by, shape_in, shape_of}
+use Rattle.vr_attach.specs.Laid.{AreApart, catalog_shape, keyed_part, shape_by, shape_in}
+use Rattle.vr_attach.proofs.CallerLemmas.{owned-apart}
 use Rattle.vr_attach.proofs.Walks.{damaged_none as part_damaged}
-use Rattle.vr_keyed.specs.Attached.{IsRuleShown}
 use Rattle.vr_keyed.specs.Owned.{Owned}
 use Rattle.vr_history.specs.State.{BeforeImage}
 use Rattle.vr_log.specs.Content.{Content as LogContent}
-use Rattle.vr_log.specs.Damage.{IsDamagedAt}
 use Rattle.vr_log.specs.Spells.{Spells}
-use Rattle.vr_log.proofs.CallerLemmas.{damaged_none, one_log}
+use Rattle.vr_log.proofs.CallerLemmas.{one_log}
 use Rattle.vr_mount.specs.Areas.{AreOn, EndsBefore}
 use Rattle.vr_mount.proofs.Headers.{one_shape}
 use Rattle.vr_space.specs.Keyed.{Keyed}
 use Rattle.vr_space.specs.Part.{HasRoom, KeyedShape, Shape, Stands, StandsFor, part_no}
 use Rattle.vr_volume.specs.PutBack.{AreAlone, images_of, lengths_kept, put_back}
 use Rattle.vr_volume.specs.Volume.{CanPutBack, IsInside, Recovers, catalog_back, shapes_by}
-use Rattle.vr_recover.specs.Found.{AreEntries, AreEntriesOf, AreOff, HasRoomFor, IsAreaNo}
-use Rattle.vr_recover.specs.Found.{IsAreaOf, IsLaidShown, IsMountShown, MayGoBack}
+use Rattle.vr_recover.specs.Found.{AreEntriesOf, AreOff, HasRoomFor, IsAreaNo}
+use Rattle.vr_recover.specs.Found.{IsMountShown, MayGoBack}
 use Rattle.vr_recover.specs.Found.{AtAreas, AtCatalog, AtPart, Misspelled}
-use Rattle.vr_recover.specs.Opening.{IsCatalogShown, IsNoVolume, IsVolume, shapes_laid}
+use Rattle.vr_recover.specs.Opening.{IsNoVolume, IsVolume, shapes_laid}
 use Rattle.vr_recover.specs.Undone.{FitsPart, IsCovered}
 use Rattle.vr_recover.proofs.Shapes.{entry-laid, laid-number, laid-there, layout-laid}
 
@@ -129,8 +126,8 @@ module _ (geometry : Geometry) (number : ℕ) (image : Image) (recovered : ℕ �
         ends (KeyedShape part) inside = inside.0
 
     pub are-apart : AreApart (shape_in geometry entries)
-    are-apart one other here there here-is there-is = is.stands.apart one other here there
-        (is-laid one here here-is) (is-laid other there there-is)
+    are-apart = owned-apart geometry entries is.stands.owners image
+        (λ part shape laid. is.stands.within part shape (is-laid part shape laid))
 
     pub area-none : (block rule : ℕ) → IsAreaNo geometry entries block rule → ⊥
     area-none block rule shown = ⊎_elim (λ past. past.1 are-on) (λ twice. twice.1 are-apart)

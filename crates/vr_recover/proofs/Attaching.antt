@@ -1,12 +1,12 @@
 -- The parts of a volume, attached one after another.
 use Rattle.std.proofs.Common.{◌≡◌, ℕ, ◌+◌, ◌<◌, ◌≤◌, List, [], ◌∷◌, ◌++◌, Option, Some, None, length}
 use Rattle.std.proofs.Common.{refl, sym, ap, subst, ◌∙◌, arith, map, take, append_assoc}
-use Rattle.std.specs.Prelude.{All, Bool, nat_eq, IfSome, IsTrue, true, false, slice_get, ◌↔◌}
+use Rattle.std.specs.Prelude.{Bool, nat_eq, IfSome, IsTrue, true, false, slice_get, ◌↔◌}
 use Rattle.std.proofs.lemmas.Bool.{true≢false}
 use Rattle.std.specs.List.{IsDistinct, cons_option, filter_map}
-use Rattle.std.proofs.lemmas.List.{take_all, take_more}
+use Rattle.std.proofs.lemmas.List.{take_more}
 use Rattle.std.proofs.lemmas.List.Elements.{All-nil, All-push, filter_map-append}
-use Rattle.vr_types.specs.Geometry.{IsAllowed, area_count}
+use Rattle.vr_types.specs.Geometry.{area_count}
 use Rattle.vr_types.specs.Image.{Image}
 use Rattle.vr_types.specs.Seen.{Seen}
 use Rattle.vr_types.specs.declared.geometry.Geometry.{Geometry}
@@ -14,7 +14,7 @@ use Rattle.vr_catalog.specs.Catalog.{parts_in}
 use Rattle.vr_catalog.specs.Definition.{catalog_definition}
 use Rattle.vr_catalog.specs.declared.definition.Definition.{Definition}
 use Rattle.vr_catalog.specs.declared.entry.CatEntry.{CatEntry}
-use Rattle.vr_attach.specs.Laid.{catalog_shape, keyed_part, keyed_shape, shape_of}
+use Rattle.vr_attach.specs.Laid.{catalog_shape, keyed_part, shape_of}
 use Rattle.vr_keyed.specs.Attached.{IsRuleShown}
 use Rattle.vr_log.specs.LogNow.{IsOf}
 use Rattle.vr_mount.specs.Areas.{IsBelow}

@@ -13,7 +13,8 @@ use Rattle.vr_types.specs.Seen.{Left, Seen}
 use Rattle.vr_types.specs.declared.geometry.Geometry.{Geometry}
 use Rattle.vr_types.specs.declared.unit.Unit.{Unit as UnitOfRecovery}
 use Rattle.vr_space.specs.Keyed.{keyed_way}
-use Rattle.vr_space.specs.Part.{InPart, IsSound, KeyedShape, MayHold, Shape}
+use Rattle.vr_space.specs.Owners.{Owners}
+use Rattle.vr_space.specs.Part.{InPart, IsSound, KeyedShape, MayHold, Shape, part_no}
 use Rattle.vr_space.proofs.CallerLemmas.{IsBlock, find-more, keyed-within, within-less}
 use Rattle.vr_history.proofs.CallerLemmas.{unit_self}
 use Rattle.vr_history.proofs.Same.{unit_same}
@@ -30,7 +31,6 @@ use Rattle.vr_volume.specs.Laid.{shape_by}
 use Rattle.vr_volume.specs.PutBack.{AreAlone, images_of, oldest}
 use Rattle.vr_volume.specs.Safe.{AreCommitted, IsSafeBy, IsSafeImage}
 use Rattle.vr_volume.specs.Volume.{CanPutBack, Recovers}
-use Rattle.vr_volume.proofs.Apart.{part-past}
 use Rattle.vr_volume.proofs.Endings.{in-without as in-fewer}
 use Rattle.vr_volume.proofs.Images.{live-append}
 use Rattle.vr_volume.proofs.Living.{in-without, left-images, live-once}
@@ -39,35 +39,36 @@ use Rattle.vr_volume.proofs.Recovering.{each_image_is_safe, image_recovers}
 use Rattle.vr_recover.specs.Undone.{HasAll, IsBeforeOf, IsOut, IsUndone, alike}
 
 -- a safe image recovers to the contents, where they are committed whatever the log has
-pub safe-recovers : (geometry : Geometry) (number : ℕ) (log : LogNow) (contents : ℕ → Content)
-    (image : Image) → IsSafeImage geometry number log (alike contents) image
+pub safe-recovers : (geometry : Geometry) (number : ℕ) (owners : Owners) (log : LogNow)
+    (contents : ℕ → Content) (image : Image)
+    → IsSafeImage geometry number owners log (alike contents) image
     → Recovers geometry number image contents
-safe-recovers geometry number log contents image safe =
-    image_recovers geometry number image safe.0 contents safe.2
+safe-recovers geometry number owners log contents image safe =
+    image_recovers geometry number owners image safe.0 contents safe.2
 
 -- a crash leaves no more of a part, so no more is held
-pub may-less : (shape : Shape) (a b : Seen) → IsSound shape a
-    → ((n : ℕ) (block : Block) → n < a.count → InPart shape n → b.may n block → a.may n block)
-    → (place : List ℕ) (found : Option Item) → MayHold shape b.may place found
+pub may-less : (shape : Shape) (owners : Owners) (a b : Seen) → IsSound shape owners a
+    → ((n : ℕ) (block : Block) → n < a.count → InPart shape owners n → b.may n block
+    → a.may n block) → (place : List ℕ) (found : Option Item) → MayHold shape b.may place found
     → MayHold shape a.may place found
-may-less (KeyedShape part) a b sound fewer place found held =
+may-less (KeyedShape part) owners a b (sound, owned) fewer place found held =
     let less : (n : ℕ) (block : Block) → IsBlock part a n → b.may n block → a.may n block =
-    λ n block is. fewer n block is.0 is.1 in
+    λ n block is. fewer n block is.0 (owned n is.1) in
     find-more (IsBlock part a) b.may a.may found less (keyed_way part place)
     (within-less (IsBlock part a) b.may a.may less (keyed_way part place)
     (keyed-within part a sound place)) held
 
-module _ (number : ℕ) (log : LogNow) (contents : ℕ → Content) (a : Seen)
-    (undone : IsUndone number log contents a) where
+module _ (number : ℕ) (owners : Owners) (log : LogNow) (contents : ℕ → Content) (a : Seen)
+    (undone : IsUndone number owners log contents a) where
   pub left-recovers : (image : Image) → Left a image
       → Recovers log.geometry number image contents
-  left-recovers image left = safe-recovers log.geometry number log contents image
-      (each_image_is_safe log.geometry number log (alike contents) a undone.safe image left)
+  left-recovers image left = safe-recovers log.geometry number owners log contents image
+      (each_image_is_safe log.geometry number owners log (alike contents) a undone.safe image left)
 
   module _ (most : log.forced ≤ length log.records) where
     -- by all records that there are
-    by-all : IsSafeBy log.geometry log.records contents a
-    by-all = subst (λ (records : List LogRecord). IsSafeBy log.geometry records contents a)
+    by-all : IsSafeBy log.geometry owners log.records contents a
+    by-all = subst (λ (records : List LogRecord). IsSafeBy log.geometry owners records contents a)
         (take_all (length log.records) log.records (omega arith))
         (undone.safe.by_log (first_of log (length log.records)) (inl (record {
           count = length log.records;
@@ -81,9 +82,9 @@ module _ (number : ℕ) (log : LogNow) (contents : ℕ → Content) (a : Seen)
         → ((n : ℕ) (block : Block) → n < a.count → Outside (InLog log.geometry) n
         → b.may n block → a.may n block) → HasAll log.geometry contents b
     all-stays b fewer part shape laid place found may = undone.all part shape laid place found
-        (may-less shape a b (by-all.parts part shape laid).sound
+        (may-less shape owners a b (by-all.parts part shape laid).sound
         (λ n block below inside is. fewer n block below (λ there.
-        omega (arith, there.1, part-past log.geometry (contents 0) part shape laid n inside)) is)
+        omega (arith, there.1, undone.safe.past n (part_no shape).0 inside)) is)
         place found may)
 
     module _ (unit : UnitOfRecovery) (kind : EndKind) where
@@ -103,7 +104,6 @@ module _ (number : ℕ) (log : LogNow) (contents : ℕ → Content) (a : Seen)
       committed-end = record {
         each = was.each;
         catalog = was.catalog;
-        apart = was.apart;
         inside = was.inside;
         others = was.others;
         images = subst (All Back) (sym images-left)

@@ -25,23 +25,26 @@ use Rattle.vr_log.specs.Standing.{InLog, LogStands}
 use Rattle.vr_log.proofs.CallerLemmas.{one_log}
 use Rattle.vr_mount.proofs.Laying.{IsAt, shape_at}
 use Rattle.vr_space.specs.Keyed.{Keyed}
+use Rattle.vr_space.specs.Owners.{Owners}
 use Rattle.vr_space.specs.Met.{Met}
 use Rattle.vr_space.specs.Split.{SplitNow}
-use Rattle.vr_space.specs.Part.{IsOn, KeyedShape, Shape, part_no}
+use Rattle.vr_space.specs.Part.{IsOn, KeyedShape, Shape, StaysIn, part_no}
 use Rattle.vr_volume.specs.PutBack.{images_of, lengths_kept}
 use Rattle.vr_volume.specs.Volume.{Recovers, shapes_by}
 use Rattle.vr_recover.specs.Found.{AreAttached, AreEntriesOf, IsFound, IsPartReady, IsPlanned}
 use Rattle.vr_recover.specs.Found.{IsUndoable}
 use Rattle.vr_recover.specs.Opening.{shape_owned, shapes_laid}
-use Rattle.vr_recover.specs.Undone.{FitsPart, IsCovered, IsPastLog, IsReady, IsSettled}
+use Rattle.vr_recover.specs.Undone.{FitsPart, HaveOwnNumbers, IsCovered, IsLaidPastLog, IsReady}
+use Rattle.vr_recover.specs.Undone.{IsSettled}
 use Rattle.vr_recover.specs.Undone.{nothing_known}
 use Rattle.vr_recover.proofs.Agreeing.{log-same, shapes-same}
 use Rattle.vr_recover.proofs.Areas.{area-on, two-areas}
 use Rattle.vr_recover.proofs.Keeping.{all-more}
+use Rattle.vr_recover.proofs.Owning.{OwnParts}
 use Rattle.vr_recover.proofs.Settled.{part-opened, settled-undone}
 use Rattle.vr_recover.proofs.Recovery.{AreOffLog, found-recovers, moved-recovers, recovered}
 use Rattle.vr_recover.proofs.Refusals.{layouts-on}
-use Rattle.vr_recover.proofs.Shapes.{each-laid, shapes-apart}
+use Rattle.vr_recover.proofs.Shapes.{each-laid, shapes-differ}
 use Rattle.vr_recover.proofs.Standing.{stands-same}
 
 -- ---- while it is cleared
@@ -108,7 +111,7 @@ owned-shapes (keyed ∷ parts) =
     ap (λ (s : List Shape). KeyedShape keyed.part ∷ s) (owned-shapes parts)
 
 past-at : (geometry : Geometry) (a : ℕ) (shape : Shape) → IsAt geometry a shape
-    → IsPastLog geometry shape
+    → IsLaidPastLog geometry shape
 past-at geometry a (KeyedShape part) at n here = omega (arith, at.0, here.0)
 
 module _ (geometry : Geometry) (content : LogContent) (entries : List CatEntry)
@@ -129,16 +132,16 @@ module _ (geometry : Geometry) (content : LogContent) (entries : List CatEntry)
       (All-map (λ (shape : Shape). IsOn shape now) KeyedShape layouts
       (layouts-on geometry entries layouts now of planned.shapes planned.distinct planned.on))
 
-  laid-all : All (λ (shape : Shape). shape_in geometry entries (part_no shape).0 ≡ Some shape)
+  pub laid-all : All (λ (shape : Shape). shape_in geometry entries (part_no shape).0 ≡ Some shape)
       (map shape_owned parts)
   laid-all = subst
       (All (λ (shape : Shape). shape_in geometry entries (part_no shape).0 ≡ Some shape))
       (sym shapes-are) (each-laid geometry entries planned.distinct)
 
-  pub parts-past : All (IsPastLog geometry) (map shape_owned parts)
+  pub parts-past : All (IsLaidPastLog geometry) (map shape_owned parts)
   parts-past = all-more
       (λ (shape : Shape). shape_in geometry entries (part_no shape).0 ≡ Some shape)
-      (IsPastLog geometry)
+      (IsLaidPastLog geometry)
       (λ shape laid. let at = shape_at geometry entries (part_no shape).0 shape laid in
       past-at geometry at.0 shape at.2) (map shape_owned parts) laid-all
 
@@ -152,9 +155,8 @@ module _ (geometry : Geometry) (content : LogContent) (entries : List CatEntry)
       numbers k now) (sym same) (record {
         numbers_are = ap (map part_no) listed ∙ row.numbers_are;
         on = parts-on now of;
-        apart = subst Rattle.vr_recover.specs.Undone.AreApart (sym shapes-are)
-            (shapes-apart geometry entries planned.distinct planned.apart);
-        past = parts-past;
+        apart = subst HaveOwnNumbers (sym shapes-are)
+            (shapes-differ geometry entries planned.distinct);
         split = row.split;
         sound = refl;
         shape = of;
@@ -171,17 +173,26 @@ module _ (geometry : Geometry) (content : LogContent) (entries : List CatEntry)
       (spelled : Spells geometry now.cur content)
       (are : AreEntriesOf geometry now.cur entries)
       (number : ℕ) (recovered : ℕ → Content)
-      (is : Recovers geometry number now.cur recovered) where
+      (is : Recovers geometry number now.cur recovered) (owners : Owners)
+      (own : OwnParts geometry entries owners) where
     logs : is.log ≡ content
     logs = log-same geometry number now.cur recovered is content long spelled planned.off
+
+    same-shapes : (part : ℕ) → shapes_by geometry is.log is.contents part
+        ≡ shape_in geometry entries part
+    same-shapes = shapes-same geometry number now.cur recovered is content long spelled planned.off
+        entries are
+
+    stays-by : (part : ℕ) (shape : Shape)
+        → shapes_by geometry is.log is.contents part ≡ Some shape → StaysIn shape owners now.cur
+    stays-by part shape laid = own.within part shape (sym (same-shapes part) ∙ laid) now.cur
 
     laid-by : All (λ (shape : Shape). shapes_by geometry is.log is.contents (part_no shape).0
         ≡ Some shape) (map shape_owned parts)
     laid-by = all-more
         (λ (shape : Shape). shape_in geometry entries (part_no shape).0 ≡ Some shape)
         (λ (shape : Shape). shapes_by geometry is.log is.contents (part_no shape).0 ≡ Some shape)
-        (λ shape laid. shapes-same geometry number now.cur recovered is content long spelled
-        planned.off entries are (part_no shape).0 ∙ laid) (map shape_owned parts) laid-all
+        (λ shape laid. same-shapes (part_no shape).0 ∙ laid) (map shape_owned parts) laid-all
 
     covered-by : All (IsCovered (map shape_owned parts)) (images_of is.log.records)
     covered-by = subst (λ (l : LogContent). All (IsCovered (map shape_owned parts))
@@ -189,28 +200,28 @@ module _ (geometry : Geometry) (content : LogContent) (entries : List CatEntry)
         (subst (λ (s : List Shape). All (IsCovered s) images) (sym listed) planned.back.covered)
 
     pub settled-now : LogStands (made geometry content) now
-        → IsSettled number (made geometry content) recovered (map shape_owned parts) now
-    settled-now stands = subst (λ (l : LogContent). IsSettled number (made geometry l) recovered
-        (map shape_owned parts) now) logs
-        (settled-undone geometry number now recovered is of forced allowed
+        → IsSettled number owners (made geometry content) recovered (map shape_owned parts) now
+    settled-now stands = subst (λ (l : LogContent). IsSettled number owners (made geometry l)
+        recovered (map shape_owned parts) now) logs
+        (settled-undone geometry number now recovered is of forced owners own.past stays-by allowed
         (subst (λ (l : LogContent). LogStands (made geometry l) now) (sym logs) stands)
         (map shape_owned parts) laid-by covered-by)
 
     ready-at : (keyed : Owned) → keyed.split ≡ None → keyed.met ≡ []
         → shapes_by geometry is.log is.contents keyed.part.part ≡ Some (KeyedShape keyed.part)
-        → IsPartReady images now keyed
+        → IsPartReady owners images now keyed
     ready-at keyed no-split none laid =
-        let opened = part-opened geometry number now recovered is of forced
-        (KeyedShape keyed.part) laid in
-        subst (λ (split : Option SplitNow). IsReady (KeyedShape keyed.part)
+        let opened = part-opened geometry number now recovered is of forced owners own.past
+        stays-by (KeyedShape keyed.part) laid in
+        subst (λ (split : Option SplitNow). IsReady (KeyedShape keyed.part) owners
         (record { split = split; met = keyed.met }) (lengths_kept images keyed.part.part) now)
         (sym no-split)
-        (subst (λ (met : List Met). IsReady (KeyedShape keyed.part)
+        (subst (λ (met : List Met). IsReady (KeyedShape keyed.part) owners
         (record { split = None; met = met }) (lengths_kept images keyed.part.part) now) (sym none)
-        (subst (λ (l : LogContent). IsReady (KeyedShape keyed.part) nothing_known
+        (subst (λ (l : LogContent). IsReady (KeyedShape keyed.part) owners nothing_known
         (lengths_kept (images_of l.records) keyed.part.part) now) logs opened.ready))
 
-    pub ready-now : All (IsPartReady images now) parts
+    pub ready-now : All (IsPartReady owners images now) parts
     ready-now k d below = ready-at (get_or parts k d) (row.split k d below) (row.met k d below)
         (Rattle.vr_mount.proofs.Telling.mapped_all shape_owned
         (λ (shape : Shape). shapes_by geometry is.log is.contents (part_no shape).0 ≡ Some shape)
@@ -237,7 +248,8 @@ pub record IsCleared (geometry : Geometry) (content : LogContent) (entries : Lis
 module _ (geometry : Geometry) (content : LogContent) (entries : List CatEntry)
     (layouts : List Keyed) (planned : IsPlanned geometry content entries layouts)
     (parts : List Owned) (numbers : List PartNo) (row : AreAttached parts layouts numbers)
-    (a b : Seen) (cleared : IsCleared geometry content entries layouts a b) where
+    (a b : Seen) (cleared : IsCleared geometry content entries layouts a b) (owners : Owners)
+    (own : OwnParts geometry entries owners) where
   then-recovers : (number : ℕ) (contents : ℕ → Content)
       → Recovers geometry number a.cur contents → Recovers geometry number b.cur contents
   then-recovers number contents is = cleared-recovers geometry content a b cleared.allowed
@@ -256,28 +268,28 @@ module _ (geometry : Geometry) (content : LogContent) (entries : List CatEntry)
 
   pub then-settled : (number : ℕ) (contents : ℕ → Content) (log : LogNow)
       → log ≡ made geometry content → Recovers geometry number a.cur contents
-      → IsSettled number log contents (map shape_owned parts) b
+      → IsSettled number owners log contents (map shape_owned parts) b
   then-settled number contents log same is = subst
-      (λ (l : LogNow). IsSettled number l contents (map shape_owned parts) b) (sym same)
+      (λ (l : LogNow). IsSettled number owners l contents (map shape_owned parts) b) (sym same)
       (settled-now geometry content entries layouts planned parts numbers row b cleared.allowed
       cleared.of_then cleared.forced_then cleared.long_then cleared.spelled_then then-entries number
-      contents (then-recovers number contents is) cleared.stands)
+      contents (then-recovers number contents is) owners own cleared.stands)
 
   pub then-ready : (kept : List BeforeImage) → kept ≡ images_of content.records
-      → All (IsPartReady kept b) parts
+      → All (IsPartReady owners kept b) parts
   then-ready kept same =
       let contents = recovered geometry content entries layouts planned cleared.number a.cur
       cleared.found in
-      subst (λ (k : List BeforeImage). All (IsPartReady k b) parts) (sym same)
+      subst (λ (k : List BeforeImage). All (IsPartReady owners k b) parts) (sym same)
       (ready-now geometry content entries layouts planned parts numbers row b cleared.allowed
       cleared.of_then cleared.forced_then cleared.long_then cleared.spelled_then then-entries
       cleared.number contents (then-recovers cleared.number contents
       (found-recovers geometry content entries layouts planned cleared.number a.cur
-      cleared.found)))
+      cleared.found)) owners own)
 
   pub then-moments : (number : ℕ) (contents : ℕ → Content) (log : LogNow) (d : Seen)
       → log ≡ made geometry content → Recovers geometry number a.cur contents
-      → (IsSettled number log contents (map shape_owned parts) b
+      → (IsSettled number owners log contents (map shape_owned parts) b
       → Guards b d (λ image. Recovers log.geometry number image contents))
       → Guards a d (λ image. Recovers geometry number image contents)
   then-moments number contents log d same is further =

@@ -1,9 +1,9 @@
 -- The before-images of a log: none of a place, the only one of each, and all of them kept.
 use Rattle.std.proofs.Common.{◌≡◌, ℕ, zero, suc, ◌+◌, ◌<◌, ◌≤◌, Bool, true, false, cond, List, [], ◌∷◌}
 use Rattle.std.proofs.Common.{◌++◌, Option, Some, None, length, refl, sym, ap, subst, ◌∙◌, take, drop}
-use Rattle.std.proofs.Common.{get_or, arith, add-one, ◌&&◌, bytes_eq, ◌==◌}
+use Rattle.std.proofs.Common.{get_or, arith, add-one, ◌&&◌}
 use Rattle.std.specs.Prelude.{All, IfSome, find, slice_get, ◌||◌}
-use Rattle.std.specs.List.{cons_option, filter_map, list_any}
+use Rattle.std.specs.List.{cons_option, filter_map}
 use Rattle.std.proofs.lemmas.Bool.{cases_lt, true≢false}
 use Rattle.std.proofs.lemmas.Option.{slice_get-get_or}
 use Rattle.std.proofs.Common.{⊎_elim}

@@ -5,6 +5,7 @@ pub mod Records
 pub mod Standing
 pub mod Areas
 pub mod Made
+pub mod Owning
 pub mod NewVolume
 pub mod Safe
 pub mod Settled

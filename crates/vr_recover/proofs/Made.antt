@@ -15,7 +15,8 @@ use Rattle.vr_types.specs.declared.geometry.Geometry.{Geometry}
 use Rattle.vr_types.proofs.CallerLemmas.{during-none, during-weaken, keeps-touches}
 use Rattle.vr_types.proofs.CallerLemmas.{puts-touches, touches-then}
 use Rattle.vr_catalog.specs.declared.entry.CatEntry.{CatEntry}
-use Rattle.vr_space.specs.Part.{InPart, KeyedShape, Shape, StandsFor}
+use Rattle.vr_space.specs.Keyed.{InArea}
+use Rattle.vr_space.specs.Part.{InFirstArea, KeyedShape, Shape, StandsFor}
 use Rattle.vr_volume.specs.Header.{header_block}
 use Rattle.std.specs.Option.{option_and_then}
 use Rattle.std.proofs.Common.{true≢false}
@@ -96,7 +97,7 @@ touches-both region a b c first second = touches-then region Anything a b c firs
 
 -- a part of the volume that isn't written stays
 pub part-stays : (shape : Shape) (region : ℕ → Type 0) (old new : Seen) (content : Content)
-    → ((n : ℕ) → InPart shape n → region n → ⊥) → Touches region Anything old new
+    → ((n : ℕ) → InFirstArea shape n → region n → ⊥) → Touches region Anything old new
     → StandsFor shape old.cur content → StandsFor shape new.cur content
 part-stays shape region old new content apart call =
     stands-same shape old.cur new.cur content (λ n here. call.content n (apart n here))
@@ -105,7 +106,7 @@ part-stays shape region old new content apart call =
 
 -- the area of a cluster is one of those of the clusters
 pub cluster-inside : (geometry : Geometry) (clusters at n : ℕ) (entry : CatEntry) → at < clusters
-    → InPart (KeyedShape (cluster_keyed geometry (at + 1) entry)) n
+    → InArea (cluster_keyed geometry (at + 1) entry) n
     → InClusters geometry clusters n
 cluster-inside geometry clusters at n entry below here =
     let last = area-before geometry (at + 1) (clusters + 1) (omega (arith, below)) in
@@ -118,8 +119,8 @@ cluster-inside geometry clusters at n entry below here =
 
 -- two of them have no common block
 pub clusters-apart : (geometry : Geometry) (one other n : ℕ) (here there : CatEntry) → one < other
-    → InPart (KeyedShape (cluster_keyed geometry one here)) n
-    → InPart (KeyedShape (cluster_keyed geometry other there)) n → ⊥
+    → InArea (cluster_keyed geometry one here) n
+    → InArea (cluster_keyed geometry other there) n → ⊥
 clusters-apart geometry one other n here there less inside also =
     let before = area-before geometry one other less in
     absurd (omega (arith, before, inside.1, also.0))
@@ -128,7 +129,7 @@ clusters-apart geometry one other n here there less inside also =
 pub empty-more : (geometry : Geometry) (clusters : List CatEntry) (n : ℕ) (entry : CatEntry)
     (old new : Seen) → Rattle.std.specs.Prelude.slice_get clusters n ≡ Some entry
     → AreEmpty geometry clusters n old.cur
-    → Touches (InPart (KeyedShape (cluster_keyed geometry (n + 1) entry))) Anything old new
+    → Touches (InArea (cluster_keyed geometry (n + 1) entry)) Anything old new
     → StandsFor (KeyedShape (cluster_keyed geometry (n + 1) entry)) new.cur []
     → AreEmpty geometry clusters (n + 1) new.cur
 empty-more geometry clusters n entry old new is so_far call stands at other below there =
@@ -154,7 +155,7 @@ pub in-start : (geometry : Geometry) (clusters n : ℕ) → n ≤ 1 → IsWritte
 in-start geometry clusters n here = inl here
 
 pub in-catalog : (geometry : Geometry) (clusters n : ℕ)
-    → InPart (KeyedShape (catalog_keyed geometry)) n → IsWritten geometry clusters n
+    → InArea (catalog_keyed geometry) n → IsWritten geometry clusters n
 in-catalog geometry clusters n here =
     let before = area-before geometry 0 (clusters + 1) (omega arith) in
     inr (here.0, omega (arith, before, here.1))
@@ -172,7 +173,7 @@ pub record Steps (geometry : Geometry) (number : ℕ) (entries clusters : List C
   pub log : block_at second.cur 1 ≡ replicate geometry.size 0
   pub catalog : StandsFor (KeyedShape (catalog_keyed geometry)) third.cur
       (content_of (catalog_keyed geometry) entries)
-  pub to_third : Touches (InPart (KeyedShape (catalog_keyed geometry))) Anything second third
+  pub to_third : Touches (InArea (catalog_keyed geometry)) Anything second third
   pub empty : AreEmpty geometry clusters (length clusters) last.cur
   pub to_last : Touches (InClusters geometry (length clusters)) Anything third last
 

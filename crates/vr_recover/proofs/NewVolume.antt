@@ -26,10 +26,10 @@ use Rattle.vr_catalog.specs.declared.entry.CatEntry.{CatEntry}
 use Rattle.vr_catalog.proofs.CallerLemmas.{spells}
 use Rattle.vr_seqset.specs.Numbers.{intervals_used}
 use Rattle.vr_space.specs.Keyed.{IsValid, Keyed, key_of}
-use Rattle.vr_space.specs.Part.{InPart, KeyedShape, Shape}
+use Rattle.vr_space.specs.Part.{InFirstArea, KeyedShape, Shape}
 use Rattle.vr_volume.specs.CatalogRules.{IsCatalog, IsEntryOf}
 use Rattle.vr_volume.specs.Laid.{catalog_shape, shape_by, shape_in, shape_of}
-use Rattle.vr_volume.specs.Volume.{AreApart}
+use Rattle.vr_attach.specs.Laid.{AreApart}
 use Rattle.vr_recover.specs.Formatted.{catalog_of, first_entries, first_entry}
 use Rattle.vr_recover.specs.Planned.{ArePlanned, HasHead, IsCluster, IsOneOf, MayStand, catalog_keyed}
 use Rattle.vr_recover.specs.Planned.{cluster_keyed}
@@ -206,7 +206,7 @@ module _ (geometry : Geometry) (allowed : IsAllowed geometry) where
           no-entry : (x : CatEntry) → None ≡ Some x → ⊥
           no-entry x same = cc
 
-  catalog-before : (n : ℕ) → InPart (catalog_shape geometry) n → InPart first-shape n → ⊥
+  catalog-before : (n : ℕ) → InFirstArea (catalog_shape geometry) n → InFirstArea first-shape n → ⊥
   catalog-before n here there =
       let before = area-before geometry 0 1 (omega arith) in
       absurd (omega (arith, before, here.1, there.0))
@@ -232,11 +232,11 @@ module _ (geometry : Geometry) (allowed : IsAllowed geometry) where
       by : IsLaidPart (first_entry ∷ []) one here → IsLaidPart (first_entry ∷ []) other there → ⊥
       by (inl mine) (inl yours) = differ (mine.0 ∙ sym yours.0)
       by (inl mine) (inr yours) = catalog-before n
-          (subst (λ (s : Shape). InPart s n) mine.1 inside)
-          (subst (λ (s : Shape). InPart s n) (only-one there yours.1) within)
+          (subst (λ (s : Shape). InFirstArea s n) mine.1 inside)
+          (subst (λ (s : Shape). InFirstArea s n) (only-one there yours.1) within)
       by (inr mine) (inl yours) = catalog-before n
-          (subst (λ (s : Shape). InPart s n) yours.1 within)
-          (subst (λ (s : Shape). InPart s n) (only-one here mine.1) inside)
+          (subst (λ (s : Shape). InFirstArea s n) yours.1 within)
+          (subst (λ (s : Shape). InFirstArea s n) (only-one here mine.1) inside)
       by (inr mine) (inr yours) = differ (part-one one here is mine.0 ∙ sym (part-one other there also yours.0))
 
   empty-apart : AreApart (shape_by geometry (catalog_of []))

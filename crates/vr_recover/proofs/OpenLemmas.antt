@@ -1,6 +1,7 @@
 -- What opening a volume comes to, step by step.
 use Rattle.std.proofs.Common.{◌≡◌, ◌≢◌, ◌⊎◌, ⊎_elim, inl, inr, ℕ, ◌+◌, ◌<◌, ◌≤◌, ◌^◌, Bool, List, []}
-use Rattle.std.proofs.Common.{◌∷◌, refl, sym, ap, subst, ◌∙◌, arith, map, get_or, IsTrue, false}
+use Rattle.std.proofs.Common.{Option, Some, ◌∷◌, refl, sym, ap, subst, ◌∙◌, arith, map, get_or}
+use Rattle.std.proofs.Common.{IsTrue, false}
 use Rattle.std.specs.Prelude.{All}
 use Rattle.vr_types.specs.Blocks.{AllForced, Keeps}
 use Rattle.vr_types.specs.Content.{Content}
@@ -11,9 +12,11 @@ use Rattle.vr_types.specs.Seen.{Left, Seen}
 use Rattle.vr_types.specs.declared.geometry.Geometry.{Geometry}
 use Rattle.vr_types.specs.declared.unit.PartNo.{PartNo}
 use Rattle.vr_types.proofs.CallerLemmas.{guards-keeps, guards-start, guards-then, guards-weaken}
+use Rattle.vr_catalog.specs.Catalog.{entries_in}
 use Rattle.vr_catalog.specs.declared.entry.CatEntry.{CatEntry}
 use Rattle.vr_attach.specs.Header.{header_block}
-use Rattle.vr_attach.specs.Laid.{catalog_shape}
+use Rattle.vr_attach.specs.Laid.{AreApart, catalog_shape, shape_in}
+use Rattle.vr_attach.specs.Owning.{owner_of}
 use Rattle.vr_history.specs.State.{BeforeImage}
 use Rattle.vr_keyed.specs.Owned.{Owned, known_of}
 use Rattle.vr_log.specs.Content.{Content as LogContent}
@@ -22,16 +25,19 @@ use Rattle.vr_log.specs.Spells.{Spells}
 use Rattle.vr_log.specs.Standing.{LogStands}
 use Rattle.vr_mount.specs.Areas.{AreOwners}
 use Rattle.vr_mount.specs.Header.{IsHeaderOf, version_in}
+use Rattle.vr_mount.proofs.CallerLemmas.{owners_stay}
 use Rattle.vr_space.specs.Keyed.{Keyed}
-use Rattle.vr_space.specs.Part.{IsOn, KeyedShape, Shape, StandsFor}
+use Rattle.vr_space.specs.Owners.{Owners}
+use Rattle.vr_space.specs.Part.{IsOn, KeyedShape, Shape, StandsFor, part_no}
 use Rattle.vr_space.proofs.CallerLemmas.{fewer-room}
 use Rattle.vr_volume.specs.PutBack.{images_of, lengths_kept}
 use Rattle.vr_volume.specs.Volume.{Recovers}
 use Rattle.vr_recover.specs.Found.{AreAttached, IsFound, IsPartReady, IsPlanned}
 use Rattle.vr_recover.specs.Opening.{InArea, InCatalog, InImages, InLog, InPart, IsDamaged, IsHandedOut}
 use Rattle.vr_recover.specs.Opening.{IsNoVolume, IsOpened, IsRefused}
-use Rattle.vr_recover.specs.Opening.{IsPartOf, IsShownOf, IsVolume, Laid, Own, Twice, shape_owned}
-use Rattle.vr_recover.specs.Undone.{IsPastLog, IsReady, IsUndone}
+use Rattle.vr_recover.specs.Opening.{IsPartOf, IsShownOf, IsVolume, Laid, Own, StaysBy, Twice}
+use Rattle.vr_recover.specs.Opening.{shape_owned}
+use Rattle.vr_recover.specs.Undone.{IsLaidPastLog, IsReady, IsUndone}
 use Rattle.vr_recover.specs.declared.open_no.OpenNo.{OpenNo}
 use Rattle.vr_recover.specs.declared.open_no.OpenNo.TheVariants as nos
 use Rattle.vr_recover.specs.declared.open_no.OpenNo.TheVariants.{Damaged, Version, Read, Write, Memory}
@@ -39,7 +45,7 @@ use Rattle.vr_recover.specs.declared.open_no.Unserved.{Unserved}
 use Rattle.vr_recover.specs.Images.{CannotGoBack}
 use Rattle.vr_recover.specs.Unserved.{ByCatalog, ByImage, ByLog, IsUnservedOf}
 use Rattle.vr_recover.proofs.Agreeing.{volume-here}
-use Rattle.vr_recover.proofs.Clearing.{parts-on, parts-past, shapes-are}
+use Rattle.vr_recover.proofs.Clearing.{laid-all, parts-on, parts-past, shapes-are}
 use Rattle.vr_recover.proofs.Keeping.{all-more}
 use Rattle.vr_recover.proofs.Made.{image-same}
 use Rattle.vr_recover.proofs.Recovery.{found-entries, found-recovers, recovered}
@@ -217,10 +223,10 @@ module _ (a b : Seen) (count : b.count ≡ a.count) (size : b.size ≡ a.size) (
   refused-before number Memory is = tt
 
   pub opened-before : (number : ℕ) (geometry : Geometry) (entries : List CatEntry)
-      (parts : List Owned) (log : LogNow) (now : Seen)
-      → IsOpened number geometry entries parts log b now
-      → IsOpened number geometry entries parts log a now
-  opened-before number geometry entries parts log now is = (
+      (parts : List Owned) (log : LogNow) (owners : List (Option PartNo)) (now : Seen)
+      → IsOpened number geometry entries parts log owners b now
+      → IsOpened number geometry entries parts log owners a now
+  opened-before number geometry entries parts log owners now is = (
     is.0,
     record {
       volume = volume-before number geometry is.0 is.1.volume;
@@ -296,7 +302,7 @@ module _ (geometry : Geometry) (content : LogContent) (entries : List CatEntry)
     (before parts : List Owned) (numbers : List PartNo)
     (row : AreAttached before layouts numbers)
     (same : map shape_owned parts ≡ map shape_owned before) where
-  pub handed-out : (log : LogNow) (owners : List (Rattle.std.proofs.Common.Option PartNo))
+  pub handed-out : (log : LogNow) (owners : List (Option PartNo))
       (now : Seen) → IsAllowed geometry → IsOf geometry now → log.geometry ≡ geometry
       → log.broken ≡ false → IsForced log → log.records ≡ [] → log.generation < 2 ^ 63 + 1
       → All (λ (keyed : Owned). keyed.split ≡ Rattle.std.proofs.Common.None) parts
@@ -316,44 +322,57 @@ module _ (geometry : Geometry) (content : LogContent) (entries : List CatEntry)
     laid = are-laid geometry entries planned.distinct;
     on = subst (All (λ (shape : Shape). IsOn shape now)) (sym same)
         (parts-on geometry content entries layouts planned before numbers row now of);
-    past = subst (All (IsPastLog geometry)) (sym same)
+    past = subst (All (IsLaidPastLog geometry)) (sym same)
         (parts-past geometry content entries layouts planned before numbers row);
+    within = subst (All (StaysBy geometry owners)) (sym same)
+        (all-more
+        (λ (shape : Shape). shape_in geometry entries (part_no shape).0 ≡ Some shape)
+        (StaysBy geometry owners)
+        (λ shape laid. owners_stay geometry entries owners owned (part_no shape).0 shape laid)
+        (map shape_owned before)
+        (laid-all geometry content entries layouts planned before numbers row));
     split = split;
     owners_are = owned;
   }
 
-  ready-free : (kept : List BeforeImage) (now : Seen) (keyed : Owned) → IsPartReady kept now keyed
-      → IsReady (shape_owned keyed) (known_of keyed) [] now
-  ready-free kept now keyed ready = record {
+  ready-free : (owners : Owners) (kept : List BeforeImage) (now : Seen) (keyed : Owned)
+      → IsPartReady owners kept now keyed
+      → IsReady (shape_owned keyed) owners (known_of keyed) [] now
+  ready-free owners kept now keyed ready = record {
     rests = ready.rests;
-    room = fewer-room (shape_owned keyed) [] (lengths_kept kept keyed.part.part) now tt
-        ready.rests.sound ready.room;
+    room = fewer-room (shape_owned keyed) owners [] (lengths_kept kept keyed.part.part) now tt
+        (ready.rests.0.sound, ready.rests.1) ready.room;
     knows = ready.knows;
     no_split = ready.no_split;
   }
 
-  pub opened-by : (number : ℕ) (log : LogNow) (kept : List BeforeImage) (a now : Seen)
+  pub opened-by : (number : ℕ) (log : LogNow) (owners : List (Option PartNo))
+      (kept : List BeforeImage) (a now : Seen)
       → IsAllowed geometry → IsOf geometry a → AllForced a.count a.cur a.may
       → IsFound geometry number content entries layouts a.cur
       → ((contents : ℕ → Content) → Recovers geometry number a.cur contents
-      → IsUndone number log contents now)
-      → LogStands log now → All (IsPartReady kept now) parts
-      → IsOpened number geometry entries parts log a now
-  opened-by number log kept a now allowed of forced found undone stands ready =
+      → IsUndone number (owner_of geometry owners) log contents now)
+      → LogStands log now → All (IsPartReady (owner_of geometry owners) kept now) parts
+      → IsOpened number geometry entries parts log owners a now
+  opened-by number log owners kept a now allowed of forced found undone stands ready =
       let contents = recovered geometry content entries layouts planned number a.cur found in
       let is = found-recovers geometry content entries layouts planned number a.cur found in
-      let committed = committed-by geometry number a contents is of forced in (
+      let committed = committed-by geometry number a contents is of forced in
+      let same : entries ≡ entries_in (contents 0) =
+      found-entries geometry content entries layouts planned number a.cur found in (
         contents,
         record {
           volume = record { allowed = allowed; shape = of; recovers = is };
           undone = undone contents is;
           stands = stands;
-          ready = all-more (IsPartReady kept now)
-              (λ (keyed : Owned). IsReady (shape_owned keyed) (known_of keyed) [] now)
-              (λ keyed one. ready-free kept now keyed one) parts ready;
-          catalog = found-entries geometry content entries layouts planned number a.cur found;
+          ready = all-more (IsPartReady (owner_of geometry owners) kept now)
+              (λ (keyed : Owned). IsReady (shape_owned keyed) (owner_of geometry owners)
+              (known_of keyed) [] now)
+              (λ keyed one. ready-free (owner_of geometry owners) kept now keyed one) parts ready;
+          catalog = same;
           rules = committed.catalog;
-          apart = committed.apart;
+          apart = subst (λ (es : List CatEntry). AreApart (shape_in geometry es)) same
+              planned.apart;
           ascends = committed.each;
           others = committed.others;
         },

@@ -1,18 +1,15 @@
 -- Why what is found as a volume is opened refuses it, and what it comes to where nothing does.
-use Rattle.std.proofs.Common.{◌≡◌, ◌≢◌, ◌⊎◌, ⊎_elim, inl, inr, ℕ, ◌+◌, ◌<◌, ◌≤◌, List, [], ◌∷◌, ◌++◌}
-use Rattle.std.proofs.Common.{Option, Some, None, length, refl, sym, ap, subst, ◌∙◌, arith}
+use Rattle.std.proofs.Common.{◌≡◌, ◌≢◌, ⊎_elim, ℕ, ◌+◌, ◌<◌, ◌≤◌, List, [], ◌∷◌, ◌++◌}
+use Rattle.std.proofs.Common.{Some, refl, sym, ap, subst, ◌∙◌, arith}
 use Rattle.std.specs.Prelude.{All, Bool, Contains, IsTrue}
 use Rattle.std.proofs.lemmas.Bool.{cases_lt}
 use Rattle.std.proofs.lemmas.List.Elements.{All-push, Contains-append_left, Contains-append_right}
 use Rattle.vr_types.specs.Blocks.{AllForced, Forced, Keeps}
-use Rattle.vr_types.specs.Content.{Content}
-use Rattle.vr_types.specs.Image.{Block, Image, block_at}
+use Rattle.vr_types.specs.Image.{Image, block_at}
 use Rattle.vr_types.specs.Seen.{Seen}
-use Rattle.vr_types.specs.declared.geometry.Geometry.{Geometry}
-use Rattle.vr_attach.specs.Header.{header_block}
 use Rattle.vr_mount.specs.Header.{version_in}
 use Rattle.vr_mount.proofs.Headers.{version_stated}
-use Rattle.vr_recover.specs.Opening.{IsNoVolume, IsOfVersion, IsVolume}
+use Rattle.vr_recover.specs.Opening.{IsOfVersion}
 
 -- ---- numbers of blocks
 

@@ -15,6 +15,7 @@ use Rattle.vr_types.specs.Seen.{Left, Seen}
 use Rattle.vr_types.specs.declared.geometry.Geometry.{Geometry}
 use Rattle.vr_types.specs.declared.unit.PartNo.{PartNo}
 use Rattle.vr_space.specs.Known.{Known}
+use Rattle.vr_space.specs.Owners.{Owners}
 use Rattle.vr_space.specs.Part.{IsSound, MayHold, Shape, part_no}
 use Rattle.vr_space.specs.Room.{Lengths}
 use Rattle.vr_space.proofs.CallerLemmas.{StaysPart, knows-stays, rest-sound, rest-stays, room-stays}
@@ -34,26 +35,28 @@ use Rattle.vr_recover.proofs.PuttingBack.{found-passes}
 
 -- ---- another part
 
-module _ (shape : Shape) (a b : Seen) (stays : StaysPart shape a b) where
-  pub ready-stays : (known : Known) (kept : Lengths) → Left a a.cur → IsReady shape known kept a
-      → IsReady shape known kept b
+module _ (shape : Shape) (owners : Owners) (a b : Seen) (stays : StaysPart shape owners a b) where
+  pub ready-stays : (known : Known) (kept : Lengths) → Left a a.cur
+      → IsReady shape owners known kept a → IsReady shape owners known kept b
   ready-stays known kept left ready = record {
-    rests = rest-stays a b shape stays ready.rests;
-    room = room-stays a b shape kept stays (rest-sound shape a ready.rests) ready.room;
-    knows = knows-stays a b shape known stays (rest-sound shape a ready.rests) left ready.knows;
+    rests = rest-stays a b shape owners stays ready.rests;
+    room = room-stays a b shape owners kept stays (rest-sound shape owners a ready.rests)
+        ready.room;
+    knows = knows-stays a b shape owners known stays (rest-sound shape owners a ready.rests) left
+        ready.knows;
     no_split = ready.no_split;
   }
 
-  module _ (sound : IsSound shape a) where
+  module _ (sound : IsSound shape owners a) where
     pub firm-stays : Left a a.cur → IsAllFirm shape a → IsAllFirm shape b
     firm-stays left firm place found held =
-        firm place found (may-less shape a b sound stays.fewer place found held)
-        ∙ sym (same-stays a b shape stays sound left place)
+        firm place found (may-less shape owners a b sound stays.fewer place found held)
+        ∙ sym (same-stays a b shape owners stays sound left place)
 
     pub content-stays : (content : Content) → HasContent shape content a
         → HasContent shape content b
     content-stays content has place found held =
-        has place found (may-less shape a b sound stays.fewer place found held)
+        has place found (may-less shape owners a b sound stays.fewer place found held)
 
 -- ---- all parts
 
@@ -121,13 +124,14 @@ read-off f xs ys i x d same below is = ap (λ (l : List _). slice_get l i) (sym 
 -- ---- the volume
 
 -- it is safe by all records of the log
-module _ (geometry : Geometry) (member : ℕ) (log : LogNow) (contents : ℕ → Content) (a : Seen)
-    (safe : IsSafe geometry member log (alike contents) a) (left : Left a a.cur) where
-  pub all-safe : HasAllRecords log → IsSafeBy geometry log.records contents a
+module _ (geometry : Geometry) (member : ℕ) (owners : Owners) (log : LogNow)
+    (contents : ℕ → Content) (a : Seen)
+    (safe : IsSafe geometry member owners log (alike contents) a) (left : Left a a.cur) where
+  pub all-safe : HasAllRecords log → IsSafeBy geometry owners log.records contents a
   all-safe records =
       let has : HasLog log a.cur =
       safe.logs a.cur (record { each = λ n below inside. left.each n below }) in
-      subst (λ (rs : List LogRecord). IsSafeBy geometry rs contents a) (records has.0 has.2)
+      subst (λ (rs : List LogRecord). IsSafeBy geometry owners rs contents a) (records has.0 has.2)
       (safe.by_log has.0 has.2)
 
 -- an image is the one that is found at its place
@@ -193,13 +197,14 @@ shape-is one other same = cc
 
 -- Once each of these parts has its content, so has each part that is laid: one that isn't among them
 -- has no before-image.
-pub all-parts : (geometry : Geometry) (log : LogNow) (contents : ℕ → Content)
-    (shapes : List Shape) (a : Seen) → IsSafeBy geometry log.records contents a
+pub all-parts : (geometry : Geometry) (owners : Owners) (log : LogNow) (contents : ℕ → Content)
+    (shapes : List Shape) (a : Seen) → IsSafeBy geometry owners log.records contents a
     → AreOpened geometry log contents shapes
     → All (IsCovered shapes) (images_of log.records)
     → All (λ (shape : Shape). HasContent shape (contents (part_no shape).0) a) shapes
     → HasAll geometry contents a
-all-parts geometry log contents shapes a safe opened covered all part shape laid place found held =
+all-parts geometry owners log contents shapes a safe opened covered all part shape laid place found
+    held =
     by_image (oldest (images_of log.records) part place) refl
   where
     by_image : (image : Option BeforeImage) → oldest (images_of log.records) part place ≡ image

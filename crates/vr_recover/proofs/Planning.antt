@@ -26,11 +26,11 @@ use Rattle.vr_catalog.specs.Record.{entry_of, spelling}
 use Rattle.vr_catalog.specs.declared.entry.CatEntry.{CatEntry}
 use Rattle.vr_catalog.proofs.RecordLemmas.{length-spelling}
 use Rattle.vr_space.specs.Keyed.{key_of}
-use Rattle.vr_space.specs.Part.{InPart, KeyedShape, Shape, StandsFor}
+use Rattle.vr_space.specs.Part.{InFirstArea, KeyedShape, Shape, StandsFor}
 use Rattle.vr_space.proofs.CallerLemmas.{AllAbove, Rising, lt_from_test, rising-sorted}
 use Rattle.vr_volume.specs.CatalogRules.{IsCatalog, IsEntryOf}
 use Rattle.vr_volume.specs.Laid.{catalog_shape, shape_by, shape_in, shape_of}
-use Rattle.vr_volume.specs.Volume.{AreApart}
+use Rattle.vr_attach.specs.Laid.{AreApart}
 use Rattle.vr_recover.specs.Fit.{AreTaken, IsFormattedWith}
 use Rattle.vr_recover.specs.Formatted.{IsFormatted, catalog_of, first_entry, place_of}
 use Rattle.vr_recover.specs.InOrder.{AreInOrder, placed_entry}
@@ -263,14 +263,14 @@ module _ (geometry : Geometry) (allowed : IsAllowed geometry)
       (ap (λ (es : List CatEntry). shape_in geometry es part) (sym entries-are) ∙ is)
 
   -- a part is in the area of its number
-  in-its-area : (part n : ℕ) (shape : Shape) → IsLaidPart part shape → InPart shape n
+  in-its-area : (part n : ℕ) (shape : Shape) → IsLaidPart part shape → InFirstArea shape n
       → (head_block geometry part ≤ n) × (n ≤ head_block geometry part + geometry.area)
   in-its-area part n shape (inl catalog) inside =
       subst (λ (p : ℕ). (head_block geometry p ≤ n) × (n ≤ head_block geometry p + geometry.area))
-      (sym catalog.0) (subst (λ (s : Shape). InPart s n) catalog.1 inside)
+      (sym catalog.0) (subst (λ (s : Shape). InFirstArea s n) catalog.1 inside)
   in-its-area part n shape (inr laid) inside =
       subst (λ (p : ℕ). (head_block geometry p ≤ n) × (n ≤ head_block geometry p + geometry.area))
-      (sym laid.number) (subst (λ (s : Shape). InPart s n) laid.one.shape_is inside)
+      (sym laid.number) (subst (λ (s : Shape). InFirstArea s n) laid.one.shape_is inside)
 
   apart-is : AreApart (shape_by geometry (catalog_of ordered))
   apart-is one other here there is also differ n inside within =

@@ -15,6 +15,7 @@ use Rattle.vr_types.specs.Content.{Content, Item, Standing, item_at}
 use Rattle.vr_types.specs.Seen.{Seen}
 use Rattle.vr_types.specs.declared.unit.PartNo.{PartNo}
 use Rattle.vr_types.specs.declared.unit.Unit.{Unit as UnitOfRecovery}
+use Rattle.vr_space.specs.Owners.{Owners}
 use Rattle.vr_space.specs.Part.{DueMore, IsFirm, IsSound, MayHold, SetsOne, Shape}
 use Rattle.vr_space.specs.Part.{item_of, part_no}
 use Rattle.vr_space.proofs.CallerLemmas.{firm-due, forced-firm, left-is}
@@ -31,13 +32,14 @@ use Rattle.vr_volume.proofs.Images.{image_of}
 use Rattle.vr_recover.specs.Undone.{ArePutBack, HasAllRecords, IsBackIn, IsItemIn}
 
 -- what was firm is firm once what was put is forced
-pub firm-forced : (shape : Shape) (put : List ℕ) (tells : Bool) (told : IsTrue tells)
-    (a b c : Seen) → DueMore shape put a b → Keeps tells b c → Forced put b.cur c.may
-    → IsSound shape a → IsSound shape b → (place : List ℕ) → IsFirm shape a place
-    → IsFirm shape c place
-firm-forced shape put tells told a b c due call forced sound after place firm =
-    forced-firm tells told shape put place b c call forced after
-    (due put place (firm-due shape put place a sound firm) (λ n there. there))
+pub firm-forced : (shape : Shape) (owners : Owners) (put : List ℕ) (tells : Bool)
+    (told : IsTrue tells) (a b c : Seen) → DueMore shape put a b → Keeps tells b c
+    → Forced put b.cur c.may
+    → IsSound shape owners a → IsSound shape owners b → (place : List ℕ)
+    → IsFirm shape a place → IsFirm shape c place
+firm-forced shape owners put tells told a b c due call forced sound after place firm =
+    forced-firm tells told shape owners put place b c call forced after
+    (due put place (firm-due shape owners put place a sound firm) (λ n there. there))
 
 -- ---- one before-image
 
@@ -228,11 +230,11 @@ found-passes P test (first ∷ images) image all is =
     by_test false passes same further = further same
 
 -- whatever a crash leaves of it is the content
-pub part-back : (shape : Shape) (content : Content) (images : List BeforeImage) (a b : Seen)
-    → ArePutBack shape content images a b → ((place : List ℕ) → IsFirm shape a place)
-    → IsPartSafe shape (part_no shape).0 images content b → (place : List ℕ)
+pub part-back : (shape : Shape) (owners : Owners) (content : Content) (images : List BeforeImage)
+    (a b : Seen) → ArePutBack shape content images a b → ((place : List ℕ) → IsFirm shape a place)
+    → IsPartSafe shape owners (part_no shape).0 images content b → (place : List ℕ)
     (found : Option Item) → MayHold shape b.may place found → found ≡ item_at content place
-part-back shape content images a b put firm safe place found held =
+part-back shape owners content images a b put firm safe place found held =
     by_image (oldest images (part_no shape).0 place) refl
   where
     by_image : (image : Option BeforeImage) → oldest images (part_no shape).0 place ≡ image

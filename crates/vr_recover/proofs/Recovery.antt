@@ -1,19 +1,19 @@
 -- What was found recovers, and does so still where only blocks of the log changed.
-use Rattle.std.proofs.Common.{◌≡◌, ◌≢◌, ℕ, ◌+◌, ◌<◌, ◌≤◌, List, [], ◌∷◌, Option, Some, None, length}
+use Rattle.std.proofs.Common.{◌≡◌, ℕ, ◌<◌, List, [], ◌∷◌, Option, Some, None}
 use Rattle.std.proofs.Common.{refl, sym, ap, subst, ◌∙◌, arith, map, get_or}
-use Rattle.std.specs.Prelude.{All, IfSome, nat_eq, slice_get, slice_index}
+use Rattle.std.specs.Prelude.{All, IfSome, slice_get}
 use Rattle.std.specs.Option.{option_and_then, option_map}
-use Rattle.std.proofs.lemmas.Option.{get_or_from_slice_get, slice_get-get_or, slice_get-map}
+use Rattle.std.proofs.lemmas.Option.{get_or_from_slice_get, slice_get-map}
 use Rattle.std.proofs.lemmas.Option.{slice_get_within}
 use Rattle.vr_types.specs.Content.{Content, record_of}
-use Rattle.vr_types.specs.Geometry.{IsAllowed, head_block}
+use Rattle.vr_types.specs.Geometry.{IsAllowed}
 use Rattle.vr_types.specs.Image.{Block, Image, block_at}
 use Rattle.vr_types.specs.declared.geometry.Geometry.{Geometry}
 use Rattle.vr_catalog.specs.Catalog.{entries_in}
 use Rattle.vr_catalog.specs.declared.entry.CatEntry.{CatEntry}
 use Rattle.vr_attach.specs.CatalogRules.{IsCatalog}
-use Rattle.vr_attach.specs.Header.{header_block}
-use Rattle.vr_attach.specs.Laid.{AreApart, catalog_shape, shape_by, shape_in}
+use Rattle.vr_attach.specs.Laid.{catalog_shape, shape_by, shape_in}
+use Rattle.vr_attach.proofs.CallerLemmas.{first-stays, stays-owned}
 use Rattle.vr_history.specs.State.{BeforeImage}
 use Rattle.vr_log.specs.Content.{Content as LogContent}
 use Rattle.vr_log.specs.Spells.{Spells}
@@ -21,18 +21,20 @@ use Rattle.vr_log.specs.Standing.{InLog}
 use Rattle.vr_mount.specs.Areas.{EndsBefore}
 use Rattle.vr_mount.proofs.Laying.{IsAt, shape_at}
 use Rattle.vr_seqset.specs.Entry.{Entry}
-use Rattle.vr_space.specs.Keyed.{HaveRooms, Keyed, entries_of, entry_block, lengths_of, range_of}
-use Rattle.vr_space.specs.Part.{HasRoom, InPart, IsPlaceOf, IsRecordOf, KeyedShape, Shape, Stands}
-use Rattle.vr_space.specs.Part.{StandsFor, part_no}
+use Rattle.vr_space.specs.Keyed.{HaveRooms, InArea, Keyed, entries_of, entry_block, lengths_of}
+use Rattle.vr_space.specs.Keyed.{range_of}
+use Rattle.vr_space.specs.Owners.{Owners}
+use Rattle.vr_space.specs.Part.{HasRoom, InFirstArea, IsPlaceOf, IsRecordOf, KeyedShape, Shape}
+use Rattle.vr_space.specs.Part.{Stands, StandsFor, part_no}
 use Rattle.vr_space.specs.Room.{HaveRoom, Lengths}
 use Rattle.vr_space.proofs.CallerLemmas.{AreIn, head-in}
 use Rattle.vr_volume.specs.PutBack.{images_of, lengths_kept, put_back}
 use Rattle.vr_volume.specs.Volume.{CanPutBack, IsInside, Recovers, catalog_back, shapes_by}
-use Rattle.vr_volume.proofs.Apart.{part-past}
 use Rattle.vr_recover.specs.Found.{HasRoomOf, IsFound, IsPlanned}
 use Rattle.vr_recover.specs.Opening.{shapes_laid}
-use Rattle.vr_recover.specs.Undone.{FitsPart, HasPart, IsCovered}
+use Rattle.vr_recover.specs.Undone.{FitsPart, HasPart}
 use Rattle.vr_recover.proofs.Agreeing.{off-back}
+use Rattle.vr_recover.proofs.Owning.{OwnParts, some-own}
 use Rattle.vr_recover.proofs.Shapes.{each-laid, laid-number, laid-there}
 use Rattle.vr_recover.proofs.Standing.{stands-same}
 
@@ -178,6 +180,9 @@ module _ (geometry : Geometry) (content : LogContent) (entries : List CatEntry)
     abbrev pub recovered : ℕ → Content
     recovered part = put_back part images (contents part)
 
+    owned : (owners : Owners) × OwnParts geometry entries owners
+    owned = some-own geometry entries planned.apart
+
     pub found-recovers : Recovers geometry number image recovered
     found-recovers = record {
       log = content;
@@ -187,10 +192,11 @@ module _ (geometry : Geometry) (content : LogContent) (entries : List CatEntry)
         log_is = found.spelled;
         catalog = subst (IsCatalog geometry) (sym catalog-same)
             (found.entries_are (contents 0) catalog-stands).1;
-        apart = λ one other here there here-is there-is. planned.apart one other here there
-            (sym (laid-same one) ∙ here-is) (sym (laid-same other) ∙ there-is);
+        owners = owned.0;
+        past = owned.1.past;
         laid = λ part shape is. held-stands part (shape_in geometry entries part) refl shape
             (sym (laid-same part) ∙ is);
+        within = λ part shape is. owned.1.within part shape (sym (laid-same part) ∙ is) image;
         others = λ part is. none-held part (shape_in geometry entries part) refl
             (sym (laid-same part) ∙ is);
       };
@@ -210,7 +216,7 @@ module _ (geometry : Geometry) (content : LogContent) (entries : List CatEntry)
 -- ---- where only blocks of the log changed
 
 module _ (part : Keyed) (kept : Lengths) (old new : Image)
-    (same : (n : ℕ) → InPart (KeyedShape part) n → block_at new n ≡ block_at old n) where
+    (same : (n : ℕ) → InArea part n → block_at new n ≡ block_at old n) where
   rooms-under : (low : Option (List ℕ)) (entries : List Entry) → AreIn part.area entries
       → HaveRooms part kept old low entries → HaveRooms part kept new low entries
   rooms-under low [] inside rooms = tt
@@ -232,7 +238,7 @@ module _ (part : Keyed) (kept : Lengths) (old new : Image)
 
 -- a part has the room that it had
 pub rooms-same : (shape : Shape) (kept : Lengths) (old new : Image) (content : Content)
-    → ((n : ℕ) → InPart shape n → block_at new n ≡ block_at old n)
+    → ((n : ℕ) → InFirstArea shape n → block_at new n ≡ block_at old n)
     → StandsFor shape old content → HasRoom shape kept old → HasRoom shape kept new
 rooms-same (KeyedShape part) kept old new content same stands rooms =
     keyed-rooms part kept old new same content stands rooms
@@ -243,18 +249,19 @@ AreOffLog geometry old new = (n : ℕ) → (InLog geometry n → ⊥) → n < ge
     → block_at new n ≡ block_at old n
 
 inside-below : (geometry : Geometry) (shape : Shape) (n : ℕ) → IsInside geometry shape
-    → InPart shape n → n < geometry.blocks
+    → InFirstArea shape n → n < geometry.blocks
 inside-below geometry (KeyedShape part) n inside here = omega (arith, inside.0, here.1)
 
 module _ (geometry : Geometry) (number : ℕ) (old new : Image) (recovered : ℕ → Content)
     (is : Recovers geometry number old recovered) (allowed : IsAllowed geometry)
     (same : AreOffLog geometry old new) (spelled : Spells geometry new is.log) where
   part-same : (part : ℕ) (shape : Shape) → shapes_by geometry is.log is.contents part ≡ Some shape
-      → (n : ℕ) → InPart shape n → block_at new n ≡ block_at old n
+      → (n : ℕ) → InFirstArea shape n → block_at new n ≡ block_at old n
   part-same part shape laid n here = same n
       (λ logged. omega (
         arith,
-        part-past geometry (catalog_back is.log is.contents) part shape laid n here,
+        is.stands.past n (part_no shape).0
+            (stays-owned shape is.stands.owners old (is.stands.within part shape laid) n here),
         logged.1,
       )) (inside-below geometry shape n (is.inside part shape laid) here)
 
@@ -268,9 +275,12 @@ module _ (geometry : Geometry) (number : ℕ) (old new : Image) (recovered : ℕ
           ∙ is.stands.header;
       log_is = spelled;
       catalog = is.stands.catalog;
-      apart = is.stands.apart;
+      owners = is.stands.owners;
+      past = is.stands.past;
       laid = λ part shape laid. stands-same shape old new (is.contents part)
           (part-same part shape laid) (is.stands.laid part shape laid);
+      within = λ part shape laid. first-stays shape is.stands.owners new
+          (stays-owned shape is.stands.owners old (is.stands.within part shape laid));
       others = is.stands.others;
     };
     inside = is.inside;

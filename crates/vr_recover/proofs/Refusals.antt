@@ -1,15 +1,15 @@
 -- What is shown as a volume is opened refuses it.
-use Rattle.std.proofs.Common.{◌≡◌, ◌≢◌, ◌⊎◌, ⊎_elim, inl, inr, ℕ, ◌+◌, ◌<◌, ◌≤◌, Bool, true, false}
+use Rattle.std.proofs.Common.{◌≡◌, ⊎_elim, inl, inr, ℕ, ◌<◌, ◌≤◌, Bool, true, false}
 use Rattle.std.proofs.Common.{List, [], ◌∷◌, Option, Some, None, length, refl, sym, ap, subst, ◌∙◌}
 use Rattle.std.proofs.Common.{arith, cond, map, get_or}
-use Rattle.std.specs.Prelude.{All, IfSome, nat_eq, slice_get}
+use Rattle.std.specs.Prelude.{All, nat_eq}
 use Rattle.std.specs.List.{IsDistinct, cons_option, filter_map}
 use Rattle.std.specs.Option.{option_and_then}
 use Rattle.std.proofs.lemmas.Bool.{eqb-true}
 use Rattle.std.proofs.lemmas.List.Elements.{All-cons, All-head, All-nil, All-tail}
 use Rattle.std.proofs.lemmas.Option.{slice_get-get_or}
 use Rattle.vr_types.specs.Content.{Content, record_of}
-use Rattle.vr_types.specs.Geometry.{IsAllowed, area_count, head_block}
+use Rattle.vr_types.specs.Geometry.{IsAllowed}
 use Rattle.vr_types.specs.Image.{Image, block_at}
 use Rattle.vr_types.specs.Seen.{Left, Seen}
 use Rattle.vr_types.specs.declared.geometry.Geometry.{Geometry}
@@ -23,7 +23,6 @@ use Rattle.vr_history.specs.State.{BeforeImage}
 use Rattle.vr_keyed.specs.Lent.{ArePlaces}
 use Rattle.vr_keyed.specs.Owned.{Owned}
 use Rattle.vr_log.specs.Content.{Content as LogContent}
-use Rattle.vr_log.specs.Damage.{IsDamagedAt}
 use Rattle.vr_log.specs.Live.{live_in}
 use Rattle.vr_log.specs.LogNow.{IsOf}
 use Rattle.vr_log.specs.Spells.{Spells}
@@ -36,14 +35,13 @@ use Rattle.vr_mount.proofs.CallerLemmas.{on_blocks}
 use Rattle.vr_mount.proofs.Telling.{all_mapped, mapped_all}
 use Rattle.vr_space.specs.Keyed.{Keyed}
 use Rattle.vr_space.specs.Part.{IsOn, KeyedShape, Shape, Stands, StandsFor}
-use Rattle.vr_space.specs.Room.{Lengths}
 use Rattle.vr_volume.specs.PutBack.{image_in, images_of, length_in, length_of, lengths_kept}
 use Rattle.vr_volume.specs.Volume.{Recovers}
-use Rattle.vr_recover.specs.Found.{AreEntriesOf, AreOff, AtAreas, AtCatalog, AtPart, HasRoomFor}
+use Rattle.vr_recover.specs.Found.{AreEntriesOf, AreOff, AtAreas, AtCatalog, AtPart}
 use Rattle.vr_recover.specs.Found.{AllStand, HasRoomOf, IsLaidShown, IsLogNo, ShowsBoth}
 use Rattle.vr_recover.specs.Found.{IsBackNo, IsMountShown, Misspelled, ShowsOnly}
 use Rattle.vr_recover.specs.Opening.{InArea, InCatalog, InImages, InLog, InPart, IsDamaged, IsLogShown}
-use Rattle.vr_recover.specs.Opening.{IsNoVolume, IsPartOf, IsRefused, IsShownOf, Laid, Own, Twice}
+use Rattle.vr_recover.specs.Opening.{IsPartOf, IsRefused, IsShownOf, Laid, Own, Twice}
 use Rattle.vr_recover.specs.Opening.{shapes_laid}
 use Rattle.vr_recover.specs.Unserved.{ByCatalog, ByImage, ByLog, IsCatalogUnserved, IsLogUnserved}
 use Rattle.vr_recover.specs.Unserved.{IsUnserved, IsUnservedOf}

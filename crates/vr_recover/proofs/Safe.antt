@@ -15,8 +15,10 @@ use Rattle.vr_seqset.specs.Entry.{Entry}
 use Rattle.vr_space.specs.Room.{HaveRoom, Range, is_in, weight}
 use Rattle.vr_space.specs.Keyed.{HaveRooms, HoldRanges, HoldsRange, Keyed, entries_of, entry_block}
 use Rattle.vr_space.specs.Keyed.{items_of, key_of, length_of, lengths_of, placed, range_of}
+use Rattle.vr_space.specs.Owners.{Owners}
 use Rattle.vr_space.specs.Part.{HasRoom, KeyedShape, Shape, StandsFor}
 use Rattle.vr_space.proofs.CallerLemmas.{stands_content}
+use Rattle.vr_catalog.specs.Catalog.{entries_in}
 use Rattle.vr_catalog.specs.declared.entry.CatEntry.{CatEntry}
 use Rattle.vr_log.specs.Content.{Content as LogContent}
 use Rattle.vr_history.specs.State.{BeforeImage}
@@ -25,6 +27,7 @@ use Rattle.vr_volume.specs.Safe.{IsImageSafe}
 use Rattle.vr_volume.specs.Volume.{CanPutBack, Recovers}
 use Rattle.vr_volume.proofs.Recovering.{image_recovers}
 use Rattle.vr_recover.specs.Formatted.{IsFormatted, catalog_of, contents_of}
+use Rattle.vr_recover.proofs.Owning.{OwnParts, some-own}
 
 -- ---- room
 
@@ -107,8 +110,13 @@ module _ (geometry : Geometry) (number : ℕ) (entries : List CatEntry) (image :
       (Rattle.vr_catalog.specs.Catalog.entries_in (catalog_of entries)) part))) is) ∙ none))
   others-by part false is none = refl
 
-  pub formatted-safe : IsImageSafe geometry number no_log contents image
+  abbrev pub owned : (owners : Owners)
+      × OwnParts geometry (entries_in (catalog_of entries)) owners
+  owned = some-own geometry (entries_in (catalog_of entries)) formatted.apart
+
+  pub formatted-safe : IsImageSafe geometry number owned.0 no_log contents image
   formatted-safe = record {
+    past = owned.1.past;
     header = formatted.header;
     log_is = inl (record {
       zeros = subst AreZeros (sym formatted.log)
@@ -118,7 +126,6 @@ module _ (geometry : Geometry) (number : ℕ) (entries : List CatEntry) (image :
     committed = record {
       each = λ part. each-by (nat_eq part 0);
       catalog = formatted.catalog;
-      apart = formatted.apart;
       inside = formatted.inside;
       others = λ part none. others-by part (nat_eq part 0) refl none;
       images = All-nil (CanPutBack (shape_by geometry (contents 0)));
@@ -129,6 +136,7 @@ module _ (geometry : Geometry) (number : ℕ) (entries : List CatEntry) (image :
       has = record {
         content = contents part;
         stands = formatted.laid part shape is;
+        within = owned.1.within part shape is image;
         each = λ place none. refl;
       };
       room = part-fits shape image (contents part) (formatted.laid part shape is);
@@ -136,4 +144,5 @@ module _ (geometry : Geometry) (number : ℕ) (entries : List CatEntry) (image :
   }
 
   pub formatted-recovers : Recovers geometry number image contents
-  formatted-recovers = image_recovers geometry number image no_log contents formatted-safe
+  formatted-recovers =
+      image_recovers geometry number owned.0 image no_log contents formatted-safe

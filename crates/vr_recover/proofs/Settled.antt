@@ -17,14 +17,16 @@ use Rattle.vr_types.specs.Image.{Block, block_at}
 use Rattle.vr_types.specs.Seen.{Seen}
 use Rattle.vr_types.specs.declared.geometry.Geometry.{Geometry}
 use Rattle.vr_seqset.specs.Entry.{Entry}
+use Rattle.vr_attach.specs.Owning.{IsPastLog}
+use Rattle.vr_space.specs.Owners.{Owners}
 use Rattle.vr_space.specs.Room.{HaveRoom, Lengths, lengthen_by, with_length, with_lengths}
 use Rattle.vr_space.specs.Way.{Found, IsWithin, MayFind, Reads, Way, found_on}
-use Rattle.vr_space.specs.Keyed.{EachMayLeave, HaveRooms, HoldRanges, HoldsRange, IsHead, Keyed}
-use Rattle.vr_space.specs.Keyed.{IsKeyedSound, entries_of, entry_block, keyed_way, lengths_of}
-use Rattle.vr_space.specs.Keyed.{range_of}
-use Rattle.vr_space.specs.Part.{HasKeptRoom, HasRoom, IsOn, IsPlaceOf, IsSound, KeyedShape, MayHold}
+use Rattle.vr_space.specs.Keyed.{EachMayLeave, HaveRooms, HoldRanges, HoldsRange, InArea, IsHead}
+use Rattle.vr_space.specs.Keyed.{IsKeyedSound, Keyed, entries_of, entry_block, keyed_way}
+use Rattle.vr_space.specs.Keyed.{lengths_of, range_of}
+use Rattle.vr_space.specs.Part.{HasKeptRoom, HasRoom, IsOn, IsPlaceOf, KeyedShape}
 use Rattle.vr_space.specs.Met.{IsMet}
-use Rattle.vr_space.specs.Part.{IsRecordOf, Shape, StandsFor, part_no}
+use Rattle.vr_space.specs.Part.{IsRecordOf, Shape, StandsFor, StaysIn, part_no}
 use Rattle.vr_space.proofs.CallerLemmas.{AreIn, content_item, head-in, keyed-within}
 use Rattle.vr_space.proofs.CallerLemmas.{stands_content}
 use Rattle.vr_history.specs.Committed.{kept_or}
@@ -38,9 +40,7 @@ use Rattle.vr_volume.specs.CatalogRules.{IsCatalog}
 use Rattle.vr_volume.specs.Laid.{shape_by}
 use Rattle.vr_volume.specs.PutBack.{images_of, length_in, length_of, lengths_kept, oldest, put_back}
 use Rattle.vr_volume.specs.Safe.{AreCommitted, IsItemOf, IsPartSafe, IsSafe, IsSafeBy}
-use Rattle.vr_volume.specs.Volume.{AreApart, CanPutBack, IsInside, Recovers, catalog_back}
-use Rattle.vr_volume.specs.Volume.{shapes_by}
-use Rattle.vr_volume.proofs.Apart.{part-past}
+use Rattle.vr_volume.specs.Volume.{CanPutBack, IsInside, Recovers, shapes_by}
 use Rattle.vr_volume.proofs.PuttingBack.{back-ascends, back-item}
 use Rattle.vr_recover.specs.Undone.{FitsPart, IsAllFirm, IsCovered, IsOpenedPart, IsSettled}
 use Rattle.vr_recover.proofs.Safe.{none-ascend}
@@ -231,8 +231,6 @@ module _ (geometry : Geometry) (number : ℕ) (now : Seen) (recovered : ℕ → 
         (back-ascends part images (is.contents part)
         (held-by part (shapes_by geometry is.log is.contents part) refl));
     catalog = subst (IsCatalog geometry) (sym (is.back 0)) is.stands.catalog;
-    apart = subst (λ (c : Content). AreApart (shape_by geometry c)) (sym (is.back 0))
-        is.stands.apart;
     inside = λ part shape laid. is.inside part shape (sym (laid-same part) ∙ laid);
     images = subst (λ (c : Content). All (CanPutBack (shape_by geometry c)) images)
         (sym (is.back 0)) is.images;
@@ -252,131 +250,138 @@ module _ (geometry : Geometry) (number : ℕ) (now : Seen) (recovered : ℕ → 
       same ∙ sym (item-back part place
       ∙ ap (λ (o : Option BeforeImage). kept_or o (item_at (is.contents part) place)) none)
 
-  part-by : (part : ℕ) (shape : Shape) → IsOn shape now
+  -- ---- each part in blocks of its own
+
+  module _ (owners : Owners) (past : IsPastLog geometry owners)
+      (within : (part : ℕ) (shape : Shape)
       → shapes_by geometry is.log is.contents part ≡ Some shape
-      → IsPartSafe shape part images (recovered part) now
-  part-by part (KeyedShape keyed) on laid =
-      let there = is.stands.laid part (KeyedShape keyed) laid in
-      let sound = part-sound keyed now on forced (is.contents part) there in
-      record {
-        sound = sound;
-        items = λ place found may. item-of part place found
-            (found-here now (λ n. (n < now.count)
-            × Rattle.vr_space.specs.Part.InPart (KeyedShape keyed) n)
-            (λ n inside. inside.0) forced found (keyed_way keyed place)
-            (keyed-within keyed now sound place) may
-            ∙ sym (content_item (KeyedShape keyed) now.cur (is.contents part) there place));
-        room = part-room keyed now on forced (is.contents part) there (lengths_kept images part)
-            (with-all (IsPlaceOf (KeyedShape keyed)) [] (filter_map (length_in part) images)
-            (All-nil (λ (entry : List ℕ × ℕ). length entry.0 ≡ keyed.key))
-            (kept-places (shapes_by geometry is.log is.contents) part (KeyedShape keyed) laid images
-            is.images))
-            (is.room part (KeyedShape keyed) laid);
+      → StaysIn shape owners now.cur) where
+    part-by : (part : ℕ) (shape : Shape) → IsOn shape now
+        → shapes_by geometry is.log is.contents part ≡ Some shape
+        → IsPartSafe shape owners part images (recovered part) now
+    part-by part (KeyedShape keyed) on laid =
+        let there = is.stands.laid part (KeyedShape keyed) laid in
+        let sound = part-sound keyed now on forced (is.contents part) there in
+        record {
+          sound = (sound, within part (KeyedShape keyed) laid);
+          items = λ place found may. item-of part place found
+              (found-here now (λ n. (n < now.count) × InArea keyed n)
+              (λ n inside. inside.0) forced found (keyed_way keyed place)
+              (keyed-within keyed now sound place) may
+              ∙ sym (content_item (KeyedShape keyed) now.cur (is.contents part) there place));
+          room = part-room keyed now on forced (is.contents part) there (lengths_kept images part)
+              (with-all (IsPlaceOf (KeyedShape keyed)) [] (filter_map (length_in part) images)
+              (All-nil (λ (entry : List ℕ × ℕ). length entry.0 ≡ keyed.key))
+              (kept-places (shapes_by geometry is.log is.contents) part (KeyedShape keyed) laid
+              images is.images))
+              (is.room part (KeyedShape keyed) laid);
+        }
+
+    safe-by : IsSafeBy geometry owners is.log.records recovered now
+    safe-by = record {
+      committed = committed-by;
+      parts = λ part shape laid. let found = sym (laid-same part) ∙ laid in
+          part-by part shape (on-by geometry now of shape (is.inside part shape found)) found;
+    }
+
+    -- each log that an image may have has the same records
+    same-records : (content : LogContent) → IsLogOf (made geometry is.log) content
+        → content.records ≡ is.log.records
+    same-records content log = ⊎_elim
+        (λ (prefix : IsPrefixOf (made geometry is.log) content).
+        ap (λ (c : LogContent). c.records) prefix.is
+        ∙ take_all prefix.count is.log.records prefix.forced)
+        (λ (behind : (made geometry is.log).behind ≡ Some content).
+        ap (λ (c : LogContent). c.records) (sym (log-is is.log content behind)))
+        log
+      where
+        log-is : (x y : LogContent) → Some x ≡ Some y → x ≡ y
+        log-is x y same = cc
+
+    -- ---- its parts
+
+    -- a part as it is opened
+    opened-by : (shape : Shape) → IsOn shape now
+        → shapes_by geometry is.log is.contents (part_no shape).0 ≡ Some shape
+        → IsPartSafe shape owners (part_no shape).0 images (recovered (part_no shape).0) now
+        → IsOpenedPart geometry owners images shape now
+    opened-by (KeyedShape part) on laid safe = record {
+      on = on;
+      past = λ n inside. past n part.part (safe.sound.1 n inside);
+      ready = record {
+        rests = (
+          record {
+            sound = safe.sound.0;
+            one_head = λ top may. forced part.head top (omega (arith, on.0)) may;
+          },
+          safe.sound.1,
+        );
+        room = safe.room;
+        knows = record { way = tt; blocks = All-nil (IsMet part now.cur) };
+        no_split = refl;
+      };
+      firm = λ place found held. found-here now (λ n. (n < now.count) × InArea part n)
+          (λ n inside. inside.0) forced found (keyed_way part place)
+          (keyed-within part now safe.sound.0 place) held;
+      fits = All-weaker (CanPutBack (shapes_by geometry is.log is.contents))
+          (FitsPart (KeyedShape part))
+          (λ image can mine.
+          let same : can.shape ≡ KeyedShape part = shape-is can.shape (KeyedShape part)
+          (sym can.laid ∙ ap (shapes_by geometry is.log is.contents) mine ∙ laid) in
+          record {
+            place = subst (λ (s : Shape). IsPlaceOf s image.place) same can.place;
+            old = subst (λ (s : Shape). IfSome (option_and_then record_of image.old)
+                (IsRecordOf s image.place)) same can.old;
+          })
+          images is.images;
+    }
+
+    pub part-opened : (shape : Shape)
+        → shapes_by geometry is.log is.contents (part_no shape).0 ≡ Some shape
+        → IsOpenedPart geometry owners images shape now
+    part-opened shape laid =
+        let on : IsOn shape now =
+        on-by geometry now of shape (is.inside (part_no shape).0 shape laid) in
+        opened-by shape on laid (part-by (part_no shape).0 shape on laid)
+
+    -- ---- its log
+
+    module _ (allowed : IsAllowed geometry) (stands : LogStands (made geometry is.log) now) where
+      pub settled-safe : IsSafe geometry number owners (made geometry is.log) (λ records. recovered)
+          now
+      settled-safe = record {
+        allowed = allowed;
+        past = past;
+        blocks = of;
+        shape = refl;
+        header = λ block may. forced 0 block (omega (arith, of.count, allowed.two_areas)) may
+            ∙ is.stands.header;
+        logs = λ image left. stands_has (made geometry is.log) now image allowed stands.fits stands
+            left;
+        by_log = λ content log. subst
+            (λ (rs : List LogRecord). IsSafeBy geometry owners rs recovered now)
+            (sym (same-records content log)) safe-by;
       }
 
-  safe-by : IsSafeBy geometry is.log.records recovered now
-  safe-by = record {
-    committed = committed-by;
-    parts = λ part shape laid. let found = sym (laid-same part) ∙ laid in
-        part-by part shape (on-by geometry now of shape (is.inside part shape found)) found;
-  }
-
-  -- each log that an image may have has the same records
-  same-records : (content : LogContent) → IsLogOf (made geometry is.log) content
-      → content.records ≡ is.log.records
-  same-records content log = ⊎_elim
-      (λ (prefix : IsPrefixOf (made geometry is.log) content).
-      ap (λ (c : LogContent). c.records) prefix.is
-      ∙ take_all prefix.count is.log.records prefix.forced)
-      (λ (behind : (made geometry is.log).behind ≡ Some content).
-      ap (λ (c : LogContent). c.records) (sym (log-is is.log content behind)))
-      log
-    where
-      log-is : (x y : LogContent) → Some x ≡ Some y → x ≡ y
-      log-is x y same = cc
-
-  -- ---- its parts
-
-  -- a part as it is opened
-  opened-by : (shape : Shape) → IsOn shape now
-      → shapes_by geometry is.log is.contents (part_no shape).0 ≡ Some shape
-      → IsPartSafe shape (part_no shape).0 images (recovered (part_no shape).0) now
-      → IsOpenedPart geometry images shape now
-  opened-by (KeyedShape part) on laid safe = record {
-    on = on;
-    past = λ n inside. omega (
-      arith,
-      part-past geometry (catalog_back is.log is.contents) part.part (KeyedShape part) laid n
-          inside,
-    );
-    ready = record {
-      rests = record {
-        sound = safe.sound;
-        one_head = λ top may. forced part.head top (omega (arith, on.0)) may;
-      };
-      room = safe.room;
-      knows = record { way = tt; blocks = All-nil (IsMet part now.cur) };
-      no_split = refl;
-    };
-    firm = λ place found held. found-here now (λ n. (n < now.count)
-        × Rattle.vr_space.specs.Part.InPart (KeyedShape part) n)
-        (λ n inside. inside.0) forced found (keyed_way part place)
-        (keyed-within part now safe.sound place) held;
-    fits = All-weaker (CanPutBack (shapes_by geometry is.log is.contents))
-        (FitsPart (KeyedShape part))
-        (λ image can mine.
-        let same : can.shape ≡ KeyedShape part = shape-is can.shape (KeyedShape part)
-        (sym can.laid ∙ ap (shapes_by geometry is.log is.contents) mine ∙ laid) in
-        record {
-          place = subst (λ (s : Shape). IsPlaceOf s image.place) same can.place;
-          old = subst (λ (s : Shape). IfSome (option_and_then record_of image.old)
-              (IsRecordOf s image.place)) same can.old;
-        })
-        images is.images;
-  }
-
-  pub part-opened : (shape : Shape)
-      → shapes_by geometry is.log is.contents (part_no shape).0 ≡ Some shape
-      → IsOpenedPart geometry images shape now
-  part-opened shape laid =
-      let on : IsOn shape now =
-      on-by geometry now of shape (is.inside (part_no shape).0 shape laid) in
-      opened-by shape on laid (part-by (part_no shape).0 shape on laid)
-
-  -- ---- its log
-
-  module _ (allowed : IsAllowed geometry) (stands : LogStands (made geometry is.log) now) where
-    pub settled-safe : IsSafe geometry number (made geometry is.log) (λ records. recovered) now
-    settled-safe = record {
-      allowed = allowed;
-      blocks = of;
-      shape = refl;
-      header = λ block may. forced 0 block (omega (arith, of.count, allowed.two_areas)) may
-          ∙ is.stands.header;
-      logs = λ image left. stands_has (made geometry is.log) now image allowed stands.fits stands
-          left;
-      by_log = λ content log. subst (λ (rs : List LogRecord). IsSafeBy geometry rs recovered now)
-          (sym (same-records content log)) safe-by;
-    }
-
-    -- Its units of recovery may be undone, by these parts.
-    pub settled-undone : (shapes : List Shape)
-        → All (λ (shape : Shape). shapes_by geometry is.log is.contents (part_no shape).0
-        ≡ Some shape) shapes → All (IsCovered shapes) images
-        → IsSettled number (made geometry is.log) recovered shapes now
-    settled-undone shapes laid covered = record {
-      safe = settled-safe;
-      opened = record {
-        laid = All-weaker
+      -- Its units of recovery may be undone, by these parts.
+      pub settled-undone : (shapes : List Shape)
+          → All (λ (shape : Shape). shapes_by geometry is.log is.contents (part_no shape).0
+          ≡ Some shape) shapes → All (IsCovered shapes) images
+          → IsSettled number owners (made geometry is.log) recovered shapes now
+      settled-undone shapes laid covered = record {
+        safe = settled-safe;
+        opened = record {
+          laid = All-weaker
+              (λ (shape : Shape). shapes_by geometry is.log is.contents (part_no shape).0
+              ≡ Some shape)
+              (λ (shape : Shape). shape_by geometry (recovered 0) (part_no shape).0 ≡ Some shape)
+              (λ shape there. laid-same (part_no shape).0 ∙ there) shapes laid;
+          records = same-records;
+        };
+        firm = All-weaker
             (λ (shape : Shape). shapes_by geometry is.log is.contents (part_no shape).0
             ≡ Some shape)
-            (λ (shape : Shape). shape_by geometry (recovered 0) (part_no shape).0 ≡ Some shape)
-            (λ shape there. laid-same (part_no shape).0 ∙ there) shapes laid;
-        records = same-records;
-      };
-      firm = All-weaker
-          (λ (shape : Shape). shapes_by geometry is.log is.contents (part_no shape).0 ≡ Some shape)
-          (λ (shape : Shape). IsAllFirm shape now)
-          (λ shape there. (part-opened shape there).firm) shapes laid;
-      covered = covered;
-    }
+            (λ (shape : Shape). IsAllFirm shape now)
+            (λ shape there. (part-opened shape there).firm) shapes laid;
+        covered = covered;
+      }

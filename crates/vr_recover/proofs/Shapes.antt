@@ -1,6 +1,6 @@
 -- The shapes that a catalog lays: each part has one, and each of them is laid.
-use Rattle.std.proofs.Common.{◌≡◌, ℕ, zero, suc, ◌+◌, ◌<◌, ◌≤◌, Bool, true, false, List, [], ◌∷◌}
-use Rattle.std.proofs.Common.{Option, Some, None, length, refl, sym, ap, subst, ◌∙◌, arith, get_or, cond}
+use Rattle.std.proofs.Common.{◌≡◌, ℕ, zero, suc, ◌<◌, Bool, true, false, List, [], ◌∷◌}
+use Rattle.std.proofs.Common.{Option, Some, None, length, refl, sym, ap, subst, ◌∙◌, get_or, cond}
 use Rattle.std.proofs.Common.{◌==◌, ◌⊎◌, ◌≢◌, ⊎_elim, inl, inr, map}
 use Rattle.std.specs.Prelude.{All, nat_eq, slice_get}
 use Rattle.std.specs.List.{AllByRecursion, IsDistinct, cons_option, filter_map}
@@ -17,14 +17,13 @@ use Rattle.vr_types.specs.declared.unit.Kind.TheVariants as kinds
 use Rattle.vr_catalog.specs.Catalog.{cluster_definition, entry_with_part, parts_in}
 use Rattle.vr_catalog.specs.declared.definition.Definition.{Definition}
 use Rattle.vr_catalog.specs.declared.entry.CatEntry.{CatEntry}
-use Rattle.vr_attach.specs.Laid.{AreApart, catalog_shape, shape_by_kind, shape_from, shape_in, shape_of}
+use Rattle.vr_attach.specs.Laid.{catalog_shape, shape_by_kind, shape_from, shape_in, shape_of}
 use Rattle.vr_mount.proofs.Laying.{part_is}
 use Rattle.vr_mount.proofs.Telling.{found_at, found_place, map_some, none_has_new}
 use Rattle.vr_mount.proofs.Telling.{others_distinct, zero_is_new}
 use Rattle.vr_space.specs.Keyed.{Keyed}
 use Rattle.vr_space.specs.Part.{KeyedShape, Shape, part_no}
 use Rattle.vr_recover.specs.Opening.{AreLaid, shapes_laid}
-use Rattle.vr_recover.specs.Undone.{AreApart as ListApart}
 
 some-shape : (x y : Shape) → Some x ≡ Some y → x ≡ y
 some-shape x y same = cc
@@ -256,42 +255,25 @@ differ-rest geometry (entry ∷ rest) i j here there distinct one other off same
         at (suc k) (suc l) first second apart =
             later k l first second (λ equal. apart (ap suc equal))
 
-differ : (geometry : Geometry) (entries : List CatEntry)
+-- each of the parts that a catalog lays has a number of its own
+pub shapes-differ : (geometry : Geometry) (entries : List CatEntry)
     → IsDistinct nat_eq (0 ∷ parts_in entries) → (i j : ℕ) (here there : Shape)
     → slice_get (shapes_laid geometry entries) i ≡ Some here
     → slice_get (shapes_laid geometry entries) j ≡ Some there → i ≢ j
     → (part_no here).0 ≢ (part_no there).0
 unfolding IsDistinct
-differ geometry entries distinct zero zero here there one other off same = off refl
-differ geometry entries distinct zero (suc j) here there one other off same =
+shapes-differ geometry entries distinct zero zero here there one other off same = off refl
+shapes-differ geometry entries distinct zero (suc j) here there one other off same =
     new-number geometry 0 entries j there distinct.0 other
     (sym same ∙ ap (λ (s : Shape). (part_no s).0)
     (sym (some-shape (catalog_shape geometry) here one)))
-differ geometry entries distinct (suc i) zero here there one other off same =
+shapes-differ geometry entries distinct (suc i) zero here there one other off same =
     new-number geometry 0 entries i here distinct.0 one
     (same ∙ ap (λ (s : Shape). (part_no s).0)
     (sym (some-shape (catalog_shape geometry) there other)))
-differ geometry entries distinct (suc i) (suc j) here there one other off same =
+shapes-differ geometry entries distinct (suc i) (suc j) here there one other off same =
     differ-rest geometry entries i j here there distinct.1 one other (λ equal. off (ap suc equal))
     same
-
--- so no block is in two of them
-pub shapes-apart : (geometry : Geometry) (entries : List CatEntry)
-    → IsDistinct nat_eq (0 ∷ parts_in entries) → AreApart (shape_in geometry entries)
-    → ListApart (shapes_laid geometry entries)
-shapes-apart geometry entries distinct apart i j here there one other off n inside also =
-    apart (part_no here).0 (part_no there).0 here there
-    (laid-at i here one) (laid-at j there other)
-    (differ geometry entries distinct i j here there one other off) n inside also
-  where
-    laid-at : (k : ℕ) (shape : Shape) → slice_get (shapes_laid geometry entries) k ≡ Some shape
-        → shape_in geometry entries (part_no shape).0 ≡ Some shape
-    laid-at k shape is = subst (λ (s : Shape). shape_in geometry entries (part_no s).0 ≡ Some s)
-        (get_or_from_slice_get (shapes_laid geometry entries) k shape shape is)
-        (each-laid geometry entries distinct k shape
-        (slice_get_within (shapes_laid geometry entries) k shape is))
-
--- ---- layouts
 
 -- each of the layouts is that of a part that is laid
 pub layout-laid : (geometry : Geometry) (entries : List CatEntry)

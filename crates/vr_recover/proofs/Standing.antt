@@ -7,9 +7,9 @@ use Rattle.vr_types.specs.Image.{Block, Image, block_at}
 use Rattle.vr_ci_match.specs.declared.form.Form.TheVariants.{Plain}
 use Rattle.vr_ci.specs.Interval as ci
 use Rattle.vr_seqset.specs.Entry.{Entry}
-use Rattle.vr_space.specs.Keyed.{HoldRanges, IsHead, Keyed, KeyedStandsFor, content_from, entries_of}
-use Rattle.vr_space.specs.Keyed.{entry_block, range_of, records_in, HoldsRange}
-use Rattle.vr_space.specs.Part.{InPart, KeyedShape, Shape, StandsFor}
+use Rattle.vr_space.specs.Keyed.{HoldRanges, InArea, IsHead, Keyed, KeyedStandsFor, content_from}
+use Rattle.vr_space.specs.Keyed.{entries_of, entry_block, range_of, records_in, HoldsRange}
+use Rattle.vr_space.specs.Part.{InFirstArea, KeyedShape, Shape, StandsFor}
 use Rattle.vr_space.proofs.CallerLemmas.{AreIn, head-in}
 use Rattle.vr_catalog.specs.declared.entry.CatEntry.{CatEntry}
 use Rattle.vr_recover.specs.Planned.{MayStand, all_places, content_of}
@@ -49,7 +49,7 @@ one-stands part entries image top block head one stand size interval at-head at-
 -- ---- by no other block
 
 module _ (part : Keyed) (old new : Image)
-    (same : (n : ℕ) → InPart (KeyedShape part) n → block_at new n ≡ block_at old n) where
+    (same : (n : ℕ) → InArea part n → block_at new n ≡ block_at old n) where
   block-same : (entry : Entry) → slice_index entry.intervals 0 < part.area
       → block_at new (entry_block part entry) ≡ block_at old (entry_block part entry)
   block-same entry inside = same (entry_block part entry)
@@ -91,6 +91,6 @@ module _ (part : Keyed) (old new : Image)
 
 -- the same of any part
 pub stands-same : (shape : Shape) (old new : Image) (content : Content)
-    → ((n : ℕ) → InPart shape n → block_at new n ≡ block_at old n)
+    → ((n : ℕ) → InFirstArea shape n → block_at new n ≡ block_at old n)
     → StandsFor shape old content → StandsFor shape new content
 stands-same (KeyedShape part) old new content same stands = keyed-same part old new same content stands

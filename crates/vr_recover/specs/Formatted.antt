@@ -14,10 +14,11 @@ use Rattle.vr_catalog.specs.Record.{spelling}
 use Rattle.vr_catalog.specs.declared.entry.CatEntry.{CatEntry}
 use Rattle.vr_catalog.specs.declared.entry.EntryKind.TheVariants.{Cluster}
 use Rattle.vr_catalog.specs.declared.entry.SpaceUnit.TheVariants.{Unstated}
+use Rattle.vr_attach.specs.Laid.{AreApart}
 use Rattle.vr_volume.specs.CatalogRules.{IsCatalog}
 use Rattle.vr_volume.specs.Header.{header_block}
 use Rattle.vr_volume.specs.Laid.{shape_by}
-use Rattle.vr_volume.specs.Volume.{AreApart, IsInside}
+use Rattle.vr_volume.specs.Volume.{IsInside}
 
 -- the shape of a volume on blocks that are seen so, with this log and these intervals an area
 abbrev pub geometry_of : Seen → ℕ → ℕ → Geometry

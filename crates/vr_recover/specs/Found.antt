@@ -11,6 +11,7 @@ use Rattle.vr_types.specs.Seen.{Seen}
 use Rattle.vr_types.specs.declared.geometry.Geometry.{Geometry}
 use Rattle.vr_types.specs.declared.unit.PartNo.{PartNo}
 use Rattle.vr_space.specs.Keyed.{Keyed}
+use Rattle.vr_space.specs.Owners.{Owners}
 use Rattle.vr_space.specs.Part.{HasRoom, IsOn, KeyedShape, Shape, Stands, StandsFor, part_no}
 use Rattle.vr_catalog.specs.Catalog.{cluster_definition, entries_in, parts_in}
 use Rattle.vr_catalog.specs.Definition.{catalog_definition}
@@ -37,7 +38,7 @@ use Rattle.vr_volume.specs.PutBack.{images_of, lengths_kept, oldest}
 pub use Rattle.vr_recover.specs.Images.{AreOff, HasRoomOf, MayGoBack}
 use Rattle.vr_recover.specs.Opening.{IsCatalogShown}
 use Rattle.vr_recover.specs.Opening.{shape_owned, shapes_laid}
-use Rattle.vr_recover.specs.Undone.{AreApart as ListApart, FitsPart, IsPastLog}
+use Rattle.vr_recover.specs.Undone.{FitsPart, HaveOwnNumbers}
 use Rattle.vr_recover.specs.Undone.{IsReady}
 use Rattle.vr_recover.specs.declared.open_no.OpenNo.{OpenNo}
 use Rattle.vr_recover.specs.declared.open_no.OpenNo.TheVariants as nos
@@ -224,8 +225,7 @@ pub record IsUndoable (log : LogNow) (records : List LogRecord) (parts : List Ow
     (numbers : List PartNo) (images : List BeforeImage) (now : Seen) : Type 0 where
   pub numbers_are : map part_no (map shape_owned parts) ≡ numbers
   pub on : All (λ (shape : Shape). IsOn shape now) (map shape_owned parts)
-  pub apart : ListApart (map shape_owned parts)
-  pub past : All (IsPastLog log.geometry) (map shape_owned parts)
+  pub apart : HaveOwnNumbers (map shape_owned parts)
   pub split : All (λ (keyed : Owned). keyed.split ≡ None) parts
   pub sound : log.broken ≡ false
   pub shape : IsOf log.geometry now
@@ -235,9 +235,9 @@ pub record IsUndoable (log : LogNow) (records : List LogRecord) (parts : List Ow
   pub images_are : images ≡ images_of log.records
 
 -- a part is ready, with room for those of these that are its own
-abbrev pub IsPartReady : List BeforeImage → Seen → Owned → Type 0
-IsPartReady images now keyed =
-    IsReady (shape_owned keyed) (known_of keyed) (lengths_kept images keyed.part.part) now
+abbrev pub IsPartReady : Owners → List BeforeImage → Seen → Owned → Type 0
+IsPartReady owners images now keyed =
+    IsReady (shape_owned keyed) owners (known_of keyed) (lengths_kept images keyed.part.part) now
 
 -- a record of the log, where it is a before-image by f, is the only one of its place among it and
 -- these

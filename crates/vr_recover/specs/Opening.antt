@@ -5,16 +5,17 @@ use Rattle.std.specs.Prelude.{Option, map, nat_eq, slice_get}
 use Rattle.std.specs.List.{IsDistinct, filter_map}
 use Rattle.vr_types.specs.Content.{Ascends, Content}
 use Rattle.vr_types.specs.Geometry.{IsAllowed, area_count, head_block}
-use Rattle.vr_types.specs.Image.{block_at}
+use Rattle.vr_types.specs.Image.{Image, block_at}
 use Rattle.vr_types.specs.Seen.{Seen}
 use Rattle.vr_types.specs.declared.geometry.Geometry.{Geometry}
 use Rattle.vr_types.specs.declared.unit.PartNo.{PartNo}
 use Rattle.vr_space.specs.Keyed.{Keyed}
-use Rattle.vr_space.specs.Part.{IsOn, KeyedShape, Shape, StandsFor, part_no}
+use Rattle.vr_space.specs.Part.{IsOn, KeyedShape, Shape, StandsFor, StaysIn, part_no}
 use Rattle.vr_catalog.specs.Catalog.{entries_in, parts_in}
 use Rattle.vr_catalog.specs.declared.entry.CatEntry.{CatEntry}
 use Rattle.vr_attach.specs.CatalogRules.{IsCatalog}
 use Rattle.vr_attach.specs.Laid.{AreApart, catalog_shape, shape_by, shape_in, shape_of}
+use Rattle.vr_attach.specs.Owning.{owner_of}
 use Rattle.vr_keyed.specs.Attached.{IsRuleShown}
 use Rattle.vr_keyed.specs.Owned.{Owned, known_of}
 use Rattle.vr_log.specs.Content.{Content as LogContent}
@@ -27,7 +28,7 @@ use Rattle.vr_mount.specs.Header.{IsDamagedHeader, IsHeaderOf, version_in}
 use Rattle.vr_volume.specs.PutBack.{images_of}
 use Rattle.vr_volume.specs.Volume.{Recovers}
 use Rattle.vr_recover.specs.Images.{CannotGoBack}
-use Rattle.vr_recover.specs.Undone.{IsPastLog, IsReady, IsUndone}
+use Rattle.vr_recover.specs.Undone.{IsLaidPastLog, IsReady, IsUndone}
 use Rattle.vr_recover.specs.Unserved.{IsKeyedCluster, IsUnserved}
 use Rattle.vr_recover.specs.declared.open_no.OpenNo.{OpenNo}
 use Rattle.vr_recover.specs.declared.open_no.OpenNo.TheVariants.{Damaged, Version, Unserved, Read, Write}
@@ -155,6 +156,10 @@ IsRefused number now Memory = Unit {0}
 abbrev pub shape_owned : Owned → Shape
 shape_owned keyed = KeyedShape keyed.part
 
+-- whatever the blocks have, the part stays in those of the areas that it owns
+abbrev pub StaysBy : Geometry → List (Option PartNo) → Shape → Type 0
+StaysBy geometry owners shape = (image : Image) → StaysIn shape (owner_of geometry owners) image
+
 -- Each of these shapes is laid by the entries as its part, and each part that they lay is one of
 -- them.
 pub record AreLaid (geometry : Geometry) (entries : List CatEntry) (shapes : List Shape) : Type 0
@@ -167,8 +172,8 @@ pub record AreLaid (geometry : Geometry) (entries : List CatEntry) (shapes : Lis
         → (at : ℕ) × (slice_get shapes at ≡ Some shape)
 
 -- What is handed out, whatever the blocks have: the catalog has key-sequenced clusters alone, the
--- parts are those that it lays, its own first, each on blocks of the volume past the log, and the log
--- has no record.
+-- parts are those that it lays, its own first, each on blocks of the volume past the log, which are
+-- its own by who owns the areas, and the log has no record.
 pub record IsHandedOut (geometry : Geometry) (entries : List CatEntry) (parts : List Owned)
     (log : LogNow) (owners : List (Option PartNo)) (now : Seen) : Type 0 where
   pub allowed : IsAllowed geometry
@@ -183,19 +188,22 @@ pub record IsHandedOut (geometry : Geometry) (entries : List CatEntry) (parts : 
   pub shapes : map shape_owned parts ≡ shapes_laid geometry entries
   pub laid : AreLaid geometry entries (shapes_laid geometry entries)
   pub on : All (λ (shape : Shape). IsOn shape now) (map shape_owned parts)
-  pub past : All (IsPastLog geometry) (map shape_owned parts)
+  pub past : All (IsLaidPastLog geometry) (map shape_owned parts)
+  pub within : All (StaysBy geometry owners) (map shape_owned parts)
   pub split : All (λ (keyed : Owned). keyed.split ≡ None) parts
   pub owners_are : AreOwners geometry entries owners
 
 -- And by what the blocks had and have: they were a volume's, which recovered to these contents, and
 -- are now a safe one's, with these contents committed and without units of recovery. Each part is
--- ready.
+-- ready. Both are so by who owns the areas.
 pub record IsOpenedBy (number : ℕ) (geometry : Geometry) (entries : List CatEntry)
-    (parts : List Owned) (log : LogNow) (contents : ℕ → Content) (old new : Seen) : Type 0 where
+    (parts : List Owned) (log : LogNow) (owners : List (Option PartNo)) (contents : ℕ → Content)
+    (old new : Seen) : Type 0 where
   pub volume : IsVolume number geometry contents old
-  pub undone : IsUndone number log contents new
+  pub undone : IsUndone number (owner_of geometry owners) log contents new
   pub stands : LogStands log new
-  pub ready : All (λ (keyed : Owned). IsReady (shape_owned keyed) (known_of keyed) [] new) parts
+  pub ready : All (λ (keyed : Owned). IsReady (shape_owned keyed) (owner_of geometry owners)
+      (known_of keyed) [] new) parts
   pub catalog : entries ≡ entries_in (contents 0)
   pub rules : IsCatalog geometry (contents 0)
   pub apart : AreApart (shape_by geometry (contents 0))
@@ -203,6 +211,7 @@ pub record IsOpenedBy (number : ℕ) (geometry : Geometry) (entries : List CatEn
   pub others : (part : ℕ) → shape_by geometry (contents 0) part ≡ None → contents part ≡ []
 
 -- some contents
-abbrev pub IsOpened : ℕ → Geometry → List CatEntry → List Owned → LogNow → Seen → Seen → Type 0
-IsOpened number geometry entries parts log old new =
-    (contents : ℕ → Content) × IsOpenedBy number geometry entries parts log contents old new
+abbrev pub IsOpened : ℕ → Geometry → List CatEntry → List Owned → LogNow → List (Option PartNo)
+    → Seen → Seen → Type 0
+IsOpened number geometry entries parts log owners old new = (contents : ℕ → Content)
+    × IsOpenedBy number geometry entries parts log owners contents old new

@@ -17,9 +17,9 @@ use Rattle.vr_space.specs.Part.{Shape, KeyedShape, StandsFor}
 use Rattle.vr_catalog.specs.Definition.{catalog_definition}
 use Rattle.vr_catalog.specs.Record.{spelling}
 use Rattle.vr_catalog.specs.declared.entry.CatEntry.{CatEntry}
+use Rattle.vr_attach.specs.Laid.{AreApart}
 use Rattle.vr_volume.specs.CatalogRules.{IsCatalog}
 use Rattle.vr_volume.specs.Laid.{shape_by}
-use Rattle.vr_volume.specs.Volume.{AreApart}
 use Rattle.vr_recover.specs.Fit.{AreTaken}
 use Rattle.vr_recover.specs.Formatted.{catalog_of}
 

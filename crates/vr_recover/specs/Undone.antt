@@ -10,8 +10,9 @@ use Rattle.vr_types.specs.declared.geometry.Geometry.{Geometry}
 use Rattle.vr_types.specs.declared.unit.PartNo.{PartNo}
 use Rattle.vr_types.specs.declared.unit.Unit.{Unit as UnitOfRecovery}
 use Rattle.vr_space.specs.Known.{Known}
-use Rattle.vr_space.specs.Part.{HasKeptRoom, InPart, IsAtRest, IsFirm, IsOn, IsPlaceOf, IsRecordOf}
-use Rattle.vr_space.specs.Part.{Knows, MayHold, Shape, item_of, part_no}
+use Rattle.vr_space.specs.Owners.{Owners}
+use Rattle.vr_space.specs.Part.{HasKeptRoom, InFirstArea, IsAtRest, IsFirm, IsOn, IsPlaceOf}
+use Rattle.vr_space.specs.Part.{IsRecordOf, Knows, MayHold, Shape, item_of, part_no}
 use Rattle.vr_space.specs.Room.{Lengths, length_at}
 use Rattle.vr_history.specs.State.{BeforeImage}
 use Rattle.vr_log.specs.Content.{Content as LogContent}
@@ -23,10 +24,11 @@ use Rattle.vr_volume.specs.Laid.{shape_by}
 use Rattle.vr_volume.specs.PutBack.{images_of, lengths_kept}
 use Rattle.vr_volume.specs.Safe.{IsSafe}
 
--- Between two calls that put before-images back into it: the part is at rest, with no split under
--- way, and has room for what is kept.
-pub record IsReady (shape : Shape) (known : Known) (kept : Lengths) (now : Seen) : Type 0 where
-  pub rests : IsAtRest shape now
+-- Between two calls that put before-images back into it: the part is at rest, in the blocks that
+-- these owners give it, with no split under way, and has room for what is kept.
+pub record IsReady (shape : Shape) (owners : Owners) (known : Known) (kept : Lengths) (now : Seen)
+    : Type 0 where
+  pub rests : IsAtRest shape owners now
   pub room : HasKeptRoom shape kept now
   pub knows : Knows shape known now
   pub no_split : known.split ≡ None
@@ -84,15 +86,14 @@ HasContent shape content now = (place : List ℕ) (found : Option Item)
 
 -- ---- several parts
 
--- no block is in two of the parts
-abbrev pub AreApart : List Shape → Type 0
-AreApart shapes = (at other : ℕ) (here there : Shape) → slice_get shapes at ≡ Some here
-    → slice_get shapes other ≡ Some there → at ≢ other → (n : ℕ) → InPart here n
-    → InPart there n → ⊥
+-- each of the parts has a number of its own, so that no block is of two of them
+abbrev pub HaveOwnNumbers : List Shape → Type 0
+HaveOwnNumbers shapes = (at other : ℕ) (here there : Shape) → slice_get shapes at ≡ Some here
+    → slice_get shapes other ≡ Some there → at ≢ other → (part_no here).0 ≢ (part_no there).0
 
--- the part is past the log
-abbrev pub IsPastLog : Geometry → Shape → Type 0
-IsPastLog geometry shape = (n : ℕ) → InPart shape n → geometry.log < n
+-- the part is laid past the log
+abbrev pub IsLaidPastLog : Geometry → Shape → Type 0
+IsLaidPastLog geometry shape = (n : ℕ) → InFirstArea shape n → geometry.log < n
 
 -- what is kept is what the log has of live units
 abbrev pub IsKeptOf : (PartNo → Lengths) → LogNow → Type 0
@@ -129,31 +130,31 @@ HasAll geometry contents now = (part : ℕ) (shape : Shape)
 abbrev pub alike : (ℕ → Content) → List LogRecord → ℕ → Content
 alike contents records = contents
 
--- The volume is safe, with these contents committed, and whatever a crash leaves of its parts has
--- their items: no before-image has to be put back any more.
-pub record IsUndone (number : ℕ) (log : LogNow) (contents : ℕ → Content) (now : Seen) : Type 0
-  where
-    pub safe : IsSafe log.geometry number log (alike contents) now
-    pub all : HasAll log.geometry contents now
-
--- What undoing a crash's units of recovery begins with: the volume is safe, with these contents
--- committed, these parts are laid by them, a crash leaves each of their places alone, and the part
--- of each before-image is one of them.
-pub record IsSettled (number : ℕ) (log : LogNow) (contents : ℕ → Content) (shapes : List Shape)
+-- The volume is safe by these owners, with these contents committed, and whatever a crash leaves of
+-- its parts has their items: no before-image has to be put back any more.
+pub record IsUndone (number : ℕ) (owners : Owners) (log : LogNow) (contents : ℕ → Content)
     (now : Seen) : Type 0 where
-  pub safe : IsSafe log.geometry number log (alike contents) now
+  pub safe : IsSafe log.geometry number owners log (alike contents) now
+  pub all : HasAll log.geometry contents now
+
+-- What undoing a crash's units of recovery begins with: the volume is safe by these owners, with
+-- these contents committed, these parts are laid by them, a crash leaves each of their places
+-- alone, and the part of each before-image is one of them.
+pub record IsSettled (number : ℕ) (owners : Owners) (log : LogNow) (contents : ℕ → Content)
+    (shapes : List Shape) (now : Seen) : Type 0 where
+  pub safe : IsSafe log.geometry number owners log (alike contents) now
   pub opened : AreOpened log.geometry log contents shapes
   pub firm : All (λ (shape : Shape). IsAllFirm shape now) shapes
   pub covered : All (IsCovered shapes) (images_of log.records)
 
--- A part as it is opened: its blocks are there, past the log; it is at rest, with no split under way
--- and nothing met yet, and has room for what is kept; a crash leaves each of its places alone; and
--- each before-image of it may be put back.
-pub record IsOpenedPart (geometry : Geometry) (images : List BeforeImage) (shape : Shape)
-    (now : Seen) : Type 0 where
+-- A part as it is opened: its blocks are there, past the log; it is at rest, in the blocks that
+-- these owners give it, with no split under way and nothing met yet, and has room for what is kept;
+-- a crash leaves each of its places alone; and each before-image of it may be put back.
+pub record IsOpenedPart (geometry : Geometry) (owners : Owners) (images : List BeforeImage)
+    (shape : Shape) (now : Seen) : Type 0 where
   pub on : IsOn shape now
-  pub past : IsPastLog geometry shape
-  pub ready : IsReady shape nothing_known (lengths_kept images (part_no shape).0) now
+  pub past : IsLaidPastLog geometry shape
+  pub ready : IsReady shape owners nothing_known (lengths_kept images (part_no shape).0) now
   pub firm : IsAllFirm shape now
   pub fits : All (FitsPart shape) images
 

@@ -4,6 +4,7 @@ ghost use Rattle.vr_types.specs.Content.{Content};
 ghost use Rattle.vr_types.specs.Faults.{HasWriteCause};
 ghost use Rattle.vr_types.specs.Moments.{Guards};
 ghost use Rattle.vr_types.specs.Regions.{Touches};
+ghost use Rattle.vr_space.specs.Owners.{Owners};
 ghost use Rattle.vr_log.specs.Live.{live_in};
 ghost use Rattle.vr_log.specs.LogNow.{IsForced, IsOf, next_generation};
 ghost use Rattle.vr_log.specs.Standing.{InLog, LogStands};
@@ -27,13 +28,15 @@ fn back_out<B: Blocks>(
     requires stands { IsTrue B.tells → LogStands log.old (B.seen blocks.old) }
     ensures touches { IsTrue B.tells → Touches (InLog log.old.geometry) Anything
         (B.seen blocks.old) (B.seen blocks.new) }
-    ensures any_moment { IsTrue B.tells → (number : ℕ) (contents : ℕ → Content)
-        → IsUndone number log.old contents (B.seen blocks.old)
+    ensures any_moment { IsTrue B.tells → (number : ℕ) (owners : Owners)
+        (contents : ℕ → Content)
+        → IsUndone number owners log.old contents (B.seen blocks.old)
         → Guards (B.seen blocks.old) (B.seen blocks.new)
         (λ image. Recovers log.old.geometry number image contents) }
-    ensures undone { IsTrue B.tells → OnOk result ((number : ℕ) (contents : ℕ → Content)
-        → IsUndone number log.old contents (B.seen blocks.old)
-        → IsUndone number log.new contents (B.seen blocks.new)) }
+    ensures undone { IsTrue B.tells → OnOk result ((number : ℕ) (owners : Owners)
+        (contents : ℕ → Content)
+        → IsUndone number owners log.old contents (B.seen blocks.old)
+        → IsUndone number owners log.new contents (B.seen blocks.new)) }
     ensures out { OnOk result (IsOut rec.now log.old.records log.new.records) }
     ensures geometry { OnOk result (log.new.geometry ≡ log.old.geometry) }
     ensures generation { OnOk result (log.new.generation ≡ log.old.generation) }
@@ -63,13 +66,15 @@ fn back_out_all<B: Blocks>(
     requires stands { IsTrue B.tells → LogStands log.old (B.seen blocks.old) }
     ensures touches { IsTrue B.tells → Touches (InLog log.old.geometry) Anything
         (B.seen blocks.old) (B.seen blocks.new) }
-    ensures any_moment { IsTrue B.tells → (number : ℕ) (contents : ℕ → Content)
-        → IsUndone number log.old contents (B.seen blocks.old)
+    ensures any_moment { IsTrue B.tells → (number : ℕ) (owners : Owners)
+        (contents : ℕ → Content)
+        → IsUndone number owners log.old contents (B.seen blocks.old)
         → Guards (B.seen blocks.old) (B.seen blocks.new)
         (λ image. Recovers log.old.geometry number image contents) }
-    ensures undone { IsTrue B.tells → OnOk result ((number : ℕ) (contents : ℕ → Content)
-        → IsUndone number log.old contents (B.seen blocks.old)
-        → IsUndone number log.new contents (B.seen blocks.new)) }
+    ensures undone { IsTrue B.tells → OnOk result ((number : ℕ) (owners : Owners)
+        (contents : ℕ → Content)
+        → IsUndone number owners log.old contents (B.seen blocks.old)
+        → IsUndone number owners log.new contents (B.seen blocks.new)) }
     ensures none_live { OnOk result (live_in log.new.records ≡ []) }
     ensures geometry { OnOk result (log.new.geometry ≡ log.old.geometry) }
     ensures generation { OnOk result (log.new.generation ≡ log.old.generation) }
@@ -98,14 +103,16 @@ pub(crate) fn end_all<B: Blocks>(
     requires stands { IsTrue B.tells → LogStands log.old (B.seen blocks.old) }
     ensures touches { IsTrue B.tells → Touches (InLog log.old.geometry) Anything
         (B.seen blocks.old) (B.seen blocks.new) }
-    ensures any_moment { IsTrue B.tells → (number : ℕ) (contents : ℕ → Content)
-        → IsUndone number log.old contents (B.seen blocks.old)
+    ensures any_moment { IsTrue B.tells → (number : ℕ) (owners : Owners)
+        (contents : ℕ → Content)
+        → IsUndone number owners log.old contents (B.seen blocks.old)
         → Guards (B.seen blocks.old) (B.seen blocks.new)
         (λ image. Recovers log.old.geometry number image contents) }
     ensures undone { IsTrue B.tells → log.old.generation + 1 < 2 ^ 64
-        → OnOk result ((number : ℕ) (contents : ℕ → Content)
-        → IsUndone number log.old contents (B.seen blocks.old)
-        → IsUndone number log.new contents (B.seen blocks.new)) }
+        → OnOk result ((number : ℕ) (owners : Owners)
+        (contents : ℕ → Content)
+        → IsUndone number owners log.old contents (B.seen blocks.old)
+        → IsUndone number owners log.new contents (B.seen blocks.new)) }
     ensures records { OnOk result (log.new.records ≡ []) }
     ensures generation { OnOk result (log.new.generation ≡ next_generation log.old.generation) }
     ensures geometry { OnOk result (log.new.geometry ≡ log.old.geometry) }

@@ -6,7 +6,8 @@ ghost use Rattle.vr_types.specs.Geometry.{IsAllowed, area_count};
 ghost use Rattle.vr_types.specs.Regions.{Touches};
 ghost use Rattle.vr_catalog.specs.declared.entry.CatEntry.{CatEntry as Entry};
 ghost use Rattle.vr_log.specs.LogNow.{IsOf};
-ghost use Rattle.vr_space.specs.Part.{KeyedShape, InPart, StandsFor};
+ghost use Rattle.vr_space.specs.Keyed.{InArea};
+ghost use Rattle.vr_space.specs.Part.{KeyedShape, StandsFor};
 ghost use Rattle.vr_recover.specs.Formatted.{Anything};
 ghost use Rattle.vr_recover.specs.Planned.{AreEmpty, InClusters, IsCluster, cluster_keyed};
 
@@ -53,7 +54,7 @@ fn write_cluster<D: BlockDevice>(
     ensures stands { IsTrue D.tells → OnOk result (StandsFor
         (KeyedShape (cluster_keyed geometry.now area entry.now)) (D.seen device.new).cur []) }
     ensures after { IsTrue D.tells → Touches
-        (InPart (KeyedShape (cluster_keyed geometry.now area entry.now))) Anything
+        (InArea (cluster_keyed geometry.now area entry.now)) Anything
         (D.seen device.old) (D.seen device.new) }
     ensures shape { IsOf geometry.now (D.seen device.new) }
     ensures fault { CountsWrite (D.faults device.old) (D.faults device.new) result }

@@ -7,6 +7,7 @@ ghost use Rattle.vr_types.specs.Geometry.{IsAllowed};
 ghost use Rattle.vr_types.specs.Fields.{AreZeros};
 ghost use Rattle.vr_types.specs.Image.{Block, Image, block_at};
 ghost use Rattle.vr_types.specs.declared.geometry.Geometry.{Geometry};
+ghost use Rattle.vr_space.specs.Owners.{Owners};
 ghost use Rattle.vr_space.specs.Part.{Shape, part_no};
 ghost use Rattle.vr_catalog.specs.declared.entry.CatEntry.{CatEntry};
 ghost use Rattle.vr_log.specs.Content.{Content as LogContent};
@@ -23,12 +24,12 @@ ghost use Rattle.vr_recover.specs.Undone.{IsCovered, IsOpenedPart, IsSettled};
 use vr_types::Blocks;
 
 /// What was formatted is safe, with a log of no records and no generation yet: off the places of
-/// before-images, of which there are none, it has what is committed.
+/// before-images, of which there are none, it has what is committed, each part in its own blocks.
 pub fn formatted_is_safe()
     ensures { (geometry : Geometry) (number : ℕ) (entries : List CatEntry) (image : Image)
         → IsFormatted geometry number entries image
-        → IsImageSafe geometry number (record { generation = 0; records = [] })
-        (contents_of entries) image }
+        → (owners : Owners) × IsImageSafe geometry number owners
+        (record { generation = 0; records = [] }) (contents_of entries) image }
 {}
 
 /// And it recovers to the records of its entries in the catalog, and to nothing in each other part.
@@ -47,7 +48,7 @@ pub fn settled_is_safe<B: Blocks>(blocks: &B)
         → IsAllowed geometry → IsOf geometry (B.seen blocks.now)
         → AllForced (B.seen blocks.now).count (B.seen blocks.now).cur (B.seen blocks.now).may
         → LogStands (made geometry is.log) (B.seen blocks.now)
-        → IsSafe geometry number (made geometry is.log) (λ records. recovered)
+        → IsSafe geometry number is.stands.owners (made geometry is.log) (λ records. recovered)
         (B.seen blocks.now) }
 {}
 
@@ -60,7 +61,8 @@ pub fn settled_part_is_opened<B: Blocks>(blocks: &B)
         → AllForced (B.seen blocks.now).count (B.seen blocks.now).cur (B.seen blocks.now).may
         → (shape : Shape)
         → shapes_by geometry is.log is.contents (part_no shape).0 ≡ Some shape
-        → IsOpenedPart geometry (images_of is.log.records) shape (B.seen blocks.now) }
+        → IsOpenedPart geometry is.stands.owners (images_of is.log.records) shape
+        (B.seen blocks.now) }
 {}
 
 /// And its units of recovery may be undone, by parts of which each before-image has one.
@@ -72,7 +74,8 @@ pub fn settled_may_be_undone<B: Blocks>(blocks: &B)
         → LogStands (made geometry is.log) (B.seen blocks.now) → (shapes : List Shape)
         → All (λ shape. shapes_by geometry is.log is.contents (part_no shape).0 ≡ Some shape) shapes
         → All (IsCovered shapes) (images_of is.log.records)
-        → IsSettled number (made geometry is.log) recovered shapes (B.seen blocks.now) }
+        → IsSettled number is.stands.owners (made geometry is.log) recovered shapes
+        (B.seen blocks.now) }
 {}
 
 /// A block past the last one of a log may become zeros, as opening makes those that an earlier log

@@ -78,7 +78,7 @@ fn open_log<B: Blocks>(
     ensures opened { IsTrue B.tells → (number : ℕ)
         → block_at (B.seen blocks.old).cur 0 ≡ header_block geometry.now number
         → IfOk result (λ found. IsOpened number geometry.now found.catalog.value
-        laid.new.parts.items begun.new.log (B.seen blocks.old) (B.seen blocks.new)) }
+        laid.new.parts.items begun.new.log found.space (B.seen blocks.old) (B.seen blocks.new)) }
     ensures any_moment { IsTrue B.tells → (number : ℕ) (contents : ℕ → Content)
         → Recovers geometry.now number (B.seen blocks.old).cur contents
         → Guards (B.seen blocks.old) (B.seen blocks.new)
@@ -140,7 +140,7 @@ fn open_numbered<B: Blocks>(
     ensures handed { IfOk result (λ opened. IsHandedOut opened.geometry opened.catalog.value
         opened.parts.items opened.log opened.space (B.seen blocks.new)) }
     ensures opened { IsTrue B.tells → IfOk result (λ opened. IsOpened number opened.geometry
-        opened.catalog.value opened.parts.items opened.log (B.seen blocks.old)
+        opened.catalog.value opened.parts.items opened.log opened.space (B.seen blocks.old)
         (B.seen blocks.new)) }
     ensures any_moment { IsTrue B.tells → (geometry : VolumeShape) (contents : ℕ → Content)
         → IsVolume number geometry contents (B.seen blocks.old)
@@ -189,7 +189,7 @@ pub fn open_volume<B: Blocks>(
     ensures handed { IfOk result (λ opened. IsHandedOut opened.geometry opened.catalog.value
         opened.parts.items opened.log opened.space (B.seen blocks.new)) }
     ensures opened { IsTrue B.tells → IfOk result (λ opened. IsOpened number opened.geometry
-        opened.catalog.value opened.parts.items opened.log (B.seen blocks.old)
+        opened.catalog.value opened.parts.items opened.log opened.space (B.seen blocks.old)
         (B.seen blocks.new)) }
     // In every image of every moment, whether it fails or not.
     ensures any_moment { IsTrue B.tells → (geometry : VolumeShape) (contents : ℕ → Content)

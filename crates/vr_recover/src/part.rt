@@ -3,8 +3,8 @@ ghost use Rattle.std.specs.Prelude.{◌≡◌, ◌∷◌, [], IsTrue, length, ma
 ghost use Rattle.vr_types.specs.Faults.{CountsWrite};
 ghost use Rattle.vr_types.specs.Image.{block_at};
 ghost use Rattle.vr_types.specs.Regions.{Touches};
-ghost use Rattle.vr_space.specs.Keyed.{IsHead, entries_of};
-ghost use Rattle.vr_space.specs.Part.{KeyedShape, InPart, IsOn, StandsFor};
+ghost use Rattle.vr_space.specs.Keyed.{InArea, IsHead, entries_of};
+ghost use Rattle.vr_space.specs.Part.{KeyedShape, IsOn, StandsFor};
 ghost use Rattle.vr_recover.specs.Formatted.{Anything};
 ghost use Rattle.vr_recover.specs.Planned.{HasHead, MayStand, content_of};
 
@@ -32,7 +32,7 @@ pub(crate) fn write_part<D: BlockDevice>(
     requires buffer { length block.old ≡ layout.now.size }
     ensures stands { IsTrue D.tells → OnOk result (StandsFor (KeyedShape layout.now)
         (D.seen device.new).cur (content_of layout.now entries.now)) }
-    ensures after { IsTrue D.tells → Touches (InPart (KeyedShape layout.now)) Anything
+    ensures after { IsTrue D.tells → Touches (InArea layout.now) Anything
         (D.seen device.old) (D.seen device.new) }
     ensures count { (D.seen device.new).count ≡ (D.seen device.old).count }
     ensures size { (D.seen device.new).size ≡ (D.seen device.old).size }

@@ -7,11 +7,14 @@ ghost use Rattle.vr_types.specs.Geometry.{IsAllowed};
 ghost use Rattle.vr_types.specs.LogSpace.{log_size};
 ghost use Rattle.vr_types.specs.Moments.{Guards};
 ghost use Rattle.vr_types.specs.Regions.{Touches};
+ghost use Rattle.vr_space.specs.Owners.{Owners};
+ghost use Rattle.vr_attach.specs.Owning.{IsPastLog, owner_of};
 ghost use Rattle.vr_keyed.specs.Owned.{Owned};
 ghost use Rattle.vr_log.specs.LogNow.{IsForced, IsOf, made, next_generation};
 ghost use Rattle.vr_log.specs.Records.{HasFields, bytes_of};
 ghost use Rattle.vr_log.specs.Spells.{Spells};
 ghost use Rattle.vr_log.specs.Standing.{InLog, IsSettled, LogStands};
+ghost use Rattle.vr_mount.specs.Areas.{AreOwners};
 ghost use Rattle.vr_undo.specs.Records.{images_in};
 ghost use Rattle.vr_volume.specs.PutBack.{images_of};
 ghost use Rattle.vr_volume.specs.Volume.{Recovers};
@@ -79,20 +82,24 @@ fn undo<B: Blocks>(
     requires undoable { IsUndoable begun.old.log begun.old.content.records laid.old.parts.items
         laid.old.numbers.items (images_in undo.now) (B.seen blocks.old) }
     requires stands { IsTrue B.tells → LogStands begun.old.log (B.seen blocks.old) }
-    requires ready { IsTrue B.tells
-        → All (IsPartReady (images_in undo.now) (B.seen blocks.old)) laid.old.parts.items }
-    ensures any_moment { IsTrue B.tells → (number : ℕ) (contents : ℕ → Content)
-        → IsSettledBy number begun.old.log contents (map shape_owned laid.old.parts.items)
+    requires ready { IsTrue B.tells → (owners : Owners) × IsPastLog begun.old.log.geometry owners
+        × All (IsPartReady owners (images_in undo.now) (B.seen blocks.old)) laid.old.parts.items }
+    ensures any_moment { IsTrue B.tells → (number : ℕ) (owners : Owners)
+        (contents : ℕ → Content)
+        → IsSettledBy number owners begun.old.log contents (map shape_owned laid.old.parts.items)
         (B.seen blocks.old)
         → Guards (B.seen blocks.old) (B.seen blocks.new)
         (λ image. Recovers begun.old.log.geometry number image contents) }
     ensures undone { IsTrue B.tells → begun.old.log.generation + 1 < 2 ^ 64
-        → OnOk result ((number : ℕ) (contents : ℕ → Content)
-        → IsSettledBy number begun.old.log contents (map shape_owned laid.old.parts.items)
+        → OnOk result ((number : ℕ) (owners : Owners)
+        (contents : ℕ → Content)
+        → IsSettledBy number owners begun.old.log contents (map shape_owned laid.old.parts.items)
         (B.seen blocks.old)
-        → IsUndone number begun.new.log contents (B.seen blocks.new)) }
-    ensures ready { IsTrue B.tells → OnOk result
-        (All (IsPartReady (images_in undo.now) (B.seen blocks.new)) laid.new.parts.items) }
+        → IsUndone number owners begun.new.log contents (B.seen blocks.new)) }
+    ensures ready { IsTrue B.tells → OnOk result ((owners : Owners)
+        → IsPastLog begun.old.log.geometry owners
+        → All (IsPartReady owners (images_in undo.now) (B.seen blocks.old)) laid.old.parts.items
+        → All (IsPartReady owners (images_in undo.now) (B.seen blocks.new)) laid.new.parts.items) }
     ensures shapes { map shape_owned laid.new.parts.items
         ≡ map shape_owned laid.old.parts.items }
     ensures split { All (λ (keyed : Owned). keyed.split ≡ None) laid.new.parts.items }
@@ -122,7 +129,8 @@ fn undo<B: Blocks>(
 /// Makes a volume that was found one without units of recovery: what an earlier log left past the
 /// end of this one becomes zeros, the before-images of live units are put back, these units are
 /// ended, and the next generation of the log begins. In every image of every moment, whether it
-/// fails or not, the blocks recover to what they recovered to.
+/// fails or not, the blocks recover to what they recovered to. Once it is done the volume is safe
+/// by who owns the areas.
 pub(crate) fn restore<B: Blocks>(
     alloc: Global,
     blocks: &mut B,
@@ -139,6 +147,7 @@ pub(crate) fn restore<B: Blocks>(
         laid.old.numbers.items }
     requires planned { IsPlanned geometry.now begun.old.content found.now.catalog.value
         laid.old.layouts.items }
+    requires owners { AreOwners geometry.now found.now.catalog.value found.now.space }
     requires kept { images_in found.now.undo.value ≡ images_of begun.old.content.records }
     requires forced { IsTrue B.tells → AllForced (B.seen blocks.old).count
         (B.seen blocks.old).cur (B.seen blocks.old).may }
@@ -151,10 +160,11 @@ pub(crate) fn restore<B: Blocks>(
         (λ image. Recovers geometry.now number image contents) }
     ensures undone { IsTrue B.tells → OnOk result ((number : ℕ) (contents : ℕ → Content)
         → Recovers geometry.now number (B.seen blocks.old).cur contents
-        → IsUndone number begun.new.log contents (B.seen blocks.new)) }
+        → IsUndone number (owner_of geometry.now found.now.space) begun.new.log contents
+        (B.seen blocks.new)) }
     ensures ready { IsTrue B.tells → OnOk result
-        (All (IsPartReady (images_in found.now.undo.value) (B.seen blocks.new))
-        laid.new.parts.items) }
+        (All (IsPartReady (owner_of geometry.now found.now.space)
+        (images_in found.now.undo.value) (B.seen blocks.new)) laid.new.parts.items) }
     ensures shapes { OnOk result (map shape_owned laid.new.parts.items
         ≡ map shape_owned laid.old.parts.items) }
     ensures split { OnOk result (All (λ (keyed : Owned). keyed.split ≡ None)

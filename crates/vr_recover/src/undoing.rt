@@ -3,16 +3,17 @@ ghost use Rattle.std.specs.Prelude.{◌≡◌, ◌<◌, ◌+◌, ◌^◌, [], �
 ghost use Rattle.vr_types.specs.Content.{Content};
 ghost use Rattle.vr_types.specs.Faults.{HasCause};
 ghost use Rattle.vr_types.specs.Moments.{Guards};
+ghost use Rattle.vr_space.specs.Owners.{Owners};
 ghost use Rattle.vr_space.specs.Part.{IsOn, part_no};
+ghost use Rattle.vr_attach.specs.Owning.{IsPastLog};
 ghost use Rattle.vr_log.specs.LogNow.{IsForced, IsOf, next_generation};
 ghost use Rattle.vr_log.specs.Standing.{LogStands};
 ghost use Rattle.vr_volume.specs.PutBack.{images_of};
 ghost use Rattle.vr_volume.specs.Volume.{Recovers};
 ghost use Rattle.vr_recover.specs.Undone.{
-  AreApart,
   FitsPart,
+  HaveOwnNumbers,
   IsKeptOf,
-  IsPastLog,
   IsReady,
   IsSettled,
   IsUndone,
@@ -39,8 +40,7 @@ pub(crate) fn undo_units<B: Blocks, P: Part, K: Kept>(
 ) -> Result<(), DeviceFault>
     requires numbers { map part_no (map P.shape parts.old) ≡ numbers.now }
     requires on { All (λ shape. IsOn shape (B.seen blocks.old)) (map P.shape parts.old) }
-    requires apart { AreApart (map P.shape parts.old) }
-    requires past { All (IsPastLog log.old.geometry) (map P.shape parts.old) }
+    requires apart { HaveOwnNumbers (map P.shape parts.old) }
     requires split { All (λ part. (P.known part).split ≡ None) parts.old }
     requires sound { log.old.broken ≡ false }
     requires shape { IsOf log.old.geometry (B.seen blocks.old) }
@@ -50,18 +50,25 @@ pub(crate) fn undo_units<B: Blocks, P: Part, K: Kept>(
         (map P.shape parts.old) }
     requires kept { IsKeptOf (K.kept kept.now) log.old }
     requires stands { IsTrue B.tells → LogStands log.old (B.seen blocks.old) }
-    requires ready { IsTrue B.tells → All (λ part. IsReady (P.shape part) (P.known part)
+    requires ready { IsTrue B.tells → (owners : Owners) × IsPastLog log.old.geometry owners
+        × All (λ part. IsReady (P.shape part) owners (P.known part)
         (K.kept kept.now (part_no (P.shape part))) (B.seen blocks.old)) parts.old }
-    ensures any_moment { IsTrue B.tells → (number : ℕ) (contents : ℕ → Content)
-        → IsSettled number log.old contents (map P.shape parts.old) (B.seen blocks.old)
+    ensures any_moment { IsTrue B.tells → (number : ℕ) (owners : Owners)
+        (contents : ℕ → Content)
+        → IsSettled number owners log.old contents (map P.shape parts.old) (B.seen blocks.old)
         → Guards (B.seen blocks.old) (B.seen blocks.new)
         (λ image. Recovers log.old.geometry number image contents) }
     ensures undone { IsTrue B.tells → log.old.generation + 1 < 2 ^ 64
-        → OnOk result ((number : ℕ) (contents : ℕ → Content)
-        → IsSettled number log.old contents (map P.shape parts.old) (B.seen blocks.old)
-        → IsUndone number log.new contents (B.seen blocks.new)) }
-    ensures ready { IsTrue B.tells → OnOk result (All (λ part. IsReady (P.shape part)
-        (P.known part) (K.kept kept.now (part_no (P.shape part))) (B.seen blocks.new)) parts.new) }
+        → OnOk result ((number : ℕ) (owners : Owners)
+        (contents : ℕ → Content)
+        → IsSettled number owners log.old contents (map P.shape parts.old) (B.seen blocks.old)
+        → IsUndone number owners log.new contents (B.seen blocks.new)) }
+    ensures ready { IsTrue B.tells → OnOk result ((owners : Owners)
+        → IsPastLog log.old.geometry owners
+        → All (λ part. IsReady (P.shape part) owners (P.known part)
+        (K.kept kept.now (part_no (P.shape part))) (B.seen blocks.old)) parts.old
+        → All (λ part. IsReady (P.shape part) owners (P.known part)
+        (K.kept kept.now (part_no (P.shape part))) (B.seen blocks.new)) parts.new) }
     ensures shapes { map P.shape parts.new ≡ map P.shape parts.old }
     ensures split { All (λ part. (P.known part).split ≡ None) parts.new }
     ensures records { OnOk result (log.new.records ≡ []) }

@@ -6,6 +6,7 @@ ghost use Rattle.vr_types.specs.Faults.{HasCause};
 ghost use Rattle.vr_types.specs.Moments.{Guards};
 ghost use Rattle.vr_types.specs.Regions.{Touches};
 ghost use Rattle.vr_types.specs.declared.geometry.Geometry.{Geometry};
+ghost use Rattle.vr_space.specs.Owners.{Owners};
 ghost use Rattle.vr_space.specs.Part.{
   CanSet,
   InPart,
@@ -14,6 +15,7 @@ ghost use Rattle.vr_space.specs.Part.{
   IsGiven,
   IsOn,
   IsPlaceOf,
+  IsQuiet,
   HasKeptRoom,
   Knows,
   SetsOne,
@@ -54,7 +56,7 @@ fn set_forced<B: Blocks, P: Part, K: Kept>(
     requires on { IsOn (P.shape part.old) (B.seen blocks.old) }
     requires place { IsPlaceOf (P.shape part.old) place.now }
     requires record { IsGiven (P.shape part.old) place.now bytes }
-    requires rests { IsTrue B.tells → IsAtRest (P.shape part.old) (B.seen blocks.old) }
+    requires rests { IsTrue B.tells → IsQuiet (P.shape part.old) (B.seen blocks.old) }
     requires room { IsTrue B.tells → HasKeptRoom (P.shape part.old)
         (K.kept kept.now (part_no (P.shape part.old))) (B.seen blocks.old) }
     requires knows { IsTrue B.tells → Knows (P.shape part.old) (P.known part.old)
@@ -62,27 +64,30 @@ fn set_forced<B: Blocks, P: Part, K: Kept>(
     requires can { IsTrue B.tells → CanSet (P.shape part.old) (P.known part.old)
         (B.seen blocks.old).cur (K.kept kept.now (part_no (P.shape part.old))) place.now
         (given bytes) }
-    ensures safe { IsTrue B.tells → (geometry : Geometry) (number : ℕ) (log : LogNow)
-        (committed : List Rec → ℕ → Content)
-        → IsSafe geometry number log committed (B.seen blocks.old)
+    ensures safe { IsTrue B.tells → (geometry : Geometry) (number : ℕ) (owners : Owners)
+        (log : LogNow) (committed : List Rec → ℕ → Content)
+        → IsSafe geometry number owners log committed (B.seen blocks.old)
         → IsLaidSo geometry log committed (part_no (P.shape part.old)).0 (P.shape part.old)
         (K.kept kept.now (part_no (P.shape part.old)))
         → IsFreeIn log (part_no (P.shape part.old)).0 place.now
         → Guards (B.seen blocks.old) (B.seen blocks.new)
-        (IsSafeImage geometry number log committed)
-        × IsSafe geometry number log committed (B.seen blocks.new) }
+        (IsSafeImage geometry number owners log committed)
+        × IsSafe geometry number owners log committed (B.seen blocks.new) }
     ensures set { IsTrue B.tells → OnOk result (SetsOne (P.shape part.old) place.now
         (given bytes.entry) (B.seen blocks.old).cur (B.seen blocks.new).cur) }
     ensures firm { IsTrue B.tells → OnOk result ((at : List ℕ)
         → IsFirm (P.shape part.old) (B.seen blocks.old) at
         → IsFirm (P.shape part.old) (B.seen blocks.new) at) }
-    ensures rests { IsTrue B.tells → OnOk result
-        (IsAtRest (P.shape part.old) (B.seen blocks.new)) }
+    ensures rests { IsTrue B.tells → (owners : Owners)
+        → IsAtRest (P.shape part.old) owners (B.seen blocks.old)
+        → OnOk result (IsAtRest (P.shape part.old) owners (B.seen blocks.new)) }
     ensures room { IsTrue B.tells → HasKeptRoom (P.shape part.old)
         (K.kept kept.now (part_no (P.shape part.old))) (B.seen blocks.new) }
     ensures knows { IsTrue B.tells → OnOk result (Knows (P.shape part.old) (P.known part.new)
         (B.seen blocks.new)) }
-    ensures touches { IsTrue B.tells → Touches (InPart (P.shape part.old)) Anything
+    ensures touches { IsTrue B.tells → (owners : Owners)
+        → IsAtRest (P.shape part.old) owners (B.seen blocks.old)
+        → Touches (InPart (P.shape part.old) owners) Anything
         (B.seen blocks.old) (B.seen blocks.new) }
     ensures count { (B.seen blocks.new).count ≡ (B.seen blocks.old).count }
     ensures size { (B.seen blocks.new).size ≡ (B.seen blocks.old).size }
@@ -123,27 +128,33 @@ fn put_record<B: Blocks, P: Part, K: Kept>(
         (FitsPart (P.shape part.old)) }
     requires kept { IfSome (image_in (live_in log.now.records) rec.now)
         (HasKeptFor (P.shape part.old) (K.kept kept.now number)) }
-    requires ready { IsTrue B.tells → IsReady (P.shape part.old) (P.known part.old)
-        (K.kept kept.now number) (B.seen blocks.old) }
-    ensures safe { IsTrue B.tells → (geometry : Geometry) (member : ℕ)
+    requires ready { IsTrue B.tells → (owners : Owners) × IsReady (P.shape part.old) owners
+        (P.known part.old) (K.kept kept.now number) (B.seen blocks.old) }
+    ensures safe { IsTrue B.tells → (geometry : Geometry) (member : ℕ) (owners : Owners)
         (committed : List Rec → ℕ → Content)
-        → IsSafe geometry member log.now committed (B.seen blocks.old)
+        → IsSafe geometry member owners log.now committed (B.seen blocks.old)
         → IsLaidSo geometry log.now committed number.0 (P.shape part.old)
         (K.kept kept.now number)
         → IfSome (image_in (live_in log.now.records) rec.now)
         (λ image. IsFreeIn log.now image.part image.place)
         → Guards (B.seen blocks.old) (B.seen blocks.new)
-        (IsSafeImage geometry member log.now committed)
-        × IsSafe geometry member log.now committed (B.seen blocks.new) }
+        (IsSafeImage geometry member owners log.now committed)
+        × IsSafe geometry member owners log.now committed (B.seen blocks.new) }
     ensures back { IsTrue B.tells → OnOk result ((content : Content)
         → IfSome (image_in (live_in log.now.records) rec.now)
         (IsItemIn (P.shape part.old) content)
         → ArePutBack (P.shape part.old) content
         (filter_map (image_in (live_in log.now.records)) (rec.now ∷ []))
         (B.seen blocks.old) (B.seen blocks.new)) }
-    ensures ready { IsTrue B.tells → OnOk result (IsReady (P.shape part.old) (P.known part.new)
-        (K.kept kept.now number) (B.seen blocks.new)) }
-    ensures touches { IsTrue B.tells → Touches (InPart (P.shape part.old)) Anything
+    ensures ready { IsTrue B.tells → OnOk result ((owners : Owners)
+        → IsReady (P.shape part.old) owners (P.known part.old) (K.kept kept.now number)
+        (B.seen blocks.old)
+        → IsReady (P.shape part.old) owners (P.known part.new) (K.kept kept.now number)
+        (B.seen blocks.new)) }
+    ensures touches { IsTrue B.tells → (owners : Owners)
+        → IsReady (P.shape part.old) owners (P.known part.old) (K.kept kept.now number)
+        (B.seen blocks.old)
+        → Touches (InPart (P.shape part.old) owners) Anything
         (B.seen blocks.old) (B.seen blocks.new) }
     ensures count { (B.seen blocks.new).count ≡ (B.seen blocks.old).count }
     ensures size { (B.seen blocks.new).size ≡ (B.seen blocks.old).size }
@@ -184,23 +195,29 @@ pub(crate) fn put_back<B: Blocks, P: Part, K: Kept>(
     requires records { records.now ≡ log.now.records }
     requires fits { All (FitsPart (P.shape part.old)) (images_of log.now.records) }
     requires kept { IsKeptOf (K.kept kept.now) log.now }
-    requires ready { IsTrue B.tells → IsReady (P.shape part.old) (P.known part.old)
-        (K.kept kept.now number) (B.seen blocks.old) }
-    ensures safe { IsTrue B.tells → (geometry : Geometry) (member : ℕ)
+    requires ready { IsTrue B.tells → (owners : Owners) × IsReady (P.shape part.old) owners
+        (P.known part.old) (K.kept kept.now number) (B.seen blocks.old) }
+    ensures safe { IsTrue B.tells → (geometry : Geometry) (member : ℕ) (owners : Owners)
         (committed : List Rec → ℕ → Content)
-        → IsSafe geometry member log.now committed (B.seen blocks.old)
+        → IsSafe geometry member owners log.now committed (B.seen blocks.old)
         → IsLaidSo geometry log.now committed number.0 (P.shape part.old)
         (K.kept kept.now number) → HasAllRecords log.now
         → Guards (B.seen blocks.old) (B.seen blocks.new)
-        (IsSafeImage geometry member log.now committed)
-        × IsSafe geometry member log.now committed (B.seen blocks.new) }
+        (IsSafeImage geometry member owners log.now committed)
+        × IsSafe geometry member owners log.now committed (B.seen blocks.new) }
     ensures back { IsTrue B.tells → OnOk result ((content : Content)
         → All (IsItemIn (P.shape part.old) content) (images_of log.now.records)
         → ArePutBack (P.shape part.old) content (images_of log.now.records)
         (B.seen blocks.old) (B.seen blocks.new)) }
-    ensures ready { IsTrue B.tells → OnOk result (IsReady (P.shape part.old) (P.known part.new)
-        (K.kept kept.now number) (B.seen blocks.new)) }
-    ensures touches { IsTrue B.tells → Touches (InPart (P.shape part.old)) Anything
+    ensures ready { IsTrue B.tells → OnOk result ((owners : Owners)
+        → IsReady (P.shape part.old) owners (P.known part.old) (K.kept kept.now number)
+        (B.seen blocks.old)
+        → IsReady (P.shape part.old) owners (P.known part.new) (K.kept kept.now number)
+        (B.seen blocks.new)) }
+    ensures touches { IsTrue B.tells → (owners : Owners)
+        → IsReady (P.shape part.old) owners (P.known part.old) (K.kept kept.now number)
+        (B.seen blocks.old)
+        → Touches (InPart (P.shape part.old) owners) Anything
         (B.seen blocks.old) (B.seen blocks.new) }
     ensures count { (B.seen blocks.new).count ≡ (B.seen blocks.old).count }
     ensures size { (B.seen blocks.new).size ≡ (B.seen blocks.old).size }

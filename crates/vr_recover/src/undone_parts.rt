@@ -4,20 +4,21 @@ ghost use Rattle.vr_types.specs.Content.{Content};
 ghost use Rattle.vr_types.specs.Faults.{HasCause};
 ghost use Rattle.vr_types.specs.Moments.{Guards};
 ghost use Rattle.vr_types.specs.declared.geometry.Geometry.{Geometry};
+ghost use Rattle.vr_space.specs.Owners.{Owners};
 ghost use Rattle.vr_space.specs.Part.{IsOn, part_no};
+ghost use Rattle.vr_attach.specs.Owning.{IsPastLog};
 ghost use Rattle.vr_log.specs.LogNow.{IsForced};
 ghost use Rattle.vr_log.specs.Standing.{LogStands};
 ghost use Rattle.vr_volume.specs.PutBack.{images_of};
 ghost use Rattle.vr_volume.specs.Safe.{IsSafe, IsSafeImage};
 ghost use Rattle.vr_recover.specs.Undone.{
-  AreApart,
   AreOpened,
   FitsPart,
   HasAll,
+  HaveOwnNumbers,
   IsAllFirm,
   IsCovered,
   IsKeptOf,
-  IsPastLog,
   IsReady,
   alike,
 };
@@ -41,33 +42,37 @@ pub(crate) fn put_back_all<B: Blocks, P: Part, K: Kept>(
 ) -> Result<(), DeviceFault>
     requires numbers { map part_no (map P.shape parts.old) ≡ numbers.now }
     requires on { All (λ shape. IsOn shape (B.seen blocks.old)) (map P.shape parts.old) }
-    requires apart { AreApart (map P.shape parts.old) }
-    requires past { All (IsPastLog log.now.geometry) (map P.shape parts.old) }
+    requires apart { HaveOwnNumbers (map P.shape parts.old) }
     requires split { All (λ part. (P.known part).split ≡ None) parts.old }
     requires sound { log.now.broken ≡ false }
     requires records { records.now ≡ log.now.records }
     requires fits { All (λ shape. All (FitsPart shape) (images_of log.now.records))
         (map P.shape parts.old) }
     requires kept { IsKeptOf (K.kept kept.now) log.now }
-    requires ready { IsTrue B.tells → All (λ part. IsReady (P.shape part) (P.known part)
+    requires ready { IsTrue B.tells → (owners : Owners) × IsPastLog log.now.geometry owners
+        × All (λ part. IsReady (P.shape part) owners (P.known part)
         (K.kept kept.now (part_no (P.shape part))) (B.seen blocks.old)) parts.old }
-    ensures safe { IsTrue B.tells → (geometry : Geometry) (member : ℕ) (contents : ℕ → Content)
-        → IsSafe geometry member log.now (alike contents) (B.seen blocks.old)
+    ensures safe { IsTrue B.tells → (geometry : Geometry) (member : ℕ) (owners : Owners)
+        (contents : ℕ → Content)
+        → IsSafe geometry member owners log.now (alike contents) (B.seen blocks.old)
         → AreOpened geometry log.now contents (map P.shape parts.old)
         → Guards (B.seen blocks.old) (B.seen blocks.new)
-        (IsSafeImage geometry member log.now (alike contents))
-        × IsSafe geometry member log.now (alike contents) (B.seen blocks.new) }
+        (IsSafeImage geometry member owners log.now (alike contents))
+        × IsSafe geometry member owners log.now (alike contents) (B.seen blocks.new) }
     ensures all { IsTrue B.tells → OnOk result ((geometry : Geometry) (member : ℕ)
-        (contents : ℕ → Content)
-        → IsSafe geometry member log.now (alike contents) (B.seen blocks.old)
+        (owners : Owners) (contents : ℕ → Content)
+        → IsSafe geometry member owners log.now (alike contents) (B.seen blocks.old)
         → AreOpened geometry log.now contents (map P.shape parts.old)
         → All (λ shape. IsAllFirm shape (B.seen blocks.old)) (map P.shape parts.old)
         → All (IsCovered (map P.shape parts.old)) (images_of log.now.records)
         → HasAll geometry contents (B.seen blocks.new)) }
     ensures stands { IsTrue B.tells → IsForced log.now → LogStands log.now (B.seen blocks.old)
         → OnOk result (LogStands log.now (B.seen blocks.new)) }
-    ensures ready { IsTrue B.tells → OnOk result (All (λ part. IsReady (P.shape part)
-        (P.known part) (K.kept kept.now (part_no (P.shape part))) (B.seen blocks.new)) parts.new) }
+    ensures ready { IsTrue B.tells → OnOk result ((owners : Owners)
+        → All (λ part. IsReady (P.shape part) owners (P.known part)
+        (K.kept kept.now (part_no (P.shape part))) (B.seen blocks.old)) parts.old
+        → All (λ part. IsReady (P.shape part) owners (P.known part)
+        (K.kept kept.now (part_no (P.shape part))) (B.seen blocks.new)) parts.new) }
     ensures shapes { map P.shape parts.new ≡ map P.shape parts.old }
     ensures split { All (λ part. (P.known part).split ≡ None) parts.new }
     ensures count { (B.seen blocks.new).count ≡ (B.seen blocks.old).count }

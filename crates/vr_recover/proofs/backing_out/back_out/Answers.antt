@@ -15,49 +15,49 @@ use Rattle.vr_recover.proofs.Made.{touches-none}
 use Rattle.vr_recover.proofs.backing_out.back_out.Goals as goal
 
 pub returns-else-is_live-clause-any_moment : goal.returns-else-is_live-clause-any_moment
-returns-else-is_live-clause-any_moment g c told number contents undone =
+returns-else-is_live-clause-any_moment g c told number owners contents undone =
     guards-start (g.B.Blocks.seen c.args.blocks.now)
     (λ image. Recovers c.args.log.now.geometry number image contents)
     (λ image there. g.met.B.Blocks.images_may c.args.blocks.now image told there)
-    (left-recovers number c.args.log.now contents (g.B.Blocks.seen c.args.blocks.now) undone)
+    (left-recovers number owners c.args.log.now contents (g.B.Blocks.seen c.args.blocks.now) undone)
 
 pub returns-in_default-clause-any_moment : goal.returns-in_default-clause-any_moment
-returns-in_default-clause-any_moment g c told number contents undone =
+returns-in_default-clause-any_moment g c told number owners contents undone =
     guards-start (g.B.Blocks.seen c.args.blocks.now)
     (λ image. Recovers c.args.log.now.geometry number image contents)
     (λ image there. g.met.B.Blocks.images_may c.args.blocks.now image told there)
-    (left-recovers number c.args.log.now contents (g.B.Blocks.seen c.args.blocks.now) undone)
+    (left-recovers number owners c.args.log.now contents (g.B.Blocks.seen c.args.blocks.now) undone)
 
 pub returns-in_ok-append_end-clause-any_moment : goal.returns-in_ok-append_end-clause-any_moment
-returns-in_ok-append_end-clause-any_moment g c told number contents undone =
+returns-in_ok-append_end-clause-any_moment g c told number owners contents undone =
     let B = g.B.Blocks in
     let log = c.args.log.now in
     let a = B.seen c.args.blocks.now in
     let more = with_record log (End c.in-Before.unit BackedOut) in
     guards-weaken a (B.seen c.append_end.new.blocks)
-    (IsSafeImage log.geometry number more (alike contents))
+    (IsSafeImage log.geometry number owners more (alike contents))
     (λ image. Recovers log.geometry number image contents)
-    (c.append_end.ensures.safe told number (alike contents) undone.safe
-    (end-undone number log contents a undone (c.requires.stands told).forced c.in-Before.unit
+    (c.append_end.ensures.safe told number owners (alike contents) undone.safe
+    (end-undone number owners log contents a undone (c.requires.stands told).forced c.in-Before.unit
     BackedOut))
-    (λ image. safe-recovers log.geometry number more contents image)
+    (λ image. safe-recovers log.geometry number owners more contents image)
 
 pub returns-in_err-append_end-clause-any_moment : goal.returns-in_err-append_end-clause-any_moment
-returns-in_err-append_end-clause-any_moment g c told number contents undone =
+returns-in_err-append_end-clause-any_moment g c told number owners contents undone =
     let B = g.B.Blocks in
     let log = c.args.log.now in
     let a = B.seen c.args.blocks.now in
     let more = with_record log (End c.in-Before.unit BackedOut) in
     guards-weaken a (B.seen c.append_end.new.blocks)
-    (IsSafeImage log.geometry number more (alike contents))
+    (IsSafeImage log.geometry number owners more (alike contents))
     (λ image. Recovers log.geometry number image contents)
-    (c.append_end.ensures.safe told number (alike contents) undone.safe
-    (end-undone number log contents a undone (c.requires.stands told).forced c.in-Before.unit
+    (c.append_end.ensures.safe told number owners (alike contents) undone.safe
+    (end-undone number owners log contents a undone (c.requires.stands told).forced c.in-Before.unit
     BackedOut))
-    (λ image. safe-recovers log.geometry number more contents image)
+    (λ image. safe-recovers log.geometry number owners more contents image)
 
 pub returns-in_ok-append_end-clause-undone : goal.returns-in_ok-append_end-clause-undone
-returns-in_ok-append_end-clause-undone g c told number contents undone =
+returns-in_ok-append_end-clause-undone g c told number owners contents undone =
     let B = g.B.Blocks in
     let log = c.args.log.now in
     let new = c.append_end.new.log in
@@ -66,11 +66,12 @@ returns-in_ok-append_end-clause-undone g c told number contents undone =
     let most = (c.requires.stands told).forced in
     let same = c.in_ok-append_end.ensures.log.geometry in
     record {
-      safe = subst (λ (geometry : Geometry). IsSafe geometry number new (alike contents) b) (sym same)
-          (c.in_ok-append_end.ensures.ended told number (alike contents) undone.safe
-          (end-undone number log contents a undone most c.in-Before.unit BackedOut));
+      safe = subst (λ (geometry : Geometry). IsSafe geometry number owners new (alike contents) b)
+          (sym same)
+          (c.in_ok-append_end.ensures.ended told number owners (alike contents) undone.safe
+          (end-undone number owners log contents a undone most c.in-Before.unit BackedOut));
       all = subst (λ (geometry : Geometry). HasAll geometry contents b) (sym same)
-          (all-stays number log contents a undone most b
+          (all-stays number owners log contents a undone most b
           (λ n block below out may. (c.append_end.ensures.touches told).adds_none n block below out
           may));
     }

@@ -25,27 +25,28 @@ loop-rec-init g c = record {
   touches = λ told. touches-none (InLog c.args.log.now.geometry)
       (g.B.Blocks.seen c.args.blocks.now)
       (λ image there. g.met.B.Blocks.images_may c.args.blocks.now image told there);
-  any_moment = λ told number contents undone.
+  any_moment = λ told number owners contents undone.
       guards-start (g.B.Blocks.seen c.args.blocks.now)
       (λ image. Recovers c.args.log.now.geometry number image contents)
       (λ image there. g.met.B.Blocks.images_may c.args.blocks.now image told there)
-      (left-recovers number c.args.log.now contents (g.B.Blocks.seen c.args.blocks.now) undone);
-  undone = λ told number contents undone. undone;
+      (left-recovers number owners c.args.log.now contents (g.B.Blocks.seen c.args.blocks.now)
+      undone);
+  undone = λ told number owners contents undone. undone;
   fewer = λ unit there. there;
   out = All-nil (AreOut (live_in c.args.log.now.records));
 }
 
 pub returns-in_err-back_out-clause-any_moment : goal.returns-in_err-back_out-clause-any_moment
-returns-in_err-back_out-clause-any_moment g c told number contents undone =
+returns-in_err-back_out-clause-any_moment g c told number owners contents undone =
     let b = g.B.Blocks.seen c.loop-rec.blocks in
     let d = g.B.Blocks.seen c.back_out.new.blocks in
     guards-then (g.B.Blocks.seen c.args.blocks.now) b d
     (λ image. Recovers c.args.log.now.geometry number image contents)
-    (c.loop-rec.invariant.any_moment told number contents undone)
+    (c.loop-rec.invariant.any_moment told number owners contents undone)
     (subst (λ (geometry : Geometry). Guards b d (λ image. Recovers geometry number image contents))
     c.loop-rec.invariant.geometry
-    (c.back_out.ensures.any_moment told number contents
-    (c.loop-rec.invariant.undone told number contents undone)))
+    (c.back_out.ensures.any_moment told number owners contents
+    (c.loop-rec.invariant.undone told number owners contents undone)))
 
 pub loop-rec-preserved : goal.loop-rec-preserved
 loop-rec-preserved g c =
@@ -66,17 +67,18 @@ loop-rec-preserved g c =
           (g.B.Blocks.seen c.args.blocks.now) b d (c.loop-rec.invariant.touches told)
           (subst (λ (geometry : Geometry). Touches (InLog geometry) Anything b d)
           c.loop-rec.invariant.geometry (c.back_out.ensures.touches told));
-      any_moment = λ told number contents undone.
+      any_moment = λ told number owners contents undone.
           guards-then (g.B.Blocks.seen c.args.blocks.now) b d
           (λ image. Recovers c.args.log.now.geometry number image contents)
-          (c.loop-rec.invariant.any_moment told number contents undone)
+          (c.loop-rec.invariant.any_moment told number owners contents undone)
           (subst (λ (geometry : Geometry). Guards b d
           (λ image. Recovers geometry number image contents))
           c.loop-rec.invariant.geometry
-          (c.back_out.ensures.any_moment told number contents
-          (c.loop-rec.invariant.undone told number contents undone)));
-      undone = λ told number contents undone. c.in_ok-back_out.ensures.undone told number contents
-          (c.loop-rec.invariant.undone told number contents undone);
+          (c.back_out.ensures.any_moment told number owners contents
+          (c.loop-rec.invariant.undone told number owners contents undone)));
+      undone = λ told number owners contents undone.
+          c.in_ok-back_out.ensures.undone told number owners contents
+          (c.loop-rec.invariant.undone told number owners contents undone);
       fewer = λ unit there. c.loop-rec.invariant.fewer unit (out.fewer unit there);
       out = subst (All (AreOut new))
           (sym (take_more c.args.records.now c.loop-rec.rec-index c.rec-item.result

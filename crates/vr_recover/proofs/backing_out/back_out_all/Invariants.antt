@@ -4,6 +4,7 @@ use Rattle.vr_types.specs.Content.{Content}
 use Rattle.vr_types.specs.Moments.{Guards}
 use Rattle.vr_types.specs.Regions.{Touches}
 use Rattle.vr_types.specs.declared.unit.Unit.{Unit as UnitOfRecovery}
+use Rattle.vr_space.specs.Owners.{Owners}
 use Rattle.vr_log.specs.Live.{is_in, live_in}
 use Rattle.vr_log.specs.LogNow.{IsOf}
 use Rattle.vr_log.specs.Standing.{InLog, LogStands}
@@ -23,13 +24,15 @@ invariant-loop-rec g l = record {
   faults : g.B.Blocks.faults l.blocks ≡ g.B.Blocks.faults l.fn.blocks;
   touches : IsTrue g.B.Blocks.tells → Touches (InLog l.fn.log.geometry) Anything
       (g.B.Blocks.seen l.fn.blocks) (g.B.Blocks.seen l.blocks);
-  any_moment : IsTrue g.B.Blocks.tells → (number : ℕ) (contents : ℕ → Content)
-      → IsUndone number l.fn.log contents (g.B.Blocks.seen l.fn.blocks)
+  any_moment : IsTrue g.B.Blocks.tells → (number : ℕ) (owners : Owners)
+      (contents : ℕ → Content)
+      → IsUndone number owners l.fn.log contents (g.B.Blocks.seen l.fn.blocks)
       → Guards (g.B.Blocks.seen l.fn.blocks) (g.B.Blocks.seen l.blocks)
       (λ image. Recovers l.fn.log.geometry number image contents);
-  undone : IsTrue g.B.Blocks.tells → (number : ℕ) (contents : ℕ → Content)
-      → IsUndone number l.fn.log contents (g.B.Blocks.seen l.fn.blocks)
-      → IsUndone number l.log contents (g.B.Blocks.seen l.blocks);
+  undone : IsTrue g.B.Blocks.tells → (number : ℕ) (owners : Owners)
+      (contents : ℕ → Content)
+      → IsUndone number owners l.fn.log contents (g.B.Blocks.seen l.fn.blocks)
+      → IsUndone number owners l.log contents (g.B.Blocks.seen l.blocks);
   fewer : (unit : UnitOfRecovery) → is_in unit (live_in l.log.records) ≡ true
       → is_in unit (live_in l.fn.log.records) ≡ true;
   out : All (AreOut (live_in l.log.records)) (take l.rec-index l.records);

@@ -16,18 +16,20 @@ use Rattle.vr_recover.proofs.Made.{touches-both}
 use Rattle.vr_recover.proofs.backing_out.end_all.Goals as goal
 
 pub returns-in_err-force_log-clause-any_moment : goal.returns-in_err-force_log-clause-any_moment
-returns-in_err-force_log-clause-any_moment g c told number contents undone =
+returns-in_err-force_log-clause-any_moment g c told number owners contents undone =
     guards-keeps g.B.Blocks.tells (g.B.Blocks.seen c.args.blocks.now)
     (g.B.Blocks.seen c.back_out_all.new.blocks) (g.B.Blocks.seen c.force_log.new.blocks)
     (λ image. Recovers c.args.log.now.geometry number image contents)
-    (c.back_out_all.ensures.any_moment told number contents undone) c.force_log.ensures.keeps told
+    (c.back_out_all.ensures.any_moment told number owners contents undone)
+    c.force_log.ensures.keeps told
 
 pub returns-clause-any_moment : goal.returns-clause-any_moment
-returns-clause-any_moment g c told number contents undone =
+returns-clause-any_moment g c told number owners contents undone =
     guards-keeps g.B.Blocks.tells (g.B.Blocks.seen c.args.blocks.now)
     (g.B.Blocks.seen c.back_out_all.new.blocks) (g.B.Blocks.seen c.force_log.new.blocks)
     (λ image. Recovers c.args.log.now.geometry number image contents)
-    (c.back_out_all.ensures.any_moment told number contents undone) c.force_log.ensures.keeps told
+    (c.back_out_all.ensures.any_moment told number owners contents undone)
+    c.force_log.ensures.keeps told
 
 pub returns-clause-stands : goal.returns-clause-stands
 returns-clause-stands g c told below =
@@ -48,13 +50,13 @@ returns-clause-stands g c told below =
     (subst (λ (n : ℕ). n + 1 < 2 ^ 64) (sym generation) below))
 
 pub returns-clause-undone : goal.returns-clause-undone
-returns-clause-undone g c told below number contents undone =
+returns-clause-undone g c told below number owners contents undone =
     let b = g.B.Blocks.seen c.back_out_all.new.blocks in
     let d = g.B.Blocks.seen c.force_log.new.blocks in
     let ended = c.back_out_all.new.log in
     let mid = c.force_log.new.log in
     let new = c.restart_log.new.log in
-    let before = c.in_ok-back_out_all.ensures.undone told number contents undone in
+    let before = c.in_ok-back_out_all.ensures.undone told number owners contents undone in
     let same : mid.geometry ≡ ended.geometry =
     ap (λ (l : LogNow). l.geometry) c.in_ok-force_log.ensures.forced ∙ forced-geometry ended in
     let next : new.geometry ≡ mid.geometry =
@@ -62,16 +64,17 @@ returns-clause-undone g c told below number contents undone =
     let generation : mid.generation ≡ c.args.log.now.generation =
     ap (λ (l : LogNow). l.generation) c.in_ok-force_log.ensures.forced
     ∙ forced-generation ended ∙ c.in_ok-back_out_all.ensures.generation in
-    let safe = c.restart_log.ensures.safe told number (alike contents)
+    let safe = c.restart_log.ensures.safe told number owners (alike contents)
     (subst (λ (n : ℕ). n + 1 < 2 ^ 64) (sym generation) below)
     (c.in_ok-force_log.ensures.stands told)
-    (subst (λ (geometry : Geometry). IsSafe geometry number mid (alike contents) d) (sym same)
-    (c.in_ok-force_log.ensures.after told number (alike contents) before.safe)) refl in
+    (subst (λ (geometry : Geometry). IsSafe geometry number owners mid (alike contents) d)
+    (sym same)
+    (c.in_ok-force_log.ensures.after told number owners (alike contents) before.safe)) refl in
     record {
-      safe = subst (λ (geometry : Geometry). IsSafe geometry number new (alike contents) d)
+      safe = subst (λ (geometry : Geometry). IsSafe geometry number owners new (alike contents) d)
           (sym next) safe.0;
       all = subst (λ (geometry : Geometry). HasAll geometry contents d) (sym (next ∙ same))
-          (all-stays number ended contents b before
+          (all-stays number owners ended contents b before
           (c.in_ok-back_out_all.ensures.stands told).forced d
           (λ n block below out may. c.force_log.ensures.keeps.adds_none told n block below may));
     }

@@ -6,7 +6,8 @@ use Rattle.vr_types.specs.Regions.{Touches}
 use Rattle.vr_types.specs.Seen.{Seen}
 use Rattle.vr_types.specs.declared.geometry.Geometry.{Geometry}
 use Rattle.vr_catalog.specs.declared.entry.CatEntry.{CatEntry}
-use Rattle.vr_space.specs.Part.{InPart, KeyedShape, StandsFor}
+use Rattle.vr_space.specs.Keyed.{InArea}
+use Rattle.vr_space.specs.Part.{KeyedShape, StandsFor}
 use Rattle.vr_recover.specs.Formatted.{Anything}
 use Rattle.vr_recover.specs.Planned.{InClusters, cluster_keyed}
 use Rattle.vr_recover.proofs.Made.{cluster-inside, empty-more, touches-both, touches-more}
@@ -29,11 +30,11 @@ loop-entry-init g c = record {
 more : (geometry : Geometry) (clusters index area : ℕ) (entry : CatEntry) (first old new : Seen)
     → area ≡ index → index < clusters
     → Touches (InClusters geometry clusters) Anything first old
-    → Touches (InPart (KeyedShape (cluster_keyed geometry (area + 1) entry))) Anything old new
+    → Touches (InArea (cluster_keyed geometry (area + 1) entry)) Anything old new
     → Touches (InClusters geometry clusters) Anything first new
 more geometry clusters index area entry first old new is below so_far call =
     touches-both (InClusters geometry clusters) first old new so_far
-    (touches-more (InPart (KeyedShape (cluster_keyed geometry (area + 1) entry)))
+    (touches-more (InArea (cluster_keyed geometry (area + 1) entry))
     (InClusters geometry clusters) old new
     (λ n here. cluster-inside geometry clusters area n entry (omega (arith, is, below)) here) call)
 
@@ -59,8 +60,9 @@ loop-entry-preserved g c =
       area = omega (arith, same);
       empty = λ told. empty-more c.args.geometry.now clusters index c.entry-item.result old new here
           (c.loop-entry.invariant.empty told)
-          (subst (λ (a : ℕ). Touches (InPart (KeyedShape
-          (cluster_keyed c.args.geometry.now (a + 1) c.entry-item.result))) Anything old new) same
+          (subst (λ (a : ℕ). Touches
+          (InArea (cluster_keyed c.args.geometry.now (a + 1) c.entry-item.result)) Anything old new)
+          same
           (c.write_cluster.ensures.after told))
           (subst (λ (a : ℕ). StandsFor (KeyedShape
           (cluster_keyed c.args.geometry.now (a + 1) c.entry-item.result)) new.cur []) same

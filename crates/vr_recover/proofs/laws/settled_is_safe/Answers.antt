@@ -4,4 +4,4 @@ use Rattle.vr_recover.proofs.laws.settled_is_safe.Goals as goal
 pub returns : goal.returns
 returns g c geometry number recovered is allowed of forced stands =
     settled-safe geometry number (g.B.Blocks.seen c.args.blocks.now) recovered is of forced
-    allowed stands
+    is.stands.owners is.stands.past is.stands.within allowed stands

@@ -4,4 +4,4 @@ use Rattle.vr_recover.proofs.laws.settled_may_be_undone.Goals as goal
 pub returns : goal.returns
 returns g c geometry number recovered is allowed of forced stands shapes laid covered =
     settled-undone geometry number (g.B.Blocks.seen c.args.blocks.now) recovered is of forced
-    allowed stands shapes laid covered
+    is.stands.owners is.stands.past is.stands.within allowed stands shapes laid covered

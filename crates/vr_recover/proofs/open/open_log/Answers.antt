@@ -57,9 +57,9 @@ returns-clause-opened g c told number header =
     opened-by c.args.geometry.now c.args.begun.now.content c.in_ok-found.found.catalog.value
     c.find.new.laid.layouts.items c.in_ok-found.ensures.planned c.find.new.laid.parts.items
     c.restore.new.laid.parts.items c.find.new.laid.numbers.items c.in_ok-found.ensures.row
-    did.shapes number c.restore.new.begun.log (images_in c.in_ok-found.found.undo.value) a
-    (g.B.Blocks.seen c.restore.new.blocks) c.requires.allowed c.requires.shape
-    (c.requires.forced told)
+    did.shapes number c.restore.new.begun.log c.in_ok-found.found.space
+    (images_in c.in_ok-found.found.undo.value) a (g.B.Blocks.seen c.restore.new.blocks)
+    c.requires.allowed c.requires.shape (c.requires.forced told)
     (c.in_ok-found.ensures.found told number header (c.requires.spelled told))
     (λ contents is. did.undone told number contents
     (subst (λ (i : Image). Recovers c.args.geometry.now number i contents)

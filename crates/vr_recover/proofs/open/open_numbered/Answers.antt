@@ -73,14 +73,16 @@ returns-clause-opened g c told =
     let b = g.B.Blocks.seen c.start.new.blocks in
     let call = c.start.ensures.keeps in
     subst (λ (parts : Laid). IsOpened c.args.number geometry c.in_ok-found.found.catalog.value
-    parts.parts.items c.into_inner-log.result.log a (g.B.Blocks.seen c.open_log.new.blocks))
+    parts.parts.items c.into_inner-log.result.log c.in_ok-found.found.space a
+    (g.B.Blocks.seen c.open_log.new.blocks))
     (sym c.into_inner-parts.ensures)
     (subst (λ (begun : Begun). IsOpened c.args.number geometry c.in_ok-found.found.catalog.value
-    c.open_log.new.laid.parts.items begun.log a (g.B.Blocks.seen c.open_log.new.blocks))
+    c.open_log.new.laid.parts.items begun.log c.in_ok-found.found.space a
+    (g.B.Blocks.seen c.open_log.new.blocks))
     (sym c.into_inner-log.ensures)
     (opened-before a b call.count_same call.size_same (call.content told) c.args.number geometry
     c.in_ok-found.found.catalog.value c.open_log.new.laid.parts.items c.open_log.new.begun.log
-    (g.B.Blocks.seen c.open_log.new.blocks)
+    c.in_ok-found.found.space (g.B.Blocks.seen c.open_log.new.blocks)
     (c.in_ok-found.ensures.opened told c.args.number
     (ap (λ (i : Image). block_at i 0) (call.content told)
     ∙ c.in_ok-begun.ensures.header told

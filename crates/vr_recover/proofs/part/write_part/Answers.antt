@@ -2,8 +2,7 @@ use Rattle.std.proofs.Common.{◌≡◌, ◌<◌, ◌+◌, ◌∙◌, ℕ, arith
 use Rattle.vr_types.specs.Image.{Block, block_at}
 use Rattle.vr_types.specs.Seen.{Left, Seen}
 use Rattle.vr_types.proofs.CallerLemmas.{cur-elsewhere, cur-put}
-use Rattle.vr_space.specs.Keyed.{Keyed}
-use Rattle.vr_space.specs.Part.{InPart, KeyedShape}
+use Rattle.vr_space.specs.Keyed.{InArea, Keyed}
 use Rattle.vr_recover.proofs.Made.{touches-both, touches-put}
 use Rattle.vr_recover.proofs.Standing.{one-stands}
 use Rattle.vr_recover.proofs.part.write_part.Goals as goal
@@ -42,7 +41,7 @@ pub returns-clause-after : goal.returns-clause-after
 returns-clause-after g c told =
     let B = g.D.BlockDevice in
     let part : Keyed = c.args.layout.now in
-    let region = InPart (KeyedShape part) in
+    let region = InArea part in
     let head : c.layout.inside.head ≡ part.head = ap (λ (k : Keyed). k.head) c.layout.view_is in
     let interval : c.block_of.result ≡ part.head + 1 = omega (arith, c.block_of.ensures) in
     touches-both region (B.seen c.args.device.now) (B.seen c.write.new.self)

@@ -1,12 +1,14 @@
 use Rattle.std.proofs.Common.{◌+◌, ◌<◌, ◌^◌, List, sym, ap, subst, ◌∙◌, arith}
 use Rattle.std.specs.Prelude.{All, OnOk}
 use Rattle.std.proofs.lemmas.Result.{on_ok_weaker}
+use Rattle.vr_attach.specs.Owning.{IsPastLog, owner_of}
 use Rattle.vr_log.specs.LogNow.{LogNow}
 use Rattle.vr_undo.specs.Records.{images_in}
 use Rattle.vr_undo.specs.declared.record.KeptRecord.{KeptRecord}
 use Rattle.vr_recover.specs.Found.{IsPartReady}
 use Rattle.vr_recover.proofs.Clearing.{IsCleared, cleared-guards, then-moments, then-ready}
 use Rattle.vr_recover.proofs.Clearing.{then-settled, undoable}
+use Rattle.vr_recover.proofs.Owning.{areas-own}
 use Rattle.vr_recover.proofs.Refusals.{log-long}
 use Rattle.vr_recover.proofs.restoring.restore.Goals as goal
 
@@ -56,9 +58,14 @@ undo-requires-clause-ready g c told =
       call = c.clear.ensures.moments told;
       stands = c.in_ok-clear.ensures.stands told;
     } in
-    then-ready geometry content entries layouts c.requires.planned c.args.laid.now.parts.items
-    c.args.laid.now.numbers.items c.requires.row a b cleared (images_in c.deref.result.now)
-    (ap images_in c.deref.ensures ∙ c.requires.kept)
+    let owners = owner_of geometry c.args.found.now.space in
+    let own = areas-own geometry entries c.args.found.now.space c.requires.owners in (
+      owners,
+      subst (λ (l : LogNow). IsPastLog l.geometry owners) (sym c.requires.log) own.past,
+      then-ready geometry content entries layouts c.requires.planned c.args.laid.now.parts.items
+          c.args.laid.now.numbers.items c.requires.row a b cleared owners own
+          (images_in c.deref.result.now) (ap images_in c.deref.ensures ∙ c.requires.kept),
+    )
 
 pub returns-clause-any_moment : goal.returns-clause-any_moment
 returns-clause-any_moment g c told number contents is =
@@ -86,10 +93,12 @@ returns-clause-any_moment g c told number contents is =
       call = c.clear.ensures.moments told;
       stands = c.in_ok-clear.ensures.stands told;
     } in
+    let owners = owner_of geometry c.args.found.now.space in
+    let own = areas-own geometry entries c.args.found.now.space c.requires.owners in
     then-moments geometry content entries layouts c.requires.planned c.args.laid.now.parts.items
-    c.args.laid.now.numbers.items c.requires.row a b cleared number contents
+    c.args.laid.now.numbers.items c.requires.row a b cleared owners own number contents
     c.args.begun.now.log (g.B.Blocks.seen c.undo.new.blocks) c.requires.log is
-    (c.undo.ensures.any_moment told number contents)
+    (c.undo.ensures.any_moment told number owners contents)
 
 pub returns-clause-undone : goal.returns-clause-undone
 returns-clause-undone g c told =
@@ -120,15 +129,49 @@ returns-clause-undone g c told =
     let low : c.args.begun.now.log.generation + 1 < 2 ^ 64 =
     subst (λ (l : LogNow). l.generation + 1 < 2 ^ 64) (sym c.requires.log)
     (omega (arith, c.requires.young.young)) in
+    let owners = owner_of geometry c.args.found.now.space in
+    let own = areas-own geometry entries c.args.found.now.space c.requires.owners in
     on_ok_weaker c.undo.result
-    (λ undone number contents is. undone number contents
+    (λ undone number contents is. undone number owners contents
     (then-settled geometry content entries layouts c.requires.planned c.args.laid.now.parts.items
-    c.args.laid.now.numbers.items c.requires.row a b cleared number contents
+    c.args.laid.now.numbers.items c.requires.row a b cleared owners own number contents
     c.args.begun.now.log c.requires.log is)) (c.undo.ensures.undone told low)
 
 pub returns-clause-ready : goal.returns-clause-ready
 returns-clause-ready g c told =
-    let b = g.B.Blocks.seen c.undo.new.blocks in
+    let geometry = c.args.geometry.now in
+    let content = c.args.begun.now.content in
+    let entries = c.args.found.now.catalog.value in
+    let layouts = c.args.laid.now.layouts.items in
+    let a = g.B.Blocks.seen c.args.blocks.now in
+    let b = g.B.Blocks.seen c.clear.new.blocks in
+    let cleared : IsCleared geometry content entries layouts a b = record {
+      allowed = c.requires.allowed;
+      of = c.requires.shape;
+      of_then = c.clear.ensures.shape;
+      forced = c.requires.forced told;
+      forced_then = c.in_ok-clear.ensures.forced told (c.requires.forced told);
+      long = log-long geometry a c.requires.allowed c.requires.shape
+          (g.met.B.Blocks.cur_may c.args.blocks.now told)
+          (λ n block below may. g.met.B.Blocks.sized c.args.blocks.now n block told below may);
+      long_then = log-long geometry b c.requires.allowed c.clear.ensures.shape
+          (g.met.B.Blocks.cur_may c.clear.new.blocks told)
+          (λ n block below may. g.met.B.Blocks.sized c.clear.new.blocks n block told below may);
+      number = (c.requires.found told).0;
+      found = (c.requires.found told).1;
+      spelled_then = c.clear.ensures.spelled told;
+      call = c.clear.ensures.moments told;
+      stands = c.in_ok-clear.ensures.stands told;
+    } in
+    let owners = owner_of geometry c.args.found.now.space in
+    let own = areas-own geometry entries c.args.found.now.space c.requires.owners in
     subst (λ (undo : List KeptRecord). OnOk c.undo.result
-    (All (IsPartReady (images_in undo) b) c.undo.new.laid.parts.items)) c.deref.ensures
-    (c.undo.ensures.ready told)
+    (All (IsPartReady owners (images_in undo) (g.B.Blocks.seen c.undo.new.blocks))
+    c.undo.new.laid.parts.items)) c.deref.ensures
+    (on_ok_weaker c.undo.result
+    (λ ready. ready owners
+    (subst (λ (l : LogNow). IsPastLog l.geometry owners) (sym c.requires.log) own.past)
+    (then-ready geometry content entries layouts c.requires.planned c.args.laid.now.parts.items
+    c.args.laid.now.numbers.items c.requires.row a b cleared owners own
+    (images_in c.deref.result.now) (ap images_in c.deref.ensures ∙ c.requires.kept)))
+    (c.undo.ensures.ready told))

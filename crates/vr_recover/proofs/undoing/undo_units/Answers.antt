@@ -1,93 +1,88 @@
-use Rattle.std.proofs.Common.{get_or, map, refl}
+use Rattle.std.proofs.Common.{get_or}
 use Rattle.vr_types.proofs.CallerLemmas.{guards-then, guards-weaken}
 use Rattle.vr_space.specs.Part.{part_no}
 use Rattle.vr_volume.specs.Safe.{IsSafeImage}
 use Rattle.vr_volume.specs.Volume.{Recovers}
 use Rattle.vr_volume.proofs.Calls.{stays-part}
 use Rattle.vr_recover.specs.Formatted.{Anything}
-use Rattle.vr_recover.specs.Undone.{IsPastLog, IsUndone, alike}
+use Rattle.vr_recover.specs.Undone.{IsUndone, alike}
 use Rattle.vr_recover.proofs.BackingOut.{safe-recovers}
-use Rattle.vr_recover.proofs.PartsBack.{all-at, read-off, ready-stays}
+use Rattle.vr_recover.proofs.PartsBack.{ready-stays}
 use Rattle.vr_recover.proofs.undoing.undo_units.Goals as goal
 
 pub returns-in_err-put_back_all-clause-any_moment :
     goal.returns-in_err-put_back_all-clause-any_moment
-returns-in_err-put_back_all-clause-any_moment g c told number contents settled =
+returns-in_err-put_back_all-clause-any_moment g c told number owners contents settled =
     let log = c.args.log.now in
     let a = g.B.Blocks.seen c.args.blocks.now in
     let b = g.B.Blocks.seen c.put_back_all.new.blocks in
-    let first = c.put_back_all.ensures.safe told log.geometry number contents settled.safe
+    let first = c.put_back_all.ensures.safe told log.geometry number owners contents settled.safe
     settled.opened in
-    let recovers = guards-weaken a b (IsSafeImage log.geometry number log (alike contents))
+    let recovers = guards-weaken a b (IsSafeImage log.geometry number owners log (alike contents))
     (λ image. Recovers log.geometry number image contents) first.0
-    (λ image. safe-recovers log.geometry number log contents image) in
+    (λ image. safe-recovers log.geometry number owners log contents image) in
     recovers
 
 pub returns-in_err-end_all-clause-any_moment : goal.returns-in_err-end_all-clause-any_moment
-returns-in_err-end_all-clause-any_moment g c told number contents settled =
+returns-in_err-end_all-clause-any_moment g c told number owners contents settled =
     let log = c.args.log.now in
     let a = g.B.Blocks.seen c.args.blocks.now in
     let b = g.B.Blocks.seen c.put_back_all.new.blocks in
-    let first = c.put_back_all.ensures.safe told log.geometry number contents settled.safe
+    let first = c.put_back_all.ensures.safe told log.geometry number owners contents settled.safe
     settled.opened in
-    let recovers = guards-weaken a b (IsSafeImage log.geometry number log (alike contents))
+    let recovers = guards-weaken a b (IsSafeImage log.geometry number owners log (alike contents))
     (λ image. Recovers log.geometry number image contents) first.0
-    (λ image. safe-recovers log.geometry number log contents image) in
-    let undone : IsUndone number log contents b = record {
+    (λ image. safe-recovers log.geometry number owners log contents image) in
+    let undone : IsUndone number owners log contents b = record {
       safe = first.1;
-      all = c.in_ok-put_back_all.ensures.all told log.geometry number contents settled.safe
+      all = c.in_ok-put_back_all.ensures.all told log.geometry number owners contents settled.safe
           settled.opened settled.firm settled.covered;
     } in
     guards-then a b (g.B.Blocks.seen c.end_all.new.blocks)
     (λ image. Recovers log.geometry number image contents) recovers
-    (c.end_all.ensures.any_moment told number contents undone)
+    (c.end_all.ensures.any_moment told number owners contents undone)
 
 pub returns-clause-any_moment : goal.returns-clause-any_moment
-returns-clause-any_moment g c told number contents settled =
+returns-clause-any_moment g c told number owners contents settled =
     let log = c.args.log.now in
     let a = g.B.Blocks.seen c.args.blocks.now in
     let b = g.B.Blocks.seen c.put_back_all.new.blocks in
-    let first = c.put_back_all.ensures.safe told log.geometry number contents settled.safe
+    let first = c.put_back_all.ensures.safe told log.geometry number owners contents settled.safe
     settled.opened in
-    let recovers = guards-weaken a b (IsSafeImage log.geometry number log (alike contents))
+    let recovers = guards-weaken a b (IsSafeImage log.geometry number owners log (alike contents))
     (λ image. Recovers log.geometry number image contents) first.0
-    (λ image. safe-recovers log.geometry number log contents image) in
-    let undone : IsUndone number log contents b = record {
+    (λ image. safe-recovers log.geometry number owners log contents image) in
+    let undone : IsUndone number owners log contents b = record {
       safe = first.1;
-      all = c.in_ok-put_back_all.ensures.all told log.geometry number contents settled.safe
+      all = c.in_ok-put_back_all.ensures.all told log.geometry number owners contents settled.safe
           settled.opened settled.firm settled.covered;
     } in
     guards-then a b (g.B.Blocks.seen c.end_all.new.blocks)
     (λ image. Recovers log.geometry number image contents) recovers
-    (c.end_all.ensures.any_moment told number contents undone)
+    (c.end_all.ensures.any_moment told number owners contents undone)
 
 pub returns-clause-undone : goal.returns-clause-undone
-returns-clause-undone g c told below number contents settled =
+returns-clause-undone g c told below number owners contents settled =
     let log = c.args.log.now in
     let b = g.B.Blocks.seen c.put_back_all.new.blocks in
-    let first = c.put_back_all.ensures.safe told log.geometry number contents settled.safe
+    let first = c.put_back_all.ensures.safe told log.geometry number owners contents settled.safe
     settled.opened in
-    let undone : IsUndone number log contents b = record {
+    let undone : IsUndone number owners log contents b = record {
       safe = first.1;
-      all = c.in_ok-put_back_all.ensures.all told log.geometry number contents settled.safe
+      all = c.in_ok-put_back_all.ensures.all told log.geometry number owners contents settled.safe
           settled.opened settled.firm settled.covered;
     } in
-    c.in_ok-end_all.ensures.undone told below number contents undone
+    c.in_ok-end_all.ensures.undone told below number owners contents undone
 
 pub returns-clause-ready : goal.returns-clause-ready
-returns-clause-ready g c told k d below =
+returns-clause-ready g c told owners past all k d below =
     let geometry = c.args.log.now.geometry in
-    let shapes = map g.P.Part.shape c.args.parts.now in
     let part = get_or c.put_back_all.new.parts k d in
     let shape = g.P.Part.shape part in
     let b = g.B.Blocks.seen c.put_back_all.new.blocks in
     let e = g.B.Blocks.seen c.end_all.new.blocks in
-    ready-stays shape b e
-    (stays-part geometry shape Anything b e
-    (all-at (IsPastLog geometry) shapes k shape
-    (read-off g.P.Part.shape c.put_back_all.new.parts shapes k part d
-    c.put_back_all.ensures.shapes below refl) c.requires.past)
-    (c.end_all.ensures.touches told))
+    ready-stays shape owners b e
+    (stays-part geometry shape owners Anything b e past (c.end_all.ensures.touches told))
     (g.P.Part.known part) (g.K.Kept.kept c.args.kept.now (part_no shape))
     (g.met.B.Blocks.cur_may c.put_back_all.new.blocks told)
-    (c.in_ok-put_back_all.ensures.ready told k d below)
+    (c.in_ok-put_back_all.ensures.ready told owners all k d below)

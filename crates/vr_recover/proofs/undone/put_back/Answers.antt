@@ -1,4 +1,4 @@
-use Rattle.std.proofs.Common.{◌∙◌, List, [], ◌∷◌, ap, refl, subst, sym}
+use Rattle.std.proofs.Common.{◌∙◌, IsTrue, List, [], ◌∷◌, ap, refl, subst, sym}
 use Rattle.std.specs.Prelude.{All}
 use Rattle.std.specs.List.{filter_map}
 use Rattle.std.proofs.lemmas.List.{take_all}
@@ -6,6 +6,7 @@ use Rattle.std.proofs.lemmas.List.Elements.{All-nil}
 use Rattle.vr_types.specs.Regions.{Touches}
 use Rattle.vr_types.specs.declared.unit.PartNo.{PartNo}
 use Rattle.vr_types.proofs.CallerLemmas.{guards-start, guards-then}
+use Rattle.vr_space.specs.Owners.{Owners}
 use Rattle.vr_space.specs.Part.{InPart, Shape, part_no}
 use Rattle.vr_history.specs.State.{BeforeImage}
 use Rattle.vr_log.specs.Live.{live_in}
@@ -30,13 +31,13 @@ loop-rec-init g c =
       count = refl;
       size = refl;
       faults = refl;
-      ready = λ told. c.requires.ready told;
-      touches = λ told. touches-none (InPart (g.P.Part.shape c.args.part.now)) a
+      ready = λ told owners ready. ready;
+      touches = λ told owners ready. touches-none (InPart (g.P.Part.shape c.args.part.now) owners) a
           (λ image there. g.met.B.Blocks.images_may c.args.blocks.now image told there);
-      safe = λ told geometry member committed safe laid records. (
-        guards-start a (IsSafeImage geometry member c.args.log.now committed)
+      safe = λ told geometry member owners committed safe laid records. (
+        guards-start a (IsSafeImage geometry member owners c.args.log.now committed)
             (λ image there. g.met.B.Blocks.images_may c.args.blocks.now image told there)
-            (each_image_is_safe geometry member c.args.log.now committed a safe),
+            (each_image_is_safe geometry member owners c.args.log.now committed a safe),
         safe,
       );
       back = λ told content item. none-back (g.P.Part.shape c.args.part.now) content [] a
@@ -63,21 +64,22 @@ put_record-requires-clause-kept g c =
     c.loop-rec.rec-index c.loop-rec-test.true c.rec-item.result c.rec-item.is
 
 pub returns-in_err-put_record-clause-safe : goal.returns-in_err-put_record-clause-safe
-returns-in_err-put_record-clause-safe g c told geometry member committed safe laid records =
+returns-in_err-put_record-clause-safe g c told geometry member owners committed safe laid records =
     let shape = g.P.Part.shape c.args.part.now in
     let a = g.B.Blocks.seen c.args.blocks.now in
     let b = g.B.Blocks.seen c.loop-rec.blocks in
     let d = g.B.Blocks.seen c.put_record.new.blocks in
     let kept = g.K.Kept.kept c.args.kept.now c.args.number in
     let log = c.args.log.now in
-    let before = c.loop-rec.invariant.safe told geometry member committed safe laid records in
-    let call = c.put_record.ensures.safe told geometry member committed before.1
+    let before =
+    c.loop-rec.invariant.safe told geometry member owners committed safe laid records in
+    let call = c.put_record.ensures.safe told geometry member owners committed before.1
     (subst (λ (s : Shape). IsLaidSo geometry log committed c.args.number.0 s kept)
     (sym c.loop-rec.invariant.shape) laid)
     (at-record (λ (image : BeforeImage). IsFreeIn log image.part image.place) c.args.records.now
     log.records c.requires.records (all-free log records) c.loop-rec.rec-index
     c.loop-rec-test.true c.rec-item.result c.rec-item.is) in
-    (guards-then a b d (IsSafeImage geometry member log committed) before.0 call.0, call.1)
+    (guards-then a b d (IsSafeImage geometry member owners log committed) before.0 call.0, call.1)
 
 pub loop-rec-preserved : goal.loop-rec-preserved
 loop-rec-preserved g c =
@@ -89,27 +91,37 @@ loop-rec-preserved g c =
     let log = c.args.log.now in
     let f = image_in (live_in log.records) in
     let same = c.loop-rec.invariant.shape in
+    let then : IsTrue g.B.Blocks.tells → (owners : Owners)
+    → IsReady shape owners (g.P.Part.known c.args.part.now) kept a
+    → IsReady (g.P.Part.shape c.loop-rec.part) owners (g.P.Part.known c.loop-rec.part) kept b =
+    λ told owners ready. subst
+    (λ (s : Shape). IsReady s owners (g.P.Part.known c.loop-rec.part) kept b) (sym same)
+    (c.loop-rec.invariant.ready told owners ready) in
     record {
       shape = c.put_record.ensures.shape ∙ same;
       split = c.put_record.ensures.split ∙ c.loop-rec.invariant.split;
       count = c.put_record.ensures.count ∙ c.loop-rec.invariant.count;
       size = c.put_record.ensures.size ∙ c.loop-rec.invariant.size;
       faults = c.in_ok-put_record.ensures.cause.ok ∙ c.loop-rec.invariant.faults;
-      ready = λ told. subst
-          (λ (s : Shape). IsReady s (g.P.Part.known c.put_record.new.part) kept d) same
-          (c.in_ok-put_record.ensures.ready told);
-      touches = λ told. touches-both (InPart shape) a b d (c.loop-rec.invariant.touches told)
-          (subst (λ (s : Shape). Touches (InPart s) Anything b d) same
-          (c.put_record.ensures.touches told));
-      safe = λ told geometry member committed safe laid records.
-          let before = c.loop-rec.invariant.safe told geometry member committed safe laid records in
-          let call = c.put_record.ensures.safe told geometry member committed before.1
+      ready = λ told owners ready. subst
+          (λ (s : Shape). IsReady s owners (g.P.Part.known c.put_record.new.part) kept d) same
+          (c.in_ok-put_record.ensures.ready told owners (then told owners ready));
+      touches = λ told owners ready. touches-both (InPart shape owners) a b d
+          (c.loop-rec.invariant.touches told owners ready)
+          (subst (λ (s : Shape). Touches (InPart s owners) Anything b d) same
+          (c.put_record.ensures.touches told owners (then told owners ready)));
+      safe = λ told geometry member owners committed safe laid records.
+          let before =
+          c.loop-rec.invariant.safe told geometry member owners committed safe laid records in
+          let call = c.put_record.ensures.safe told geometry member owners committed before.1
           (subst (λ (s : Shape). IsLaidSo geometry log committed c.args.number.0 s kept)
           (sym same) laid)
           (at-record (λ (image : BeforeImage). IsFreeIn log image.part image.place)
           c.args.records.now log.records c.requires.records (all-free log records)
-          c.loop-rec.rec-index c.loop-rec-test.true c.rec-item.result c.rec-item.is) in
-          (guards-then a b d (IsSafeImage geometry member log committed) before.0 call.0, call.1);
+          c.loop-rec.rec-index c.loop-rec-test.true c.rec-item.result c.rec-item.is) in (
+            guards-then a b d (IsSafeImage geometry member owners log committed) before.0 call.0,
+            call.1,
+          );
       back = λ told content item. back-more shape content f c.args.records.now
           c.loop-rec.rec-index c.rec-item.result a b d c.loop-rec-test.true c.rec-item.is
           (c.loop-rec.invariant.back told content item)
@@ -121,6 +133,16 @@ loop-rec-preserved g c =
           (subst (λ (s : Shape). All (IsItemIn s content) (images_of log.records)) (sym same) item)
           c.loop-rec.rec-index c.loop-rec-test.true c.rec-item.result c.rec-item.is)));
     }
+
+pub put_record-requires-clause-ready : goal.put_record-requires-clause-ready
+put_record-requires-clause-ready g c told =
+    let first = c.requires.ready told in
+    let b = g.B.Blocks.seen c.loop-rec.blocks in (
+      first.0,
+      subst (λ (s : Shape). IsReady s first.0 (g.P.Part.known c.loop-rec.part)
+          (g.K.Kept.kept c.args.kept.now c.args.number) b) (sym c.loop-rec.invariant.shape)
+          (c.loop-rec.invariant.ready told first.0 first.1),
+    )
 
 pub returns-clause-back : goal.returns-clause-back
 returns-clause-back g c told content item =

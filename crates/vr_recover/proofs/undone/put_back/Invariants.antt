@@ -5,6 +5,7 @@ use Rattle.vr_types.specs.Content.{Content}
 use Rattle.vr_types.specs.Moments.{Guards}
 use Rattle.vr_types.specs.Regions.{Touches}
 use Rattle.vr_types.specs.declared.geometry.Geometry.{Geometry}
+use Rattle.vr_space.specs.Owners.{Owners}
 use Rattle.vr_space.specs.Part.{InPart}
 use Rattle.vr_log.specs.Live.{live_in}
 use Rattle.vr_log.specs.declared.record.LogRecord.{LogRecord}
@@ -22,18 +23,24 @@ invariant-loop-rec g l = record {
   count : (g.B.Blocks.seen l.blocks).count ≡ (g.B.Blocks.seen l.fn.blocks).count;
   size : (g.B.Blocks.seen l.blocks).size ≡ (g.B.Blocks.seen l.fn.blocks).size;
   faults : g.B.Blocks.faults l.blocks ≡ g.B.Blocks.faults l.fn.blocks;
-  ready : IsTrue g.B.Blocks.tells → IsReady (g.P.Part.shape l.fn.part) (g.P.Part.known l.part)
+  ready : IsTrue g.B.Blocks.tells → (owners : Owners)
+      → IsReady (g.P.Part.shape l.fn.part) owners (g.P.Part.known l.fn.part)
+      (g.K.Kept.kept l.kept l.number) (g.B.Blocks.seen l.fn.blocks)
+      → IsReady (g.P.Part.shape l.fn.part) owners (g.P.Part.known l.part)
       (g.K.Kept.kept l.kept l.number) (g.B.Blocks.seen l.blocks);
-  touches : IsTrue g.B.Blocks.tells → Touches (InPart (g.P.Part.shape l.fn.part)) Anything
+  touches : IsTrue g.B.Blocks.tells → (owners : Owners)
+      → IsReady (g.P.Part.shape l.fn.part) owners (g.P.Part.known l.fn.part)
+      (g.K.Kept.kept l.kept l.number) (g.B.Blocks.seen l.fn.blocks)
+      → Touches (InPart (g.P.Part.shape l.fn.part) owners) Anything
       (g.B.Blocks.seen l.fn.blocks) (g.B.Blocks.seen l.blocks);
-  safe : IsTrue g.B.Blocks.tells → (geometry : Geometry) (member : ℕ)
+  safe : IsTrue g.B.Blocks.tells → (geometry : Geometry) (member : ℕ) (owners : Owners)
       (committed : List LogRecord → ℕ → Content)
-      → IsSafe geometry member l.log committed (g.B.Blocks.seen l.fn.blocks)
+      → IsSafe geometry member owners l.log committed (g.B.Blocks.seen l.fn.blocks)
       → IsLaidSo geometry l.log committed l.number.0 (g.P.Part.shape l.fn.part)
       (g.K.Kept.kept l.kept l.number) → HasAllRecords l.log
       → Guards (g.B.Blocks.seen l.fn.blocks) (g.B.Blocks.seen l.blocks)
-      (IsSafeImage geometry member l.log committed)
-      × IsSafe geometry member l.log committed (g.B.Blocks.seen l.blocks);
+      (IsSafeImage geometry member owners l.log committed)
+      × IsSafe geometry member owners l.log committed (g.B.Blocks.seen l.blocks);
   back : IsTrue g.B.Blocks.tells → (content : Content)
       → All (IsItemIn (g.P.Part.shape l.fn.part) content) (images_of l.log.records)
       → ArePutBack (g.P.Part.shape l.fn.part) content

@@ -18,7 +18,7 @@ same-number : (one other : ℕ) → true ≡ (one == other) → one ≡ other
 same-number one other is = (Decides-eqb one other).0 (sym is)
 
 pub returns-in_ok-set_forced-clause-safe : goal.returns-in_ok-set_forced-clause-safe
-returns-in_ok-set_forced-clause-safe g c told geometry member committed safe laid free =
+returns-in_ok-set_forced-clause-safe g c told geometry member owners committed safe laid free =
     let log = c.args.log.now in
     let shape = g.P.Part.shape c.args.part.now in
     let here : IsFreeIn log c.in-Before.owner.0 c.in-Before.place =
@@ -28,14 +28,14 @@ returns-in_ok-set_forced-clause-safe g c told geometry member committed safe lai
     let mine : c.in-Before.owner.0 ≡ c.args.number.0 =
     same-number c.in-Before.owner.0 c.args.number.0 c.if-eq.ensures in
     let number : c.args.number ≡ part_no shape = sym c.requires.number in
-    c.set_forced.ensures.safe told geometry member log committed safe
+    c.set_forced.ensures.safe told geometry member owners log committed safe
     (subst (λ (no : PartNo). IsLaidSo geometry log committed no.0 shape
     (g.K.Kept.kept c.args.kept.now no)) number laid)
     (subst (λ (no : ℕ). IsFreeIn log no c.in-Before.place)
     (mine ∙ sym (ap (λ (no : PartNo). no.0) c.requires.number)) here)
 
 pub returns-in_err-set_forced-clause-safe : goal.returns-in_err-set_forced-clause-safe
-returns-in_err-set_forced-clause-safe g c told geometry member committed safe laid free =
+returns-in_err-set_forced-clause-safe g c told geometry member owners committed safe laid free =
     let log = c.args.log.now in
     let shape = g.P.Part.shape c.args.part.now in
     let here : IsFreeIn log c.in-Before.owner.0 c.in-Before.place =
@@ -45,7 +45,7 @@ returns-in_err-set_forced-clause-safe g c told geometry member committed safe la
     let mine : c.in-Before.owner.0 ≡ c.args.number.0 =
     same-number c.in-Before.owner.0 c.args.number.0 c.if-eq.ensures in
     let number : c.args.number ≡ part_no shape = sym c.requires.number in
-    c.set_forced.ensures.safe told geometry member log committed safe
+    c.set_forced.ensures.safe told geometry member owners log committed safe
     (subst (λ (no : PartNo). IsLaidSo geometry log committed no.0 shape
     (g.K.Kept.kept c.args.kept.now no)) number laid)
     (subst (λ (no : ℕ). IsFreeIn log no c.in-Before.place)
@@ -74,31 +74,37 @@ returns-in_ok-set_forced-clause-back g c told content item =
     (c.in_ok-set_forced.ensures.firm told))
 
 pub returns-else-eq-clause-safe : goal.returns-else-eq-clause-safe
-returns-else-eq-clause-safe g c told geometry member committed safe laid free = (
+returns-else-eq-clause-safe g c told geometry member owners committed safe laid free = (
   guards-start (g.B.Blocks.seen c.args.blocks.now)
-      (IsSafeImage geometry member c.args.log.now committed)
+      (IsSafeImage geometry member owners c.args.log.now committed)
       (λ image there. g.met.B.Blocks.images_may c.args.blocks.now image told there)
-      (each_image_is_safe geometry member c.args.log.now committed
+      (each_image_is_safe geometry member owners c.args.log.now committed
       (g.B.Blocks.seen c.args.blocks.now) safe),
   safe,
 )
 
 pub returns-else-eq-clause-touches : goal.returns-else-eq-clause-touches
-returns-else-eq-clause-touches g c told = touches-none (InPart (g.P.Part.shape c.args.part.now))
+returns-else-eq-clause-touches g c told owners ready =
+    touches-none (InPart (g.P.Part.shape c.args.part.now) owners)
     (g.B.Blocks.seen c.args.blocks.now)
     (λ image there. g.met.B.Blocks.images_may c.args.blocks.now image told there)
 
 pub returns-in_default-clause-safe : goal.returns-in_default-clause-safe
-returns-in_default-clause-safe g c told geometry member committed safe laid free = (
+returns-in_default-clause-safe g c told geometry member owners committed safe laid free = (
   guards-start (g.B.Blocks.seen c.args.blocks.now)
-      (IsSafeImage geometry member c.args.log.now committed)
+      (IsSafeImage geometry member owners c.args.log.now committed)
       (λ image there. g.met.B.Blocks.images_may c.args.blocks.now image told there)
-      (each_image_is_safe geometry member c.args.log.now committed
+      (each_image_is_safe geometry member owners c.args.log.now committed
       (g.B.Blocks.seen c.args.blocks.now) safe),
   safe,
 )
 
 pub returns-in_default-clause-touches : goal.returns-in_default-clause-touches
-returns-in_default-clause-touches g c told = touches-none (InPart (g.P.Part.shape c.args.part.now))
+returns-in_default-clause-touches g c told owners ready =
+    touches-none (InPart (g.P.Part.shape c.args.part.now) owners)
     (g.B.Blocks.seen c.args.blocks.now)
     (λ image there. g.met.B.Blocks.images_may c.args.blocks.now image told there)
+
+pub set_forced-requires-clause-rests : goal.set_forced-requires-clause-rests
+set_forced-requires-clause-rests g c told =
+    ((c.requires.ready told).0, (c.requires.ready told).1.rests)

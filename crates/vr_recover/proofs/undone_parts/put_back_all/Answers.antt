@@ -6,9 +6,11 @@ use Rattle.std.proofs.lemmas.List.{length-map, take_all, take_more}
 use Rattle.std.proofs.lemmas.List.Elements.{All-map, All-nil, All-push, All-weaker}
 use Rattle.std.proofs.lemmas.Option.{get_or_from_slice_get, slice_get-map, slice_get_within}
 use Rattle.std.proofs.Math.Seq.{map-set_same}
+use Rattle.vr_types.specs.Regions.{Touches}
 use Rattle.vr_types.specs.declared.unit.PartNo.{PartNo}
 use Rattle.vr_types.proofs.CallerLemmas.{guards-start, guards-then}
-use Rattle.vr_space.specs.Part.{IsOn, IsSound, Shape, part_no}
+use Rattle.vr_space.specs.Owners.{Owners}
+use Rattle.vr_space.specs.Part.{InPart, IsOn, IsSound, Shape, part_no}
 use Rattle.vr_space.proofs.CallerLemmas.{StaysPart, on-still, rest-sound}
 use Rattle.vr_volume.specs.Laid.{shape_by}
 use Rattle.vr_volume.specs.PutBack.{images_of}
@@ -16,7 +18,7 @@ use Rattle.vr_volume.specs.Safe.{IsSafeImage}
 use Rattle.vr_volume.proofs.Recovering.{each_image_is_safe}
 use Rattle.vr_volume.proofs.Rested.{stands-part, stays-apart}
 use Rattle.vr_recover.specs.Formatted.{Anything}
-use Rattle.vr_recover.specs.Undone.{FitsPart, HasContent, IsAllFirm, IsPastLog, IsReady}
+use Rattle.vr_recover.specs.Undone.{FitsPart, HasContent, IsAllFirm, IsReady}
 use Rattle.vr_recover.specs.Undone.{alike}
 use Rattle.vr_recover.proofs.PartsBack.{all-at, all-before, all-others, all-parts, all-safe, all-set}
 use Rattle.vr_recover.proofs.PartsBack.{are-items, content-stays, firm-stays, laid-opened}
@@ -34,15 +36,15 @@ loop-part-init g c =
       count = refl;
       size = refl;
       faults = refl;
-      ready = c.requires.ready;
-      safe = λ told geometry member contents safe opened. (
-        guards-start a (IsSafeImage geometry member c.args.log.now (alike contents))
+      ready = λ told owners ready. ready;
+      safe = λ told geometry member owners contents safe opened. (
+        guards-start a (IsSafeImage geometry member owners c.args.log.now (alike contents))
             (λ image there. g.met.B.Blocks.images_may c.args.blocks.now image told there)
-            (each_image_is_safe geometry member c.args.log.now (alike contents) a safe),
+            (each_image_is_safe geometry member owners c.args.log.now (alike contents) a safe),
         safe,
       );
       stands = λ told forced stands. stands;
-      all = λ told geometry member contents safe opened firm. (
+      all = λ told geometry member owners contents safe opened firm. (
         firm,
         All-nil (λ (shape : Shape). HasContent shape (contents (part_no shape).0) a),
       );
@@ -100,11 +102,14 @@ put_back-requires-clause-fits g c =
 pub put_back-requires-clause-ready : goal.put_back-requires-clause-ready
 put_back-requires-clause-ready g c told =
     let part = get_or c.loop-part.parts c.loop-part.part-index c.part-item.result in
-    subst (λ (no : PartNo). IsReady (g.P.Part.shape part) (g.P.Part.known part)
-    (g.K.Kept.kept c.args.kept.now no) (g.B.Blocks.seen c.loop-part.blocks))
-    (put_back-requires-clause-number g c)
-    (c.loop-part.invariant.ready told c.loop-part.part-index c.part-item.result
-    (omega (arith, c.loop-part-test.true, c.loop-part.auto.parts)))
+    let first = c.requires.ready told in (
+      first.0,
+      subst (λ (no : PartNo). IsReady (g.P.Part.shape part) first.0 (g.P.Part.known part)
+          (g.K.Kept.kept c.args.kept.now no) (g.B.Blocks.seen c.loop-part.blocks))
+          (put_back-requires-clause-number g c)
+          (c.loop-part.invariant.ready told first.0 first.2 c.loop-part.part-index
+          c.part-item.result (omega (arith, c.loop-part-test.true, c.loop-part.auto.parts))),
+    )
 
 pub returns-in_err-put_back-clause-shapes : goal.returns-in_err-put_back-clause-shapes
 returns-in_err-put_back-clause-shapes g c =
@@ -113,7 +118,7 @@ returns-in_err-put_back-clause-shapes g c =
     ∙ c.loop-part.invariant.shapes
 
 pub returns-in_err-put_back-clause-safe : goal.returns-in_err-put_back-clause-safe
-returns-in_err-put_back-clause-safe g c told geometry member contents safe opened =
+returns-in_err-put_back-clause-safe g c told geometry member owners contents safe opened =
     let B = g.B.Blocks in
     let log = c.args.log.now in
     let kept = g.K.Kept.kept c.args.kept.now in
@@ -134,11 +139,13 @@ returns-in_err-put_back-clause-safe g c told geometry member contents safe opene
     let numbered : number ≡ part_no shape =
     sym (number-here shapes c.args.numbers.now index c.loop-part.at shape zero c.requires.numbers
     c.loop-part.invariant.at is) in
-    let before = c.loop-part.invariant.safe told geometry member contents safe opened in
-    let call = c.put_back.ensures.safe told geometry member (alike contents) before.1
+    let before = c.loop-part.invariant.safe told geometry member owners contents safe opened in
+    let call = c.put_back.ensures.safe told geometry member owners (alike contents) before.1
     (laid-opened geometry log contents kept shapes index shape number opened is c.requires.kept
-    numbered) opened.records in
-    (guards-then a b d (IsSafeImage geometry member log (alike contents)) before.0 call.0, call.1)
+    numbered) opened.records in (
+      guards-then a b d (IsSafeImage geometry member owners log (alike contents)) before.0 call.0,
+      call.1,
+    )
 
 -- the shape of a part, among those of all
 shape-at : {X : Type 0} (f : X → Shape) (parts : List X) (shapes : List Shape) (at : ℕ) (x : X)
@@ -169,19 +176,35 @@ loop-part-preserved g c =
     sym (number-here shapes c.args.numbers.now index c.loop-part.at shape zero c.requires.numbers
     c.loop-part.invariant.at is) in
     let new = c.put_back.new.part in
-    let sounds : IsTrue B.tells → All (λ (s : Shape). IsSound s b) shapes =
-    λ told. subst (All (λ (s : Shape). IsSound s b)) c.loop-part.invariant.shapes
-    (All-map (λ (s : Shape). IsSound s b) g.P.Part.shape parts
-    (All-weaker (λ part. IsReady (g.P.Part.shape part) (g.P.Part.known part)
+    let first : IsTrue B.tells → Owners = λ told. (c.requires.ready told).0 in
+    let sounds : (told : IsTrue B.tells) → All (λ (s : Shape). IsSound s (first told) b) shapes =
+    λ told. subst (All (λ (s : Shape). IsSound s (first told) b)) c.loop-part.invariant.shapes
+    (All-map (λ (s : Shape). IsSound s (first told) b) g.P.Part.shape parts
+    (All-weaker (λ part. IsReady (g.P.Part.shape part) (first told) (g.P.Part.known part)
     (kept (part_no (g.P.Part.shape part))) b)
-    (λ part. IsSound (g.P.Part.shape part) b)
-    (λ part ready. rest-sound (g.P.Part.shape part) b ready.rests) parts
-    (c.loop-part.invariant.ready told))) in
-    let stays : IsTrue B.tells → (other : ℕ) (there : Shape) → slice_get shapes other ≡ Some there
-    → other ≢ index → StaysPart there b d =
-    λ told other there at off. stays-apart shape there Anything b d
-    (λ n inside mine. c.requires.apart other index there shape at is off n inside mine)
-    (c.put_back.ensures.touches told) in
+    (λ part. IsSound (g.P.Part.shape part) (first told) b)
+    (λ part ready. rest-sound (g.P.Part.shape part) (first told) b ready.rests) parts
+    (c.loop-part.invariant.ready told (first told) (c.requires.ready told).2))) in
+    let here : IsTrue B.tells → (owners : Owners)
+    → All (λ part. IsReady (g.P.Part.shape part) owners (g.P.Part.known part)
+    (kept (part_no (g.P.Part.shape part))) a) c.args.parts.now
+    → IsReady shape owners (g.P.Part.known (get_or parts index c.part-item.result)) (kept number)
+    b =
+    λ told owners all. subst (λ (no : PartNo). IsReady shape owners
+    (g.P.Part.known (get_or parts index c.part-item.result)) (kept no) b) (sym numbered)
+    (c.loop-part.invariant.ready told owners all index c.part-item.result within) in
+    let touches : IsTrue B.tells → (owners : Owners)
+    → All (λ part. IsReady (g.P.Part.shape part) owners (g.P.Part.known part)
+    (kept (part_no (g.P.Part.shape part))) a) c.args.parts.now
+    → Touches (InPart shape owners) Anything b d =
+    λ told owners all. c.put_back.ensures.touches told owners (here told owners all) in
+    let stays : IsTrue B.tells → (owners : Owners)
+    → All (λ part. IsReady (g.P.Part.shape part) owners (g.P.Part.known part)
+    (kept (part_no (g.P.Part.shape part))) a) c.args.parts.now
+    → (other : ℕ) (there : Shape) → slice_get shapes other ≡ Some there
+    → other ≢ index → StaysPart there owners b d =
+    λ told owners all other there at off. stays-apart shape there owners Anything b d
+    (c.requires.apart other index there shape at is off) (touches told owners all) in
     record {
       at = ap (λ (n : ℕ). n + 1) c.loop-part.invariant.at;
       shapes = map-set_same g.P.Part.shape parts index new c.part-item.result
@@ -194,38 +217,40 @@ loop-part-preserved g c =
       count = c.put_back.ensures.count ∙ c.loop-part.invariant.count;
       size = c.put_back.ensures.size ∙ c.loop-part.invariant.size;
       faults = c.in_ok-put_back.ensures.cause.ok ∙ c.loop-part.invariant.faults;
-      ready = λ told. all-set
-          (λ part. IsReady (g.P.Part.shape part) (g.P.Part.known part)
+      ready = λ told owners all. all-set
+          (λ part. IsReady (g.P.Part.shape part) owners (g.P.Part.known part)
           (kept (part_no (g.P.Part.shape part))) b)
-          (λ part. IsReady (g.P.Part.shape part) (g.P.Part.known part)
+          (λ part. IsReady (g.P.Part.shape part) owners (g.P.Part.known part)
           (kept (part_no (g.P.Part.shape part))) d)
           parts index new
-          (subst (λ (s : Shape). IsReady s (g.P.Part.known new) (kept (part_no s)) d)
+          (subst (λ (s : Shape). IsReady s owners (g.P.Part.known new) (kept (part_no s)) d)
           (sym c.put_back.ensures.shape)
-          (subst (λ (no : PartNo). IsReady shape (g.P.Part.known new) (kept no) d) numbered
-          (c.in_ok-put_back.ensures.ready told)))
-          (λ other part at off ready. ready-stays (g.P.Part.shape part) b d
-          (stays told other (g.P.Part.shape part)
+          (subst (λ (no : PartNo). IsReady shape owners (g.P.Part.known new) (kept no) d) numbered
+          (c.in_ok-put_back.ensures.ready told owners (here told owners all))))
+          (λ other part at off ready. ready-stays (g.P.Part.shape part) owners b d
+          (stays told owners all other (g.P.Part.shape part)
           (shape-at g.P.Part.shape parts shapes other part c.loop-part.invariant.shapes at) off)
           (g.P.Part.known part) (kept (part_no (g.P.Part.shape part)))
           (g.met.B.Blocks.cur_may c.loop-part.blocks told) ready)
-          (c.loop-part.invariant.ready told);
-      safe = λ told geometry member contents safe opened.
-          let before = c.loop-part.invariant.safe told geometry member contents safe opened in
-          let call = c.put_back.ensures.safe told geometry member (alike contents) before.1
+          (c.loop-part.invariant.ready told owners all);
+      safe = λ told geometry member owners contents safe opened.
+          let before =
+          c.loop-part.invariant.safe told geometry member owners contents safe opened in
+          let call = c.put_back.ensures.safe told geometry member owners (alike contents) before.1
           (laid-opened geometry log contents kept shapes index shape number opened is
           c.requires.kept numbered) opened.records in (
-            guards-then a b d (IsSafeImage geometry member log (alike contents)) before.0 call.0,
+            guards-then a b d (IsSafeImage geometry member owners log (alike contents)) before.0
+                call.0,
             call.1,
           );
-      stands = λ told forced stands. stands-part log shape Anything b d forced
-          (c.loop-part.invariant.stands told forced stands)
-          (all-at (IsPastLog log.geometry) shapes index shape is c.requires.past)
-          (c.put_back.ensures.touches told);
-      all = λ told geometry member contents safe opened firm.
-          let before = c.loop-part.invariant.all told geometry member contents safe opened firm in
-          let was = c.loop-part.invariant.safe told geometry member contents safe opened in
-          let call = c.put_back.ensures.safe told geometry member (alike contents) was.1
+      stands = λ told forced stands. stands-part log shape (first told) Anything b d forced
+          (c.loop-part.invariant.stands told forced stands) (c.requires.ready told).1
+          (touches told (first told) (c.requires.ready told).2);
+      all = λ told geometry member owners contents safe opened firm.
+          let before =
+          c.loop-part.invariant.all told geometry member owners contents safe opened firm in
+          let was = c.loop-part.invariant.safe told geometry member owners contents safe opened in
+          let call = c.put_back.ensures.safe told geometry member owners (alike contents) was.1
           (laid-opened geometry log contents kept shapes index shape number opened is
           c.requires.kept numbered) opened.records in
           let content = contents (part_no shape).0 in
@@ -233,21 +258,22 @@ loop-part-preserved g c =
           let left = g.met.B.Blocks.cur_may c.loop-part.blocks told in
           let put = c.in_ok-put_back.ensures.back told content
           (are-items geometry log.records contents shape
-          (all-safe geometry member log contents a safe
+          (all-safe geometry member owners log contents a safe
           (g.met.B.Blocks.cur_may c.args.blocks.now told) opened.records).committed) in
           let mine : IsAllFirm shape b =
           all-at (λ (s : Shape). IsAllFirm s b) shapes index shape is before.0 in
-          let has : HasContent shape content d = part-back shape content images b d put mine
-          ((all-safe geometry member log contents d call.1
+          let has : HasContent shape content d = part-back shape owners content images b d put mine
+          ((all-safe geometry member owners log contents d call.1
           (g.met.B.Blocks.cur_may c.put_back.new.blocks told) opened.records).parts
           (part_no shape).0 shape
           (all-at (λ (s : Shape). shape_by geometry (contents 0) (part_no s).0 ≡ Some s) shapes
           index shape is opened.laid)) in (
             all-others (λ (s : Shape). IsAllFirm s b) (λ (s : Shape). IsAllFirm s d) shapes index
                 shape is (λ place. put.firm place (mine place))
-                (λ other there at off was-firm. firm-stays there b d (stays told other there at off)
-                (all-at (λ (s : Shape). IsSound s b) shapes other there at (sounds told)) left
-                was-firm)
+                (λ other there at off was-firm. firm-stays there (first told) b d
+                (stays told (first told) (c.requires.ready told).2 other there at off)
+                (all-at (λ (s : Shape). IsSound s (first told) b) shapes other there at
+                (sounds told)) left was-firm)
                 before.0,
             subst (All (λ (s : Shape). HasContent s (contents (part_no s).0) d))
                 (sym (take_more shapes index shape (slice_get_within shapes index shape is)))
@@ -255,8 +281,10 @@ loop-part-preserved g c =
                 (take index shapes) (get_or shapes index shape)
                 (all-before (λ (s : Shape). HasContent s (contents (part_no s).0) b)
                 (λ (s : Shape). HasContent s (contents (part_no s).0) d) shapes index
-                (λ other there at off had. content-stays there b d (stays told other there at off)
-                (all-at (λ (s : Shape). IsSound s b) shapes other there at (sounds told))
+                (λ other there at off had. content-stays there (first told) b d
+                (stays told (first told) (c.requires.ready told).2 other there at off)
+                (all-at (λ (s : Shape). IsSound s (first told) b) shapes other there at
+                (sounds told))
                 (contents (part_no there).0) had)
                 before.1)
                 (subst (λ (s : Shape). HasContent s (contents (part_no s).0) d)
@@ -265,14 +293,14 @@ loop-part-preserved g c =
     }
 
 pub returns-clause-all : goal.returns-clause-all
-returns-clause-all g c told geometry member contents safe opened firm covered =
+returns-clause-all g c told geometry member owners contents safe opened firm covered =
     let log = c.args.log.now in
     let shapes = map g.P.Part.shape c.args.parts.now in
     let b = g.B.Blocks.seen c.loop-part.blocks in
-    let done = c.loop-part.invariant.all told geometry member contents safe opened firm in
-    let is-safe = c.loop-part.invariant.safe told geometry member contents safe opened in
-    all-parts geometry log contents shapes b
-    (all-safe geometry member log contents b is-safe.1
+    let done = c.loop-part.invariant.all told geometry member owners contents safe opened firm in
+    let is-safe = c.loop-part.invariant.safe told geometry member owners contents safe opened in
+    all-parts geometry owners log contents shapes b
+    (all-safe geometry member owners log contents b is-safe.1
     (g.met.B.Blocks.cur_may c.loop-part.blocks told) opened.records)
     opened covered
     (subst (All (λ (s : Shape). HasContent s (contents (part_no s).0) b))

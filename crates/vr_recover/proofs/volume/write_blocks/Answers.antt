@@ -1,8 +1,8 @@
 use Rattle.std.proofs.Common.{◌≡◌, ◌∙◌, ℕ, length, subst}
 use Rattle.vr_types.specs.Regions.{Touches}
 use Rattle.vr_types.specs.Seen.{Seen}
-use Rattle.vr_space.specs.Keyed.{Keyed}
-use Rattle.vr_space.specs.Part.{InPart, KeyedShape, StandsFor}
+use Rattle.vr_space.specs.Keyed.{InArea, Keyed}
+use Rattle.vr_space.specs.Part.{KeyedShape, StandsFor}
 use Rattle.vr_recover.specs.Formatted.{Anything, IsFormatted, IsWritten}
 use Rattle.vr_recover.specs.Planned.{AreEmpty, InClusters, catalog_keyed, content_of}
 use Rattle.vr_recover.proofs.Made.{all-made, in-catalog, in-clusters, in-start, on-ok}
@@ -29,7 +29,7 @@ returns-clause-formatted g c told =
       log = c.in_ok-write_start.ensures.log told;
       catalog = subst (λ (k : Keyed). StandsFor (KeyedShape k) third.cur (content_of k entries))
           layout (c.in_ok-write_part.ensures.stands told);
-      to_third = subst (λ (k : Keyed). Touches (InPart (KeyedShape k)) Anything second third)
+      to_third = subst (λ (k : Keyed). Touches (InArea k) Anything second third)
           layout (c.write_part.ensures.after told);
       empty = empty;
       to_last = c.write_clusters.ensures.after told;
@@ -53,9 +53,9 @@ returns-clause-after g c told =
     (touches-both (IsWritten geometry count) first second third
     (touches-more _ (IsWritten geometry count) first second (in-start geometry count)
     (c.write_start.ensures.after told))
-    (touches-more (InPart (KeyedShape (catalog_keyed geometry))) (IsWritten geometry count) second
+    (touches-more (InArea (catalog_keyed geometry)) (IsWritten geometry count) second
     third (in-catalog geometry count)
-    (subst (λ (k : Keyed). Touches (InPart (KeyedShape k)) Anything second third) layout
+    (subst (λ (k : Keyed). Touches (InArea k) Anything second third) layout
     (c.write_part.ensures.after told))))
     (touches-more (InClusters geometry count) (IsWritten geometry count) third last
     (in-clusters geometry count) (c.write_clusters.ensures.after told))
