@@ -63,8 +63,6 @@ fn deck_in(alloc: Global, lines: &Lines) -> Result<DeckText, JobFault>
     match parse_deck(alloc, lines) {
         Ok(deck) => Ok(deck),
         Err(DeckFault::Memory) => Err(JobFault::Memory),
-        Err(DeckFault::Text(fault)) => {
-            Err(JobFault::Text(deck_fault(fault.line, fault.cause)))
-        }
+        Err(DeckFault::Text(fault)) => { Err(JobFault::Text(deck_fault(fault.line, fault.cause))) }
     }
 }
