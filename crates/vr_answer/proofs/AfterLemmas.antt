@@ -1,4 +1,4 @@
--- What the entry of a direct request leaves of the state.
+-- What the entry of a request leaves of the state.
 use Rattle.std.proofs.Common.{◌≡◌, ℕ, Bool, true, false, not, cond, List, [], ◌∷◌, ◌++◌, Option}
 use Rattle.std.proofs.Common.{Some, None, refl, sym, ap, ◌∙◌, subst, filter, map}
 use Rattle.std.proofs.lemmas.Option.{none-some}
@@ -7,11 +7,15 @@ use Rattle.std.specs.Option.{option_and_then, option_map, option_map_or, option_
 use Rattle.vr_types.specs.declared.lock_name.LockName.{LockName}
 use Rattle.vr_types.specs.declared.position.Position.{Position}
 use Rattle.vr_types.specs.declared.position.Stand.{Stand}
+use Rattle.vr_types.specs.declared.position.Stand.TheVariants.{At, After, End}
+use Rattle.vr_types.specs.declared.position.Stand.TheVariants.{None as Nowhere}
 use Rattle.vr_types.specs.declared.geometry.Geometry.{Geometry}
 use Rattle.vr_types.specs.declared.reply.Refusal.{Refusal}
+use Rattle.vr_types.specs.declared.reply.Refusal.TheVariants.{EndOfData, NotFound}
 use Rattle.vr_types.specs.declared.reply.Reply.TheVariants.{Done, Refused}
 use Rattle.vr_types.specs.declared.request.FileRef.{FileRef}
-use Rattle.vr_types.specs.declared.request.Find.TheVariants.{Equal}
+use Rattle.vr_types.specs.declared.request.Find.{Find}
+use Rattle.vr_types.specs.declared.request.Find.TheVariants.{Next, Equal, AtLeast}
 use Rattle.vr_types.specs.declared.request.Request.{Request}
 use Rattle.vr_types.specs.declared.request.Request.TheVariants.{Get, Point, Add, Update, Erase}
 use Rattle.vr_types.specs.declared.request.Request.TheVariants.{EndReq, Commit, Backout}
@@ -29,10 +33,11 @@ use Rattle.vr_history.specs.Names.{change_names, keys_moved, lock_names, read_na
 use Rattle.vr_history.specs.Names.{with_locks}
 use Rattle.vr_history.specs.Opened.{base_of}
 use Rattle.vr_history.specs.State.{Logged, State, is_logged}
-use Rattle.vr_history.specs.Step.{after_asked, case_of, holds, makes, makes_change, read_on}
-use Rattle.vr_history.specs.Step.{reads_on, stand_refused, stands_after, stands_in}
+use Rattle.vr_history.specs.Step.{after_asked, case_of, keeps_read, makes, makes_change, read_on}
+use Rattle.vr_history.specs.Step.{stand_refused, stands_after, stands_in}
 use Rattle.vr_answer.specs.After.{IsChanged, IsMade, change_at, let_go, logging_at, read_leaves}
-use Rattle.vr_answer.specs.After.{stands_nowhere}
+use Rattle.vr_answer.specs.After.{stands_as, stands_nowhere}
+use Rattle.vr_answer.specs.Least.{found_at}
 use Rattle.vr_answer.specs.Scope.{HasClustersAlone}
 use Rattle.vr_answer.proofs.OpeningLemmas.{moves_none}
 use Rattle.vr_answer.proofs.PlaceLemmas.{append_none}
@@ -137,49 +142,131 @@ after_change geometry state unit Commit place feedback shown bytes alone at =
 after_change geometry state unit Backout place feedback shown bytes alone at =
     absurd (none-some place at)
 
--- a direct read doesn't move where its file stands
-unmoved : (place : List ℕ) (o : Option Candidate)
-    → option_and_then (λ candidate. read_on (Equal place) candidate.at) o ≡ None
-unmoved place None = refl
-unmoved place (Some candidate) = refl
+-- a read by a key moves its file nowhere, and a sequential one after the record that it found
+unmoved_equal : (key : List ℕ) (o : Option Candidate)
+    → option_and_then (λ candidate. read_on (Equal key) candidate.at) o ≡ None
+unmoved_equal key None = refl
+unmoved_equal key (Some candidate) = refl
+
+unmoved_least : (key : List ℕ) (o : Option Candidate)
+    → option_and_then (λ candidate. read_on (AtLeast key) candidate.at) o ≡ None
+unmoved_least key None = refl
+unmoved_least key (Some candidate) = refl
+
+module _ (place : List ℕ) where
+  abbrev IsAt : Option Candidate → Type 0
+  IsAt o = option_map (λ candidate. candidate.at) o ≡ Some place
+
+  moved_on : (o : Option Candidate) → IsAt o
+      → option_and_then (λ candidate. read_on Next candidate.at) o ≡ Some (After place)
+  moved_on None at = absurd (none-some place at)
+  moved_on (Some candidate) at = ap (option_map After) at
+
+  moved_to : (o : Option Candidate) → IsAt o
+      → option_map (λ candidate. At candidate.at) o ≡ Some (At place)
+  moved_to None at = absurd (none-some place at)
+  moved_to (Some candidate) at = ap (option_map At) at
 
 module _ (geometry : Geometry) (state : State) (unit : UnitOfRecovery) (on : FileRef)
     (place : List ℕ) where
-  abbrev read : Bool → Integrity → Case
-  read update integrity = case_of geometry state unit (Get on (Equal place) update integrity)
+  abbrev read : Find → Bool → Integrity → Case
+  read find update integrity = case_of geometry state unit (Get on find update integrity)
 
-  stays : (update : Bool) (integrity : Integrity) (state : State)
-      → reads_on (read update integrity) (Equal place) state ≡ state
-  stays update integrity state =
-      ap (λ (o : Option Stand). stands_after (read update integrity) o state)
-      (unmoved place (found (read update integrity)))
+  one_name : (find : Find) (update : Bool) (integrity : Integrity)
+      → place_read (read find update integrity) ≡ Some place
+      → read_names (read find update integrity)
+      ≡ record_name (read find update integrity) place ∷ []
+  one_name find update integrity at =
+      ap (λ (o : Option (List ℕ)). map (record_name (read find update integrity))
+      (option_to_list o)) at
 
-  one_name : (update : Bool) (integrity : Integrity)
-      → place_read (read update integrity) ≡ Some place
-      → read_names (read update integrity) ≡ record_name (read update integrity) place ∷ []
-  one_name update integrity at =
-      ap (λ (o : Option (List ℕ)). map (record_name (read update integrity)) (option_to_list o)) at
-
-  pub after_read : (update : Bool) (integrity : Integrity) (feedback : ℕ)
-      (shown bytes : Option (List ℕ)) → place_read (read update integrity) ≡ Some place
-      → after_asked (read update integrity) (Done feedback shown bytes)
-      ≡ read_leaves (read update integrity) on place update integrity
-  after_read false Nri feedback shown bytes at = stays false Nri (let_go (read false Nri))
-  after_read false Cr feedback shown bytes at = stays false Cr (let_go (read false Cr))
-  after_read false Cre feedback shown bytes at =
-      let case = read false Cre in
-      stays false Cre (locks unit Shared (read_names case) (let_go case))
-      ∙ ap (λ (names : List LockName). locks unit Shared names (let_go case))
-      (one_name false Cre at)
-  after_read true integrity feedback shown bytes at =
-      let case = read true integrity in
+  -- the lock that a read keeps, and the place that it holds
+  kept_read : (find : Find) (update : Bool) (integrity : Integrity)
+      → place_read (read find update integrity) ≡ Some place
+      → keeps_read (read find update integrity) update integrity
+      (let_go (read find update integrity))
+      ≡ read_leaves (read find update integrity) on place update integrity
+  kept_read find false Nri at = refl
+  kept_read find false Cr at = refl
+  kept_read find false Cre at =
+      ap (λ (names : List LockName). locks unit Shared names (let_go (read find false Cre)))
+      (one_name find false Cre at)
+  kept_read find true integrity at =
+      let case = read find true integrity in
       let locked : List LockName → State = λ names. locks unit Exclusive names (let_go case) in
-      stays true integrity (holds case (locked (read_names case)))
-      ∙ ap (λ (o : Option (List ℕ)). option_map_or
+      ap (λ (o : Option (List ℕ)). option_map_or
       (λ held. moves_file unit.deck on.slot (holding held) (locked (read_names case))) o
       (locked (read_names case))) at
       ∙ ap (λ (names : List LockName). moves_file unit.deck on.slot (holding place)
-      (locked names)) (one_name true integrity at)
+      (locked names)) (one_name find true integrity at)
+
+  -- and where its file stands then
+  reads_to : (find : Find) (update : Bool) (integrity : Integrity) (stand : Option Stand)
+      → place_read (read find update integrity) ≡ Some place
+      → option_and_then (λ candidate. read_on find candidate.at)
+      (found (read find update integrity)) ≡ stand
+      → (feedback : ℕ) (shown bytes : Option (List ℕ))
+      → after_asked (read find update integrity) (Done feedback shown bytes)
+      ≡ stands_in unit.deck (Some on) stand
+      (read_leaves (read find update integrity) on place update integrity)
+  reads_to find update integrity stand at moves feedback shown bytes =
+      let case = read find update integrity in
+      ap (λ (o : Option Stand). stands_in unit.deck (Some on) o
+      (keeps_read case update integrity (let_go case))) moves
+      ∙ ap (λ (s : State). stands_in unit.deck (Some on) stand s)
+      (kept_read find update integrity at)
+
+  pub after_read : (update : Bool) (integrity : Integrity) (feedback : ℕ)
+      (shown bytes : Option (List ℕ))
+      → place_read (read (Equal place) update integrity) ≡ Some place
+      → after_asked (read (Equal place) update integrity) (Done feedback shown bytes)
+      ≡ read_leaves (read (Equal place) update integrity) on place update integrity
+  after_read update integrity feedback shown bytes at =
+      reads_to (Equal place) update integrity None at
+      (unmoved_equal place (found (read (Equal place) update integrity))) feedback shown bytes
+
+  pub after_least : (key : List ℕ) (update : Bool) (integrity : Integrity) (feedback : ℕ)
+      (shown bytes : Option (List ℕ))
+      → place_read (read (AtLeast key) update integrity) ≡ Some place
+      → after_asked (read (AtLeast key) update integrity) (Done feedback shown bytes)
+      ≡ read_leaves (read (AtLeast key) update integrity) on place update integrity
+  after_least key update integrity feedback shown bytes at =
+      reads_to (AtLeast key) update integrity None at
+      (unmoved_least key (found (read (AtLeast key) update integrity))) feedback shown bytes
+
+  pub after_next : (update : Bool) (integrity : Integrity) (feedback : ℕ)
+      (shown bytes : Option (List ℕ)) → place_read (read Next update integrity) ≡ Some place
+      → found_at (read Next update integrity) ≡ Some place
+      → after_asked (read Next update integrity) (Done feedback shown bytes)
+      ≡ stands_as (read Next update integrity) on (After place)
+      (read_leaves (read Next update integrity) on place update integrity)
+  after_next update integrity feedback shown bytes at found_there =
+      reads_to Next update integrity (Some (After place)) at
+      (moved_on place (found (read Next update integrity)) found_there) feedback shown bytes
+
+  pub after_point : (find : Find) (feedback : ℕ) (shown bytes : Option (List ℕ))
+      → found_at (case_of geometry state unit (Point on find)) ≡ Some place
+      → after_asked (case_of geometry state unit (Point on find)) (Done feedback shown bytes)
+      ≡ stands_as (case_of geometry state unit (Point on find)) on (At place)
+      (let_go (case_of geometry state unit (Point on find)))
+  after_point find feedback shown bytes found_there =
+      let case = case_of geometry state unit (Point on find) in
+      ap (λ (o : Option Stand). stands_in unit.deck (Some on) o (let_go case))
+      (moved_to place (found case) found_there)
+
+-- where no record is there, a sequential read leaves its file at the end, and a POINT nowhere
+pub after_end : (geometry : Geometry) (state : State) (unit : UnitOfRecovery) (on : FileRef)
+    (update : Bool) (integrity : Integrity)
+    → after_asked (case_of geometry state unit (Get on Next update integrity)) (Refused EndOfData)
+    ≡ stands_as (case_of geometry state unit (Get on Next update integrity)) on End
+    (let_go (case_of geometry state unit (Get on Next update integrity)))
+after_end geometry state unit on update integrity = refl
+
+pub after_lost : (geometry : Geometry) (state : State) (unit : UnitOfRecovery) (on : FileRef)
+    (find : Find) → after_asked (case_of geometry state unit (Point on find)) (Refused NotFound)
+    ≡ stands_as (case_of geometry state unit (Point on find)) on Nowhere
+    (let_go (case_of geometry state unit (Point on find)))
+after_lost geometry state unit on find = refl
 
 -- a refused request drops what its file holds, and nothing else
 stands_same : (deck : ℕ) (o : Option FileRef) (state : State) → stands_in deck o None state ≡ state

@@ -1,8 +1,8 @@
 -- The reply to a request that is done, and the answer as a whole, are those of the record file.
-use Rattle.std.proofs.Common.{◌≡◌, ℕ, Bool, false, cond, List, Option}
+use Rattle.std.proofs.Common.{◌≡◌, ℕ, Bool, false, List, Option}
 use Rattle.std.proofs.Common.{Some, None, Result, Ok, Err, OnErr, IsTrue, refl, sym, ap, ◌∙◌}
 use Rattle.std.specs.List.{list_any}
-use Rattle.std.specs.Option.{is_some, option_and_then, option_copied, option_map_or, option_or}
+use Rattle.std.specs.Option.{is_some, option_and_then, option_map_or, option_or}
 use Rattle.vr_catalog.specs.declared.definition.Definition.{Definition}
 use Rattle.vr_types.specs.declared.memory.OutOfMemory.{OutOfMemory}
 use Rattle.vr_types.specs.declared.reply.Refusal.{Refusal}
@@ -12,8 +12,8 @@ use Rattle.vr_types.specs.declared.reply.Reply.TheVariants.{Done, Refused}
 use Rattle.vr_types.specs.declared.request.Request.{Request}
 use Rattle.vr_types.specs.declared.request.Request.TheVariants.{Get, Point, Add, Update, Erase}
 use Rattle.vr_types.specs.declared.request.Request.TheVariants.{EndReq, Commit, Backout}
-use Rattle.vr_history.specs.Case.{Case, find_of}
-use Rattle.vr_history.specs.Change.{PairMove, place_changed, record_held}
+use Rattle.vr_history.specs.Case.{Case}
+use Rattle.vr_history.specs.Change.{PairMove, place_asked, place_changed, record_held}
 use Rattle.vr_history.specs.Found.{Candidate, found, place_read}
 use Rattle.vr_history.specs.Opened.{Opened}
 use Rattle.vr_history.specs.RefusedRecord.{record_read}
@@ -22,18 +22,17 @@ use Rattle.vr_history.specs.Replies.{change_feedback, done_by, feedback_if, firs
 use Rattle.vr_history.specs.Replies.{is_shared, may_want, read_feedback, refused_or}
 use Rattle.vr_history.specs.State.{State, is_live}
 use Rattle.vr_answer.specs.declared.case.Case.{Case as CaseInHand}
-use Rattle.vr_answer.specs.Here.{answer_here, asked_here, before_here, changed_by}
-use Rattle.vr_answer.specs.Here.{done_here, file_here, full_here, read_by, record_here}
+use Rattle.vr_answer.specs.Here.{answer_here, asked_here, before_here, done_here, file_here}
+use Rattle.vr_answer.specs.Here.{full_here, record_here}
 use Rattle.vr_answer.specs.InHand.{InEach, IsCaseOf, is_place_logged, whole}
-use Rattle.vr_answer.specs.Looked.{record_looked_at}
+use Rattle.vr_answer.specs.Looked.{place_looked_at, record_looked_at}
 use Rattle.vr_answer.specs.Opening.{as_opened, definition_here}
-use Rattle.vr_answer.specs.Scope.{IsDirect}
 use Rattle.vr_answer.specs.Tried.{file_refusals, record_refusals}
 use Rattle.vr_answer.proofs.CallerLemmas.{first_in_order}
-use Rattle.vr_answer.proofs.FileLemmas.{before_is, file_is, option_or-none}
+use Rattle.vr_answer.proofs.FileLemmas.{before_is, file_is}
 use Rattle.vr_answer.proofs.LogLemmas.{full_is}
 use Rattle.vr_answer.proofs.OpeningLemmas.{moves_none, opened_is}
-use Rattle.vr_answer.proofs.PlaceLemmas.{changed_is, read_is}
+use Rattle.vr_answer.proofs.PlaceLemmas.{at_changed, at_read, read_asked}
 use Rattle.vr_answer.proofs.RecordLemmas.{record_is}
 
 no_later : (definition : Option Definition) (case : Case) (o : Option Candidate)
@@ -53,9 +52,6 @@ module _ (case : CaseInHand) (state : State) (is : IsCaseOf case state) where
   abbrev definition : Option Definition
   definition = definition_here case
 
-  abbrev held : Option (List ℕ)
-  held = option_copied case.held
-
   feedback_of_read : read_feedback w ≡ 0
   feedback_of_read =
       ap (λ (o : Opened). feedback_if (option_map_or (has_later o w) (found w) false))
@@ -67,64 +63,54 @@ module _ (case : CaseInHand) (state : State) (is : IsCaseOf case state) where
       ap (λ (moves : List PairMove). feedback_if (list_any (is_shared w) moves))
       (moves_none w is.alone)
 
-  changed_done : (o : Option (List ℕ)) → place_changed w ≡ o
-      → Done 0 o None ≡ Done (change_feedback w) (place_changed w) None
-  changed_done o changed = sym
-      (ap (λ (n : ℕ). Done n (place_changed w) None) feedback_of_change
-      ∙ ap (λ (p : Option (List ℕ)). Done 0 p None) changed)
+  module _ (at present : Option (List ℕ)) (looked : at ≡ place_looked_at w)
+      (there : present ≡ record_looked_at w) where
+    read_done : place_changed w ≡ None
+        → Done 0 at present ≡ Done (read_feedback w) (place_read w) (record_read w)
+    read_done changes =
+        ap (λ (p : Option (List ℕ)). Done 0 p present) (looked ∙ at_read case state is changes)
+        ∙ ap (λ (r : Option (List ℕ)). Done 0 (place_read w) r)
+        (there ∙ ap (option_and_then (record_held w)) (at_read case state is changes))
+        ∙ ap (λ (n : ℕ). Done n (place_read w) (record_read w)) (sym feedback_of_read)
 
-  read_done : (o p : Option (List ℕ)) → place_read w ≡ o → place_changed w ≡ None → p ≡ None
-      → (present : Option (List ℕ)) → present ≡ record_looked_at w
-      → Done 0 (option_or o p) present ≡ Done (read_feedback w) (place_read w) (record_read w)
-  read_done o p read none empty present at =
-      ap (λ (q : Option (List ℕ)). Done 0 (option_or o q) present) empty
-      ∙ ap (λ (q : Option (List ℕ)). Done 0 q present) (option_or-none o ∙ sym read)
-      ∙ ap (λ (r : Option (List ℕ)). Done 0 (place_read w) r)
-      (at
-      ∙ ap (λ (q : Option (List ℕ)). option_and_then (record_held w) q)
-      (ap (λ (q : Option (List ℕ)). option_or (place_read w) q) none
-      ∙ option_or-none (place_read w)))
-      ∙ ap (λ (n : ℕ). Done n (place_read w) (record_read w)) (sym feedback_of_read)
+    changed_done : place_read w ≡ None
+        → Done 0 at None ≡ Done (change_feedback w) (place_changed w) None
+    changed_done reads =
+        ap (λ (p : Option (List ℕ)). Done 0 p None) (looked ∙ at_changed case state is reads)
+        ∙ ap (λ (n : ℕ). Done n (place_changed w) None) (sym feedback_of_change)
 
-  done_cases : (request : Request) → IsDirect request → place_read w ≡ read_by request definition
-      → place_changed w ≡ changed_by request definition held
-      → (present : Option (List ℕ)) → present ≡ record_looked_at w
-      → Done 0 (option_or (read_by request definition) (changed_by request definition held))
-      (cond (is_some (find_of request)) present None)
-      ≡ done_by w request
-  done_cases (Get file find update integrity) direct read changed present at =
-      read_done (read_by (Get file find update integrity) definition) None read changed refl
-      present at
-  done_cases (Point file find) direct read changed present at = absurd direct
-  done_cases (Add file place bytes) direct read changed present at = changed_done _ changed
-  done_cases (Update file bytes) direct read changed present at = changed_done _ changed
-  done_cases (Erase file) direct read changed present at = sym
-      (ap (λ (p : Option (List ℕ)). Done 0 p None) changed)
-  done_cases (EndReq file) direct read changed present at = refl
-  done_cases Commit direct read changed present at = refl
-  done_cases Backout direct read changed present at = refl
+    done_cases : (request : Request) → place_read w ≡ read_asked case state is request
+        → place_changed w ≡ place_asked w request
+        → done_here request at present ≡ done_by w request
+    done_cases (Get file find update integrity) reads changes = read_done changes
+    done_cases (Point file find) reads changes =
+        ap (λ (p : Option (List ℕ)). Done 0 p None) (looked ∙ at_read case state is changes)
+    done_cases (Add file place bytes) reads changes = changed_done reads
+    done_cases (Update file bytes) reads changes = changed_done reads
+    done_cases (Erase file) reads changes =
+        ap (λ (p : Option (List ℕ)). Done 0 p None) (looked ∙ at_changed case state is reads)
+    done_cases (EndReq file) reads changes = refl
+    done_cases Commit reads changes = refl
+    done_cases Backout reads changes = refl
 
-  pub done_is : (present : Option (List ℕ)) → present ≡ record_looked_at w
-      → done_here case present ≡ done_by w case.request.now
-  done_is present at =
-      done_cases case.request.now is.direct (read_is case state is) (changed_is case state is)
-      present at
+    pub done_is : done_here case.request.now at present ≡ done_by w case.request.now
+    done_is = done_cases case.request.now refl refl
 
-  pub answer_is : (present : Option (List ℕ)) (logged live : Bool) → present ≡ record_looked_at w
-      → logged ≡ is_place_logged w → live ≡ is_live state case.unit
-      → answer_here case present logged live ≡ answer_of w
-  answer_is present logged live at logs lives =
-      ap (λ (o : Option Refusal). refused_or (option_or o
-      (option_or (record_here case (is_some present)) (full_here case present logged live)))
-      (done_here case present)) (file_is case state is)
-      ∙ ap (λ (o : Option Refusal). refused_or (option_or (first_of (file_refusals w))
-      (option_or o (full_here case present logged live)))
-      (done_here case present)) (record_is case state is present at)
-      ∙ ap (λ (o : Option Refusal). refused_or (option_or (first_of (file_refusals w))
-      (option_or (first_of (record_refusals w)) o))
-      (done_here case present)) (full_is case state is present logged live at logs lives)
-      ∙ ap (λ (o : Option Refusal). refused_or o (done_here case present)) (sym (first_in_order w))
-      ∙ ap (λ (reply : Reply). refused_or (first_of (all_refusals w)) reply) (done_is present at)
+    pub answer_is : (logged live : Bool) → logged ≡ is_place_logged w
+        → live ≡ is_live state case.unit → answer_here case at present logged live ≡ answer_of w
+    answer_is logged live logs lives =
+        let done = done_here case.request.now at present in
+        ap (λ (o : Option Refusal). refused_or (option_or o
+        (option_or (record_here case at (is_some present))
+        (full_here case present logged live))) done) (file_is case state is)
+        ∙ ap (λ (o : Option Refusal). refused_or (option_or (first_of (file_refusals w))
+        (option_or o (full_here case present logged live))) done)
+        (record_is case state is at looked present there)
+        ∙ ap (λ (o : Option Refusal). refused_or (option_or (first_of (file_refusals w))
+        (option_or (first_of (record_refusals w)) o)) done)
+        (full_is case state is present logged live there logs lives)
+        ∙ ap (λ (o : Option Refusal). refused_or o done) (sym (first_in_order w))
+        ∙ ap (λ (reply : Reply). refused_or (first_of (all_refusals w)) reply) done_is
 
   pub lacks_is : IsTrue (may_want case.request.now) → file_here case ≡ None
       → LacksMemory w (Refused Memory)

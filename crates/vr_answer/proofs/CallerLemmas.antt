@@ -1,13 +1,13 @@
 -- What the calls of this crate, in their order, make of a reply, and what its entry leaves of the
 -- state: for those who enter it in a history.
-use Rattle.std.proofs.Common.{◌≡◌, ℕ, ◌<◌, false, List, [], ◌∷◌, ◌++◌, Option}
+use Rattle.std.proofs.Common.{◌≡◌, ℕ, false, List, [], ◌∷◌, ◌++◌, Option}
 use Rattle.std.proofs.Common.{Some, None, IsTrue, inl, inr, refl, sym, ap, ◌∙◌}
 use Rattle.std.specs.Option.{option_map_or, option_or}
 use Rattle.std.proofs.lemmas.Option.{none-some}
 use Rattle.vr_catalog.specs.declared.definition.Definition.{Definition}
 use Rattle.vr_types.specs.declared.geometry.Geometry.{Geometry}
 use Rattle.vr_types.specs.declared.reply.Refusal.{Refusal}
-use Rattle.vr_types.specs.declared.reply.Refusal.TheVariants.{Memory, NoSpace, ReadFault}
+use Rattle.vr_types.specs.declared.reply.Refusal.TheVariants.{Memory, ReadFault}
 use Rattle.vr_types.specs.declared.reply.Refusal.TheVariants.{WriteFault}
 use Rattle.vr_types.specs.declared.reply.Reply.{Reply}
 use Rattle.vr_types.specs.declared.reply.Reply.TheVariants.{Refused}
@@ -18,8 +18,8 @@ use Rattle.vr_types.specs.declared.unit.Kind.TheVariants.{Keyed}
 use Rattle.vr_types.specs.declared.unit.Unit.{Unit as UnitOfRecovery}
 use Rattle.vr_history.specs.Case.{Case, new_record}
 use Rattle.vr_history.specs.Opened.{Opened, Cluster, definition_in, opened}
-use Rattle.vr_history.specs.RefusedRoom.{free_areas, log_full}
-use Rattle.vr_history.specs.Replies.{CanEnd, IsAnswered, LacksMemory, LacksRoom}
+use Rattle.vr_history.specs.RefusedRoom.{log_full}
+use Rattle.vr_history.specs.Replies.{CanEnd, IsAnswered, LacksMemory, LacksRoom, lacks_area}
 use Rattle.vr_history.specs.Replies.{MeetsFault, all_refusals, answer_of, before_all}
 use Rattle.vr_history.specs.Replies.{before_room, done_by, first_of, is_keyed, may_read, may_want}
 use Rattle.vr_history.specs.Replies.{refused_or}
@@ -29,13 +29,19 @@ use Rattle.vr_answer.specs.Looked.{place_looked_at}
 use Rattle.vr_answer.specs.Tried.{file_refusals, record_refusals}
 -- what an entry leaves
 pub use Rattle.vr_answer.proofs.AfterLemmas.{after_backout, after_change, after_commit}
-pub use Rattle.vr_answer.proofs.AfterLemmas.{after_endreq, after_read, after_refused, names_at}
+pub use Rattle.vr_answer.proofs.AfterLemmas.{after_end, after_endreq, after_least, after_lost}
+pub use Rattle.vr_answer.proofs.AfterLemmas.{after_next, after_point, after_read, after_refused}
+pub use Rattle.vr_answer.proofs.AfterLemmas.{names_at}
 -- before-images are under locks, and locks are taken as the record file says
 pub use Rattle.vr_answer.proofs.KeptLemmas.{kept_in_the_way, kept_throughout}
 -- an exclusive lock is there once it is taken, stays as others are taken, and as another unit ends
 pub use Rattle.vr_answer.proofs.KeptLemmas.{any_left, kept_with, other_held, taken}
+-- what a read comes to; the records of a content that are listed are those that stand; and a record
+-- that another unit may bring back is listed where one of its before-images brings it back
+pub use Rattle.vr_answer.proofs.LeastLemmas.{comes_least, comes_named, found_least, kept_any}
+pub use Rattle.vr_answer.proofs.LeastLemmas.{listed_standing, standing_listed}
 -- no alternate index stands over a part, and no pair of one moves; what a file is on, which is
--- key-sequenced; and the place that a read names
+-- key-sequenced; and the place that a direct read names
 pub use Rattle.vr_answer.proofs.OpeningLemmas.{IsKeyed, definition_keyed, keyed_here, moves_none}
 pub use Rattle.vr_answer.proofs.OpeningLemmas.{opened_is}
 pub use Rattle.vr_answer.proofs.PlaceLemmas.{read_is}
@@ -153,19 +159,16 @@ module _ (case : Case) where
       → MeetsFault case (Refused ReadFault)
   meets_read_fault none may = (before_file none, inr (may, refl))
 
-  -- the layout of a key-sequenced cluster needs more areas than are free
-  pub lacks_room : (definition : Definition) (bytes : List ℕ) (need : ℕ) → file ≡ None
-      → by_record ≡ None → opened case ≡ Cluster definition → definition.kind ≡ Keyed
-      → new_record case.request ≡ Some bytes → free_areas case < need
-      → LacksRoom case (Refused (NoSpace need (free_areas case)))
-  lacks_room definition bytes need none no_record on keyed new less = (
+  -- the layout of a key-sequenced cluster lacks an area
+  pub lacks_room : (definition : Definition) (bytes : List ℕ) → file ≡ None → by_record ≡ None
+      → opened case ≡ Cluster definition → definition.kind ≡ Keyed
+      → new_record case.request ≡ Some bytes → LacksRoom case (Refused lacks_area)
+  lacks_room definition bytes none no_record on keyed new = (
     no_room_yet none no_record,
     inl (
       λ nothing. none-some bytes (sym nothing ∙ new),
       fills on keyed,
     ),
-    need,
-    less,
     refl,
   )
     where

@@ -1,10 +1,10 @@
 -- No refusal by what is in memory is a fault of the device.
-use Rattle.std.proofs.Common.{◌≡◌, ◌||◌, ℕ, Bool, true, false, List, Option, Some, None}
+use Rattle.std.proofs.Common.{◌||◌, ℕ, Bool, true, false, List, Option, Some, None}
 use Rattle.std.specs.Option.{option_and_then, option_map, option_or}
 use Rattle.vr_catalog.specs.declared.definition.Definition.{Definition}
 use Rattle.vr_types.specs.declared.reply.Refusal.{Refusal}
 use Rattle.vr_types.specs.declared.reply.Refusal.TheVariants.{BadLength, NoFile, NoGet, NotAllowed}
-use Rattle.vr_types.specs.declared.reply.Refusal.TheVariants.{Stopped}
+use Rattle.vr_types.specs.declared.reply.Refusal.TheVariants.{NoPosition, Stopped}
 use Rattle.vr_types.specs.declared.request.FileRef.{FileRef}
 use Rattle.vr_types.specs.declared.request.Find.{Find}
 use Rattle.vr_types.specs.declared.request.Find.TheVariants.{Next, Equal, AtLeast}
@@ -19,7 +19,8 @@ use Rattle.vr_history.specs.RefusedFile.{find_length_wrong, has_length, is_unkno
 use Rattle.vr_history.specs.RefusedFile.{key_length_wrong, length_wrong, record_wrong, refused_if}
 use Rattle.vr_answer.specs.declared.case.Case.{Case as CaseInHand}
 use Rattle.vr_answer.specs.Here.{asked_here, before_here, file_here, form_by, no_file_here}
-use Rattle.vr_answer.specs.Here.{form_here, no_get_here, stopped_here}
+use Rattle.vr_answer.specs.Here.{form_here, no_get_here, no_position_here, placed_here}
+use Rattle.vr_answer.specs.Here.{stopped_here}
 use Rattle.vr_answer.specs.Opening.{as_opened, definition_here}
 use Rattle.vr_answer.specs.Tried.{IsCalm}
 
@@ -47,6 +48,9 @@ calm-not-allowed = record { read = λ is. cc; write = λ is. cc }
 
 calm-no-get : IsCalm (Some NoGet)
 calm-no-get = record { read = λ is. cc; write = λ is. cc }
+
+calm-no-position : IsCalm (Some NoPosition)
+calm-no-position = record { read = λ is. cc; write = λ is. cc }
 
 calm-length : (n : ℕ) → IsCalm (Some (BadLength n))
 calm-length n = record { read = λ is. cc; write = λ is. cc }
@@ -97,9 +101,10 @@ file_calm case =
     || case.catalog_changing) NoFile) (file_of case.request.now)
     (λ file. calm-if _ _ calm-no-file))
     (calm-stopped case.stopped))
-    (calm-or (form_here case) (no_get_here case)
+    (calm-or (form_here case) (placed_here case)
     (calm-then (λ (known : Definition). form_by (Some known) case.request.now)
     (definition_here case)
     (λ known. calm-or _ _ (calm-if _ _ calm-not-allowed)
     (calm-wrong (as_opened (Some known)) case.request.now)))
-    (calm-if _ _ calm-no-get))
+    (calm-or (no_position_here case) (no_get_here case) (calm-if _ _ calm-no-position)
+    (calm-if _ _ calm-no-get)))

@@ -4,17 +4,16 @@ use Rattle.std.proofs.Common.{Some, None, refl, sym, ap, ◌∙◌}
 use Rattle.std.specs.Option.{is_none, option_and_then, option_map, option_map_or}
 use Rattle.std.specs.Option.{option_or}
 use Rattle.vr_catalog.specs.declared.definition.Definition.{Definition}
+use Rattle.vr_types.specs.declared.position.Stand.{Stand}
 use Rattle.vr_types.specs.declared.reply.Refusal.{Refusal}
 use Rattle.vr_types.specs.declared.reply.Refusal.TheVariants.{BadSlot, NoFile, NoGet, NotAllowed}
 use Rattle.vr_types.specs.declared.reply.Refusal.TheVariants.{NoPosition, Stopped}
-use Rattle.vr_types.specs.declared.request.Find.TheVariants.{Next, Equal, AtLeast}
 use Rattle.vr_types.specs.declared.request.Request.{Request}
 use Rattle.vr_types.specs.declared.request.Request.TheVariants.{Get, Point, Add, Update, Erase}
 use Rattle.vr_types.specs.declared.request.Request.TheVariants.{EndReq, Commit, Backout}
 use Rattle.vr_types.specs.declared.unit.Kind.{Kind}
 use Rattle.vr_types.specs.declared.unit.Kind.TheVariants.{Keyed}
 use Rattle.vr_history.specs.Case.{Case, acts_on_held, file_of}
-use Rattle.vr_history.specs.Found.{stand_of}
 use Rattle.vr_history.specs.Opened.{Opened, Cluster, opened}
 use Rattle.vr_history.specs.RefusedFile.{bad_length, bad_slot, goes_with_kind, is_catalog_changing}
 use Rattle.vr_history.specs.RefusedFile.{is_slot_zero, is_unknown, length_wrong, no_file}
@@ -23,12 +22,10 @@ use Rattle.vr_history.specs.RefusedRecord.{is_nowhere, is_sequential, no_get, no
 use Rattle.vr_history.specs.Replies.{before_all, first_of}
 use Rattle.vr_history.specs.State.{State}
 use Rattle.vr_answer.specs.declared.case.Case.{Case as CaseInHand}
-use Rattle.vr_answer.specs.Here.{asked_here, before_here, file_here, form_by, form_here}
-use Rattle.vr_answer.specs.Here.{no_file_here}
-use Rattle.vr_answer.specs.Here.{no_get_here, stopped_here}
+use Rattle.vr_answer.specs.Here.{asked_here, before_here, file_here, form_by, no_file_here}
+use Rattle.vr_answer.specs.Here.{no_get_here, no_position_here, placed_here, stopped_here}
 use Rattle.vr_answer.specs.InHand.{IsCaseOf, whole}
 use Rattle.vr_answer.specs.Opening.{as_opened, definition_here}
-use Rattle.vr_answer.specs.Scope.{IsDirect}
 use Rattle.vr_answer.specs.Tried.{file_refusals}
 use Rattle.vr_answer.proofs.OpeningLemmas.{IsKeyed, keyed_here, opened_is}
 
@@ -74,23 +71,35 @@ pub at_keyed : {A : Type 0} (definition : Definition) → definition.kind ≡ Ke
     → (f : Definition → A) → f definition ≡ f (record definition { kind = Keyed })
 at_keyed definition keyed f = ap (λ (kind : Kind). f (record definition { kind = kind })) keyed
 
--- nothing is asked of the form of a direct request where no file can be opened
-unknown_form : (request : Request) → IsDirect request → form_by None request ≡ None
-unknown_form (Get file Next update integrity) direct = absurd direct
-unknown_form (Get file (Equal place) update integrity) direct = refl
-unknown_form (Get file (AtLeast place) update integrity) direct = absurd direct
-unknown_form (Point file find) direct = absurd direct
-unknown_form (Add file place bytes) direct = refl
-unknown_form (Update file bytes) direct = refl
-unknown_form (Erase file) direct = refl
-unknown_form (EndReq file) direct = refl
-unknown_form Commit direct = refl
-unknown_form Backout direct = refl
+-- the form of a request is tried after its file: where no file can be opened, that is refused first
+-- of a request that is on a file, and nothing is asked of the form of any other
+abbrev not_opened : Option Definition → Bool → Request → Option Refusal
+not_opened definition changing request =
+    option_and_then (λ file. refused_if (is_unknown (as_opened definition) || changing) NoFile)
+    (file_of request)
 
-by_definition : (definition : Option Definition) (request : Request) → IsDirect request
-    → form_by definition request ≡ option_and_then (λ known. form_by (Some known) request) definition
-by_definition None request direct = unknown_form request direct
-by_definition (Some definition) request direct = refl
+after_unknown : (changing : Bool) (request : Request) (stop rest : Option Refusal)
+    → option_or (not_opened None changing request)
+    (option_or stop (option_or (form_by None request) rest))
+    ≡ option_or (not_opened None changing request) (option_or stop rest)
+after_unknown changing (Get file find update integrity) stop rest = refl
+after_unknown changing (Point file find) stop rest = refl
+after_unknown changing (Add file place bytes) stop rest = refl
+after_unknown changing (Update file bytes) stop rest = refl
+after_unknown changing (Erase file) stop rest = refl
+after_unknown changing (EndReq file) stop rest = refl
+after_unknown changing Commit stop rest = refl
+after_unknown changing Backout stop rest = refl
+
+by_definition : (definition : Option Definition) (changing : Bool) (request : Request)
+    (stop rest : Option Refusal)
+    → option_or (not_opened definition changing request)
+    (option_or stop (option_or (form_by definition request) rest))
+    ≡ option_or (not_opened definition changing request)
+    (option_or stop
+    (option_or (option_and_then (λ known. form_by (Some known) request) definition) rest))
+by_definition None changing request stop rest = after_unknown changing request stop rest
+by_definition (Some definition) changing request stop rest = refl
 
 module _ (case : CaseInHand) (state : State) (is : IsCaseOf case state) where
   abbrev w : Case
@@ -134,23 +143,10 @@ module _ (case : CaseInHand) (state : State) (is : IsCaseOf case state) where
       (slot_named request))
       ∙ no_slot (definition_here case) (keyed_here case state is) (slot_named request)
 
-  -- a direct request isn't sequential
-  not_sequential : (request : Request) → IsDirect request → is_sequential request ≡ false
-  not_sequential (Get file Next update integrity) direct = absurd direct
-  not_sequential (Get file (Equal place) update integrity) direct = refl
-  not_sequential (Get file (AtLeast place) update integrity) direct = absurd direct
-  not_sequential (Point file find) direct = refl
-  not_sequential (Add file place bytes) direct = refl
-  not_sequential (Update file bytes) direct = refl
-  not_sequential (Erase file) direct = refl
-  not_sequential (EndReq file) direct = refl
-  not_sequential Commit direct = refl
-  not_sequential Backout direct = refl
-
-  goes_on : no_position w ≡ None
-  goes_on = ap
-      (λ (b : Bool). refused_if (b && option_map_or is_nowhere (stand_of w) false) NoPosition)
-      (not_sequential request is.direct)
+  no_position_is : no_position w ≡ no_position_here case
+  no_position_is =
+      ap (λ (o : Option Stand). refused_if (is_sequential request
+      && option_map_or is_nowhere o false) NoPosition) (sym is.stand)
 
   no_get_is : no_get w ≡ no_get_here case
   no_get_is = ap
@@ -172,7 +168,7 @@ module _ (case : CaseInHand) (state : State) (is : IsCaseOf case state) where
 
   tried_is : first_of (file_refusals w)
       ≡ option_or (no_file_here case) (option_or (stopped_here case)
-      (option_or allowed (option_or long (no_get_here case))))
+      (option_or allowed (option_or long (placed_here case))))
   tried_is =
       let last = first_of-cons (no_get w) [] ∙ option_or-none (no_get w) ∙ no_get_is in
       placed_first (no_file w) _ _ _ no_file_is
@@ -180,19 +176,16 @@ module _ (case : CaseInHand) (state : State) (is : IsCaseOf case state) where
       (placed_first (not_allowed w) _ _ _ allowed_is
       (passed_over (bad_slot w) _ _ slot_right
       (placed_first (bad_length w) _ _ _ long_is
-      (passed_over (no_position w) _ _ goes_on last)))))
-
-  form_is : option_or allowed long ≡ form_here case
-  form_is = by_definition (definition_here case) request is.direct
+      (placed_first (no_position w) _ _ _ no_position_is last)))))
 
   pub file_is : file_here case ≡ first_of (file_refusals w)
   file_is = sym
       (tried_is
-      ∙ option_or-assoc (no_file_here case) (stopped_here case)
-      (option_or allowed (option_or long (no_get_here case)))
-      ∙ ap (λ (o : Option Refusal). option_or (before_here case) o)
-      (option_or-assoc allowed long (no_get_here case)
-      ∙ ap (λ (o : Option Refusal). option_or o (no_get_here case)) form_is))
+      ∙ ap (λ (o : Option Refusal). option_or (no_file_here case)
+      (option_or (stopped_here case) o)) (option_or-assoc allowed long (placed_here case))
+      ∙ by_definition (definition_here case) case.catalog_changing request (stopped_here case)
+      (placed_here case)
+      ∙ option_or-assoc (no_file_here case) (stopped_here case) (asked_here case))
 
 -- ---- a volume that stopped
 

@@ -5,6 +5,7 @@ mod FileLemmas
 mod HeldLemmas
 mod KeptLemmas
 mod KeyedLemmas
+mod LeastLemmas
 mod LogLemmas
 mod OpeningLemmas
 mod Outcomes

@@ -2,14 +2,15 @@
 use Rattle.std.proofs.Common.{◌≡◌, ℕ, ◌+◌, Bool, true, false, not, ◌&&◌, cond, List, [], ◌∷◌}
 use Rattle.std.proofs.Common.{Option, Some, None, refl, sym, ap, ◌∙◌, filter, map, nat_lt, arith}
 use Rattle.std.specs.Prelude.{flat_map, sum}
-use Rattle.std.specs.Option.{is_some, option_and_then, option_copied, option_map_or, option_or}
+use Rattle.std.specs.Option.{is_some, option_and_then, option_map_or}
+use Rattle.std.proofs.lemmas.Option.{none-some}
 use Rattle.vr_types.specs.LogSpace.{before_length, end_length, log_size}
 use Rattle.vr_types.specs.declared.reply.Refusal.TheVariants.{LogFull}
 use Rattle.vr_types.specs.declared.request.Request.{Request}
 use Rattle.vr_types.specs.declared.request.Request.TheVariants.{Get, Point, Add, Update, Erase}
 use Rattle.vr_types.specs.declared.request.Request.TheVariants.{EndReq, Commit, Backout}
 use Rattle.vr_history.specs.Case.{Case, is_add}
-use Rattle.vr_history.specs.Change.{PairMove, place_changed, record_held}
+use Rattle.vr_history.specs.Change.{PairMove, place_asked, place_changed, record_held}
 use Rattle.vr_history.specs.Found.{place_read}
 use Rattle.vr_history.specs.LogSpace.{Logging, base_logging, log_need, loggings, loggings_at}
 use Rattle.vr_history.specs.LogSpace.{need_for, new_loggings, pair_loggings}
@@ -18,36 +19,35 @@ use Rattle.vr_history.specs.RefusedFile.{refused_if}
 use Rattle.vr_history.specs.RefusedRoom.{log_full}
 use Rattle.vr_history.specs.State.{State, is_live, is_logged}
 use Rattle.vr_answer.specs.declared.case.Case.{Case as CaseInHand}
-use Rattle.vr_answer.specs.Here.{bytes_for, changed_by, full_here, need_here}
-use Rattle.vr_answer.specs.Here.{old_here, read_by}
+use Rattle.vr_answer.specs.Here.{bytes_for, full_here, need_here, old_here}
 use Rattle.vr_answer.specs.InHand.{IsCaseOf, is_place_logged, whole}
 use Rattle.vr_answer.specs.Looked.{record_looked_at}
-use Rattle.vr_answer.specs.Opening.{definition_here}
 use Rattle.vr_answer.proofs.OpeningLemmas.{moves_none}
-use Rattle.vr_answer.proofs.PlaceLemmas.{changed_is, read_is}
+use Rattle.vr_answer.proofs.PlaceLemmas.{at_changed, changed_is, read_asked}
 
 module _ (case : CaseInHand) (state : State) (is : IsCaseOf case state) where
   abbrev w : Case
   w = whole case state
 
   -- a change that isn't an add takes the place of the record that is looked at
-  old_cases : (request : Request) → place_read w ≡ read_by request (definition_here case)
-      → place_changed w ≡ changed_by request (definition_here case) (option_copied case.held)
+  old_cases : (request : Request) → place_read w ≡ read_asked case state is request
+      → place_changed w ≡ place_asked w request
       → (place : List ℕ) → place_changed w ≡ Some place
       → cond (is_add request) None (option_and_then (record_held w) (place_changed w))
       ≡ cond (is_add request) None (record_looked_at w)
-  old_cases (Add file at bytes) read changed place there = refl
-  old_cases (Update file bytes) read changed place there = sym
-      (ap (λ (o : Option (List ℕ)). option_and_then (record_held w)
-      (option_or o (place_changed w))) read)
-  old_cases (Erase file) read changed place there = sym
-      (ap (λ (o : Option (List ℕ)). option_and_then (record_held w)
-      (option_or o (place_changed w))) read)
-  old_cases (Get file find update integrity) read changed place there = absurd (cc)
-  old_cases (Point file find) read changed place there = absurd (cc)
-  old_cases (EndReq file) read changed place there = absurd (cc)
-  old_cases Commit read changed place there = absurd (cc)
-  old_cases Backout read changed place there = absurd (cc)
+  old_cases (Add file at bytes) reads changes place there = refl
+  old_cases (Update file bytes) reads changes place there =
+      ap (option_and_then (record_held w)) (sym (at_changed case state is reads))
+  old_cases (Erase file) reads changes place there =
+      ap (option_and_then (record_held w)) (sym (at_changed case state is reads))
+  old_cases (Get file find update integrity) reads changes place there =
+      absurd (none-some place (sym changes ∙ there))
+  old_cases (Point file find) reads changes place there =
+      absurd (none-some place (sym changes ∙ there))
+  old_cases (EndReq file) reads changes place there =
+      absurd (none-some place (sym changes ∙ there))
+  old_cases Commit reads changes place there = absurd (none-some place (sym changes ∙ there))
+  old_cases Backout reads changes place there = absurd (none-some place (sym changes ∙ there))
 
   abbrev is_new : Logging → Bool
   is_new logging = not (is_logged state case.unit logging.part logging.place)
@@ -78,7 +78,7 @@ module _ (case : CaseInHand) (state : State) (is : IsCaseOf case state) where
       ∙ one_needed (is_logged state case.unit (base_of w) place) (base_logging w place)
       ∙ ap (λ (old : Option (List ℕ)). cond (is_logged state case.unit (base_of w) place) 0
       (before_length place old))
-      (old_cases case.request.now (read_is case state is) (changed_is case state is) place there)
+      (old_cases case.request.now refl refl place there)
 
   module _ (present : Option (List ℕ)) (logged live : Bool) (at : present ≡ record_looked_at w)
       (logs : logged ≡ is_place_logged w) (lives : live ≡ is_live state case.unit) where

@@ -1,5 +1,5 @@
 -- The places that a request reads and changes, and the name that it locks.
-use Rattle.std.proofs.Common.{◌≡◌, ℕ, true, cond, List, [], ◌∷◌, ◌++◌, Option}
+use Rattle.std.proofs.Common.{◌≡◌, ℕ, cond, List, [], ◌∷◌, ◌++◌, Option}
 use Rattle.std.proofs.Common.{Some, None, refl, sym, ap, ◌∙◌, filter, map}
 use Rattle.std.specs.Prelude.{flat_map}
 use Rattle.std.specs.Option.{is_some, option_and_then, option_copied, option_map, option_map_or}
@@ -18,7 +18,7 @@ use Rattle.vr_history.specs.Change.{place_changed}
 use Rattle.vr_history.specs.Found.{Candidate, found, place_in, place_read}
 use Rattle.vr_history.specs.Names.{change_names, keys_moved, lock_names, read_mode, read_names}
 use Rattle.vr_history.specs.Names.{record_name}
-use Rattle.vr_history.specs.Opened.{Opened, definition_in}
+use Rattle.vr_history.specs.Opened.{Opened, definition_in, opened}
 use Rattle.vr_history.specs.State.{State}
 use Rattle.vr_answer.specs.declared.case.Case.{Case as CaseInHand}
 use Rattle.vr_answer.specs.Here.{asks_lock, changed_by, changed_here, looked_here, name_here, name_of}
@@ -52,19 +52,6 @@ read_cases (EndReq file) direct definition found = refl
 read_cases Commit direct definition found = refl
 read_cases Backout direct definition found = refl
 
--- a request that reads changes nothing, and one that changes reads nothing
-pub reads_alone : (request : Request) → IsDirect request → is_some (find_of request) ≡ true
-    → (definition : Option Definition) (held : Option (List ℕ))
-    → changed_by request definition held ≡ None
-reads_alone (Get file find update integrity) direct reads definition held = refl
-reads_alone (Point file find) direct reads definition held = refl
-reads_alone (Add file place bytes) direct reads definition held = absurd (cc)
-reads_alone (Update file bytes) direct reads definition held = absurd (cc)
-reads_alone (Erase file) direct reads definition held = absurd (cc)
-reads_alone (EndReq file) direct reads definition held = refl
-reads_alone Commit direct reads definition held = refl
-reads_alone Backout direct reads definition held = refl
-
 pub append_none : {A : Type 0} (l : List A) → l ++ [] ≡ l
 append_none [] = refl
 append_none (x ∷ l) = ap (λ (rest : List _). x ∷ rest) (append_none l)
@@ -76,11 +63,16 @@ module _ (case : CaseInHand) (state : State) (is : IsCaseOf case state) where
   abbrev held : Option (List ℕ)
   held = option_copied case.held
 
-  pub read_is : place_read w ≡ read_here case
-  read_is =
+  -- the place that a request reads, by the file that it is on and what is found
+  abbrev pub read_asked : Request → Option (List ℕ)
+  read_asked request =
+      option_and_then (λ find. place_in (opened w) find (found w)) (find_of request)
+
+  pub read_is : IsDirect case.request.now → place_read w ≡ read_here case
+  read_is direct =
       ap (λ (o : Opened). option_and_then (λ find. place_in o find (found w))
       (find_of case.request.now)) (opened_is case state is)
-      ∙ read_cases case.request.now is.direct (definition_here case) (found w)
+      ∙ read_cases case.request.now direct (definition_here case) (found w)
 
   key_added : (definition : Option Definition) → IsKeyed definition → (place : Option (List ℕ))
       → (bytes : List ℕ)
@@ -107,10 +99,19 @@ module _ (case : CaseInHand) (state : State) (is : IsCaseOf case state) where
   pub changed_is : place_changed w ≡ changed_here case
   changed_is = changed_cases case.request.now
 
-  pub looked_is : looked_here case ≡ place_looked_at w
-  looked_is = sym
-      (ap (λ (o : Option (List ℕ)). option_or o (place_changed w)) read_is
+  pub looked_is : IsDirect case.request.now → looked_here case ≡ place_looked_at w
+  looked_is direct = sym
+      (ap (λ (o : Option (List ℕ)). option_or o (place_changed w)) (read_is direct)
       ∙ ap (λ (o : Option (List ℕ)). option_or (read_here case) o) changed_is)
+
+  -- a request that changes nothing comes to the place that it reads, and one that reads nothing to
+  -- the place that it changes
+  pub at_read : place_changed w ≡ None → place_looked_at w ≡ place_read w
+  at_read none =
+      ap (λ (o : Option (List ℕ)). option_or (place_read w) o) none ∙ option_or-none (place_read w)
+
+  pub at_changed : place_read w ≡ None → place_looked_at w ≡ place_changed w
+  at_changed none = ap (λ (o : Option (List ℕ)). option_or o (place_changed w)) none
 
   -- the names that are locked
   one_name : (o : Option (List ℕ))
@@ -118,15 +119,12 @@ module _ (case : CaseInHand) (state : State) (is : IsCaseOf case state) where
   one_name None = refl
   one_name (Some place) = refl
 
-  read_named : (o p : Option (List ℕ)) → place_read w ≡ o → p ≡ None → (mode : Option Mode)
+  read_named : (o : Option (List ℕ)) → place_read w ≡ o → (mode : Option Mode)
       → option_map_or (λ mode. read_names w) mode []
-      ≡ names_in (cond (is_some mode) (option_map (name_of case) (option_or o p)) None)
-  read_named o p read none None = refl
-  read_named o p read none (Some mode) =
-      ap (λ (at : Option (List ℕ)). map (record_name w) (option_to_list at)) read
-      ∙ one_name o
-      ∙ ap (λ (at : Option (List ℕ)). names_in (option_map (name_of case) at))
-      (sym (ap (λ (q : Option (List ℕ)). option_or o q) none ∙ option_or-none o))
+      ≡ names_in (cond (is_some mode) (option_map (name_of case) o) None)
+  read_named o read None = refl
+  read_named o read (Some mode) =
+      ap (λ (at : Option (List ℕ)). map (record_name w) (option_to_list at)) read ∙ one_name o
 
   change_named : (o : Option (List ℕ)) → place_changed w ≡ o
       → change_names w ≡ names_in (option_map (name_of case) o)
@@ -138,22 +136,24 @@ module _ (case : CaseInHand) (state : State) (is : IsCaseOf case state) where
       ∙ ap (λ (at : Option (List ℕ)). map (record_name w) (option_to_list at)) changed
       ∙ one_name o
 
-  names_cases : (request : Request) → IsDirect request
-      → place_read w ≡ read_by request (definition_here case)
-      → place_changed w ≡ changed_by request (definition_here case) held
-      → lock_names w request ≡ names_in (cond (asks_lock request)
-      (option_map (name_of case) (option_or (read_by request (definition_here case))
-      (changed_by request (definition_here case) held))) None)
-  names_cases (Get file find update integrity) direct read changed =
-      read_named (read_by (Get file find update integrity) (definition_here case)) None read refl
-      (read_mode update integrity)
-  names_cases (Point file find) direct read changed = refl
-  names_cases (Add file place bytes) direct read changed = change_named _ changed
-  names_cases (Update file bytes) direct read changed = change_named _ changed
-  names_cases (Erase file) direct read changed = change_named _ changed
-  names_cases (EndReq file) direct read changed = refl
-  names_cases Commit direct read changed = refl
-  names_cases Backout direct read changed = refl
+  names_cases : (request : Request) → place_read w ≡ read_asked request
+      → place_changed w ≡ place_asked w request
+      → (at : Option (List ℕ)) → at ≡ place_looked_at w
+      → lock_names w request
+      ≡ names_in (cond (asks_lock request) (option_map (name_of case) at) None)
+  names_cases (Get file find update integrity) reads changes at looked =
+      read_named at (sym (looked ∙ at_read changes)) (read_mode update integrity)
+  names_cases (Point file find) reads changes at looked = refl
+  names_cases (Add file place bytes) reads changes at looked =
+      change_named at (sym (looked ∙ at_changed reads))
+  names_cases (Update file bytes) reads changes at looked =
+      change_named at (sym (looked ∙ at_changed reads))
+  names_cases (Erase file) reads changes at looked =
+      change_named at (sym (looked ∙ at_changed reads))
+  names_cases (EndReq file) reads changes at looked = refl
+  names_cases Commit reads changes at looked = refl
+  names_cases Backout reads changes at looked = refl
 
-  pub names_are : lock_names w case.request.now ≡ names_in (name_here case)
-  names_are = names_cases case.request.now is.direct read_is changed_is
+  pub names_are : (at : Option (List ℕ)) → at ≡ place_looked_at w
+      → lock_names w case.request.now ≡ names_in (name_here case at)
+  names_are at looked = names_cases case.request.now refl refl at looked

@@ -9,19 +9,21 @@ use Rattle.vr_types.specs.declared.lock_name.LockName.{LockName}
 use Rattle.vr_types.specs.declared.reply.Refusal.{Refusal}
 use Rattle.vr_types.specs.declared.reply.Refusal.TheVariants.{Duplicate, KeyChanged, LengthChanged}
 use Rattle.vr_types.specs.declared.reply.Refusal.TheVariants.{NotFound}
+use Rattle.vr_types.specs.declared.request.Find.{Find}
 use Rattle.vr_types.specs.declared.request.Find.TheVariants.{Next, Equal, AtLeast}
 use Rattle.vr_types.specs.declared.request.Request.{Request}
 use Rattle.vr_types.specs.declared.request.Request.TheVariants.{Get, Point, Add, Update, Erase}
 use Rattle.vr_types.specs.declared.request.Request.TheVariants.{EndReq, Commit, Backout}
 use Rattle.vr_types.specs.declared.unit.Kind.{Kind}
 use Rattle.vr_history.specs.Address.{areas_needed, interval_needed}
-use Rattle.vr_history.specs.Case.{Case, acts_on_held, dropped, find_of, is_add, new_record}
-use Rattle.vr_history.specs.Change.{PairMove, old_record, place_changed, record_held}
+use Rattle.vr_history.specs.Case.{Case, acts_on_held, dropped, is_add, new_record}
+use Rattle.vr_history.specs.Change.{PairMove, old_record, place_asked, place_changed, record_held}
 use Rattle.vr_history.specs.Found.{place_read}
 use Rattle.vr_history.specs.Names.{mode_asked}
 use Rattle.vr_history.specs.Opened.{Opened, base_of, definition_in, opened}
 use Rattle.vr_history.specs.RefusedFile.{refused_if}
-use Rattle.vr_history.specs.RefusedRecord.{absent, absent_by, absent_in, absent_to}
+use Rattle.vr_history.specs.RefusedRecord.{absent, absent_by as absent_by_kind, absent_for}
+use Rattle.vr_history.specs.RefusedRecord.{absent_in, absent_to}
 use Rattle.vr_history.specs.RefusedRecord.{changes_key, changes_length, duplicate, duplicate_key}
 use Rattle.vr_history.specs.RefusedRecord.{gone, held, held_by, is_taken, key_changed, key_changes}
 use Rattle.vr_history.specs.RefusedRecord.{length_changed, length_changes, other_key, other_length}
@@ -30,18 +32,17 @@ use Rattle.vr_history.specs.RefusedRoom.{free_areas, lacks, need_at, no_space}
 use Rattle.vr_history.specs.Replies.{first_of}
 use Rattle.vr_history.specs.State.{State, areas_of}
 use Rattle.vr_answer.specs.declared.case.Case.{Case as CaseInHand}
-use Rattle.vr_answer.specs.Here.{changed_by, gone_here, held_here, held_on, is_other_key}
-use Rattle.vr_answer.specs.Here.{key_changed_here, key_changes_by, name_here, names_in}
-use Rattle.vr_answer.specs.Here.{presence_here, read_by, record_here}
+use Rattle.vr_answer.specs.Here.{absent_by, absent_here, gone_here, held_here, held_on}
+use Rattle.vr_answer.specs.Here.{is_other_key, key_changed_here, key_changes_by, name_here}
+use Rattle.vr_answer.specs.Here.{names_in, presence_here, record_here}
 use Rattle.vr_answer.specs.InHand.{IsCaseOf, whole}
-use Rattle.vr_answer.specs.Looked.{record_looked_at}
+use Rattle.vr_answer.specs.Looked.{place_looked_at, record_looked_at}
 use Rattle.vr_answer.specs.Opening.{as_opened, definition_here}
-use Rattle.vr_answer.specs.Scope.{IsDirect}
 use Rattle.vr_answer.specs.Tried.{record_refusals}
 use Rattle.vr_answer.proofs.FileLemmas.{first_of-cons, option_or-assoc, option_or-none}
 use Rattle.vr_answer.proofs.FileLemmas.{passed_over, placed_first}
 use Rattle.vr_answer.proofs.OpeningLemmas.{IsKeyed, keyed_here, moves_none, opened_is}
-use Rattle.vr_answer.proofs.PlaceLemmas.{changed_is, names_are, read_is}
+use Rattle.vr_answer.proofs.PlaceLemmas.{at_changed, at_read, names_are, read_asked}
 
 none_not_some : {A : Type 0} (o : Option A) → is_none o ≡ not (is_some o)
 none_not_some None = refl
@@ -67,28 +68,24 @@ module _ (case : CaseInHand) (state : State) (is : IsCaseOf case state) where
   abbrev there : Bool
   there = is_some (record_looked_at w)
 
-  at_changed : place_read w ≡ None
+  record_changed : place_read w ≡ None
       → option_and_then (record_held w) (place_changed w) ≡ record_looked_at w
-  at_changed none = sym
-      (ap (λ (o : Option (List ℕ)). option_and_then (record_held w)
-      (option_or o (place_changed w))) none)
+  record_changed none =
+      ap (option_and_then (record_held w)) (sym (at_changed case state is none))
 
-  at_read : place_changed w ≡ None → record_read w ≡ record_looked_at w
-  at_read none = sym
-      (ap (λ (o : Option (List ℕ)). option_and_then (record_held w) o)
-      (ap (λ (o : Option (List ℕ)). option_or (place_read w) o) none
-      ∙ option_or-none (place_read w)))
+  record_at_read : place_changed w ≡ None → record_read w ≡ record_looked_at w
+  record_at_read none = ap (option_and_then (record_held w)) (sym (at_read case state is none))
 
   -- gone
-  gone_cases : (request : Request) → place_read w ≡ read_by request definition
+  gone_cases : (request : Request) → place_read w ≡ read_asked case state is request
       → refused_if (acts_on_held request && is_none (cond (is_add request) None
       (option_and_then (record_held w) (place_changed w)))) NotFound
       ≡ refused_if (acts_on_held request && not there) NotFound
   gone_cases (Update file bytes) read =
-      ap (λ (o : Option (List ℕ)). refused_if (is_none o) NotFound) (at_changed read)
+      ap (λ (o : Option (List ℕ)). refused_if (is_none o) NotFound) (record_changed read)
       ∙ ap (λ (b : Bool). refused_if b NotFound) (none_not_some (record_looked_at w))
   gone_cases (Erase file) read =
-      ap (λ (o : Option (List ℕ)). refused_if (is_none o) NotFound) (at_changed read)
+      ap (λ (o : Option (List ℕ)). refused_if (is_none o) NotFound) (record_changed read)
       ∙ ap (λ (b : Bool). refused_if b NotFound) (none_not_some (record_looked_at w))
   gone_cases (Get file find update integrity) read = refl
   gone_cases (Point file find) read = refl
@@ -98,7 +95,7 @@ module _ (case : CaseInHand) (state : State) (is : IsCaseOf case state) where
   gone_cases Backout read = refl
 
   gone_is : gone w ≡ gone_here case there
-  gone_is = gone_cases case.request.now (read_is case state is)
+  gone_is = gone_cases case.request.now refl
 
   -- the key
   key_kept : (d : Option Definition) → IsKeyed d → (bytes : List ℕ) (o : Option (List ℕ))
@@ -158,57 +155,63 @@ module _ (case : CaseInHand) (state : State) (is : IsCaseOf case state) where
       ap (option_map held_by)
       (option_or-none (first_conflict case.locks.now case.unit (mode_asked case.request.now) name))
 
-  held_is : held w ≡ held_here case
-  held_is =
+  held_is : (at : Option (List ℕ)) → at ≡ place_looked_at w → held w ≡ held_here case at
+  held_is at looked =
       ap (λ (names : List LockName). option_map held_by
       (conflict_on state.locks case.unit (mode_asked case.request.now) names))
-      (names_are case state is)
+      (names_are case state is at looked)
       ∙ ap (λ (locks : List Lock). option_map held_by
-      (conflict_on locks case.unit (mode_asked case.request.now) (names_in (name_here case))))
+      (conflict_on locks case.unit (mode_asked case.request.now) (names_in (name_here case at))))
       (sym is.locks)
-      ∙ one_held (name_here case)
+      ∙ one_held (name_here case at)
 
   -- whether a record is there
   absent_named : (d : Option Definition) → IsKeyed d → absent_in (as_opened d) ≡ NotFound
   absent_named None is_keyed = refl
-  absent_named (Some d) is_keyed = ap absent_by is_keyed
+  absent_named (Some d) is_keyed = ap absent_by_kind is_keyed
+
+  absent_sought : (find : Find) → absent_for (opened w) find ≡ absent_by find
+  absent_sought Next = refl
+  absent_sought (Equal place) = known absent_in ∙ absent_named definition keyed
+  absent_sought (AtLeast place) = known absent_in ∙ absent_named definition keyed
+
+  absent_read : place_changed w ≡ None → (find : Find)
+      → refused_if (is_none (record_read w)) (absent_for (opened w) find)
+      ≡ refused_if (not there) (absent_by find)
+  absent_read changes find =
+      ap (λ (o : Option (List ℕ)). refused_if (is_none o) (absent_for (opened w) find))
+      (record_at_read changes)
+      ∙ ap (λ (b : Bool). refused_if b (absent_for (opened w) find))
+      (none_not_some (record_looked_at w))
+      ∙ ap (λ (refusal : Refusal). refused_if (not there) refusal) (absent_sought find)
 
   abbrev base : ℕ
   base = base_of w
 
-  presence_cases : (request : Request) → IsDirect request
-      → place_read w ≡ read_by request definition
-      → place_changed w ≡ changed_by request definition held_place
+  presence_cases : (request : Request) → place_read w ≡ read_asked case state is request
+      → place_changed w ≡ place_asked w request
       → option_or (absent_to w request)
       (refused_if (is_add request
       && is_some (option_and_then (record_held w) (place_changed w))) (Duplicate (record {
         0 = base;
       })))
-      ≡ option_or (refused_if (is_some (find_of request) && not there) NotFound)
+      ≡ option_or (absent_here request there)
       (refused_if (is_add request && there) (Duplicate (record { 0 = base })))
-  presence_cases (Get file Next update integrity) direct read changed = absurd direct
-  presence_cases (Get file (AtLeast place) update integrity) direct read changed = absurd direct
-  presence_cases (Get file (Equal place) update integrity) direct read changed =
-      ap (λ (o : Option Refusal). option_or o None)
-      (ap (λ (o : Option (List ℕ)). refused_if (is_none o) (absent_in (opened w)))
-      (at_read changed)
-      ∙ ap (λ (b : Bool). refused_if b (absent_in (opened w)))
-      (none_not_some (record_looked_at w))
-      ∙ ap (λ (refusal : Refusal). refused_if (not there) refusal)
-      (known absent_in ∙ absent_named definition keyed))
-  presence_cases (Point file find) direct read changed = absurd direct
-  presence_cases (Add file place bytes) direct read changed =
+  presence_cases (Get file find update integrity) reads changes =
+      ap (λ (o : Option Refusal). option_or o None) (absent_read changes find)
+  presence_cases (Point file find) reads changes =
+      ap (λ (o : Option Refusal). option_or o None) (absent_read changes find)
+  presence_cases (Add file place bytes) reads changes =
       ap (λ (o : Option (List ℕ)). refused_if (is_some o) (Duplicate (record { 0 = base })))
-      (at_changed read)
-  presence_cases (Update file bytes) direct read changed = refl
-  presence_cases (Erase file) direct read changed = refl
-  presence_cases (EndReq file) direct read changed = refl
-  presence_cases Commit direct read changed = refl
-  presence_cases Backout direct read changed = refl
+      (record_changed reads)
+  presence_cases (Update file bytes) reads changes = refl
+  presence_cases (Erase file) reads changes = refl
+  presence_cases (EndReq file) reads changes = refl
+  presence_cases Commit reads changes = refl
+  presence_cases Backout reads changes = refl
 
   presence_is : option_or (absent w) (duplicate w) ≡ presence_here case there
-  presence_is =
-      presence_cases case.request.now is.direct (read_is case state is) (changed_is case state is)
+  presence_is = presence_cases case.request.now refl refl
 
   -- no alternate index, and no room that the state tells of
   duplicate_key_is : duplicate_key w ≡ None
@@ -237,30 +240,31 @@ module _ (case : CaseInHand) (state : State) (is : IsCaseOf case state) where
       (place_changed w)) (definition_in o))
       ∙ no_need definition keyed (place_changed w) (new_record case.request.now))
 
-  tried_is : first_of (record_refusals w)
-      ≡ option_or (gone_here case there) (option_or (key_changed_here case)
-      (option_or (held_here case) (option_or (absent w) (duplicate w))))
-  tried_is =
-      let last = first_of-cons (no_space w) [] ∙ option_or-none (no_space w) ∙ space_is in
-      placed_first (gone w) _ _ _ gone_is
-      (placed_first (key_changed w) _ _ _ key_is
-      (passed_over (length_changed w) _ _ length_is
-      (placed_first (held w) _ _ _ held_is
-      (placed_first (absent w) _ _ _ refl
-      (placed_first (duplicate w) _ _ None refl (passed_over (duplicate_key w) _ _ duplicate_key_is
-      last)
-      ∙ option_or-none (duplicate w))))))
+  module _ (at : Option (List ℕ)) (looked : at ≡ place_looked_at w) where
+    tried_is : first_of (record_refusals w)
+        ≡ option_or (gone_here case there) (option_or (key_changed_here case)
+        (option_or (held_here case at) (option_or (absent w) (duplicate w))))
+    tried_is =
+        let last = first_of-cons (no_space w) [] ∙ option_or-none (no_space w) ∙ space_is in
+        placed_first (gone w) _ _ _ gone_is
+        (placed_first (key_changed w) _ _ _ key_is
+        (passed_over (length_changed w) _ _ length_is
+        (placed_first (held w) _ _ _ (held_is at looked)
+        (placed_first (absent w) _ _ _ refl
+        (placed_first (duplicate w) _ _ None refl (passed_over (duplicate_key w) _ _
+        duplicate_key_is last)
+        ∙ option_or-none (duplicate w))))))
 
-  record_at_looked : record_here case there ≡ first_of (record_refusals w)
-  record_at_looked = sym
-      (tried_is
-      ∙ option_or-assoc (gone_here case there) (key_changed_here case)
-      (option_or (held_here case) (option_or (absent w) (duplicate w)))
-      ∙ ap (λ (o : Option Refusal). option_or
-      (option_or (gone_here case there) (key_changed_here case)) (option_or (held_here case) o))
-      presence_is)
+    record_at_looked : record_here case at there ≡ first_of (record_refusals w)
+    record_at_looked = sym
+        (tried_is
+        ∙ option_or-assoc (gone_here case there) (key_changed_here case)
+        (option_or (held_here case at) (option_or (absent w) (duplicate w)))
+        ∙ ap (λ (o : Option Refusal). option_or
+        (option_or (gone_here case there) (key_changed_here case))
+        (option_or (held_here case at) o)) presence_is)
 
-  pub record_is : (present : Option (List ℕ)) → present ≡ record_looked_at w
-      → record_here case (is_some present) ≡ first_of (record_refusals w)
-  record_is present same =
-      ap (λ (o : Option (List ℕ)). record_here case (is_some o)) same ∙ record_at_looked
+    pub record_is : (present : Option (List ℕ)) → present ≡ record_looked_at w
+        → record_here case at (is_some present) ≡ first_of (record_refusals w)
+    record_is present same =
+        ap (λ (o : Option (List ℕ)). record_here case at (is_some o)) same ∙ record_at_looked

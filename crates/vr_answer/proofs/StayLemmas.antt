@@ -1,7 +1,7 @@
 -- The refusals of a direct request move no file.
 use Rattle.std.proofs.Common.{◌≡◌, ℕ, Bool, true, false, not, ◌&&◌, ◌||◌, List, Option, Some, None}
 use Rattle.std.proofs.Common.{refl, nat_eq, length}
-use Rattle.std.specs.Option.{is_some, option_and_then, option_map, option_or}
+use Rattle.std.specs.Option.{option_and_then, option_map, option_or}
 use Rattle.vr_catalog.specs.Definition.{is_valid_record}
 use Rattle.vr_catalog.specs.declared.definition.Definition.{Definition}
 use Rattle.vr_types.specs.Locks.{Lock, first_conflict}
@@ -9,14 +9,14 @@ use Rattle.vr_types.specs.declared.lock_name.LockName.{LockName}
 use Rattle.vr_types.specs.declared.reply.Refusal.{Refusal}
 use Rattle.vr_types.specs.declared.reply.Refusal.TheVariants.{BadLength, Duplicate, KeyChanged}
 use Rattle.vr_types.specs.declared.reply.Refusal.TheVariants.{LogFull, NoFile, NoGet, NotAllowed}
-use Rattle.vr_types.specs.declared.reply.Refusal.TheVariants.{NotFound, Stopped}
+use Rattle.vr_types.specs.declared.reply.Refusal.TheVariants.{NoPosition, NotFound, Stopped}
 use Rattle.vr_types.specs.declared.request.FileRef.{FileRef}
 use Rattle.vr_types.specs.declared.request.Find.{Find}
 use Rattle.vr_types.specs.declared.request.Find.TheVariants.{Next, Equal, AtLeast}
 use Rattle.vr_types.specs.declared.request.Request.{Request}
 use Rattle.vr_types.specs.declared.request.Request.TheVariants.{Get, Point, Add, Update, Erase}
 use Rattle.vr_types.specs.declared.request.Request.TheVariants.{EndReq, Commit, Backout}
-use Rattle.vr_history.specs.Case.{file_of, find_of, is_add}
+use Rattle.vr_history.specs.Case.{file_of, is_add}
 use Rattle.vr_history.specs.Names.{mode_asked}
 use Rattle.vr_history.specs.RefusedFile.{goes_with_kind, is_unknown, length_wrong, refused_if}
 use Rattle.vr_history.specs.RefusedFile.{find_length_wrong, key_length_wrong, record_wrong}
@@ -26,8 +26,9 @@ use Rattle.vr_history.specs.Step.{stand_lost, stand_refused}
 use Rattle.vr_answer.specs.declared.case.Case.{Case as CaseInHand}
 use Rattle.vr_answer.specs.Here.{asked_here, before_here, file_here, form_by, form_here, full_here}
 use Rattle.vr_answer.specs.Here.{held_here, held_on, locked_here, name_here, no_file_here}
-use Rattle.vr_answer.specs.Here.{no_get_here, presence_here, record_here, stopped_here}
-use Rattle.vr_answer.specs.Here.{base_here, gone_here, key_changed_here, need_here, unlocked_here}
+use Rattle.vr_answer.specs.Here.{no_get_here, no_position_here, placed_here, presence_here}
+use Rattle.vr_answer.specs.Here.{absent_here, base_here, gone_here, key_changed_here, need_here}
+use Rattle.vr_answer.specs.Here.{record_here, stopped_here, unlocked_here}
 use Rattle.vr_types.specs.LogSpace.{log_size}
 use Rattle.vr_history.specs.Opened.{Cluster}
 use Rattle.vr_answer.specs.Opening.{as_opened, definition_here}
@@ -122,6 +123,21 @@ module _ (request : Request) (direct : IsDirect request) where
       held_stays
       (first_conflict case.locks.now case.unit (mode_asked case.request.now) name)
 
+-- nor is it sequential, so that it isn't refused at the end of the data
+absent_stays : (request : Request) → IsDirect request → (there : Bool)
+    → option_and_then (stand_refused request) (absent_here request there) ≡ None
+absent_stays (Get on Next update integrity) direct there = absurd direct
+absent_stays (Get on (AtLeast place) update integrity) direct there = absurd direct
+absent_stays (Get on (Equal place) update integrity) direct there =
+    stays_if (Get on (Equal place) update integrity) direct (not there) NotFound refl
+absent_stays (Point on find) direct there = absurd direct
+absent_stays (Add on place bytes) direct there = refl
+absent_stays (Update on bytes) direct there = refl
+absent_stays (Erase on) direct there = refl
+absent_stays (EndReq on) direct there = refl
+absent_stays Commit direct there = refl
+absent_stays Backout direct there = refl
+
 module _ (case : CaseInHand) (direct : IsDirect case.request.now) where
   abbrev request : Request
   request = case.request.now
@@ -139,22 +155,24 @@ module _ (case : CaseInHand) (direct : IsDirect case.request.now) where
       (no_file_stays request direct (file_of request)
       (is_unknown (as_opened (definition_here case)) || case.catalog_changing))
       (stopped_stays request direct case.stopped))
-      (either (form_here case) (no_get_here case)
+      (either (form_here case) (placed_here case)
       (form_stays request direct (definition_here case) request)
-      (stays_if request direct _ NoGet refl))
+      (either (no_position_here case) (no_get_here case)
+      (stays_if request direct _ NoPosition refl)
+      (stays_if request direct _ NoGet refl)))
 
-  pub record_stays_here : (there : Bool) → StaysHere (record_here case there)
-  record_stays_here there =
-      either (unlocked_here case there) (locked_here case there)
+  pub record_stays_here : (at : Option (List ℕ)) (there : Bool)
+      → StaysHere (record_here case at there)
+  record_stays_here at there =
+      either (unlocked_here case there) (locked_here case at there)
       (either (gone_here case there) (key_changed_here case)
       (stays_if request direct _ NotFound (lost_none request direct))
       (stays_if request direct _ KeyChanged refl))
-      (either (held_here case) (presence_here case there)
-      (held_at_stays request direct case (name_here case))
-      (either (refused_if (is_some (find_of request) && not there) NotFound)
+      (either (held_here case at) (presence_here case there)
+      (held_at_stays request direct case (name_here case at))
+      (either (absent_here request there)
       (refused_if (is_add request && there) (Duplicate (record { 0 = base_here request })))
-      (stays_if request direct (is_some (find_of request) && not there) NotFound
-      (lost_none request direct))
+      (absent_stays request direct there)
       (stays_if request direct (is_add request && there)
       (Duplicate (record { 0 = base_here request })) refl)))
 

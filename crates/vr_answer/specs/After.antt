@@ -1,9 +1,10 @@
--- What the entry of a direct request leaves of the state, field by field, in a catalog of
--- key-sequenced clusters alone.
+-- What the entry of a request leaves of the state, field by field, in a catalog of key-sequenced
+-- clusters alone.
 use Rattle.std.specs.Prelude.{◌≡◌, ℕ, ◌+◌, Bool, true, false, cond, List, [], ◌∷◌, ◌++◌}
 use Rattle.std.specs.Prelude.{option_map}
 use Rattle.vr_types.specs.Content.{Standing}
 use Rattle.vr_types.specs.declared.position.Position.{Position}
+use Rattle.vr_types.specs.declared.position.Stand.{Stand}
 use Rattle.vr_types.specs.declared.position.Stand.TheVariants.{None as Nowhere}
 use Rattle.vr_types.specs.declared.request.FileRef.{FileRef}
 use Rattle.vr_types.specs.declared.unit.Integrity.{Integrity}
@@ -72,6 +73,10 @@ read_leaves case on place true integrity = held_at case on place
 read_leaves case on place false Nri = let_go case
 read_leaves case on place false Cr = let_go case
 read_leaves case on place false Cre = shared_at case place
+
+-- the file stands here from now on
+abbrev pub stands_as : Case → FileRef → Stand → State → State
+stands_as case on stand state = moves_file case.unit.deck on.slot (standing stand) state
 
 -- an ENDREQ
 abbrev pub stands_nowhere : Case → FileRef → State

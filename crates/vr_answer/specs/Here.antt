@@ -11,8 +11,11 @@ use Rattle.vr_types.specs.LogSpace.{before_length, end_length, log_size}
 use Rattle.vr_types.specs.declared.lock_name.LockName.{LockName}
 use Rattle.vr_types.specs.declared.lock_name.LockName.TheVariants.{Record}
 use Rattle.vr_types.specs.declared.reply.Refusal.{Refusal}
-use Rattle.vr_types.specs.declared.reply.Refusal.TheVariants.{Duplicate, KeyChanged, NoFile, NoGet}
-use Rattle.vr_types.specs.declared.reply.Refusal.TheVariants.{LogFull, NotAllowed, NotFound, Stopped}
+use Rattle.vr_types.specs.declared.position.Stand.{Stand}
+use Rattle.vr_types.specs.declared.position.Stand.TheVariants.{Start}
+use Rattle.vr_types.specs.declared.reply.Refusal.TheVariants.{Duplicate, EndOfData, KeyChanged}
+use Rattle.vr_types.specs.declared.reply.Refusal.TheVariants.{LogFull, NoFile, NoGet, NoPosition}
+use Rattle.vr_types.specs.declared.reply.Refusal.TheVariants.{NotAllowed, NotFound, Stopped}
 use Rattle.vr_types.specs.declared.reply.Reply.{Reply}
 use Rattle.vr_types.specs.declared.reply.Reply.TheVariants.{Done}
 use Rattle.vr_types.specs.declared.request.Find.{Find}
@@ -23,12 +26,12 @@ use Rattle.vr_types.specs.declared.request.Request.TheVariants.{EndReq, Commit, 
 use Rattle.vr_history.specs.Case.{acts_on_held, file_of, find_of, is_add}
 use Rattle.vr_history.specs.Names.{mode_asked, read_mode}
 use Rattle.vr_history.specs.RefusedFile.{goes_with_kind, is_unknown, length_wrong, refused_if}
-use Rattle.vr_history.specs.RefusedRecord.{held_by}
+use Rattle.vr_history.specs.RefusedRecord.{held_by, is_nowhere, is_sequential}
 use Rattle.vr_history.specs.Replies.{refused_or}
 use Rattle.vr_answer.specs.declared.case.Case.{Case as CaseInHand}
 use Rattle.vr_answer.specs.Opening.{as_opened, definition_here}
 
--- the place that a read names, where its file can be opened
+-- the place that a direct read names, where its file can be opened
 abbrev pub named_by : Find → Option Definition → Option (List ℕ)
 named_by Next definition = None
 named_by (Equal place) definition = option_map (λ known. place) definition
@@ -65,6 +68,15 @@ changed_here case =
 abbrev pub looked_here : CaseInHand → Option (List ℕ)
 looked_here case = option_or (read_here case) (changed_here case)
 
+-- where the request's file stands: at its start, where its deck hasn't used it yet
+abbrev pub or_start : Option Stand → Stand
+or_start None = Start
+or_start (Some stand) = stand
+
+abbrev pub stand_here : CaseInHand → Option Stand
+stand_here case =
+    option_map (λ file. or_start (option_copied case.stand)) (file_of case.request.now)
+
 abbrev pub base_here : Request → ℕ
 base_here request = option_map_or (λ file. file.base.0) (file_of request) 0
 
@@ -85,6 +97,11 @@ form_by definition request =
     option_or (refused_if (not (goes_with_kind (as_opened definition) request)) NotAllowed)
     (length_wrong (as_opened definition) request)
 
+abbrev pub no_position_here : CaseInHand → Option Refusal
+no_position_here case =
+    refused_if (is_sequential case.request.now
+    && option_map_or is_nowhere (stand_here case) false) NoPosition
+
 abbrev pub no_get_here : CaseInHand → Option Refusal
 no_get_here case =
     refused_if (acts_on_held case.request.now && is_none (option_copied case.held)) NoGet
@@ -93,8 +110,11 @@ abbrev pub form_here : CaseInHand → Option Refusal
 form_here case =
     option_and_then (λ known. form_by (Some known) case.request.now) (definition_here case)
 
+abbrev pub placed_here : CaseInHand → Option Refusal
+placed_here case = option_or (no_position_here case) (no_get_here case)
+
 abbrev pub asked_here : CaseInHand → Option Refusal
-asked_here case = option_or (form_here case) (no_get_here case)
+asked_here case = option_or (form_here case) (placed_here case)
 
 abbrev pub file_here : CaseInHand → Option Refusal
 file_here case = option_or (before_here case) (asked_here case)
@@ -126,7 +146,7 @@ key_changed_here case =
 abbrev pub unlocked_here : CaseInHand → Bool → Option Refusal
 unlocked_here case there = option_or (gone_here case there) (key_changed_here case)
 
--- the name that a request locks
+-- the name that a request locks, by the place that it comes to
 abbrev pub asks_lock : Request → Bool
 asks_lock (Get file find update integrity) = is_some (read_mode update integrity)
 asks_lock (Point file find) = false
@@ -140,9 +160,8 @@ asks_lock Backout = false
 abbrev pub name_of : CaseInHand → List ℕ → LockName
 name_of case place = Record (record { 0 = base_here case.request.now }) place
 
-abbrev pub name_here : CaseInHand → Option LockName
-name_here case =
-    cond (asks_lock case.request.now) (option_map (name_of case) (looked_here case)) None
+abbrev pub name_here : CaseInHand → Option (List ℕ) → Option LockName
+name_here case at = cond (asks_lock case.request.now) (option_map (name_of case) at) None
 
 abbrev pub names_in : Option LockName → List LockName
 names_in None = []
@@ -153,21 +172,30 @@ held_on case name =
     option_map held_by
     (first_conflict case.locks.now case.unit (mode_asked case.request.now) name)
 
-abbrev pub held_here : CaseInHand → Option Refusal
-held_here case = option_and_then (held_on case) (name_here case)
+abbrev pub held_here : CaseInHand → Option (List ℕ) → Option Refusal
+held_here case at = option_and_then (held_on case) (name_here case at)
 
 -- refusals by whether a record is there, once the locks are free
+abbrev pub absent_by : Find → Refusal
+absent_by Next = EndOfData
+absent_by (Equal place) = NotFound
+absent_by (AtLeast place) = NotFound
+
+abbrev pub absent_here : Request → Bool → Option Refusal
+absent_here request there =
+    option_and_then (λ find. refused_if (not there) (absent_by find)) (find_of request)
+
 abbrev pub presence_here : CaseInHand → Bool → Option Refusal
 presence_here case there =
-    option_or (refused_if (is_some (find_of case.request.now) && not there) NotFound)
+    option_or (absent_here case.request.now there)
     (refused_if (is_add case.request.now && there)
     (Duplicate (record { 0 = base_here case.request.now })))
 
-abbrev pub locked_here : CaseInHand → Bool → Option Refusal
-locked_here case there = option_or (held_here case) (presence_here case there)
+abbrev pub locked_here : CaseInHand → Option (List ℕ) → Bool → Option Refusal
+locked_here case at there = option_or (held_here case at) (presence_here case there)
 
-abbrev pub record_here : CaseInHand → Bool → Option Refusal
-record_here case there = option_or (unlocked_here case there) (locked_here case there)
+abbrev pub record_here : CaseInHand → Option (List ℕ) → Bool → Option Refusal
+record_here case at there = option_or (unlocked_here case there) (locked_here case at there)
 
 -- the bytes of the log for the place that is changed, and for the end of the unit
 abbrev pub bytes_for : Option (List ℕ) → Option (List ℕ) → Bool → ℕ
@@ -181,10 +209,16 @@ abbrev pub need_here : CaseInHand → Option (List ℕ) → Bool → Bool → �
 need_here case present logged live =
     bytes_for (changed_here case) (old_here case present) logged + cond live 0 end_length
 
--- the reply to a request that is done
-abbrev pub done_here : CaseInHand → Option (List ℕ) → Reply
-done_here case present =
-    Done 0 (looked_here case) (cond (is_some (find_of case.request.now)) present None)
+-- the reply to a request that is done, by the place that it comes to and the record there
+abbrev pub done_here : Request → Option (List ℕ) → Option (List ℕ) → Reply
+done_here (Get file find update integrity) at present = Done 0 at present
+done_here (Point file find) at present = Done 0 at None
+done_here (Add file place bytes) at present = Done 0 at None
+done_here (Update file bytes) at present = Done 0 at None
+done_here (Erase file) at present = Done 0 at None
+done_here (EndReq file) at present = Done 0 None None
+done_here Commit at present = Done 0 None None
+done_here Backout at present = Done 0 None None
 
 -- the log has no room
 abbrev pub full_here : CaseInHand → Option (List ℕ) → Bool → Bool → Option Refusal
@@ -194,9 +228,9 @@ full_here case present logged live =
     (LogFull case.used need (log_size case.geometry))
 
 -- the answer, in the order in which refusals are tried
-abbrev pub answer_here : CaseInHand → Option (List ℕ) → Bool → Bool → Reply
-answer_here case present logged live =
+abbrev pub answer_here : CaseInHand → Option (List ℕ) → Option (List ℕ) → Bool → Bool → Reply
+answer_here case at present logged live =
     refused_or
     (option_or (file_here case)
-    (option_or (record_here case (is_some present)) (full_here case present logged live)))
-    (done_here case present)
+    (option_or (record_here case at (is_some present)) (full_here case present logged live)))
+    (done_here case.request.now at present)

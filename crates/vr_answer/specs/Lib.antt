@@ -2,6 +2,7 @@ pub mod After
 pub mod Here
 pub mod InHand
 pub mod Kept
+pub mod Least
 pub mod Looked
 pub mod Opening
 pub mod Scope

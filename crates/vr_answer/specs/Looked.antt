@@ -1,5 +1,5 @@
--- The one place whose record decides a request: the one that it reads, or the one that it changes
--- (DFSMS Using Data Sets, direct requests).
+-- The one place whose record decides a request: the one that it reads, named or found, or the one
+-- that it changes (DFSMS Using Data Sets, GET, POINT, PUT and ERASE).
 use Rattle.std.specs.Prelude.{ℕ, List, Option, option_and_then}
 use Rattle.std.specs.Option.{option_or}
 use Rattle.vr_history.specs.Case.{Case}

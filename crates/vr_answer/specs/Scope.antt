@@ -1,5 +1,5 @@
--- Which requests on which volumes are answered here. The limits are this project's own, and each is
--- one line: a further request in `IsDirect`, a further kind of data set in `IsKeyedCluster`.
+-- Which requests name the place that they come to, and on which volumes requests are answered here.
+-- That limit is this project's own: a further kind of data set is a line in `IsKeyedCluster`.
 use Rattle.std.specs.Prelude.{◌≡◌, List}
 use Rattle.std.specs.List.{AllByRecursion}
 use Rattle.vr_catalog.specs.Catalog.{definition_in}

@@ -3,29 +3,16 @@ ghost use Rattle.std.specs.Prelude.{◌≡◌, ◌<◌, ◌^◌, IfOk, IsTrue, N
 ghost use Rattle.std.specs.Option.{ForSome, option_copied, option_or};
 ghost use Rattle.vr_types.specs.declared.reply.Refusal.TheVariants as refusals;
 ghost use Rattle.vr_types.specs.declared.reply.Reply.TheVariants as shown;
-ghost use Rattle.vr_history.specs.Case.{find_of};
 ghost use Rattle.vr_history.specs.Replies as replies;
 ghost use Rattle.vr_answer.specs.Here as here;
 ghost use Rattle.vr_answer.specs.InHand.{InEach, InEachLogged, InEachWith};
 
 use crate::by_file::file_here;
 use crate::by_record::record_here;
-use crate::case::Case;
+use crate::case::{Case, Looked};
 use crate::logging::full_here;
-use crate::places::looked_here;
 use std::alloc::Global;
 use vr_types::{Bytes, OutOfMemory, Place, Reply, Request, bytes, place};
-
-/// Whether a request shows the record that it reads.
-fn is_read(request: &Request) -> bool
-    ensures { result ≡ is_some (find_of request.now) }
-{
-    match request {
-        Request::Get { .. } | Request::Point { .. } => true,
-        Request::Add { .. } | Request::Update { .. } | Request::Erase { .. } => false,
-        Request::EndReq { .. } | Request::Commit | Request::Backout => false,
-    }
-}
 
 /// The place, where there is one.
 fn place_shown(alloc: Global, at: Option<&[u8]>) -> Result<Option<Place>, OutOfMemory>
@@ -47,24 +34,23 @@ fn bytes_shown(alloc: Global, at: Option<&[u8]>) -> Result<Option<Bytes>, OutOfM
     }
 }
 
-/// The reply with the place that was looked at.
-fn done_at(alloc: Global, case: &Case, present: Option<&[u8]>) -> Result<Reply, OutOfMemory>
+/// The reply with a place, and a record.
+fn done_at(alloc: Global, at: Option<&[u8]>, record: Option<&[u8]>) -> Result<Reply, OutOfMemory>
     ensures { IfOk result (λ reply.
-        reply ≡ here.done_here case.now (option_copied present.entry)) }
+        reply ≡ shown.Done 0 (option_copied at.entry) (option_copied record.entry)) }
 {
-    let at = place_shown(alloc, looked_here(case))?;
-    let shown = if is_read(case.request) { present } else { None };
+    let at = place_shown(alloc, at)?;
     Ok(Reply::Done {
         feedback: 0,
         place: at,
-        bytes: bytes_shown(alloc, shown)?,
+        bytes: bytes_shown(alloc, record)?,
     })
 }
 
 /// The reply to a request that is done.
-fn done_here(alloc: Global, case: &Case, present: Option<&[u8]>) -> Result<Reply, OutOfMemory>
-    ensures value { IfOk result (λ reply.
-        reply ≡ here.done_here case.now (option_copied present.entry)) }
+fn done_here(alloc: Global, case: &Case, looked: Looked<'_>) -> Result<Reply, OutOfMemory>
+    ensures value { IfOk result (λ reply. reply ≡ here.done_here case.now.request.now
+        (option_copied looked.entry.place) (option_copied looked.entry.present)) }
     ensures memory { OnErr result (IsTrue (replies.may_want case.now.request.now)) }
 {
     match case.request {
@@ -73,41 +59,41 @@ fn done_here(alloc: Global, case: &Case, present: Option<&[u8]>) -> Result<Reply
             place: None,
             bytes: None,
         }),
-        Request::Get { .. } | Request::Point { .. } => done_at(alloc, case, present),
-        Request::Add { .. } | Request::Update { .. } | Request::Erase { .. } => done_at(
-            alloc, case, present,
-        ),
+        Request::Get { .. } => done_at(alloc, looked.place, looked.present),
+        Request::Point { .. } | Request::Add { .. } => done_at(alloc, looked.place, None),
+        Request::Update { .. } | Request::Erase { .. } => done_at(alloc, looked.place, None),
     }
 }
 
-/// The reply to a request that nothing refuses: with the place that it looked at, and a GET with
-/// the record that was read. It fails only if memory runs out, and not for a request that is on no
+/// The reply to a request that nothing refuses: with the place that it comes to, and a GET with the
+/// record that was read. It fails only if memory runs out, and not for a request that is on no
 /// file.
-pub fn done(alloc: Global, case: &Case, present: Option<&[u8]>) -> Result<Reply, OutOfMemory>
-    ensures value { IfOk result (λ reply. InEachWith case.now (option_copied present.entry)
+pub fn done(alloc: Global, case: &Case, looked: Looked<'_>) -> Result<Reply, OutOfMemory>
+    ensures value { IfOk result (λ reply. InEachWith case.now looked.entry
         (λ whole. reply ≡ replies.done_by whole whole.request)) }
     ensures memory { OnErr result (IsTrue (replies.may_want case.now.request.now)) }
 {
-    done_here(alloc, case, present)
+    done_here(alloc, case, looked)
 }
 
 /// The answer once nothing in memory and no record refuses.
 fn answer_logged(
     alloc: Global,
     case: &Case,
-    present: Option<&[u8]>,
+    looked: Looked<'_>,
     logged: bool,
     live: bool,
 ) -> Result<Reply, OutOfMemory>
-    requires { ForSome (option_copied present) (λ bytes. length bytes < 2 ^ 32) }
+    requires { ForSome (option_copied looked.present) (λ bytes. length bytes < 2 ^ 32) }
     ensures value { IfOk result (λ reply. reply ≡ replies.refused_or
-        (here.full_here case.now (option_copied present.entry) logged live)
-        (here.done_here case.now (option_copied present.entry))) }
+        (here.full_here case.now (option_copied looked.entry.present) logged live)
+        (here.done_here case.now.request.now (option_copied looked.entry.place)
+        (option_copied looked.entry.present))) }
     ensures memory { OnErr result (IsTrue (replies.may_want case.now.request.now)) }
 {
-    match full_here(case, present, logged, live) {
+    match full_here(case, looked.present, logged, live) {
         Some(refusal) => Ok(Reply::Refused(refusal)),
-        None => done_here(alloc, case, present),
+        None => done_here(alloc, case, looked),
     }
 }
 
@@ -115,20 +101,22 @@ fn answer_logged(
 fn answer_read(
     alloc: Global,
     case: &Case,
-    present: Option<&[u8]>,
+    looked: Looked<'_>,
     logged: bool,
     live: bool,
 ) -> Result<Reply, OutOfMemory>
-    requires { ForSome (option_copied present) (λ bytes. length bytes < 2 ^ 32) }
+    requires { ForSome (option_copied looked.present) (λ bytes. length bytes < 2 ^ 32) }
     ensures value { IfOk result (λ reply. reply ≡ replies.refused_or
-        (option_or (here.record_here case.now (is_some (option_copied present.entry)))
-        (here.full_here case.now (option_copied present.entry) logged live))
-        (here.done_here case.now (option_copied present.entry))) }
+        (option_or (here.record_here case.now (option_copied looked.entry.place)
+        (is_some (option_copied looked.entry.present)))
+        (here.full_here case.now (option_copied looked.entry.present) logged live))
+        (here.done_here case.now.request.now (option_copied looked.entry.place)
+        (option_copied looked.entry.present))) }
     ensures memory { OnErr result (IsTrue (replies.may_want case.now.request.now)) }
 {
-    match record_here(alloc, case, present.is_some())? {
+    match record_here(alloc, case, looked)? {
         Some(refusal) => Ok(Reply::Refused(refusal)),
-        None => answer_logged(alloc, case, present, logged, live),
+        None => answer_logged(alloc, case, looked, logged, live),
     }
 }
 
@@ -136,40 +124,39 @@ fn answer_read(
 fn answer_here(
     alloc: Global,
     case: &Case,
-    present: Option<&[u8]>,
+    looked: Looked<'_>,
     logged: bool,
     live: bool,
 ) -> Result<Reply, OutOfMemory>
-    requires { ForSome (option_copied present) (λ bytes. length bytes < 2 ^ 32) }
-    ensures value { IfOk result (λ reply.
-        reply ≡ here.answer_here case.now (option_copied present.entry) logged live) }
+    requires { ForSome (option_copied looked.present) (λ bytes. length bytes < 2 ^ 32) }
+    ensures value { IfOk result (λ reply. reply ≡ here.answer_here case.now
+        (option_copied looked.entry.place) (option_copied looked.entry.present) logged live) }
     ensures memory { OnErr result (IsTrue (replies.may_want case.now.request.now)) }
     ensures passed { OnErr result (here.file_here case.now ≡ None) }
 {
     match file_here(case) {
         Some(refusal) => Ok(Reply::Refused(refusal)),
-        None => answer_read(alloc, case, present, logged, live),
+        None => answer_read(alloc, case, looked, logged, live),
     }
 }
 
 /// The answer to a request where memory is ample, the device has no fault and key-sequenced parts
-/// have room: over the record that stands at the place which `place_looked_at` says (`present`),
+/// have room: over the place that the request comes to and the record that stands there (`looked`),
 /// whether the log has a before record of the place that is changed (`logged`), and of its unit at
 /// all (`live`). It fails only if memory runs out, and then no refusal of `refused_before_all` is
 /// there.
 pub fn answer(
     alloc: Global,
     case: &Case,
-    present: Option<&[u8]>,
+    looked: Looked<'_>,
     logged: bool,
     live: bool,
 ) -> Result<Reply, OutOfMemory>
-    requires { ForSome (option_copied present) (λ bytes. length bytes < 2 ^ 32) }
-    ensures value { IfOk result (λ reply.
-        InEachLogged case.now (option_copied present.entry) logged live
+    requires { ForSome (option_copied looked.present) (λ bytes. length bytes < 2 ^ 32) }
+    ensures value { IfOk result (λ reply. InEachLogged case.now looked.entry logged live
         (λ whole. reply ≡ replies.answer_of whole)) }
     ensures memory { OnErr result (InEach case.now (λ whole.
         replies.LacksMemory whole (shown.Refused refusals.Memory))) }
 {
-    answer_here(alloc, case, present, logged, live)
+    answer_here(alloc, case, looked, logged, live)
 }

@@ -1,7 +1,9 @@
 //! Refusals by what is in memory: the file, the volume, what the request names, and what its file
 //! holds for update.
 ghost use Rattle.std.specs.Prelude.{◌≡◌, ◌≢◌, ◌-◌, ◌^◌, length, min, not, None, option_and_then};
+ghost use Rattle.std.specs.Option.{option_copied};
 ghost use Rattle.vr_history.specs.RefusedFile as refusals;
+ghost use Rattle.vr_history.specs.RefusedRecord as positions;
 ghost use Rattle.vr_history.specs.Replies as replies;
 ghost use Rattle.vr_answer.specs.Here as here;
 ghost use Rattle.vr_answer.specs.InHand.{InEach};
@@ -13,7 +15,7 @@ ghost use Rattle.vr_answer.specs.Tried.{IsCalm};
 
 use crate::case::{Case, definition, file_of};
 use vr_catalog::Definition;
-use vr_types::{Find, Kind, Place, Refusal, Request};
+use vr_types::{Find, Kind, Place, Refusal, Request, Stand};
 
 /// A refusal where a test holds.
 pub(crate) fn refused_if(test: bool, refusal: Refusal) -> Option<Refusal>
@@ -75,6 +77,16 @@ fn allows_find(definition: &Definition, find: &Find) -> bool
     }
 }
 
+/// POINT names a record.
+fn allows_point(definition: &Definition, find: &Find) -> bool
+    ensures { result ≡ refusals.allows_point (as_opened (Some definition.now)) find.now }
+{
+    match find {
+        Find::Next => false,
+        Find::Equal(_) | Find::AtLeast(_) => allows_find(definition, find),
+    }
+}
+
 fn allows_slot(kind: Kind, named: &Option<Place>) -> bool
     ensures { result ≡ refusals.allows_slot kind named.now }
 {
@@ -104,10 +116,7 @@ fn goes_with_kind(definition: &Definition, request: &Request) -> bool
 {
     match request {
         Request::Get { find, .. } => allows_find(definition, find),
-        Request::Point { find, .. } => match find {
-            Find::Next => false,
-            Find::Equal(_) | Find::AtLeast(_) => allows_find(definition, find),
-        },
+        Request::Point { find, .. } => allows_point(definition, find),
         Request::Add { place, .. } => allows_slot(definition.kind, place),
         Request::Update { .. } => true,
         Request::Erase { .. } => can_erase(definition.kind),
@@ -189,6 +198,34 @@ fn form_here(case: &Case) -> Option<Refusal>
     }
 }
 
+/// Whether a file stands nowhere.
+fn is_nowhere(stand: Option<&Stand>) -> bool
+    ensures { result ≡ positions.is_nowhere (here.or_start (option_copied stand.entry)) }
+{
+    match stand {
+        None => false,
+        Some(stand) => match stand {
+            Stand::None => true,
+            Stand::Start | Stand::At(_) | Stand::After(_) | Stand::End => false,
+        },
+    }
+}
+
+/// A sequential GET of a file that stands nowhere.
+fn no_position(case: &Case) -> Option<Refusal>
+    ensures { result ≡ here.no_position_here case.now }
+{
+    match case.request {
+        Request::Get { find, .. } => match find {
+            Find::Next => refused_if(is_nowhere(case.stand), Refusal::NoPosition),
+            Find::Equal(_) | Find::AtLeast(_) => None,
+        },
+        Request::Point { .. } | Request::Add { .. } | Request::Update { .. } => None,
+        Request::Erase { .. } | Request::EndReq { .. } => None,
+        Request::Commit | Request::Backout => None,
+    }
+}
+
 /// An update or an erase, and the file holds nothing for update.
 fn no_get(case: &Case) -> Option<Refusal>
     ensures { result ≡ here.no_get_here case.now }
@@ -202,12 +239,22 @@ fn no_get(case: &Case) -> Option<Refusal>
     }
 }
 
+/// The refusal by where the file stands, or by what it holds.
+fn placed_here(case: &Case) -> Option<Refusal>
+    ensures { result ≡ here.placed_here case.now }
+{
+    match no_position(case) {
+        Some(refusal) => Some(refusal),
+        None => no_get(case),
+    }
+}
+
 fn asked_here(case: &Case) -> Option<Refusal>
     ensures { result ≡ here.asked_here case.now }
 {
     match form_here(case) {
         Some(refusal) => Some(refusal),
-        None => no_get(case),
+        None => placed_here(case),
     }
 }
 
@@ -232,8 +279,8 @@ pub fn refused_before_all(case: &Case) -> Option<Refusal>
 }
 
 /// The first refusal by what is in memory: those of `refused_before_all`, `NotAllowed`,
-/// `BadLength`, and `NoGet` where an update or an erase finds nothing held. It takes no memory, and
-/// moves no file.
+/// `BadLength`, `NoPosition` where a sequential GET finds its file nowhere, and `NoGet` where an
+/// update or an erase finds nothing held. It takes no memory, and moves no file.
 pub fn refused_by_file(case: &Case) -> Option<Refusal>
     ensures value { InEach case.now (λ whole.
         result ≡ replies.first_of (tried.file_refusals whole)) }

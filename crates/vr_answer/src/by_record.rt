@@ -10,11 +10,11 @@ ghost use Rattle.vr_answer.specs.Scope.{IsDirect};
 ghost use Rattle.vr_answer.specs.Tried.{record_refusals};
 
 use crate::by_file::refused_if;
-use crate::case::{Case, base_of, definition};
+use crate::case::{Case, Looked, base_of, definition};
 use crate::locking::held_here;
 use crate::places::key_in;
 use std::alloc::Global;
-use vr_types::{OutOfMemory, Place, Refusal, Request};
+use vr_types::{Find, OutOfMemory, Place, Refusal, Request};
 
 /// An update or an erase of a record that isn't there any more.
 fn gone_here(case: &Case, there: bool) -> Option<Refusal>
@@ -65,12 +65,24 @@ fn unlocked_here(case: &Case, there: bool) -> Option<Refusal>
     }
 }
 
+/// How a read that finds no record is refused: past the last record of its file, where it is
+/// sequential.
+fn absent_for(find: &Find) -> Refusal
+    ensures { result ≡ here.absent_by find.now }
+{
+    match find {
+        Find::Next => Refusal::EndOfData,
+        Find::Equal(_) | Find::AtLeast(_) => Refusal::NotFound,
+    }
+}
+
 /// The refusals by whether a record is there.
 fn presence_here(case: &Case, there: bool) -> Option<Refusal>
     ensures { result ≡ here.presence_here case.now there }
 {
     match case.request {
-        Request::Get { .. } | Request::Point { .. } => refused_if(!there, Refusal::NotFound),
+        Request::Get { find, .. } => refused_if(!there, absent_for(find)),
+        Request::Point { find, .. } => refused_if(!there, absent_for(find)),
         Request::Add { .. } => {
             let part = base_of(case.request);
             refused_if(there, Refusal::Duplicate { part })
@@ -81,13 +93,18 @@ fn presence_here(case: &Case, there: bool) -> Option<Refusal>
 }
 
 /// The refusals by locks, and those that come after them.
-fn locked_here(alloc: Global, case: &Case, there: bool) -> Result<Option<Refusal>, OutOfMemory>
-    ensures value { IfOk result (λ refusal. refusal ≡ here.locked_here case.now there) }
+fn locked_here(
+    alloc: Global,
+    case: &Case,
+    looked: Looked<'_>,
+) -> Result<Option<Refusal>, OutOfMemory>
+    ensures value { IfOk result (λ refusal. refusal ≡ here.locked_here case.now
+        (option_copied looked.entry.place) (is_some (option_copied looked.entry.present))) }
     ensures memory { OnErr result (IsTrue (may_want case.now.request.now)) }
 {
-    match held_here(alloc, case)? {
+    match held_here(alloc, case, looked.place)? {
         Some(refusal) => Ok(Some(refusal)),
-        None => Ok(presence_here(case, there)),
+        None => Ok(presence_here(case, looked.present.is_some())),
     }
 }
 
@@ -95,31 +112,33 @@ fn locked_here(alloc: Global, case: &Case, there: bool) -> Result<Option<Refusal
 pub(crate) fn record_here(
     alloc: Global,
     case: &Case,
-    there: bool,
+    looked: Looked<'_>,
 ) -> Result<Option<Refusal>, OutOfMemory>
-    ensures value { IfOk result (λ refusal. refusal ≡ here.record_here case.now there) }
+    ensures value { IfOk result (λ refusal. refusal ≡ here.record_here case.now
+        (option_copied looked.entry.place) (is_some (option_copied looked.entry.present))) }
     ensures memory { OnErr result (IsTrue (may_want case.now.request.now)) }
 {
-    match unlocked_here(case, there) {
+    match unlocked_here(case, looked.present.is_some()) {
         Some(refusal) => Ok(Some(refusal)),
-        None => locked_here(alloc, case, there),
+        None => locked_here(alloc, case, looked),
     }
 }
 
-/// The first refusal by the record that stands at the place that `place_looked_at` says, None where
-/// none does, and by the locks of others: `NotFound` of an update or an erase, `KeyChanged`,
-/// `Held`, `NotFound` of a read, and `Duplicate` of an add. Memory is taken for the name of the
-/// lock alone. It fails only if memory runs out, and not for a request that is on no file.
+/// The first refusal by the place that the request comes to, and the record that stands there, and
+/// by the locks of others: `NotFound` of an update or an erase, `KeyChanged`, `Held`, `EndOfData`
+/// of a sequential read and `NotFound` of any other, and `Duplicate` of an add. Memory is taken for
+/// the name of the lock alone. It fails only if memory runs out, and not for a request that is on
+/// no file.
 pub fn refused_by_record(
     alloc: Global,
     case: &Case,
-    present: Option<&[u8]>,
+    looked: Looked<'_>,
 ) -> Result<Option<Refusal>, OutOfMemory>
-    ensures value { IfOk result (λ refusal. InEachWith case.now (option_copied present.entry)
+    ensures value { IfOk result (λ refusal. InEachWith case.now looked.entry
         (λ whole. refusal ≡ first_of (record_refusals whole))) }
     ensures stays { IfOk result (λ refusal. IsDirect case.now.request.now
         → option_and_then (stand_refused case.now.request.now) refusal ≡ None) }
     ensures memory { OnErr result (IsTrue (may_want case.now.request.now)) }
 {
-    record_here(alloc, case, present.is_some())
+    record_here(alloc, case, looked)
 }

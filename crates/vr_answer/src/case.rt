@@ -10,10 +10,11 @@ ghost use Rattle.vr_answer.specs.Opening.{as_opened, definition_here};
 
 use vr_catalog::{Catalog, Definition};
 use vr_locks::LockTable;
-use vr_types::{FileRef, Geometry, PartNo, Place, Request, Unit};
+use vr_types::{FileRef, Geometry, PartNo, Place, Request, Stand, Unit};
 
 /// A request with what a volume has in memory when it meets it: its shape, its catalog and its
-/// locks; the place that the request's file holds for update; the stamp of the write fault that
+/// locks; the place that the request's file holds for update, and where the file stands, None where
+/// its deck hasn't used it yet, so that it stands at its start; the stamp of the write fault that
 /// stopped the volume; the number of free areas and the bytes of the log in use; the unit of
 /// recovery that asks; and whether a live unit of the utilities changed the catalog.
 #[derive(Clone, Copy)]
@@ -22,12 +23,20 @@ pub struct Case<'a> {
     pub catalog: &'a Catalog,
     pub locks: &'a LockTable,
     pub held: Option<&'a Place>,
+    pub stand: Option<&'a Stand>,
     pub stopped: Option<u64>,
     pub free: u32,
     pub used: u64,
     pub unit: Unit,
     pub request: &'a Request,
     pub catalog_changing: bool,
+}
+
+/// What a request comes to: the place that it reads or changes, and the record that stands there.
+#[derive(Clone, Copy)]
+pub struct Looked<'a> {
+    pub place: Option<&'a [u8]>,
+    pub present: Option<&'a [u8]>,
 }
 
 /// The file that a request is on.

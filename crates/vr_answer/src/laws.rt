@@ -1,5 +1,6 @@
 //! Laws of the answer, each the contract of a function that does nothing.
-ghost use Rattle.std.specs.Prelude.{◌≡◌, ◌<◌, ◌++◌, ◌∷◌, [], ℕ, false, IsTrue, List, None, Some};
+ghost use Rattle.std.specs.Prelude.{◌≡◌, ◌++◌, ◌∷◌, [], ℕ, false, IsTrue, List, None, Option};
+ghost use Rattle.std.specs.Prelude.{Some};
 ghost use Rattle.vr_catalog.specs.declared.definition.Definition.{Definition as Stated};
 ghost use Rattle.vr_types.specs.declared.reply.Refusal.{Refusal as RefusalOf};
 ghost use Rattle.vr_types.specs.declared.reply.Refusal.TheVariants as refusals;
@@ -10,11 +11,14 @@ ghost use Rattle.vr_types.specs.Locks.{Lock, first_conflict, same_unit};
 ghost use Rattle.vr_types.specs.declared.geometry.Geometry.{Geometry};
 ghost use Rattle.vr_types.specs.declared.lock_name.LockName.{LockName};
 ghost use Rattle.vr_types.specs.declared.lock_name.LockName.TheVariants.{Record};
+ghost use Rattle.vr_types.specs.declared.position.Stand.{Stand};
+ghost use Rattle.vr_types.specs.declared.request.Find.{Find};
+ghost use Rattle.vr_types.specs.declared.request.Find.TheVariants.{Equal};
 ghost use Rattle.vr_types.specs.declared.request.Request.{Request as RequestOf};
 ghost use Rattle.vr_types.specs.declared.unit.Mode.{Mode};
 ghost use Rattle.vr_types.specs.declared.unit.Unit as units;
 ghost use Rattle.vr_history.specs.declared.entry.Entry.{Entry};
-ghost use Rattle.vr_history.specs.Case.{Case as Asked, new_record};
+ghost use Rattle.vr_history.specs.Case.{Case as Asked, new_record, sees_kept};
 ghost use Rattle.vr_history.specs.Effects.{without_unit};
 ghost use Rattle.vr_history.specs.Legal.{state_of};
 ghost use Rattle.vr_history.specs.Names.{with_locks};
@@ -22,9 +26,10 @@ ghost use Rattle.vr_history.specs.State.{BeforeImage, Owned, State, opening_stat
 ghost use Rattle.vr_history.specs.Step.{case_of};
 ghost use Rattle.vr_locks.specs.Locked as table;
 ghost use Rattle.vr_answer.specs.Kept.{IsUnderLock, KeptUnderLocks};
+ghost use Rattle.vr_answer.specs.Least as least;
 ghost use Rattle.vr_answer.specs.Looked.{place_looked_at};
 ghost use Rattle.vr_history.specs.Opened.{Cluster, opened as opened_of};
-ghost use Rattle.vr_history.specs.RefusedRoom.{free_areas, log_full as full};
+ghost use Rattle.vr_history.specs.RefusedRoom.{log_full as full};
 ghost use Rattle.vr_history.specs.Replies as replies;
 ghost use Rattle.vr_answer.specs.Tried.{file_refusals, record_refusals};
 
@@ -61,19 +66,18 @@ pub fn answer_comes_in_order()
         → replies.IsAnswered case (replies.done_by case case.request) }
 {}
 
-/// What may come in place of the answer once `refused_by_file` refuses nothing: `NoSpace` of a
-/// key-sequenced cluster, where the record refuses nothing either and more areas are needed than
-/// are free (`room`); `Memory` where memory ran out on a request on a file (`memory`); and a fault
+/// What may come in place of the answer once `refused_by_file` refuses nothing: that an area is
+/// lacked for a key-sequenced cluster, where the record refuses nothing either (`room`); `Memory`
+/// where memory ran out on a request on a file (`memory`); and a fault
 /// of a write, or of a read (`write`, `read`). A request that looks at a place may read (`looks`).
 pub fn may_come_instead()
-    ensures room { (case : Asked) (definition : Stated) (bytes : List ℕ) (need : ℕ)
+    ensures room { (case : Asked) (definition : Stated) (bytes : List ℕ)
         → replies.first_of (file_refusals case) ≡ None
         → replies.first_of (record_refusals case) ≡ None
         → opened_of case ≡ Cluster definition
         → definition.kind ≡ kinds.Keyed
         → new_record case.request ≡ Some bytes
-        → free_areas case < need
-        → replies.LacksRoom case (Refused (refusals.NoSpace need (free_areas case))) }
+        → replies.LacksRoom case (Refused replies.lacks_area) }
     ensures memory { (case : Asked)
         → replies.first_of (file_refusals case) ≡ None
         → IsTrue (replies.may_want case.request)
@@ -89,6 +93,28 @@ pub fn may_come_instead()
         (request : RequestOf) (place : List ℕ)
         → place_looked_at (case_of geometry state unit request) ≡ Some place
         → IsTrue (replies.may_read request) }
+{}
+
+/// What a read of a cluster comes to. One that names its place comes to that place, whether a
+/// record stands there or not (`named`). One that searches comes to the first place that it asks
+/// for, of the places at which a record stands and, where it sees them, those at which another unit
+/// may bring one back (`searched`): the lesser of the first of both. What any read finds comes at
+/// that place in the order of the read (`found`).
+pub fn found_is_least()
+    ensures named { (case : Asked) (definition : Stated) (stand : Stand) (place : List ℕ)
+        → least.IsReadOf case definition stand (Equal place)
+        → least.ComesTo case (Some place) }
+    ensures searched { (case : Asked) (definition : Stated) (stand : Stand) (find : Find)
+        (standing kept : Option (List ℕ))
+        → least.IsReadOf case definition stand find
+        → least.Searches find
+        → least.AreLeast case stand find standing kept
+        → least.ComesTo case (least.first_seen (sees_kept case.request) standing kept) }
+    ensures found { (case : Asked) (definition : Stated) (stand : Stand) (find : Find)
+        (standing kept : Option (List ℕ))
+        → least.IsReadOf case definition stand find
+        → least.AreLeast case stand find standing kept
+        → least.found_at case ≡ least.first_seen (sees_kept case.request) standing kept }
 {}
 
 /// Each before-image of a history is under the exclusive lock of its unit (`kept`), which is in the

@@ -1,9 +1,10 @@
-//! Which answer a request gets, decided over what a volume has in memory and the one record that it
-//! read. It stands on `vr_types`, `vr_catalog`, `vr_history` and `vr_locks`, and on no device. It
-//! promises that each refusal, each name that is locked, the space of the log that is needed and
-//! the reply to a request that is done are those of the record file (`vr_history`), for each state
-//! of a volume that what is in memory agrees with. Direct requests on key-sequenced clusters are
-//! answered, in a catalog that has nothing else.
+//! Which answer a request gets, decided over what a volume has in memory, the place that the
+//! request comes to and the one record that stands there. It stands on `vr_types`, `vr_catalog`,
+//! `vr_history` and `vr_locks`, and on no device. It promises that each refusal, each name that is
+//! locked, the space of the log that is needed and the reply to a request that is done are those of
+//! the record file (`vr_history`), for each state of a volume that what is in memory agrees with.
+//! Requests on key-sequenced clusters are answered, in a catalog that has nothing else. The place
+//! is named by the request, or found above this crate, as `found_is_least` says.
 #![tactic(auto)]
 
 mod answering;
@@ -20,11 +21,11 @@ mod scope;
 pub use answering::{answer, done};
 pub use by_file::{refused_before_all, refused_by_file};
 pub use by_record::refused_by_record;
-pub use case::{Case, file_of, opened};
-pub use effects::{change_leaves, end_leaves, read_leaves, refusal_leaves};
+pub use case::{Case, Looked, file_of, opened};
+pub use effects::{change_leaves, end_leaves, read_leaves, refusal_leaves, search_leaves};
 pub use laws::{
-    answer_comes_in_order, before_images_are_locked, locks_are_taken_alike, may_come_instead,
-    refusals_come_in_order,
+    answer_comes_in_order, before_images_are_locked, found_is_least, locks_are_taken_alike,
+    may_come_instead, refusals_come_in_order,
 };
 pub use locking::{lock_names, mode_asked};
 pub use logging::{log_full, log_need};

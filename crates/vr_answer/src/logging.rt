@@ -10,7 +10,7 @@ ghost use Rattle.vr_answer.specs.InHand.{InEachLogged};
 ghost use Rattle.vr_answer.specs.Scope.{IsDirect};
 
 use crate::by_file::refused_if;
-use crate::case::Case;
+use crate::case::{Case, Looked};
 use crate::places::changed_here;
 use vr_types::{Geometry, Refusal, Request};
 
@@ -50,12 +50,12 @@ fn bytes_for(place: Option<&[u8]>, old: Option<&[u8]>, logged: bool) -> u64
 
 /// The bytes of the log that a request needs: a before record where the place that it changes has
 /// none of its unit yet (`logged`), and the end record of a unit that begins with it (not `live`).
-pub fn log_need(case: &Case, present: Option<&[u8]>, logged: bool, live: bool) -> u64
-    requires { ForSome (option_copied present) (λ bytes. length bytes < 2 ^ 32) }
-    ensures { InEachLogged case.now (option_copied present.entry) logged live
+pub fn log_need(case: &Case, looked: Looked<'_>, logged: bool, live: bool) -> u64
+    requires { ForSome (option_copied looked.present) (λ bytes. length bytes < 2 ^ 32) }
+    ensures { InEachLogged case.now looked.entry logged live
         (λ whole. result ≡ logs.log_need whole) }
 {
-    need_here(case, present, logged, live)
+    need_here(case, looked.present, logged, live)
 }
 
 /// The bytes of the log that a request needs.
@@ -100,12 +100,12 @@ pub(crate) fn full_here(
 
 /// `LogFull` where the log has no room for what a change logs, the last of the refusals. It takes
 /// no memory.
-pub fn log_full(case: &Case, present: Option<&[u8]>, logged: bool, live: bool) -> Option<Refusal>
-    requires { ForSome (option_copied present) (λ bytes. length bytes < 2 ^ 32) }
-    ensures value { InEachLogged case.now (option_copied present.entry) logged live
+pub fn log_full(case: &Case, looked: Looked<'_>, logged: bool, live: bool) -> Option<Refusal>
+    requires { ForSome (option_copied looked.present) (λ bytes. length bytes < 2 ^ 32) }
+    ensures value { InEachLogged case.now looked.entry logged live
         (λ whole. result ≡ rooms.log_full whole) }
     ensures stays { IsDirect case.now.request.now
         → option_and_then (stand_refused case.now.request.now) result ≡ None }
 {
-    full_here(case, present, logged, live)
+    full_here(case, looked.present, logged, live)
 }

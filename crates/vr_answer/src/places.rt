@@ -1,4 +1,4 @@
-//! The place that a request looks at.
+//! The place that a request names, to read it or to change it.
 ghost use Rattle.std.specs.Prelude.{◌≡◌};
 ghost use Rattle.std.specs.Option.{option_copied};
 ghost use Rattle.vr_catalog.specs.Definition.{key_of};
@@ -7,6 +7,7 @@ ghost use Rattle.vr_history.specs.Found as founds;
 ghost use Rattle.vr_answer.specs.Here as here;
 ghost use Rattle.vr_answer.specs.InHand.{InEach};
 ghost use Rattle.vr_answer.specs.Looked as looked;
+ghost use Rattle.vr_answer.specs.Scope.{IsDirect};
 
 use crate::case::{Case, definition};
 use vr_catalog::Definition;
@@ -22,7 +23,7 @@ pub(crate) fn key_in<'a>(definition: &Definition, bytes: &'a [u8]) -> &'a [u8]
     &rest[..length]
 }
 
-/// The place that a read asks for.
+/// The place that a direct read names.
 pub(crate) fn read_here<'a>(case: &Case<'a>) -> Option<&'a [u8]>
     ensures { option_copied result ≡ here.read_here case.now }
 {
@@ -57,7 +58,7 @@ pub(crate) fn changed_here<'a>(case: &Case<'a>) -> Option<&'a [u8]>
     }
 }
 
-/// The place whose record decides the request.
+/// The place whose record decides a direct request.
 pub(crate) fn looked_here<'a>(case: &Case<'a>) -> Option<&'a [u8]>
     ensures { option_copied result ≡ here.looked_here case.now }
 {
@@ -67,10 +68,12 @@ pub(crate) fn looked_here<'a>(case: &Case<'a>) -> Option<&'a [u8]>
     }
 }
 
-/// The place that a read asks for: the one that it names, where its file can be opened.
+/// The place that a direct read asks for: the one that it names, where its file can be opened. Of a
+/// read that searches it says nothing.
 #[tactic(auto, using(crate::proofs::PlaceLemmas::read_is))]
 pub fn place_read<'a>(case: &Case<'a>) -> Option<&'a [u8]>
-    ensures { InEach case.now (λ whole. option_copied result ≡ founds.place_read whole) }
+    ensures { IsDirect case.now.request.now
+        → InEach case.now (λ whole. option_copied result ≡ founds.place_read whole) }
 {
     read_here(case)
 }
@@ -83,11 +86,12 @@ pub fn place_changed<'a>(case: &Case<'a>) -> Option<&'a [u8]>
     changed_here(case)
 }
 
-/// The place whose record decides the request, read or changed: its record has to be read before
-/// the rest can be decided. None where the request looks at no record.
+/// The place whose record decides a direct request, read or changed: its record has to be read
+/// before the rest can be decided. None where the request looks at no record.
 #[tactic(auto, using(crate::proofs::PlaceLemmas::looked_is))]
 pub fn place_looked_at<'a>(case: &Case<'a>) -> Option<&'a [u8]>
-    ensures { InEach case.now (λ whole. option_copied result ≡ looked.place_looked_at whole) }
+    ensures { IsDirect case.now.request.now
+        → InEach case.now (λ whole. option_copied result ≡ looked.place_looked_at whole) }
 {
     looked_here(case)
 }

@@ -3,14 +3,15 @@ ghost use Rattle.std.specs.Prelude.{◌<◌, ◌^◌, length};
 ghost use Rattle.std.specs.Option.{ForSome, option_copied};
 
 use crate::answers::Stop;
-use crate::small::{Ask, Keeps, Key, Name, OneLock, Small};
+use crate::search::{found, sees_kept};
+use crate::small::{Ask, Keeps, Key, Name, OneLock, Small, Sought, Stands};
 use std::alloc::Global;
-use vr_answer::{Case, answer, place_looked_at};
+use vr_answer::{Case, Looked, answer, place_looked_at};
 use vr_catalog::{CatEntry, Catalog, EntryKind, FreeSpace, ShareOptions, SpaceUnit};
 use vr_locks::{LockNo, LockTable, lock_table};
 use vr_types::{
     Bytes, FileRef, Find, Geometry, Integrity, Kind, LockName, LockNames, Mode, NameFault, PartNo,
-    Place, Reply, Request, Unit, bytes, dataset_name, place,
+    Place, Reply, Request, Stand, Unit, bytes, dataset_name, place,
 };
 
 /// A catalog with one cluster, part 1: INDEXED KEYS(1 0) RECORDSIZE(3 3).
@@ -116,22 +117,39 @@ fn place_of(alloc: Global, length: u32) -> Result<Place, Stop> {
     Ok(place(alloc, &whole[..end])?)
 }
 
-fn get_at(file: FileRef, at: Place, update: bool, keeps: Keeps) -> Request {
+fn get_of(file: FileRef, find: Find, update: bool, keeps: Keeps) -> Request {
     Request::Get {
         file,
-        find: Find::Equal(at),
+        find,
         update,
         integrity: integrity_of(keeps),
+    }
+}
+
+fn find_of(alloc: Global, sought: Sought) -> Result<Find, Stop> {
+    match sought {
+        Sought::Next => Ok(Find::Next),
+        Sought::Equal(key) => Ok(Find::Equal(place(alloc, letter(key))?)),
+        Sought::AtLeast(key) => Ok(Find::AtLeast(place(alloc, letter(key))?)),
     }
 }
 
 fn request_of(alloc: Global, case: &Small) -> Result<Request, Stop> {
     let file = file_of(case.name);
     match case.ask {
-        Ask::Get { key, update, keeps } => {
-            Ok(get_at(file, place(alloc, letter(key))?, update, keeps))
+        Ask::Get {
+            sought,
+            update,
+            keeps,
+        } => Ok(get_of(file, find_of(alloc, sought)?, update, keeps)),
+        Ask::Point { sought } => Ok(Request::Point {
+            file,
+            find: find_of(alloc, sought)?,
+        }),
+        Ask::GetOf { length } => {
+            let find = Find::Equal(place_of(alloc, length)?);
+            Ok(get_of(file, find, false, Keeps::Nothing))
         }
-        Ask::GetOf { length } => Ok(get_at(file, place_of(alloc, length)?, false, Keeps::Nothing)),
         Ask::Add { key, length } => Ok(Request::Add {
             file,
             place: None,
@@ -191,27 +209,32 @@ fn record_at(case: &Small, at: &[u8]) -> Option<&'static [u8]>
     None
 }
 
+/// The place that the request's file holds for update.
+fn held_of(alloc: Global, case: &Small) -> Result<Option<Place>, Stop> {
+    match case.held {
+        None => Ok(None),
+        Some(key) => Ok(Some(place(alloc, letter(key))?)),
+    }
+}
+
+/// Where it stands.
+fn stand_of(alloc: Global, case: &Small) -> Result<Option<Stand>, Stop> {
+    match case.stands {
+        Stands::Unused => Ok(None),
+        Stands::Start => Ok(Some(Stand::Start)),
+        Stands::At(key) => Ok(Some(Stand::At(place(alloc, letter(key))?))),
+        Stands::After(key) => Ok(Some(Stand::After(place(alloc, letter(key))?))),
+        Stands::End => Ok(Some(Stand::End)),
+        Stands::Nowhere => Ok(Some(Stand::None)),
+    }
+}
+
 /// What the crate answers.
 pub fn answer_of(alloc: Global, catalog: &Catalog, case: &Small) -> Result<Reply, Stop> {
     let request = request_of(alloc, case)?;
     let locks = table_of(alloc, case.lock)?;
-    match case.held {
-        None => asked(alloc, catalog, case, &request, &locks, None),
-        Some(key) => {
-            let held = place(alloc, letter(key))?;
-            asked(alloc, catalog, case, &request, &locks, Some(&held))
-        }
-    }
-}
-
-fn asked(
-    alloc: Global,
-    catalog: &Catalog,
-    case: &Small,
-    request: &Request,
-    locks: &LockTable,
-    held: Option<&Place>,
-) -> Result<Reply, Stop> {
+    let held = held_of(alloc, case)?;
+    let stand = stand_of(alloc, case)?;
     let in_hand = Case {
         geometry: Geometry {
             size: 512,
@@ -220,25 +243,49 @@ fn asked(
             area: 2,
         },
         catalog,
-        locks,
-        held,
+        locks: &locks,
+        held: held.as_ref(),
+        stand: stand.as_ref(),
         stopped: if case.stopped { Some(7) } else { None },
         free: 2,
         used: u64::from(case.used),
         unit: unit_of(true),
-        request,
+        request: &request,
         catalog_changing: case.changing,
     };
-    let present = record_looked_at(case, &in_hand);
-    Ok(answer(alloc, &in_hand, present, case.logged, case.live)?)
+    let looked = looked_at(case, &in_hand);
+    Ok(answer(alloc, &in_hand, looked, case.logged, case.live)?)
 }
 
-/// The record that the volume reads.
-fn record_looked_at(case: &Small, in_hand: &Case) -> Option<&'static [u8]>
-    ensures { ForSome (option_copied result) (λ bytes. length bytes < 2 ^ 32) }
+/// What the request comes to: its place, as the volume finds it, and the record that stands there.
+fn looked_at<'a>(case: &Small, in_hand: &Case<'a>) -> Looked<'a>
+    ensures { ForSome (option_copied result.present) (λ bytes. length bytes < 2 ^ 32) }
 {
-    match place_looked_at(in_hand) {
+    let place = place_met(case, in_hand);
+    let present = match place {
         None => None,
         Some(at) => record_at(case, at),
+    };
+    Looked { place, present }
+}
+
+/// The place that a read comes to is found; any other request names it.
+fn place_met<'a>(case: &Small, in_hand: &Case<'a>) -> Option<&'a [u8]> {
+    match case.ask {
+        Ask::Get {
+            sought,
+            update,
+            keeps,
+        } => letter_of(found(case, sought, sees_kept(update, keeps))),
+        Ask::Point { sought } => letter_of(found(case, sought, false)),
+        Ask::GetOf { .. } | Ask::Add { .. } | Ask::Update { .. } => place_looked_at(in_hand),
+        Ask::Erase | Ask::EndReq | Ask::Commit | Ask::Backout => place_looked_at(in_hand),
+    }
+}
+
+fn letter_of(key: Option<Key>) -> Option<&'static [u8]> {
+    match key {
+        None => None,
+        Some(key) => Some(letter(key)),
     }
 }

@@ -1,4 +1,4 @@
-//! Cases of the answers to direct requests from a text table: worked requests, and the crate beside
+//! Cases of the answers to requests from a text table: worked requests, and the crate beside
 //! a plain program over all small states. It stands on `vr_answer`. Each line of its input has a
 //! question, ` -> ` and the answer that is wanted. It asks the public calls, prints each line whose
 //! answer differs, and at the end how many lines there were and how many differ; the status is 1
@@ -11,6 +11,7 @@ mod desk;
 mod judge;
 mod plain;
 mod question;
+mod search;
 mod small;
 mod spelling;
 

@@ -1,7 +1,8 @@
-//! The answer to a direct request, plainly: one rule after another, in the order in which refusals
-//! are tried. It shares no code with the crate.
+//! The answer to a request, plainly: one rule after another, in the order in which refusals are
+//! tried. It shares no code with the crate.
 
-use crate::small::{Ask, Keeps, Key, Name, Small};
+use crate::search::{found, sees_kept};
+use crate::small::{Ask, Keeps, Key, Name, Small, Sought, Stands};
 
 /// What is answered: done, with the place and whether with its record, or refused, by the number
 /// that the listing shows, with the number that a refusal by the log shows.
@@ -50,17 +51,42 @@ fn changed(case: &Small, key: Key, replaces: bool) -> PlainReply {
     }
 }
 
-fn get(case: &Small, key: Key, update: bool, keeps: Keeps) -> PlainReply {
-    let asks = update || keeps != Keeps::Nothing;
-    if asks && is_in_the_way(case, key, update) {
-        return refused(901);
+/// A read that finds no record is refused at the end of the data, where it is sequential.
+fn absent(sought: Sought) -> PlainReply {
+    refused(if sought == Sought::Next { 4 } else { 16 })
+}
+
+/// A GET once nothing in memory refuses it.
+fn get(case: &Small, sought: Sought, update: bool, keeps: Keeps) -> PlainReply {
+    match found(case, sought, sees_kept(update, keeps)) {
+        None => absent(sought),
+        Some(key) => {
+            let asks = update || keeps != Keeps::Nothing;
+            if asks && is_in_the_way(case, key, update) {
+                return refused(901);
+            }
+            if !is_there(case, key) {
+                return absent(sought);
+            }
+            PlainReply::Done {
+                place: Some(key),
+                record: true,
+            }
+        }
     }
-    if !is_there(case, key) {
-        return refused(16);
+}
+
+/// A POINT, which names a record.
+fn point(case: &Small, sought: Sought) -> PlainReply {
+    if sought == Sought::Next {
+        return refused(907);
     }
-    PlainReply::Done {
-        place: Some(key),
-        record: true,
+    match found(case, sought, false) {
+        Some(key) if is_there(case, key) => PlainReply::Done {
+            place: Some(key),
+            record: false,
+        },
+        _ => absent(sought),
     }
 }
 
@@ -130,7 +156,15 @@ pub fn plain(case: &Small) -> PlainReply {
         return refused(903);
     }
     match case.ask {
-        Ask::Get { key, update, keeps } => get(case, key, update, keeps),
+        Ask::Get { sought, .. } if sought == Sought::Next && case.stands == Stands::Nowhere => {
+            refused(88)
+        }
+        Ask::Get {
+            sought,
+            update,
+            keeps,
+        } => get(case, sought, update, keeps),
+        Ask::Point { sought } => point(case, sought),
         Ask::GetOf { length } => refused(if length == 0 { 907 } else { 108 }),
         Ask::Add { key, length } => add(case, key, length),
         Ask::Update { key, length } => update(case, key, length),

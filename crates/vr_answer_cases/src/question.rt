@@ -4,7 +4,7 @@
 use crate::answers::{Answer, Stop};
 use crate::desk::answer_of;
 use crate::judge::judge;
-use crate::small::{Ask, Keeps, Small, small_case};
+use crate::small::{Ask, Keeps, Small, Sought, small_case};
 use crate::spelling::{key_of, number_of, parted, say_reply, with_word};
 use std::alloc::Global;
 use vr_catalog::Catalog;
@@ -20,19 +20,16 @@ pub fn answer(alloc: Global, catalog: &Catalog, line: &str, out: &mut String) ->
     say_reply(out, &reply)
 }
 
-/// The request and its state: `get A`, `place LENGTH`, `add A`, `update A`, `erase`, `endreq`,
-/// `commit` or `backout`, and then words that change it.
+/// The request and its state: `get A`, `ge A`, `next`, `place LENGTH`, `point A`, `pointge A`,
+/// `pointnext`, `add A`, `update A`, `erase`, `endreq`, `commit` or `backout`, and then words that
+/// change it.
 fn case_of(verb: &str, rest: &str) -> Result<Small, Stop> {
     let (first, words) = parted(rest);
     match verb {
-        "get" => with_words(
-            small_case(Ask::Get {
-                key: key_of(first)?,
-                update: false,
-                keeps: Keeps::Nothing,
-            }),
-            words,
-        ),
+        "get" => with_words(get_case(Sought::Equal(key_of(first)?)), words),
+        "ge" => with_words(get_case(Sought::AtLeast(key_of(first)?)), words),
+        "point" => with_words(point_case(Sought::Equal(key_of(first)?)), words),
+        "pointge" => with_words(point_case(Sought::AtLeast(key_of(first)?)), words),
         "place" => with_words(
             small_case(Ask::GetOf {
                 length: number_of(first)?,
@@ -57,8 +54,22 @@ fn case_of(verb: &str, rest: &str) -> Result<Small, Stop> {
     }
 }
 
+fn get_case(sought: Sought) -> Small {
+    small_case(Ask::Get {
+        sought,
+        update: false,
+        keeps: Keeps::Nothing,
+    })
+}
+
+fn point_case(sought: Sought) -> Small {
+    small_case(Ask::Point { sought })
+}
+
 fn bare_case(verb: &str, words: &str) -> Result<Small, Stop> {
     match verb {
+        "next" => with_words(get_case(Sought::Next), words),
+        "pointnext" => with_words(point_case(Sought::Next), words),
         "erase" => with_words(small_case(Ask::Erase), words),
         "endreq" => with_words(small_case(Ask::EndReq), words),
         "commit" => with_words(small_case(Ask::Commit), words),

@@ -1,5 +1,6 @@
 //! A small state and a request: two keys of one byte, the unit 1.1 that asks and another, a record
-//! of two bytes at each key or none, one lock or none, and what a file holds.
+//! of two bytes at each key or none, one that the other unit may bring back or none, one lock or
+//! none, what a file holds, and where it stands.
 
 /// A key.
 #[derive(Clone, Copy, PartialEq, Eq)]
@@ -8,13 +9,24 @@ pub enum Key {
     B,
 }
 
+/// Which record a read asks for.
+#[derive(Clone, Copy, PartialEq, Eq)]
+pub enum Sought {
+    Next,
+    Equal(Key),
+    AtLeast(Key),
+}
+
 /// A request. A record is its key, where it has room for it, and then zeros.
 #[derive(Clone, Copy, PartialEq, Eq)]
 pub enum Ask {
     Get {
-        key: Key,
+        sought: Sought,
         update: bool,
         keeps: Keeps,
+    },
+    Point {
+        sought: Sought,
     },
     /// GET of a place that has this many bytes.
     GetOf {
@@ -59,6 +71,18 @@ pub struct OneLock {
     pub exclusive: bool,
 }
 
+/// Where the request's file stands.
+#[derive(Clone, Copy, PartialEq, Eq)]
+pub enum Stands {
+    /// Its deck hasn't used it yet.
+    Unused,
+    Start,
+    At(Key),
+    After(Key),
+    End,
+    Nowhere,
+}
+
 /// A state and a request.
 #[derive(Clone, Copy, PartialEq, Eq)]
 pub struct Small {
@@ -67,6 +91,9 @@ pub struct Small {
     pub has_b: bool,
     pub lock: Option<OneLock>,
     pub held: Option<Key>,
+    pub stands: Stands,
+    /// The key of a record that the other unit may bring back.
+    pub kept: Option<Key>,
     pub name: Name,
     /// Whether a live unit of the utilities changed the catalog.
     pub changing: bool,
@@ -87,6 +114,8 @@ pub fn small_case(ask: Ask) -> Small {
         has_b: false,
         lock: None,
         held: None,
+        stands: Stands::Unused,
+        kept: None,
         name: Name::Known,
         changing: false,
         stopped: false,
@@ -109,14 +138,15 @@ fn keeps_of(n: u32) -> Keeps {
 }
 
 /// How many requests there are.
-const ASKS: u32 = 32;
+const ASKS: u32 = 55;
 
-/// The request with a number: 12 reads, 2 reads of places with another length, 8 adds and 6 updates
-/// of which some have a length that isn't valid, and the others.
+/// The request with a number: 12 direct reads, 2 reads of places with another length, 8 adds and 6
+/// updates of which some have a length that isn't valid, the others that don't read, and those that
+/// search.
 fn ask_of(n: u32) -> Ask {
     match n % ASKS {
         0..=11 => Ask::Get {
-            key: key_of(n),
+            sought: Sought::Equal(key_of(n)),
             update: n / 2 % 2 == 1,
             keeps: keeps_of(n / 4),
         },
@@ -133,7 +163,34 @@ fn ask_of(n: u32) -> Ask {
         28 => Ask::Erase,
         29 => Ask::EndReq,
         30 => Ask::Commit,
-        _ => Ask::Backout,
+        31 => Ask::Backout,
+        other => search_of(other),
+    }
+}
+
+/// A request that searches: 6 sequential reads, 12 reads of a key at least the one given, and 5
+/// POINTs.
+fn search_of(n: u32) -> Ask {
+    match n {
+        32..=37 => Ask::Get {
+            sought: Sought::Next,
+            update: n % 2 == 1,
+            keeps: keeps_of(n / 2),
+        },
+        38..=49 => Ask::Get {
+            sought: Sought::AtLeast(key_of(n)),
+            update: n / 2 % 2 == 1,
+            keeps: keeps_of(n / 4),
+        },
+        50..=51 => Ask::Point {
+            sought: Sought::Equal(key_of(n)),
+        },
+        52..=53 => Ask::Point {
+            sought: Sought::AtLeast(key_of(n)),
+        },
+        _ => Ask::Point {
+            sought: Sought::Next,
+        },
     }
 }
 
@@ -148,7 +205,19 @@ fn lock_of(n: u32) -> Option<OneLock> {
     })
 }
 
-fn held_of(n: u32) -> Option<Key> {
+fn stands_of(n: u32) -> Stands {
+    match n % 8 {
+        0 => Stands::Unused,
+        1 => Stands::Start,
+        2 | 3 => Stands::At(key_of(n)),
+        4 | 5 => Stands::After(key_of(n)),
+        6 => Stands::End,
+        _ => Stands::Nowhere,
+    }
+}
+
+/// One of the two keys, or none.
+fn some_key(n: u32) -> Option<Key> {
     match n % 3 {
         0 => None,
         1 => Some(Key::A),
@@ -181,7 +250,8 @@ fn with_volume(case: Small, n: u32) -> Small {
     case
 }
 
-/// How many small states with a request there are.
+/// How many small states with a request there are. Where a file stands and what may be brought
+/// back, which reads alone look at, goes with where the log stands, which changes alone look at.
 pub const SMALL: u32 = ASKS * 4 * 9 * 3 * 6 * 6 * 4;
 
 /// The one with a number.
@@ -191,7 +261,9 @@ pub fn small_of(number: u32) -> Small {
     case.has_a = n % 2 == 1;
     case.has_b = n / 2 % 2 == 1;
     case.lock = lock_of(n / 4);
-    case.held = held_of(n / 36);
+    case.held = some_key(n / 36);
+    case.stands = stands_of(n / 108);
+    case.kept = some_key(n / 864);
     case.used = used_of(n / 108);
     case.logged = n / 648 % 2 == 1;
     case.live = n / 1296 % 2 == 1;

@@ -1,10 +1,12 @@
 //! Words of a line: `update`, `cr` and `cre` of a read; `length:3` of a record; `has:A` a record of
-//! two bytes at the key A; `lock:A:own:S` and `lock:A:other:X` a lock; `held:A` what the file holds
-//! for update; `unknown`, `path` and `changing`, why the file can't be opened; `stopped`; `used:464`
-//! the bytes of the log in use, of 496; `logged` and `live`, what the log has of the unit.
+//! two bytes at the key A; `kept:A` one that the other unit may bring back; `lock:A:own:S` and
+//! `lock:A:other:X` a lock; `held:A` what the file holds for update; `start`, `at:A`, `after:A`,
+//! `end` and `nowhere`, where it stands; `unknown`, `path` and `changing`, why it can't be opened;
+//! `stopped`; `used:464` the bytes of the log in use, of 496; `logged` and `live`, what the log has
+//! of the unit.
 
 use crate::answers::{Answer, Stop, say, say_number};
-use crate::small::{Ask, Keeps, Key, Name, OneLock, Small};
+use crate::small::{Ask, Keeps, Key, Name, OneLock, Small, Stands};
 use vr_text::number;
 use vr_types::{LockName, Mode, Place, Refusal, Reply, Unit};
 
@@ -57,6 +59,9 @@ fn with_value(case: Small, what: &str, value: &str) -> Result<Small, Stop> {
         },
         "lock" => case.lock = Some(lock_of(value)?),
         "held" => case.held = Some(key_of(value)?),
+        "kept" => case.kept = Some(key_of(value)?),
+        "at" => case.stands = Stands::At(key_of(value)?),
+        "after" => case.stands = Stands::After(key_of(value)?),
         "used" => case.used = number_of(value)?,
         "length" => case.ask = with_length(case.ask, number_of(value)?),
         _ => return Err(Stop::Line),
@@ -75,6 +80,9 @@ fn with_length(ask: Ask, length: u32) -> Ask {
 fn with_fact(case: Small, word: &str) -> Result<Small, Stop> {
     let mut case = case;
     match word {
+        "start" => case.stands = Stands::Start,
+        "end" => case.stands = Stands::End,
+        "nowhere" => case.stands = Stands::Nowhere,
         "unknown" => case.name = Name::Unknown,
         "path" => case.name = Name::ByPath,
         "changing" => case.changing = true,
@@ -89,8 +97,12 @@ fn with_fact(case: Small, word: &str) -> Result<Small, Stop> {
 
 fn with_integrity(ask: Ask, word: &str) -> Ask {
     match ask {
-        Ask::Get { key, update, keeps } => Ask::Get {
-            key,
+        Ask::Get {
+            sought,
+            update,
+            keeps,
+        } => Ask::Get {
+            sought,
             update: update || word == "update",
             keeps: keeps_of(keeps, word),
         },

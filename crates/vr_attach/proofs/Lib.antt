@@ -3,3 +3,5 @@ pub mod Heads
 pub mod Intervals
 pub mod Walks
 pub mod Passing
+pub mod Owning
+pub mod CallerLemmas

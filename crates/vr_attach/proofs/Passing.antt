@@ -1,6 +1,6 @@
 -- Going over a list while each element passes a test.
 use Rattle.std.proofs.Common.{◌≡◌, ℕ, List, [], ◌∷◌, All, Option, Some, None, Bor, IsTrue}
-use Rattle.std.proofs.Common.{Bool, true, false, ◌↔◌, true≢false, sym, ap, subst, ◌∙◌, map}
+use Rattle.std.proofs.Common.{Bool, false, ◌↔◌, true≢false, sym, ap, subst, ◌∙◌, map}
 use Rattle.std.specs.Prelude.{IfSome}
 use Rattle.std.specs.List.{AllByRecursion}
 use Rattle.std.specs.List.Sorted.{IsStrictlySortedBy}

@@ -14,7 +14,7 @@ use Rattle.vr_catalog.specs.Definition.{catalog_definition}
 use Rattle.vr_catalog.specs.declared.definition.Definition.{Definition}
 use Rattle.vr_catalog.specs.declared.entry.CatEntry.{CatEntry}
 use Rattle.vr_space.specs.Keyed.{Keyed}
-use Rattle.vr_space.specs.Part.{Shape, KeyedShape, InPart}
+use Rattle.vr_space.specs.Part.{Shape, KeyedShape, InFirstArea}
 
 -- a keyed part of this definition, whose first area is this one
 abbrev pub keyed_part : Geometry → ℕ → ℕ → Definition → Keyed
@@ -60,7 +60,8 @@ shape_in geometry entries part =
 abbrev pub shape_by : Geometry → Content → ℕ → Option Shape
 shape_by geometry catalog part = shape_in geometry (entries_in catalog) part
 
--- no block is in two parts
+-- no block is in the first areas of two parts
 abbrev pub AreApart : (ℕ → Option Shape) → Type 0
 AreApart shapes = (one other : ℕ) (here there : Shape) → shapes one ≡ Some here
-    → shapes other ≡ Some there → one ≢ other → (n : ℕ) → InPart here n → InPart there n → ⊥
+    → shapes other ≡ Some there → one ≢ other → (n : ℕ) → InFirstArea here n → InFirstArea there n
+    → ⊥

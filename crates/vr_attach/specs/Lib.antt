@@ -1,5 +1,6 @@
 pub mod Header
 pub mod CatalogRules
 pub mod Laid
+pub mod Owning
 pub mod Damage
 pub mod Attached

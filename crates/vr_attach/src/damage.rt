@@ -3,9 +3,9 @@ ghost use Rattle.std.specs.Prelude.{◌≡◌, ◌<◌, ◌≤◌, ◌+◌, ℕ,
 ghost use Rattle.vr_types.specs.Image.{block_at};
 ghost use Rattle.vr_types.specs.Blocks.{Keeps};
 ghost use Rattle.vr_types.specs.Faults.{HasCause};
-ghost use Rattle.vr_space.specs.Keyed.{HoldsRange, IsHead, entries_of};
+ghost use Rattle.vr_space.specs.Keyed.{HoldsRange, InArea, IsHead, entries_of};
 ghost use Rattle.vr_space.specs.Lent.{range_lent};
-ghost use Rattle.vr_space.specs.Part.{KeyedShape, InPart, IsOn, Stands};
+ghost use Rattle.vr_space.specs.Part.{KeyedShape, IsOn, Stands};
 ghost use Rattle.vr_attach.specs.Damage.{HoldsNth, IntervalBreaks, IsBadInterval, IsDamagedAt};
 ghost use Rattle.vr_attach.specs.Damage.{IsLeastBroken};
 
@@ -30,7 +30,7 @@ fn rule_at<B: Blocks>(
     range: &LentRange<'_>,
 ) -> Result<Option<Rule>, DeviceFault>
     requires on { IsOn (KeyedShape layout.now) (B.seen blocks.old) }
-    requires inside { InPart (KeyedShape layout.now) number }
+    requires inside { InArea layout.now number }
     ensures rule { IsTrue B.tells → IfOk result (λ rule. MatchOption rule
         (HoldsRange layout.now (range_lent range.now) (block_at (B.seen blocks.old).cur number))
         (IsLeastBroken (IntervalBreaks layout.now (range_lent range.now)

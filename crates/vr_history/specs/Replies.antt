@@ -1,7 +1,7 @@
 -- Which reply a request may have: its first refusal in the order in which they are tried, or what a
 -- request that is done answers (DFSMS Using Data Sets). In place of it may come a fault of the
 -- device, or that memory ran out. The order is this project's own.
-use Rattle.std.specs.Prelude.{◌≡◌, ◌⊎◌, ◌<◌, ℕ, Bool, true, false, not, List, [], ◌∷◌, ◌++◌, Option}
+use Rattle.std.specs.Prelude.{◌≡◌, ◌⊎◌, ℕ, Bool, true, false, not, List, [], ◌∷◌, ◌++◌, Option}
 use Rattle.std.specs.Prelude.{Some, None, ◌&&◌, IsTrue, bytes_eq, take, filter_map, is_none}
 use Rattle.std.specs.List.{list_any}
 use Rattle.std.specs.Option.{option_map_or}
@@ -28,7 +28,7 @@ use Rattle.vr_history.specs.RefusedFile.{bad_length, bad_slot, no_file, not_allo
 use Rattle.vr_history.specs.RefusedRecord.{absent, duplicate, duplicate_key, gone, held, is_taken}
 use Rattle.vr_history.specs.RefusedRecord.{key_changed, length_changed, no_get, no_position}
 use Rattle.vr_history.specs.RefusedRecord.{record_read}
-use Rattle.vr_history.specs.RefusedRoom.{free_areas, log_full, no_space}
+use Rattle.vr_history.specs.RefusedRoom.{log_full, no_space}
 
 -- the first of some refusals that has its cause
 abbrev pub first_of : List (Option Refusal) → Option Refusal
@@ -145,11 +145,15 @@ abbrev pub FillsKeyed : Case → Type 0
 FillsKeyed case = ((new_record case.request ≡ None → ⊥) × IsTrue (fills_base case))
     ⊎ IsTrue (list_any gains_pair (pair_moves case))
 
--- What may come in place of the answer. A state has no layout, so of a key-sequenced part it says
--- only that the areas needed are more than are free.
+-- A key-sequenced part that lacks room needs an area, and has none to take: it stays in its one.
+abbrev pub lacks_area : Refusal
+lacks_area = NoSpace 1 0
+
+-- What may come in place of the answer. A state has no layout, so of a key-sequenced part it doesn't
+-- say when it lacks room; the part says so.
 abbrev pub LacksRoom : Case → Reply → Type 0
-LacksRoom case reply = (first_of (before_room case) ≡ None) × FillsKeyed case × (need : ℕ)
-    × (free_areas case < need) × (reply ≡ Refused (NoSpace need (free_areas case)))
+LacksRoom case reply =
+    (first_of (before_room case) ≡ None) × FillsKeyed case × (reply ≡ Refused lacks_area)
 
 abbrev pub LacksMemory : Case → Reply → Type 0
 LacksMemory case reply = (first_of (before_all case) ≡ None) × IsTrue (may_want case.request)

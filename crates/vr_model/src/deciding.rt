@@ -13,7 +13,7 @@ ghost use Rattle.vr_model_state.specs.Seen.{case_in, seen};
 use crate::effects::last_kept;
 use std::alloc::Global;
 use vr_model_change::{KeyMove, pair_moves};
-use vr_model_reply::{answer, before_all, first_before_room, first_of, first_refusal, free_areas};
+use vr_model_reply::{answer, before_all, first_before_room, first_of, first_refusal};
 use vr_model_state::{
     FileState, OwnedArea, definition_in, keeps_any, new_record, number_of_deck, opened,
 };
@@ -132,13 +132,12 @@ fn fills_keyed(
     Ok((new_record(request).is_some() && fills) || gains)
 }
 
-/// Whether a reply is the one for lack of areas, with a need above what is free.
-fn is_no_space(reply: &Reply, areas: u32) -> bool
-    ensures { IsTrue result ↔ ((need : ℕ) × (areas < need)
-        × (reply.now ≡ Reply.Refused (Refusal.NoSpace need areas))) }
+/// Whether a reply is the one for want of an area, where none may be taken.
+fn lacks_area(reply: &Reply) -> bool
+    ensures { IsTrue result ↔ (reply.now ≡ Reply.Refused replies.lacks_area) }
 {
     match reply {
-        Reply::Refused(Refusal::NoSpace { need, free }) => *free == areas && (areas as u64) < *need,
+        Reply::Refused(Refusal::NoSpace { need, free }) => *need == 1 && *free == 0,
         _ => false,
     }
 }
@@ -155,8 +154,7 @@ fn lacks_room(
 {
     let none = none_before_room(alloc, state, unit, request)?;
     let fills = fills_keyed(alloc, state, unit, request)?;
-    let shown = is_no_space(reply, free_areas(state, unit, request));
-    Ok(none && fills && shown)
+    Ok(none && fills && lacks_area(reply))
 }
 
 fn is_memory(reply: &Reply) -> bool

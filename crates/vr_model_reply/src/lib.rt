@@ -9,5 +9,4 @@ mod refused_record;
 mod refused_room;
 mod replies;
 
-pub use refused_room::free_areas;
 pub use replies::{answer, before_all, first_before_room, first_of, first_refusal};

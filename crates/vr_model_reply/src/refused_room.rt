@@ -12,7 +12,7 @@ use vr_model_state::{FileState, Shape, areas_of, base_of, definition_in, new_rec
 use vr_types::{OutOfMemory, Place, Refusal, Request, Unit};
 
 /// The areas that no part has.
-pub fn free_areas(state: &FileState, unit: Unit, request: &Request) -> u32
+fn free_areas(state: &FileState, unit: Unit, request: &Request) -> u32
     ensures { result ≡ refusals.free_areas (case_in state.now unit request.now) }
 {
     let areas = state.shape.geometry().areas();

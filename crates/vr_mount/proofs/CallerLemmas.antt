@@ -1,13 +1,19 @@
 -- What the crates above cite of the parts of a catalog.
-use Rattle.std.proofs.Common.{◌≡◌, ◌∙◌, ℕ, List, Some, sym, arith}
+use Rattle.std.proofs.Common.{◌≡◌, ◌∙◌, ℕ, ◌+◌, ◌≤◌, List, Option, Some, sym, ap, arith}
+use Rattle.vr_types.specs.Geometry.{head_block}
+use Rattle.vr_types.specs.Image.{Image}
 use Rattle.vr_types.specs.Seen.{Seen}
 use Rattle.vr_types.specs.declared.geometry.Geometry.{Geometry}
+use Rattle.vr_types.specs.declared.unit.PartNo.{PartNo}
 use Rattle.vr_catalog.specs.declared.entry.CatEntry.{CatEntry}
 use Rattle.vr_log.specs.LogNow.{IsOf}
-use Rattle.vr_space.specs.Part.{IsOn, KeyedShape, Shape}
+use Rattle.vr_space.specs.Part.{InFirstArea, IsOn, KeyedShape, Shape, StaysIn}
 use Rattle.vr_attach.specs.Laid.{shape_in}
-use Rattle.vr_mount.specs.Areas.{AreOn, EndsBefore}
+use Rattle.vr_attach.specs.Owning.{owner_of}
+use Rattle.vr_attach.proofs.CallerLemmas.{area-owned, first-stays, laid-as}
+use Rattle.vr_mount.specs.Areas.{AreOn, AreOwners, EndsBefore}
 use Rattle.vr_mount.proofs.Laying.{IsAt, shape_at}
+use Rattle.vr_mount.proofs.Owning.{laid_in}
 
 on_at : (geometry : Geometry) (a : ℕ) (shape : Shape) (now : Seen) → IsOf geometry now
     → IsAt geometry a shape → EndsBefore geometry.blocks shape → IsOn shape now
@@ -21,3 +27,24 @@ pub on_blocks : (geometry : Geometry) (entries : List CatEntry) (now : Seen) →
 on_blocks geometry entries now of on part shape laid =
     let at = shape_at geometry entries part shape laid in
     on_at geometry at.0 shape now of at.2 (on part shape laid)
+
+-- its first area is the area
+first_at : (geometry : Geometry) (a n : ℕ) (shape : Shape) → IsAt geometry a shape
+    → InFirstArea shape n
+    → (head_block geometry a ≤ n) × (n ≤ head_block geometry a + geometry.area)
+first_at geometry a n (KeyedShape part) at inside =
+    (omega (arith, at.0, inside.0), omega (arith, at.0, at.1, inside.1))
+
+-- each part that is laid stays in the blocks that the owners of the areas give it
+pub owners_stay : (geometry : Geometry) (entries : List CatEntry) (areas : List (Option PartNo))
+    → AreOwners geometry entries areas → (part : ℕ) (shape : Shape)
+    → shape_in geometry entries part ≡ Some shape → (image : Image)
+    → StaysIn shape (owner_of geometry areas) image
+owners_stay geometry entries areas own part shape laid image =
+    let at = shape_at geometry entries part shape laid in
+    let whose : PartNo = record { 0 = part } in
+    first-stays shape (owner_of geometry areas) image (λ n inside.
+    let here = first_at geometry at.0 n shape at.2 inside in
+    area-owned geometry areas at.0 whose
+    (own.owned whose at.0 (laid_in geometry entries part at.0 at.1)) n here.0 here.1
+    ∙ ap Some (sym (laid-as geometry entries part shape laid).number))

@@ -13,7 +13,7 @@ use Rattle.vr_types.specs.declared.unit.Kind.TheVariants as kinds
 use Rattle.vr_catalog.specs.Catalog.{entry_with_part, cluster_definition}
 use Rattle.vr_catalog.specs.declared.definition.Definition.{Definition}
 use Rattle.vr_catalog.specs.declared.entry.CatEntry.{CatEntry}
-use Rattle.vr_space.specs.Part.{Shape, KeyedShape, InPart}
+use Rattle.vr_space.specs.Part.{Shape, KeyedShape, InFirstArea}
 use Rattle.vr_attach.specs.Laid.{keyed_shape, catalog_shape, shape_by_kind, shape_from, shape_of}
 use Rattle.vr_attach.specs.Laid.{shape_in}
 use Rattle.vr_attach.specs.Laid.{AreApart}
@@ -130,11 +130,11 @@ at_shape geometry entries part a is =
 -- ---- shapes in one area
 
 first_in : (geometry : Geometry) (a : ℕ) (shape : Shape) → IsAt geometry a shape
-    → InPart shape (head_block geometry a)
+    → InFirstArea shape (head_block geometry a)
 first_in geometry a (KeyedShape part) at = (omega (arith, at.0), omega (arith, at.0))
 
 same_area : (geometry : Geometry) (a b n : ℕ) (here there : Shape) → IsAt geometry a here
-    → IsAt geometry b there → InPart here n → InPart there n → a ≡ b
+    → IsAt geometry b there → InFirstArea here n → InFirstArea there n → a ≡ b
 same_area geometry a b n (KeyedShape here) (KeyedShape there) at to in-here in-there =
     one_area (1 + geometry.log) geometry.area a b n (omega (arith, at.0, in-here.0))
     (omega (arith, at.0, at.1, in-here.1)) (omega (arith, to.0, in-there.0))

@@ -44,7 +44,7 @@ at_begins : (geometry : Geometry) (area : ℕ) (shape : Shape) → IsAt geometry
     → BeginsWith (head_block geometry area) shape
 at_begins geometry area (KeyedShape part) at = at.0
 
-laid_in : (geometry : Geometry) (entries : List CatEntry) (part area : ℕ)
+pub laid_in : (geometry : Geometry) (entries : List CatEntry) (part area : ℕ)
     → area_in entries part ≡ Some area → IsLaidIn geometry entries part area
 laid_in geometry entries part area is =
     let at = at_shape geometry entries part area is in

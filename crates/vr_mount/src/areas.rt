@@ -15,8 +15,8 @@ use std::alloc::Global;
 use vr_catalog::{CatEntry, Catalog};
 use vr_types::{AreaNo, Geometry, OutOfMemory, PartNo, Space, space};
 
-/// Whether no block is in two of the parts that a catalog lays: no two of its clusters have the
-/// same first area, and none has area 0, which is the catalog's own.
+/// Whether no block is in the first areas of two of the parts that a catalog lays: no two of its
+/// clusters have the same first area, and none has area 0, which is the catalog's own.
 pub fn are_apart(catalog: &Catalog) -> bool
     requires { IsDistinct nat_eq (0 ∷ parts_in catalog.now) }
     ensures { (geometry : VolumeShape)

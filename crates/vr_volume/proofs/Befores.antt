@@ -14,6 +14,7 @@ use Rattle.vr_types.specs.Seen.{Left, Seen}
 use Rattle.vr_types.specs.declared.geometry.Geometry.{Geometry}
 use Rattle.vr_types.specs.declared.unit.PartNo.{PartNo}
 use Rattle.vr_types.specs.declared.unit.Unit.{Unit as UnitOfRecovery}
+use Rattle.vr_space.specs.Owners.{Owners}
 use Rattle.vr_space.specs.Part.{HasKeptRoom, HasOnly, IsPlaceOf, IsRecordOf, MayHold}
 use Rattle.vr_space.specs.Part.{Shape}
 use Rattle.vr_space.specs.Room.{Lengths, with_length}
@@ -79,9 +80,9 @@ option-first (Some x) other none = absurd (cc)
 shape-is : (one other : Shape) → Some one ≡ Some other → one ≡ other
 shape-is one other same = cc
 
-module _ (geometry : Geometry) (number : ℕ) (log : LogNow)
+module _ (geometry : Geometry) (number : ℕ) (owners : Owners) (log : LogNow)
     (committed : List LogRecord → ℕ → Content) (a : Seen) (unit : UnitOfRecovery) (part : PartNo)
-    (place : List ℕ) (old : Option (List ℕ)) (safe : IsSafe geometry number log committed a)
+    (place : List ℕ) (old : Option (List ℕ)) (safe : IsSafe geometry number owners log committed a)
     (left : Left a a.cur) (next : IsFirstBefore geometry log committed unit part place old) where
   abbrev pub rec : LogRecord
   rec = Before unit part place old
@@ -90,8 +91,9 @@ module _ (geometry : Geometry) (number : ℕ) (log : LogNow)
   image = image_of unit part place old
 
   -- by all records that there were
-  by-all : IsSafeBy geometry log.records (committed log.records) a
-  by-all = subst (λ (records : List LogRecord). IsSafeBy geometry records (committed records) a)
+  by-all : IsSafeBy geometry owners log.records (committed log.records) a
+  by-all = subst (λ
+      (records : List LogRecord). IsSafeBy geometry owners records (committed records) a)
       (take_all (length log.records) log.records (omega arith))
       (safe.by_log (first_of log (length log.records)) (inl (record {
         count = length log.records;
@@ -144,7 +146,8 @@ module _ (geometry : Geometry) (number : ℕ) (log : LogNow)
 
   module _ (other : ℕ) (shape : Shape)
       (laid : shape_by geometry (committed log.records 0) other ≡ Some shape) where
-    abbrev mine : IsPartSafe shape other (images_of log.records) (committed log.records other) a
+    abbrev mine : IsPartSafe shape owners other (images_of log.records) (committed log.records
+        other) a
     mine = by-all.parts other shape laid
 
     abbrev kept : Lengths
@@ -157,7 +160,7 @@ module _ (geometry : Geometry) (number : ℕ) (log : LogNow)
     -- the record that stands may be kept
     room-kept : (bytes : List ℕ) → old ≡ Some bytes → part.0 ≡ other
         → HasKeptRoom shape (with_length kept place (length bytes)) a
-    room-kept bytes is here = keep-room shape kept place (length bytes) a
+    room-kept bytes is here = keep-room shape owners kept place (length bytes) a
         (subst (λ (s : Shape). IsPlaceOf s place) (same-shape here) next.at)
         mine.sound mine.room
         (λ item held. (
@@ -177,7 +180,7 @@ module _ (geometry : Geometry) (number : ℕ) (log : LogNow)
     room-by true same (Some bytes) is =
         room-kept bytes is ((Decides-eqb part.0 other).0 same)
 
-    part-more : IsPartSafe shape other (images_of (log.records ++ rec ∷ []))
+    part-more : IsPartSafe shape owners other (images_of (log.records ++ rec ∷ []))
         (committed log.records other) a
     part-more = record {
       sound = mine.sound;
@@ -192,12 +195,12 @@ module _ (geometry : Geometry) (number : ℕ) (log : LogNow)
 
   -- ---- it may be put back
 
-  abbrev safe-here : IsPartSafe next.shape part.0 (images_of log.records)
+  abbrev safe-here : IsPartSafe next.shape owners part.0 (images_of log.records)
       (committed log.records part.0) a
   safe-here = by-all.parts part.0 next.shape next.laid
 
-  abbrev stands : HasOnly next.shape (MayHold next.shape a.may) a.cur
-  stands = sound-image next.shape a safe-here.sound a.cur (record {
+  abbrev stands : HasOnly next.shape owners (MayHold next.shape a.may) a.cur
+  stands = sound-image next.shape owners a safe-here.sound a.cur (record {
     each = λ n below inside. left.each n below;
   })
 
@@ -230,14 +233,15 @@ module _ (geometry : Geometry) (number : ℕ) (log : LogNow)
       (All-cons (CanPutBack (shape_by geometry (committed log.records 0))) image [] can-put-back
       (All-nil (CanPutBack (shape_by geometry (committed log.records 0))))))
 
-  by-more : IsSafeBy geometry (log.records ++ rec ∷ []) (committed (log.records ++ rec ∷ [])) a
-  by-more = subst (λ (contents : ℕ → Content). IsSafeBy geometry (log.records ++ rec ∷ []) contents
+  by-more : IsSafeBy geometry owners (log.records ++ rec ∷ []) (committed (log.records ++ rec ∷
+      [])) a
+  by-more = subst (λ (contents : ℕ
+      → Content). IsSafeBy geometry owners (log.records ++ rec ∷ []) contents
       a) (sym next.same)
       (record {
         committed = record {
           each = by-all.committed.each;
           catalog = by-all.committed.catalog;
-          apart = by-all.committed.apart;
           inside = by-all.committed.inside;
           others = by-all.committed.others;
           images = images-back;
@@ -250,14 +254,16 @@ module _ (geometry : Geometry) (number : ℕ) (log : LogNow)
       })
 
   -- The blocks are safe whether or not an image has the record.
-  pub safe-more : IsSafe geometry number (with_record log rec) committed a
+  pub safe-more : IsSafe geometry number owners (with_record log rec) committed a
   safe-more = record {
     allowed = safe.allowed;
+    past = safe.past;
     blocks = safe.blocks;
     shape = safe.shape;
     header = safe.header;
     logs = λ image left. has_more log rec image (safe.logs image left);
     by_log = λ content is. ⊎_elim (λ before. safe.by_log content before)
-        (λ all. subst (λ (c : LogContent). IsSafeBy geometry c.records (committed c.records) a)
+        (λ all. subst (λ
+        (c : LogContent). IsSafeBy geometry owners c.records (committed c.records) a)
         (sym all) by-more) (log-cases log rec content is);
   }

@@ -10,9 +10,11 @@ use Rattle.vr_types.specs.Regions.{IsImageOn, Outside, Touches}
 use Rattle.vr_types.specs.Seen.{Left, Seen}
 use Rattle.vr_types.specs.declared.geometry.Geometry.{Geometry}
 use Rattle.vr_types.proofs.CallerLemmas.{during-weaken}
-use Rattle.vr_space.specs.Keyed.{entries_of, keyed_way}
+use Rattle.vr_space.specs.Owners.{Owners}
+use Rattle.vr_space.specs.Keyed.{IsKeyedSound, entries_of, keyed_way}
 use Rattle.vr_space.specs.Part.{AddsTo, HasKeptRoom, HasOnly, HasRoom, InPart, IsSound, KeyedShape}
-use Rattle.vr_space.specs.Part.{Just, MayAlsoHold, Nothing, Shape}
+use Rattle.vr_space.specs.Part.{IsAtRest, IsQuiet, Just, MayAlsoHold, Nothing, Shape, part_no}
+use Rattle.vr_attach.specs.Owning.{IsPastLog}
 use Rattle.vr_space.specs.Room.{Lengths}
 use Rattle.vr_space.proofs.CallerLemmas.{each-less, find-more, head-in, IsBlock, keyed-less}
 use Rattle.vr_space.proofs.CallerLemmas.{StaysPart}
@@ -28,48 +30,50 @@ use Rattle.vr_volume.specs.Laying.{IsFreeIn, IsLaidSo}
 use Rattle.vr_volume.specs.PutBack.{images_of, oldest}
 use Rattle.vr_volume.specs.Safe.{IsItemOf, IsPartIn, IsPartSafe, IsSafe}
 use Rattle.vr_volume.specs.Safe.{IsSafeImage}
-use Rattle.vr_volume.proofs.Apart.{part-past}
+use Rattle.vr_volume.proofs.Apart.{part-apart}
 use Rattle.vr_volume.proofs.Recovering.{each_image_is_safe, part-in}
 
 -- ---- where less may be left of a part
 
 module _ (a b : Seen) (count : b.count ≡ a.count) (size : b.size ≡ a.size) where
-  abbrev pub Fewer : Shape → Type 0
-  Fewer shape = (n : ℕ) (block : Block) → n < a.count → InPart shape n → b.may n block
+  abbrev pub Fewer : Shape → Owners → Type 0
+  Fewer shape owners = (n : ℕ) (block : Block) → n < a.count → InPart shape owners n → b.may n block
       → a.may n block
 
-  pub safe-less : (shape : Shape) (part : ℕ) (images : List BeforeImage) (content : Content)
-      → Fewer shape → IsPartSafe shape part images content a
-      → IsPartSafe shape part images content b
-  safe-less (KeyedShape keyed) part images content fewer safe =
+  pub safe-less : (shape : Shape) (owners : Owners) (part : ℕ)
+      (images : List BeforeImage) (content : Content)
+      → Fewer shape owners → IsPartSafe shape owners part images content a
+      → IsPartSafe shape owners part images content b
+  safe-less (KeyedShape keyed) owners part images content fewer safe =
+      let sound : IsKeyedSound keyed a = safe.sound.0 in
       let less : (n : ℕ) (block : Block) → IsBlock keyed a n → b.may n block → a.may n block =
-      λ n block is. fewer n block is.0 is.1 in
-      let sound : IsSound (KeyedShape keyed) b = keyed-less keyed a b count size less safe.sound in
+      λ n block is. fewer n block is.0 (safe.sound.1 n is.1) in
       record {
-        sound = sound;
+        sound = (keyed-less keyed a b count size less sound, safe.sound.1);
         items = λ place found held. safe.items place found
             (find-more (IsBlock keyed a) b.may a.may found less (keyed_way keyed place)
             (within-less (IsBlock keyed a) b.may a.may less (keyed_way keyed place)
-            (keyed-within keyed a safe.sound place)) held);
+            (keyed-within keyed a sound place)) held);
         room = record {
           places = safe.room.places;
           each = λ top may.
               let before : a.may keyed.head top =
               less keyed.head top
-              (omega (arith, safe.sound.area), (omega arith, omega arith)) may in
-              each-less keyed a b _ None (entries_of top) less safe.sound.area
-              (head-in keyed top (safe.sound.heads top before)) (safe.room.each top before);
+              (omega (arith, sound.area), (omega arith, omega arith)) may in
+              each-less keyed a b _ None (entries_of top) less sound.area
+              (head-in keyed top (sound.heads top before)) (safe.room.each top before);
         };
       }
 
 -- ---- calls that put nothing
 
-module _ (tells : Bool) (told : IsTrue tells) (geometry : Geometry) (number : ℕ) (log : LogNow)
-    (committed : List LogRecord → ℕ → Content) where
-  pub safe-keeps : (a b : Seen) → Keeps tells a b → IsSafe geometry number log committed a
-      → IsSafe geometry number log committed b
+module _ (tells : Bool) (told : IsTrue tells) (geometry : Geometry) (number : ℕ)
+    (owners : Owners) (log : LogNow) (committed : List LogRecord → ℕ → Content) where
+  pub safe-keeps : (a b : Seen) → Keeps tells a b → IsSafe geometry number owners log committed a
+      → IsSafe geometry number owners log committed b
   safe-keeps a b call safe = record {
     allowed = safe.allowed;
+    past = safe.past;
     blocks = record {
       count = call.count_same ∙ safe.blocks.count;
       size = call.size_same ∙ safe.blocks.size;
@@ -84,7 +88,7 @@ module _ (tells : Bool) (told : IsTrue tells) (geometry : Geometry) (number : �
     });
     by_log = λ content is. record {
       committed = (safe.by_log content is).committed;
-      parts = λ part shape laid. safe-less a b call.count_same call.size_same shape part
+      parts = λ part shape laid. safe-less a b call.count_same call.size_same shape owners part
           (images_of content.records) (committed content.records part)
           (λ n block below inside may. call.adds_none told n block below may)
           ((safe.by_log content is).parts part shape laid);
@@ -92,12 +96,12 @@ module _ (tells : Bool) (told : IsTrue tells) (geometry : Geometry) (number : �
   }
 
   -- and each image of each moment is a safe one
-  pub guards-keeps : (a b : Seen) → Keeps tells a b → IsSafe geometry number log committed a
-      → Guards a b (IsSafeImage geometry number log committed)
+  pub guards-keeps : (a b : Seen) → Keeps tells a b → IsSafe geometry number owners log committed a
+      → Guards a b (IsSafeImage geometry number owners log committed)
   guards-keeps a b call safe = record {
     during = during-weaken a b (Left a) _ (call.moments told)
-        (each_image_is_safe geometry number log committed a safe);
-    rest = each_image_is_safe geometry number log committed b (safe-keeps a b call safe);
+        (each_image_is_safe geometry number owners log committed a safe);
+    rest = each_image_is_safe geometry number owners log committed b (safe-keeps a b call safe);
   }
 
 -- ---- calls of a part
@@ -110,13 +114,13 @@ AddsSafe geometry log committed part shape A = (content : LogContent) → IsLogO
     → (place : List ℕ) (found : Option Item) → A place found
     → IsItemOf part (images_of content.records) (committed content.records part) place found
 
-module _ (geometry : Geometry) (number : ℕ) (log : LogNow)
+module _ (geometry : Geometry) (number : ℕ) (owners : Owners) (log : LogNow)
     (committed : List LogRecord → ℕ → Content) (part : ℕ) (shape : Shape) (kept : Lengths)
     (A : List ℕ → Option Item → Type 0) (a b : Seen)
-    (safe : IsSafe geometry number log committed a)
+    (safe : IsSafe geometry number owners log committed a)
     (laid : IsLaidSo geometry log committed part shape kept)
-    (added : AddsSafe geometry log committed part shape A) (adds : AddsTo shape A a b)
-    (rooms : Touches (InPart shape) (HasRoom shape kept) a b) where
+    (added : AddsSafe geometry log committed part shape A) (adds : AddsTo shape owners A a b)
+    (rooms : Touches (InPart shape owners) (HasRoom shape kept) a b) where
   equal-or : (one other : ℕ) → (one ≡ other) ⊎ (one ≢ other)
   equal-or one other = ⊎_elim
       (λ less. inr (λ same. omega (arith, less, same)))
@@ -128,31 +132,19 @@ module _ (geometry : Geometry) (number : ℕ) (log : LogNow)
   some-same one other same = cc
 
   -- the header and the log are outside the part
-  out-header : (content : LogContent) → IsLogOf log content → Outside (InPart shape) 0
-  out-header content is inside =
-      omega (
-        arith,
-        part-past geometry (committed content.records 0) part shape
-            (laid content is).laid 0 inside,
-      )
+  out-header : Outside (InPart shape owners) 0
+  out-header inside = omega (arith, safe.past 0 (part_no shape).0 inside)
 
-  out-log : (content : LogContent) → IsLogOf log content → (n : ℕ) → InLog geometry n
-      → Outside (InPart shape) n
-  out-log content is n inside there =
-      omega (
-        arith,
-        inside.1,
-        part-past geometry (committed content.records 0) part shape
-            (laid content is).laid n there,
-      )
+  out-log : (n : ℕ) → InLog geometry n → Outside (InPart shape owners) n
+  out-log n inside there = omega (arith, inside.1, safe.past n (part_no shape).0 there)
 
   -- what a call leaves of the part in an image
   part-image : (content : LogContent) (is : IsLogOf log content) (image : Image)
-      → HasOnly shape (MayAlsoHold shape a.may A) image → HasRoom shape kept image
-      → IsPartIn shape part (images_of content.records) (committed content.records part) image
+      → HasOnly shape owners (MayAlsoHold shape a.may A) image → HasRoom shape kept image
+      → IsPartIn shape owners part (images_of content.records) (committed content.records part)
+      image
   part-image content is image has room = record {
-    has = only-weaken shape (MayAlsoHold shape a.may A) _
-        (λ place found. ⊎_elim
+    has = only-weaken shape owners (MayAlsoHold shape a.may A) _ (λ place found. ⊎_elim
         (((safe.by_log content is).parts part shape (laid content is).laid).items place found)
         (added content is place found))
         image has;
@@ -162,31 +154,33 @@ module _ (geometry : Geometry) (number : ℕ) (log : LogNow)
 
   -- the other parts are as they were
   other-image : (content : LogContent) (is : IsLogOf log content) (image : Image)
-      → IsImageOn (Outside (InPart shape)) a.count a.may image → (other : ℕ) (there : Shape)
+      → IsImageOn (Outside (InPart shape owners)) a.count a.may image → (other : ℕ) (there : Shape)
       → shape_by geometry (committed content.records 0) other ≡ Some there → other ≢ part
-      → IsPartIn there other (images_of content.records) (committed content.records other) image
+      → IsPartIn there owners other (images_of content.records) (committed content.records other)
+      image
   other-image content is image left other there at apart =
-      part-in there other (images_of content.records) (committed content.records other) a
+      part-in there owners other (images_of content.records) (committed content.records other) a
       ((safe.by_log content is).parts other there at) image
       (record {
         each = λ n below inside. left.each n below
-            ((safe.by_log content is).committed.apart other part there shape at
+            (part-apart geometry owners (committed content.records 0) other part there shape at
             (laid content is).laid apart n inside);
       })
 
   each-image : (content : LogContent) (is : IsLogOf log content) (image : Image)
-      → IsImageOn (Outside (InPart shape)) a.count a.may image
-      → HasOnly shape (MayAlsoHold shape a.may A) image → HasRoom shape kept image
+      → IsImageOn (Outside (InPart shape owners)) a.count a.may image
+      → HasOnly shape owners (MayAlsoHold shape a.may A) image → HasRoom shape kept image
       → (other : ℕ) (there : Shape)
       → shape_by geometry (committed content.records 0) other ≡ Some there
-      → IsPartIn there other (images_of content.records) (committed content.records other) image
+      → IsPartIn there owners other (images_of content.records) (committed content.records other)
+      image
   each-image content is image left has room other there at = ⊎_elim
       (λ same.
       let here : shape_by geometry (committed content.records 0) part ≡ Some there =
       subst (λ (p : ℕ). shape_by geometry (committed content.records 0) p ≡ Some there) same at in
-      subst (λ (p : ℕ). IsPartIn there p (images_of content.records)
+      subst (λ (p : ℕ). IsPartIn there owners p (images_of content.records)
       (committed content.records p) image) (sym same)
-      (subst (λ (s : Shape). IsPartIn s part (images_of content.records)
+      (subst (λ (s : Shape). IsPartIn s owners part (images_of content.records)
       (committed content.records part) image)
       (some-same shape there (sym (laid content is).laid ∙ here))
       (part-image content is image has room)))
@@ -194,17 +188,17 @@ module _ (geometry : Geometry) (number : ℕ) (log : LogNow)
       (equal-or other part)
 
   -- an image whose other blocks are as they were is a safe one
-  image-safe : (image : Image) → IsImageOn (Outside (InPart shape)) a.count a.may image
-      → HasOnly shape (MayAlsoHold shape a.may A) image → HasRoom shape kept image
+  image-safe : (image : Image) → IsImageOn (Outside (InPart shape owners)) a.count a.may image
+      → HasOnly shape owners (MayAlsoHold shape a.may A) image → HasRoom shape kept image
       → (content : LogContent) → Spells log.geometry image content → IsLogOf log content
-      → IsSafeImage geometry number log committed image
+      → IsSafeImage geometry number owners log committed image
   image-safe image left has room content spells is = (
     content,
     is,
     record {
+      past = safe.past;
       header = safe.header (block_at image 0)
-          (left.each 0 (omega (arith, safe.blocks.count, safe.allowed.two_areas))
-          (out-header content is));
+          (left.each 0 (omega (arith, safe.blocks.count, safe.allowed.two_areas)) out-header);
       log_is = subst (λ (g : Geometry). Spells g image content) safe.shape spells;
       committed = (safe.by_log content is).committed;
       parts = each-image content is image left has room;
@@ -214,27 +208,21 @@ module _ (geometry : Geometry) (number : ℕ) (log : LogNow)
   -- ---- what the call leaves
 
   module _ (left : Left a a.cur) (room : HasKeptRoom shape kept b) where
-    -- a log that there may be
-    some-log : HasLog log a.cur
-    some-log = safe.logs a.cur (record { each = λ n below inside. left.each n below })
-
-    log-outside : (n : ℕ) → InLog geometry n → Outside (InPart shape) n
-    log-outside n inside = out-log some-log.0 some-log.2 n inside
-
     moment-safe : (image : Image)
-        → IsImageOn (Outside (InPart shape)) a.count a.may image
-        × HasOnly shape (MayAlsoHold shape a.may A) image
-        → HasRoom shape kept image → IsSafeImage geometry number log committed image
+        → IsImageOn (Outside (InPart shape owners)) a.count a.may image
+        × HasOnly shape owners (MayAlsoHold shape a.may A) image
+        → HasRoom shape kept image → IsSafeImage geometry number owners log committed image
     moment-safe image has rooms-has =
         let log-has : HasLog log image = safe.logs image (record {
-          each = λ n below inside. has.0.each n below (log-outside n inside);
+          each = λ n below inside. has.0.each n below (out-log n inside);
         }) in
         image-safe image has.0 has.1 rooms-has log-has.0 log-has.1 log-has.2
 
     -- Once it has ended the volume is safe.
-    pub part-after : IsSafe geometry number log committed b
+    pub part-after : IsSafe geometry number owners log committed b
     part-after = record {
       allowed = safe.allowed;
+      past = safe.past;
       blocks = record {
         count = adds.touches.count_same ∙ safe.blocks.count;
         size = adds.touches.size_same ∙ safe.blocks.size;
@@ -242,19 +230,19 @@ module _ (geometry : Geometry) (number : ℕ) (log : LogNow)
       shape = safe.shape;
       header = λ block may. safe.header block (adds.touches.adds_none 0 block
           (omega (arith, safe.blocks.count, safe.allowed.two_areas))
-          (out-header some-log.0 some-log.2) may);
+          out-header may);
       logs = λ image image-left. safe.logs image (record {
-        each = λ n below inside. adds.touches.adds_none n _ below (log-outside n inside)
+        each = λ n below inside. adds.touches.adds_none n _ below (out-log n inside)
             (image-left.each n (omega (arith, below, adds.touches.count_same)) inside);
       });
       by_log = λ content is. record {
         committed = (safe.by_log content is).committed;
         parts = λ other there at. ⊎_elim
             (λ same. here-after content is other there at same)
-            (λ apart. safe-less a b adds.touches.count_same adds.touches.size_same there other
-            (images_of content.records) (committed content.records other)
+            (λ apart. safe-less a b adds.touches.count_same adds.touches.size_same there owners
+            other (images_of content.records) (committed content.records other)
             (λ n block below inside may. adds.touches.adds_none n block below
-            ((safe.by_log content is).committed.apart other part there shape at
+            (part-apart geometry owners (committed content.records 0) other part there shape at
             (laid content is).laid apart n inside) may)
             ((safe.by_log content is).parts other there at))
             (equal-or other part);
@@ -262,7 +250,8 @@ module _ (geometry : Geometry) (number : ℕ) (log : LogNow)
     }
       where
         mine-after : (content : LogContent) → IsLogOf log content
-            → IsPartSafe shape part (images_of content.records) (committed content.records part) b
+            → IsPartSafe shape owners part (images_of content.records) (committed content.records
+            part) b
         mine-after content is = record {
           sound = adds.sound;
           items = λ place found held. ⊎_elim
@@ -274,20 +263,20 @@ module _ (geometry : Geometry) (number : ℕ) (log : LogNow)
 
         here-after : (content : LogContent) → IsLogOf log content → (other : ℕ) (there : Shape)
             → shape_by geometry (committed content.records 0) other ≡ Some there → other ≡ part
-            → IsPartSafe there other (images_of content.records)
+            → IsPartSafe there owners other (images_of content.records)
             (committed content.records other) b
         here-after content is other there at same =
             let here : shape_by geometry (committed content.records 0) part ≡ Some there =
             subst (λ (p : ℕ). shape_by geometry (committed content.records 0) p ≡ Some there)
             same at in
-            subst (λ (p : ℕ). IsPartSafe there p (images_of content.records)
+            subst (λ (p : ℕ). IsPartSafe there owners p (images_of content.records)
             (committed content.records p) b) (sym same)
-            (subst (λ (s : Shape). IsPartSafe s part (images_of content.records)
+            (subst (λ (s : Shape). IsPartSafe s owners part (images_of content.records)
             (committed content.records part) b)
             (some-same shape there (sym (laid content is).laid ∙ here)) (mine-after content is))
 
     -- At each moment of it each image is a safe one, and so is each that is left.
-    pub part-guards : Guards a b (IsSafeImage geometry number log committed)
+    pub part-guards : Guards a b (IsSafeImage geometry number owners log committed)
     part-guards = record {
       during = record {
         forward = adds.touches.moments.forward;
@@ -297,7 +286,7 @@ module _ (geometry : Geometry) (number : ℕ) (log : LogNow)
             (adds.touches.moments.each t image from to there)
             (rooms.moments.each t image from to there).1;
       };
-      rest = each_image_is_safe geometry number log committed b part-after;
+      rest = each_image_is_safe geometry number owners log committed b part-after;
     }
 
 -- ---- what may be added
@@ -321,13 +310,73 @@ free-safe geometry log committed part shape at new free content is place found h
 -- ---- a part while the log is put
 
 -- a part past the log stays as it is
-pub stays-part : (geometry : Geometry) (shape : Shape) (Q : Image → Type 0) (a b : Seen)
-    → ((n : ℕ) → InPart shape n → geometry.log < n) → Touches (InLog geometry) Q a b
-    → StaysPart shape a b
-stays-part geometry shape Q a b past call = record {
+pub stays-part : (geometry : Geometry) (shape : Shape) (owners : Owners) (Q : Image → Type 0)
+    (a b : Seen) → IsPastLog geometry owners → Touches (InLog geometry) Q a b
+    → StaysPart shape owners a b
+stays-part geometry shape owners Q a b past call = record {
   count = call.count_same;
   size = call.size_same;
-  same = λ n inside. call.content n (λ there. omega (arith, there.1, past n inside));
+  same = λ n inside. call.content n
+      (λ there. omega (arith, there.1, past n (part_no shape).0 inside));
   fewer = λ n block below inside may. call.adds_none n block below
-      (λ there. omega (arith, there.1, past n inside)) may;
+      (λ there. omega (arith, there.1, past n (part_no shape).0 inside)) may;
+}
+
+-- ---- owners
+
+-- a part that is at rest by some owners is so by those by which it is sound
+quiet-rests : (shape : Shape) (owners : Owners) (now : Seen) → IsQuiet shape now
+    → IsSound shape owners now → IsAtRest shape owners now
+quiet-rests (KeyedShape part) owners now quiet sound = (quiet.1.0, sound.1)
+
+-- a part of a safe volume
+pub quiet-safe : (geometry : Geometry) (number : ℕ) (owners : Owners) (log : LogNow)
+    (committed : List LogRecord → ℕ → Content) (part : ℕ) (shape : Shape) (kept : Lengths)
+    (now : Seen) → IsSafe geometry number owners log committed now → Left now now.cur
+    → IsLaidSo geometry log committed part shape kept → IsQuiet shape now
+    → IsAtRest shape owners now
+quiet-safe geometry number owners log committed part shape kept now safe left laid quiet =
+    let some : HasLog log now.cur = safe.logs now.cur (record {
+      each = λ n below inside. left.each n below;
+    }) in
+    quiet-rests shape owners now quiet
+    ((safe.by_log some.0 some.2).parts part shape (laid some.0 some.2).laid).sound
+
+-- other owners who leave each part the blocks that it has
+abbrev pub Leaves : Owners → Owners → Type 0
+Leaves owners grown = (n part : ℕ) → owners n ≡ Some part → grown n ≡ Some part
+
+pub sound-grows : (shape : Shape) (owners grown : Owners) (now : Seen) → Leaves owners grown
+    → IsSound shape owners now → IsSound shape grown now
+sound-grows (KeyedShape part) owners grown now leaves (sound, owned) =
+    (sound, λ n inside. leaves n part.part (owned n inside))
+
+pub rest-grows : (shape : Shape) (owners grown : Owners) (now : Seen) → Leaves owners grown
+    → IsAtRest shape owners now → IsAtRest shape grown now
+rest-grows (KeyedShape part) owners grown now leaves (rests, owned) =
+    (rests, λ n inside. leaves n part.part (owned n inside))
+
+-- the volume is safe by them, too
+pub safe-grows : (geometry : Geometry) (number : ℕ) (owners grown : Owners) (log : LogNow)
+    (committed : List LogRecord → ℕ → Content) (now : Seen) → Leaves owners grown
+    → IsPastLog geometry grown → IsSafe geometry number owners log committed now
+    → IsSafe geometry number grown log committed now
+safe-grows geometry number owners grown log committed now leaves past safe = record {
+  allowed = safe.allowed;
+  past = past;
+  blocks = safe.blocks;
+  shape = safe.shape;
+  header = safe.header;
+  logs = safe.logs;
+  by_log = λ content is. record {
+    committed = (safe.by_log content is).committed;
+    parts = λ part shape laid.
+        let mine : IsPartSafe shape owners part (images_of content.records)
+        (committed content.records part) now = (safe.by_log content is).parts part shape laid in
+        record {
+          sound = sound-grows shape owners grown now leaves mine.sound;
+          items = mine.items;
+          room = mine.room;
+        };
+  };
 }

@@ -24,7 +24,7 @@ use Rattle.vr_volume.specs.Committed.{kept_by}
 use Rattle.vr_volume.specs.Laid.{shape_by}
 use Rattle.vr_volume.specs.PutBack.{AreAlone, images_of, oldest, put_back}
 use Rattle.vr_volume.specs.Safe.{AreCommitted}
-use Rattle.vr_volume.specs.Volume.{AreApart, CanPutBack, IsInside}
+use Rattle.vr_volume.specs.Volume.{CanPutBack, IsInside}
 use Rattle.vr_volume.proofs.PuttingBack.{back-ascends, back-item}
 
 -- ---- contents to which nothing is put back
@@ -35,7 +35,8 @@ pub back-apart : (part : ℕ) (images : List BeforeImage) (content : Content)
 back-apart part [] content none = refl
 back-apart part (image ∷ images) content none =
     by_part (image.part == part) refl
-    (back-apart part images content (All-tail (λ (i : BeforeImage). i.part ≢ part) image images none))
+    (back-apart part images content (All-tail (λ
+    (i : BeforeImage). i.part ≢ part) image images none))
   where
     by_part : (mine : Bool) → (image.part == part) ≡ mine → put_back part images content ≡ content
         → cond mine (placed_in image.place image.old (put_back part images content))
@@ -56,7 +57,8 @@ past-none numbers unit (Before other part place old ∷ records) past current =
     (All-tail (IsPast numbers) (Before other part place old) records past) current
 past-none numbers unit (End other kind ∷ records) past current =
     by_same (same_unit other unit) refl
-    (past-none numbers unit records (All-tail (IsPast numbers) (End other kind) records past) current)
+    (past-none numbers unit records (All-tail (IsPast numbers)
+    (End other kind) records past) current)
   where
     by_same : (same : Bool) → same_unit other unit ≡ same → has_commit records unit ≡ false
         → ((same && is_committing kind) || has_commit records unit) ≡ false
@@ -189,8 +191,6 @@ module _ (geometry : Geometry) (state : State) (laid : IsLaidState geometry stat
   are-committed records inside images alone olds = record {
     each = committed-ascends records;
     catalog = subst (IsCatalog geometry) (sym (catalog-same records)) laid.catalog;
-    apart = subst (λ (catalog : Content). AreApart (shape_by geometry catalog))
-        (sym (catalog-same records)) laid.apart;
     inside = λ part shape is. inside part shape
         (sym (ap (λ (catalog : Content). shape_by geometry catalog part) (catalog-same records))
         ∙ is);

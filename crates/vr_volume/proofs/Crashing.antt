@@ -10,6 +10,7 @@ use Rattle.vr_types.specs.Seen.{Seen}
 use Rattle.vr_types.specs.declared.geometry.Geometry.{Geometry}
 use Rattle.vr_types.specs.declared.unit.PartNo.{PartNo}
 use Rattle.vr_types.specs.declared.unit.Unit.{Unit as UnitOfRecovery}
+use Rattle.vr_space.specs.Owners.{Owners}
 use Rattle.vr_altkey.proofs.CallerLemmas.{same_items}
 use Rattle.vr_log.specs.Content.{Content as LogContent}
 use Rattle.vr_log.specs.LogNow.{IsLogOf, LogNow, with_record}
@@ -87,8 +88,9 @@ recovers-same geometry number image one other same recovers = record {
   back = λ part. sym (same part) ∙ recovers.back part;
 }
 
-module _ (geometry : Geometry) (number : ℕ) (log : LogNow) (images : List BeforeImage)
-    (state : State) (now : Seen) (rest : IsVolumeAtRest geometry number log images state now) where
+module _ (geometry : Geometry) (number : ℕ) (owners : Owners) (log : LogNow)
+    (images : List BeforeImage) (state : State) (now : Seen)
+    (rest : IsVolumeAtRest geometry number owners log images state now) where
   -- the item of a place by the state alone
   abbrev item : ℕ → List ℕ → Type 0
   item part place = (records : List LogRecord)
@@ -141,19 +143,21 @@ module _ (geometry : Geometry) (number : ℕ) (log : LogNow) (images : List Befo
       (none-ended geometry state rest.laid log rest.logged))
 
   -- An image that is safe by the log recovers to what is committed in the state.
-  pub rest-recovers : (image : Image) → IsSafeImage geometry number log (committed_by state) image
+  pub rest-recovers : (image : Image)
+      → IsSafeImage geometry number owners log (committed_by state) image
       → RecoversTo geometry number state [] image
   rest-recovers image safe = recovers-same geometry number image
       (committed_by state safe.0.records) (committed_with [] state)
       (own-contents safe.0 safe.1)
-      (image_recovers geometry number image safe.0 (committed_by state safe.0.records) safe.2)
+      (image_recovers geometry number owners image safe.0 (committed_by state safe.0.records)
+      safe.2)
 
   -- One that is safe by the log with a record more recovers to that, or to what is committed with the
   -- units counted that the record commits.
   more-recovers : (rec : LogRecord) (counted : List UnitOfRecovery)
       → ((unit : UnitOfRecovery) → commits_unit unit rec ≡ is_among counted unit)
       → (image : Image)
-      → IsSafeImage geometry number (with_record log rec) (committed_by state) image
+      → IsSafeImage geometry number owners (with_record log rec) (committed_by state) image
       → RecoversTo geometry number state [] image ⊎ RecoversTo geometry number state counted image
   more-recovers rec counted is image safe = ⊎_elim
       (λ own. inl (rest-recovers image (safe.0, own, safe.2)))
@@ -161,21 +165,21 @@ module _ (geometry : Geometry) (number : ℕ) (log : LogNow) (images : List Befo
       (committed_by state safe.0.records) (committed_with counted state)
       (λ part. ap (λ (content : LogContent). committed_by state content.records part) all
       ∙ more-contents rec counted is part)
-      (image_recovers geometry number image safe.0 (committed_by state safe.0.records) safe.2)))
-      (log-cases log rec safe.0 safe.1)
+      (image_recovers geometry number owners image safe.0 (committed_by state safe.0.records)
+      safe.2))) (log-cases log rec safe.0 safe.1)
 
   -- A before-image commits nothing,
   pub before-recovers : (unit : UnitOfRecovery) (part : PartNo) (place : List ℕ)
       (old : Option (List ℕ)) (image : Image)
-      → IsSafeImage geometry number (with_record log (Before unit part place old))
+      → IsSafeImage geometry number owners (with_record log (Before unit part place old))
       (committed_by state) image → RecoversTo geometry number state [] image
   before-recovers unit part place old image safe = ⊎_elim (λ one. one) (λ one. one)
       (more-recovers (Before unit part place old) [] (λ other. refl) image safe)
 
   -- nor does a unit that is backed out,
   pub backed-out-recovers : (unit : UnitOfRecovery) (image : Image)
-      → IsSafeImage geometry number (with_record log (End unit BackedOut)) (committed_by state)
-      image → RecoversTo geometry number state [] image
+      → IsSafeImage geometry number owners (with_record log
+      (End unit BackedOut)) (committed_by state) image → RecoversTo geometry number state [] image
   backed-out-recovers unit image safe = ⊎_elim (λ one. one) (λ one. one)
       (more-recovers (End unit BackedOut) [] (λ other. and-false (same_unit unit other)) image
       safe)
@@ -186,8 +190,8 @@ module _ (geometry : Geometry) (number : ℕ) (log : LogNow) (images : List Befo
 
   -- and a commit counts its unit.
   pub commit-recovers : (unit : UnitOfRecovery) (image : Image)
-      → IsSafeImage geometry number (with_record log (End unit Committed)) (committed_by state)
-      image → RecoversTo geometry number state [] image
+      → IsSafeImage geometry number owners (with_record log
+      (End unit Committed)) (committed_by state) image → RecoversTo geometry number state [] image
       ⊎ RecoversTo geometry number state (unit ∷ []) image
   commit-recovers unit image safe =
       more-recovers (End unit Committed) (unit ∷ []) (λ other. both (same_unit unit other)) image

@@ -1,7 +1,7 @@
 -- What the calls that end a unit leave of a volume at rest.
 use Rattle.std.proofs.Common.{◌≡◌, ◌≢◌, ◌⊎◌, inl, inr, ⊎_elim, ◌<◌, ◌+◌, ◌^◌, ℕ, Bool, true, false}
 use Rattle.std.proofs.Common.{cond, List, [], ◌∷◌, None, refl, sym, ap, subst}
-use Rattle.std.proofs.Common.{◌∙◌, arith, length, filter, map}
+use Rattle.std.proofs.Common.{◌∙◌, length, filter, map}
 use Rattle.std.specs.Prelude.{nat_eq}
 use Rattle.vr_types.specs.Content.{Content, item_at}
 use Rattle.vr_types.specs.Image.{Image}
@@ -10,6 +10,7 @@ use Rattle.vr_types.specs.Regions.{Touches}
 use Rattle.vr_types.specs.Seen.{Left, Seen}
 use Rattle.vr_types.specs.declared.geometry.Geometry.{Geometry}
 use Rattle.vr_types.specs.declared.unit.Unit.{Unit as UnitOfRecovery}
+use Rattle.vr_space.specs.Owners.{Owners}
 use Rattle.vr_space.specs.Known.{Known}
 use Rattle.vr_space.specs.Part.{IsSound, Shape, part_no}
 use Rattle.vr_space.proofs.CallerLemmas.{StaysPart, fewer-room, knows-stays, rest-sound, rest-stays}
@@ -22,6 +23,7 @@ use Rattle.vr_log.specs.declared.record.EndKind.{EndKind}
 use Rattle.vr_log.specs.declared.record.LogRecord.{LogRecord}
 use Rattle.vr_log.specs.declared.record.LogRecord.TheVariants.{End}
 use Rattle.vr_log.proofs.CallerLemmas.{restarted_stands}
+use Rattle.vr_attach.specs.Owning.{IsPastLog}
 use Rattle.vr_history.specs.Effects.{is_other}
 use Rattle.vr_history.specs.State.{BeforeImage, Logged, State}
 use Rattle.vr_volume.specs.Committed.{IsCurrent, IsFirmFor, IsLaidState, KeepsNoneIf}
@@ -33,7 +35,6 @@ use Rattle.vr_volume.specs.PutBack.{images_of, lengths_kept, put_back}
 use Rattle.vr_volume.specs.Rests.{IsPartAtRest, IsVolumeAtRest}
 use Rattle.vr_volume.specs.Safe.{IsSafe, IsSafeImage}
 use Rattle.vr_volume.specs.Steps.{IsEndedIn}
-use Rattle.vr_volume.proofs.Apart.{part-past}
 use Rattle.vr_volume.proofs.Calls.{stays-part}
 use Rattle.vr_volume.proofs.Ending.{committed-end, laid-ended, logged-end, logged-restart, none-left}
 use Rattle.vr_volume.proofs.Ending.{none-live}
@@ -139,17 +140,17 @@ module _ (log mid after : LogNow) (unit : UnitOfRecovery) (kind : EndKind)
 abbrev pub others_of : UnitOfRecovery → List BeforeImage → List BeforeImage
 others_of unit images = filter (λ (image : BeforeImage). is_other unit image.unit) images
 
-module _ (geometry : Geometry) (number : ℕ) (log : LogNow) (images : List BeforeImage)
-    (old : State) (a b : Seen) (unit : UnitOfRecovery) (kind : EndKind)
-    (rest : IsVolumeAtRest geometry number log images old a)
+module _ (geometry : Geometry) (number : ℕ) (owners : Owners) (log : LogNow)
+    (images : List BeforeImage) (old : State) (a b : Seen) (unit : UnitOfRecovery) (kind : EndKind)
+    (rest : IsVolumeAtRest geometry number owners log images old a)
     (firm : IsFirmFor geometry log old unit a) (none : KeepsNoneIf kind old unit)
     (call : Touches (InLog log.geometry) (HasLog (with_record log (End unit kind))) a b) where
   abbrev more : LogNow
   more = with_record log (End unit kind)
 
-  safe-end : IsSafe geometry number more (committed_by old) a
-  safe-end = safe-ended geometry number log (committed_by old) a unit kind rest.safe
-      (end-of geometry old rest.laid log rest.logged rest.forced unit kind number a rest.safe firm
+  safe-end : IsSafe geometry number owners more (committed_by old) a
+  safe-end = safe-ended geometry number owners log (committed_by old) a unit kind rest.safe
+      (end-of geometry old rest.laid log rest.logged rest.forced unit kind number owners a rest.safe firm
       none)
 
   log-call : Touches (InLog geometry) (HasLog more) a b
@@ -157,8 +158,8 @@ module _ (geometry : Geometry) (number : ℕ) (log : LogNow) (images : List Befo
       call
 
   -- each image of each moment is what is committed with the end, or without it
-  pub end-guards : Guards a b (IsSafeImage geometry number more (committed_by old))
-  end-guards = log-guards geometry number (committed_by old) more a b safe-end log-call
+  pub end-guards : Guards a b (IsSafeImage geometry number owners more (committed_by old))
+  end-guards = log-guards geometry number owners (committed_by old) more a b safe-end log-call
 
   module _ (new : State) (current : IsCurrent old.numbers unit) (made : IsEndedIn unit old new)
       (mid : LogNow) (logged : IsLogged log (End unit kind) mid)
@@ -167,10 +168,10 @@ module _ (geometry : Geometry) (number : ℕ) (log : LogNow) (images : List Befo
     others = others_of unit images
 
     -- with the end the volume is safe by the new state
-    safe-new : IsSafe geometry number mid (committed_by new) b
-    safe-new = safe-same geometry number mid (committed_by old) (committed_by new) b
-        (safe-fewer geometry number (committed_by old) more mid b
-        (log-after geometry number (committed_by old) more a b safe-end log-call)
+    safe-new : IsSafe geometry number owners mid (committed_by new) b
+    safe-new = safe-same geometry number owners mid (committed_by old) (committed_by new) b
+        (safe-fewer geometry number owners (committed_by old) more mid b
+        (log-after geometry number owners (committed_by old) more a b safe-end log-call)
         (end.geometry ∙ rest.safe.shape) logged.less stands)
         (λ content is part.
         ap (λ (records : List LogRecord). committed_by new records part) (logged.all content is)
@@ -189,7 +190,7 @@ module _ (geometry : Geometry) (number : ℕ) (log : LogNow) (images : List Befo
     -- where a unit is live still, it rests by this log,
     rests-live : (first : Logged) (further : List Logged) → new.logged ≡ first ∷ further
         → is_in unit (live_in log.records) ≡ true
-        → IsVolumeAtRest geometry number mid others new b
+        → IsVolumeAtRest geometry number owners mid others new b
     rests-live first further some there = record {
       safe = safe-new;
       stands = stands;
@@ -217,13 +218,13 @@ module _ (geometry : Geometry) (number : ℕ) (log : LogNow) (images : List Befo
         by records befores part = put_back part (kept_by records befores) (new.contents part)
 
     rests-begun : new.logged ≡ [] → log.generation + 1 < 2 ^ 64
-        → IsVolumeAtRest geometry number (restarted mid) others new b
+        → IsVolumeAtRest geometry number owners (restarted mid) others new b
     rests-begun empty below =
         let next : LogStands (restarted mid) b =
         restarted_stands mid b stands end.forced (none-on empty)
         (subst (λ (n : ℕ). n + 1 < 2 ^ 64) (sym end.generation) below) in
         record {
-          safe = safe-restarted geometry number mid (committed_by new) b safe-new end.forced
+          safe = safe-restarted geometry number owners mid (committed_by new) b safe-new end.forced
               (none-on empty) (same-none (left-on empty)) (end.geometry ∙ rest.safe.shape) next;
           stands = next;
           sound = end.sound;
@@ -237,21 +238,21 @@ module _ (geometry : Geometry) (number : ℕ) (log : LogNow) (images : List Befo
     -- Once the unit has ended the volume rests by the new state.
     pub rests-after : (after : LogNow) → is_in unit (live_in log.records) ≡ true
         → log.generation + 1 < 2 ^ 64 → IsIdle mid after → IsLive mid after
-        → IsVolumeAtRest geometry number after others new b
+        → IsVolumeAtRest geometry number owners after others new b
     rests-after after there below idle live = by_logged new.logged refl
       where
         none-cons : {X : Type 0} {x : X} {xs : List X} → [] ≡ x ∷ xs → ⊥
         none-cons same = cc
 
         by_logged : (ls : List Logged) → new.logged ≡ ls
-            → IsVolumeAtRest geometry number after others new b
+            → IsVolumeAtRest geometry number owners after others new b
         by_logged [] empty =
-            subst (λ (l : LogNow). IsVolumeAtRest geometry number l others new b)
+            subst (λ (l : LogNow). IsVolumeAtRest geometry number owners l others new b)
             (sym (idle (none-on empty))) (rests-begun empty below)
         by_logged (first ∷ further) some =
-            let rests : IsVolumeAtRest geometry number mid others new b =
+            let rests : IsVolumeAtRest geometry number owners mid others new b =
             rests-live first further some there in
-            subst (λ (l : LogNow). IsVolumeAtRest geometry number l others new b)
+            subst (λ (l : LogNow). IsVolumeAtRest geometry number owners l others new b)
             (sym (live (λ gone. none-cons
             (sym (ap (map logged_of) (no-images mid.records gone)) ∙ rests.logged.logged ∙ some))))
             rests
@@ -269,35 +270,32 @@ some-filter keeps (image ∷ images) = by_keep (keeps image) (some-filter keeps 
     by_keep false some = some-skip (filter keeps images) image images some
 
 -- A part stays at rest, by the new state.
-pub part-after : (geometry : Geometry) (log : LogNow) (Q : Image → Type 0)
+pub part-after : (geometry : Geometry) (owners : Owners) (log : LogNow) (Q : Image → Type 0)
     (images : List BeforeImage) (old new : State) (unit : UnitOfRecovery) (shape : Shape)
-    (known : Known) (a b : Seen) → log.geometry ≡ geometry
+    (known : Known) (a b : Seen) → log.geometry ≡ geometry → IsPastLog geometry owners
     → Left a a.cur → Touches (InLog log.geometry) Q a b → IsEndedIn unit old new
-    → IsPartAtRest geometry images old shape known a
-    → IsPartAtRest geometry (others_of unit images) new shape known b
-part-after geometry log Q images old new unit shape known a b is left call made part = record {
-  laid = ap (λ (catalog : Content). shape_by geometry catalog (part_no shape).0) (made.contents 0)
-      ∙ part.laid;
-  on = on-still shape a b part.on stays.count stays.size;
-  rests = rest-stays a b shape stays part.rests;
-  room = fewer-room shape (lengths_kept (others_of unit images) (part_no shape).0)
-      (lengths_kept images (part_no shape).0) b
-      (kept-under (part_no shape).0 (others_of unit images) images [] [] tt tt
-      (some-filter (λ (image : BeforeImage). is_other unit image.unit) images))
-      (rest-sound shape b (rest-stays a b shape stays part.rests))
-      (room-stays a b shape (lengths_kept images (part_no shape).0) stays sound part.room);
-  knows = knows-stays a b shape known stays sound left part.knows;
-  reads = λ place. same-stays a b shape stays sound left place ∙ part.reads place
-      ∙ sym (ap (λ (content : Content). item_at content place) (made.contents (part_no shape).0));
-}
+    → IsPartAtRest geometry owners images old shape known a
+    → IsPartAtRest geometry owners (others_of unit images) new shape known b
+part-after geometry owners log Q images old new unit shape known a b is past left call made part =
+    record {
+      laid = ap (λ (catalog : Content). shape_by geometry catalog (part_no shape).0) (made.contents 0)
+          ∙ part.laid;
+      on = on-still shape a b part.on stays.count stays.size;
+      rests = rest-stays a b shape owners stays part.rests;
+      room = fewer-room shape owners (lengths_kept (others_of unit images) (part_no shape).0)
+          (lengths_kept images (part_no shape).0) b
+          (kept-under (part_no shape).0 (others_of unit images) images [] [] tt tt
+          (some-filter (λ (image : BeforeImage). is_other unit image.unit) images))
+          (rest-sound shape owners b (rest-stays a b shape owners stays part.rests))
+          (room-stays a b shape owners (lengths_kept images (part_no shape).0) stays sound part.room);
+      knows = knows-stays a b shape owners known stays sound left part.knows;
+      reads = λ place. same-stays a b shape owners stays sound left place ∙ part.reads place
+          ∙ sym (ap (λ (content : Content). item_at content place) (made.contents (part_no shape).0));
+    }
   where
-    sound : IsSound shape a
-    sound = rest-sound shape a part.rests
+    sound : IsSound shape owners a
+    sound = rest-sound shape owners a part.rests
 
-    stays : StaysPart shape a b
-    stays = stays-part geometry shape Q a b
-        (λ n inside. omega (
-          arith,
-          part-past geometry (old.contents 0) (part_no shape).0 shape part.laid n inside,
-        ))
+    stays : StaysPart shape owners a b
+    stays = stays-part geometry shape owners Q a b past
         (subst (λ (g : Geometry). Touches (InLog g) Q a b) is call)

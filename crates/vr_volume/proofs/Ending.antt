@@ -34,7 +34,6 @@ use Rattle.vr_volume.specs.Ended.{ended}
 use Rattle.vr_volume.specs.Laid.{shape_by}
 use Rattle.vr_volume.specs.PutBack.{AreAlone, images_of, is_image_of, oldest, put_back}
 use Rattle.vr_volume.specs.Steps.{IsEndedIn}
-use Rattle.vr_volume.specs.Volume.{AreApart}
 use Rattle.vr_volume.proofs.Committing.{all-map, commit-append, none-ended}
 use Rattle.vr_volume.proofs.Images.{live-append}
 use Rattle.vr_volume.proofs.Living.{in-without, live-once}
@@ -122,8 +121,6 @@ module _ (geometry : Geometry) (old new : State) (laid : IsLaidState geometry ol
   laid-ended = record {
     each = λ part. subst Ascends (sym (made.contents part)) (laid.each part);
     catalog = subst (IsCatalog geometry) (sym (made.contents 0)) laid.catalog;
-    apart = subst (λ (catalog : Content). AreApart (shape_by geometry catalog))
-        (sym (made.contents 0)) laid.apart;
     others = λ part none. made.contents part ∙ laid.others part
         (sym (ap (λ (catalog : Content). shape_by geometry catalog part) (made.contents 0))
         ∙ none);

@@ -13,6 +13,7 @@ use Rattle.vr_types.specs.Locks.{same_unit}
 use Rattle.vr_types.specs.Seen.{Seen}
 use Rattle.vr_types.specs.declared.geometry.Geometry.{Geometry}
 use Rattle.vr_types.specs.declared.unit.Unit.{Unit as UnitOfRecovery}
+use Rattle.vr_space.specs.Owners.{Owners}
 use Rattle.vr_space.specs.Room.{Lengths, with_length, with_lengths}
 use Rattle.vr_space.proofs.CallerLemmas.{Rise, Under, fewer-room, rise-with, under-both, under-more}
 use Rattle.vr_history.specs.State.{BeforeImage}
@@ -159,13 +160,14 @@ ended-under records unit kind part =
 
 -- ---- the volume
 
-module _ (geometry : Geometry) (number : ℕ) (log : LogNow)
+module _ (geometry : Geometry) (number : ℕ) (owners : Owners) (log : LogNow)
     (committed : List LogRecord → ℕ → Content) (a : Seen) (unit : UnitOfRecovery) (kind : EndKind)
-    (safe : IsSafe geometry number log committed a)
+    (safe : IsSafe geometry number owners log committed a)
     (end : IsEndOf geometry log committed unit kind a) where
   -- by all records that there were
-  by-all : IsSafeBy geometry log.records (committed log.records) a
-  by-all = subst (λ (records : List LogRecord). IsSafeBy geometry records (committed records) a)
+  by-all : IsSafeBy geometry owners log.records (committed log.records) a
+  by-all = subst (λ
+      (records : List LogRecord). IsSafeBy geometry owners records (committed records) a)
       (take_all (length log.records) log.records (omega arith))
       (safe.by_log (first_of log (length log.records)) (inl (record {
         count = length log.records;
@@ -174,7 +176,7 @@ module _ (geometry : Geometry) (number : ℕ) (log : LogNow)
         is = refl;
       })))
 
-  by-end : IsSafeBy geometry (ended log unit kind) (committed (ended log unit kind)) a
+  by-end : IsSafeBy geometry owners (ended log unit kind) (committed (ended log unit kind)) a
   by-end = record {
     committed = end.contents;
     parts = λ part shape laid.
@@ -182,21 +184,23 @@ module _ (geometry : Geometry) (number : ℕ) (log : LogNow)
         record {
           sound = before.sound;
           items = end.items part shape laid;
-          room = fewer-room shape (lengths_kept (images_of (ended log unit kind)) part)
+          room = fewer-room shape owners (lengths_kept (images_of (ended log unit kind)) part)
               (lengths_kept (images_of log.records) part) a
               (ended-under log.records unit kind part) before.sound before.room;
         };
   }
 
   -- The blocks are safe whether or not an image has the end.
-  pub safe-ended : IsSafe geometry number (with_record log (End unit kind)) committed a
+  pub safe-ended : IsSafe geometry number owners (with_record log (End unit kind)) committed a
   safe-ended = record {
     allowed = safe.allowed;
+    past = safe.past;
     blocks = safe.blocks;
     shape = safe.shape;
     header = safe.header;
     logs = λ image left. has_more log (End unit kind) image (safe.logs image left);
     by_log = λ content is. ⊎_elim (λ before. safe.by_log content before)
-        (λ all. subst (λ (c : LogContent). IsSafeBy geometry c.records (committed c.records) a)
+        (λ all. subst (λ
+        (c : LogContent). IsSafeBy geometry owners c.records (committed c.records) a)
         (sym all) by-end) (log-cases log (End unit kind) content is);
   }

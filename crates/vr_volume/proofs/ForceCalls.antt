@@ -10,6 +10,7 @@ use Rattle.vr_types.specs.Image.{Block, Image, block_at}
 use Rattle.vr_types.specs.Seen.{Left, Seen}
 use Rattle.vr_types.specs.declared.geometry.Geometry.{Geometry}
 use Rattle.vr_types.specs.declared.unit.Unit.{Unit as UnitOfRecovery}
+use Rattle.vr_space.specs.Owners.{Owners}
 use Rattle.vr_space.specs.Known.{Known}
 use Rattle.vr_space.specs.Part.{IsDueTo, IsFirm, IsSound, KeyedShape, Shape, item_of}
 use Rattle.vr_space.specs.Way.{MayOnceForced}
@@ -26,12 +27,14 @@ use Rattle.vr_volume.proofs.Rested.{part-stays, stands-still}
 -- ---- what is due
 
 -- What is due to some blocks is due to others by which a crash leaves no more.
-pub due-fewer : (shape : Shape) (listed left place : List ℕ) (a b : Seen) → IsSound shape a
+pub due-fewer : (shape : Shape) (owners : Owners) (listed left place : List ℕ) (a b : Seen)
+    → IsSound shape owners a
     → ((n : ℕ) (block : Block) → n < a.count → b.may n block → a.may n block)
     → ((n : ℕ) (block : Block) → n < a.count → MayOnceForced left b n block
     → MayOnceForced listed a n block)
     → b.cur ≡ a.cur → IsDueTo shape listed a place → IsDueTo shape left b place
-due-fewer (KeyedShape part) listed left place a b sound fewer less same due item holds =
+due-fewer (KeyedShape part) owners listed left place a b (sound, owned) fewer less same due item
+    holds =
     due item (find-more (IsBlock part a) (MayOnceForced left b) (MayOnceForced listed a) item
     (λ n block is may. less n block is.0 may) (keyed_way part place)
     (within-less (IsBlock part a) (MayOnceForced left b) a.may
@@ -40,28 +43,29 @@ due-fewer (KeyedShape part) listed left place a b sound fewer less same due item
     ∙ sym (ap (λ (image : Image). item_of (KeyedShape part) image place) same)
 
 -- once no block is due, a crash leaves the current record alone
-due-none : (shape : Shape) (place : List ℕ) (now : Seen) → IsSound shape now
-    → IsDueTo shape [] now place → IsFirm shape now place
-due-none (KeyedShape part) place now sound due item holds =
+due-none : (shape : Shape) (owners : Owners) (place : List ℕ) (now : Seen)
+    → IsSound shape owners now → IsDueTo shape [] now place → IsFirm shape now place
+due-none (KeyedShape part) owners place now (sound, owned) due item holds =
     due item (find-more (IsBlock part now) now.may (MayOnceForced [] now) item
     (λ n block is may. (may, λ there. absurd (omega (arith, there.1)))) (keyed_way part place)
     (keyed-within part now sound place) holds)
 
-pub firm-for : (geometry : Geometry) (log : LogNow) (state : State) (unit : UnitOfRecovery)
-    (now : Seen) → IsDueFor geometry log state unit [] now → AreRead geometry state now
+pub firm-for : (geometry : Geometry) (owners : Owners) (log : LogNow) (state : State)
+    (unit : UnitOfRecovery)
+    (now : Seen) → IsDueFor geometry log state unit [] now → AreRead geometry owners state now
     → IsFirmFor geometry log state unit now
-firm-for geometry log state unit now due read part place image shape found is mine laid may =
+firm-for geometry owners log state unit now due read part place image shape found is mine laid may =
     let reads = read part shape laid in
-    due-none shape place now reads.0 (due part place image shape is mine laid) found may
+    due-none shape owners place now reads.0 (due part place image shape is mine laid) found may
     ∙ reads.1 place
 
 -- ---- a call that forces some
 
 module _ (tells : Bool) (told : IsTrue tells) (a b : Seen) (call : Keeps tells a b) where
   -- whether it fails or not, what was due is,
-  pub due-kept : (shape : Shape) (listed place : List ℕ) → IsSound shape a
+  pub due-kept : (shape : Shape) (owners : Owners) (listed place : List ℕ) → IsSound shape owners a
       → IsDueTo shape listed a place → IsDueTo shape listed b place
-  due-kept shape listed place sound = due-fewer shape listed listed place a b sound
+  due-kept shape owners listed place sound = due-fewer shape owners listed listed place a b sound
       (λ n block below may. call.adds_none told n block below may)
       (λ n block below may. (
         call.adds_none told n block below may.0,
@@ -70,11 +74,11 @@ module _ (tells : Bool) (told : IsTrue tells) (a b : Seen) (call : Keeps tells a
       (call.content told)
 
   -- to those alone that it didn't force
-  pub due-left : (shape : Shape) (listed place : List ℕ) (count : ℕ)
-      → Forced (drop count listed) a.cur b.may → IsSound shape a → IsDueTo shape listed a place
-      → IsDueTo shape (take count listed) b place
-  due-left shape listed place count forced sound = due-fewer shape listed (take count listed) place
-      a b sound
+  pub due-left : (shape : Shape) (owners : Owners) (listed place : List ℕ) (count : ℕ)
+      → Forced (drop count listed) a.cur b.may → IsSound shape owners a
+      → IsDueTo shape listed a place → IsDueTo shape (take count listed) b place
+  due-left shape owners listed place count forced sound = due-fewer shape owners listed (take count
+      listed) place a b sound
       (λ n block below may. call.adds_none told n block below may)
       (λ n block below may. (
         call.adds_none told n block below may.0,
@@ -87,11 +91,12 @@ module _ (tells : Bool) (told : IsTrue tells) (a b : Seen) (call : Keeps tells a
       (call.content told)
 
   -- the volume stays at rest, and each part of it
-  pub volume-kept : (geometry : Geometry) (number : ℕ) (log : LogNow) (images : List BeforeImage)
-      (state : State) → IsSafe geometry number log (committed_by state) b
-      → IsVolumeAtRest geometry number log images state a
-      → IsVolumeAtRest geometry number log images state b
-  volume-kept geometry number log images state safe rest = record {
+  pub volume-kept : (geometry : Geometry) (number : ℕ) (owners : Owners) (log : LogNow)
+      (images : List BeforeImage)
+      (state : State) → IsSafe geometry number owners log (committed_by state) b
+      → IsVolumeAtRest geometry number owners log images state a
+      → IsVolumeAtRest geometry number owners log images state b
+  volume-kept geometry number owners log images state safe rest = record {
     safe = safe;
     stands = stands-still log rest.forced a b rest.stands call.count_same call.size_same
         (λ n block below inside may. call.adds_none told n block below may);
@@ -102,12 +107,12 @@ module _ (tells : Bool) (told : IsTrue tells) (a b : Seen) (call : Keeps tells a
     kept = rest.kept;
   }
 
-  pub part-kept : (geometry : Geometry) (images : List BeforeImage) (state : State) (shape : Shape)
-      (known : Known) → Left a a.cur
-      → IsPartAtRest geometry images state shape known a
-      → IsPartAtRest geometry images state shape known b
-  part-kept geometry images state shape known left part =
-      part-stays geometry images images state state shape known a b
+  pub part-kept : (geometry : Geometry) (owners : Owners) (images : List BeforeImage)
+      (state : State) (shape : Shape) (known : Known) → Left a a.cur
+      → IsPartAtRest geometry owners images state shape known a
+      → IsPartAtRest geometry owners images state shape known b
+  part-kept geometry owners images state shape known left part =
+      part-stays geometry owners images images state state shape known a b
       (record {
         count = call.count_same;
         size = call.size_same;

@@ -13,6 +13,7 @@ use Rattle.vr_types.specs.Seen.{Seen}
 use Rattle.vr_types.specs.declared.geometry.Geometry.{Geometry}
 use Rattle.vr_types.specs.declared.unit.PartNo.{PartNo}
 use Rattle.vr_types.specs.declared.unit.Unit.{Unit as UnitOfRecovery}
+use Rattle.vr_space.specs.Owners.{Owners}
 use Rattle.vr_log.specs.Content.{Content as LogContent}
 use Rattle.vr_log.specs.LogNow.{IsLogOf, LogNow}
 use Rattle.vr_log.specs.Standing.{LogStands}
@@ -195,12 +196,12 @@ module _ (geometry : Geometry) (log : LogNow) (old new : State) (change : Changi
       (here-or part place)
 
   -- The volume stays safe, by the new state.
-  safe-kept-again : (number : ℕ) (now : Seen)
+  safe-kept-again : (number : ℕ) (owners : Owners) (now : Seen)
       → ((content : LogContent) → IsLogOf log content → content.records ≡ log.records)
-      → IsSafe geometry number log (committed_by old) now
-      → IsSafe geometry number log (committed_by new) now
-  safe-kept-again number now all safe =
-      safe-same geometry number log (committed_by old) (committed_by new) now safe
+      → IsSafe geometry number owners log (committed_by old) now
+      → IsSafe geometry number owners log (committed_by new) now
+  safe-kept-again number owners now all safe =
+      safe-same geometry number owners log (committed_by old) (committed_by new) now safe
       (λ content is part.
       ap (λ (records : List LogRecord). committed_by new records part) (all content is)
       ∙ contents-same geometry old new log log laid logged laid-kept-again logged-kept-again
@@ -208,8 +209,9 @@ module _ (geometry : Geometry) (log : LogNow) (old new : State) (change : Changi
       ∙ ap (λ (records : List LogRecord). committed_by old records part)
       (sym (all content is)))
 
-module _ (geometry : Geometry) (number : ℕ) (log : LogNow) (images : List BeforeImage)
-    (old : State) (a : Seen) (rest : IsVolumeAtRest geometry number log images old a)
+module _ (geometry : Geometry) (number : ℕ) (owners : Owners) (log : LogNow)
+    (images : List BeforeImage) (old : State) (a : Seen)
+    (rest : IsVolumeAtRest geometry number owners log images old a)
     (new : State) (change : Changing) (made : IsKeptAgain log change old new) where
   image-there : oldest images change.part.0 change.place ≢ None
   image-there none = some-none (sym made.image_is
@@ -224,12 +226,12 @@ module _ (geometry : Geometry) (number : ℕ) (log : LogNow) (images : List Befo
 
   -- The volume is at rest by the state after it.
   pub volume-kept-again : (d : Seen) → IsChangeOf geometry old change → LogStands log d
-      → IsSafe geometry number log (committed_by old) d
-      → IsVolumeAtRest geometry number log images new d
+      → IsSafe geometry number owners log (committed_by old) d
+      → IsVolumeAtRest geometry number owners log images new d
   volume-kept-again d of stands safe = record {
-    safe = safe-kept-again geometry log old new change rest.laid rest.logged of made number d
-        (all-records geometry number log images old a rest change.part.0 change.place image-there)
-        safe;
+    safe = safe-kept-again geometry log old new change rest.laid rest.logged of made number owners d
+        (all-records geometry number owners log images old a rest change.part.0 change.place
+        image-there) safe;
     stands = stands;
     sound = rest.sound;
     forced = rest.forced;

@@ -4,6 +4,7 @@ use Rattle.vr_types.specs.Content.{item_at}
 use Rattle.vr_types.specs.Image.{Image}
 use Rattle.vr_types.specs.Seen.{Left, Seen}
 use Rattle.vr_types.specs.declared.geometry.Geometry.{Geometry}
+use Rattle.vr_space.specs.Owners.{Owners}
 use Rattle.vr_log.specs.LogNow.{LogNow}
 use Rattle.vr_log.specs.declared.record.LogRecord.{LogRecord}
 use Rattle.vr_history.specs.Committed.{kept_or}
@@ -20,16 +21,17 @@ use Rattle.vr_volume.proofs.Recovering.{each_image_is_safe, image_recovers}
 use Rattle.vr_volume.proofs.Resting.{rest-records}
 
 -- Each image recovers to the items of the state, but where before-images are kept.
-pub recovers-state : (geometry : Geometry) (number : ℕ) (log : LogNow) (images : List BeforeImage)
-    (state : State) (now : Seen) → IsVolumeAtRest geometry number log images state now
+pub recovers-state : (geometry : Geometry) (number : ℕ) (owners : Owners) (log : LogNow)
+    (images : List BeforeImage)
+    (state : State) (now : Seen) → IsVolumeAtRest geometry number owners log images state now
     → (image : Image) → Left now image → RecoversState geometry number state image
-recovers-state geometry number log images state now rest image left =
-    let safe : IsSafeImage geometry number log (committed_by state) image =
-    each_image_is_safe geometry number log (committed_by state) now rest.safe image left in
+recovers-state geometry number owners log images state now rest image left =
+    let safe : IsSafeImage geometry number owners log (committed_by state) image =
+    each_image_is_safe geometry number owners log (committed_by state) now rest.safe image left in
     record {
       contents = committed_by state safe.0.records;
-      recovers = image_recovers geometry number image safe.0 (committed_by state safe.0.records)
-          safe.2;
+      recovers = image_recovers geometry number owners image safe.0 (committed_by state
+          safe.0.records) safe.2;
       items = λ part place. ⊎_elim
           (λ same.
           ap (λ (records : List LogRecord). item_at (committed_by state records part) place) same

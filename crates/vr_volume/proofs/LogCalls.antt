@@ -17,7 +17,8 @@ use Rattle.vr_types.specs.declared.geometry.Geometry.{Geometry}
 use Rattle.vr_types.specs.declared.unit.PartNo.{PartNo}
 use Rattle.vr_types.specs.declared.unit.Unit.{Unit as UnitOfRecovery}
 use Rattle.vr_types.proofs.CallerLemmas.{during-weaken}
-use Rattle.vr_space.specs.Part.{InPart, Shape}
+use Rattle.vr_space.specs.Owners.{Owners}
+use Rattle.vr_space.specs.Part.{InPart, Shape, part_no}
 use Rattle.vr_history.specs.State.{BeforeImage}
 use Rattle.vr_history.proofs.CallerLemmas.{unit_self}
 use Rattle.vr_log.specs.Content.{Content as LogContent}
@@ -28,58 +29,50 @@ use Rattle.vr_log.specs.Standing.{InLog, LogStands}
 use Rattle.vr_log.specs.declared.record.LogRecord.{LogRecord}
 use Rattle.vr_log.specs.declared.record.LogRecord.TheVariants.{Before}
 use Rattle.vr_log.proofs.Growing.{stands_has}
-use Rattle.vr_volume.specs.Laid.{shape_by}
 use Rattle.vr_space.specs.Room.{Lengths}
 use Rattle.vr_volume.specs.Laying.{IsFreeIn, IsLaidBy, IsLaidSo, IsLogged}
 use Rattle.vr_volume.specs.Logged.{IsFirstBefore}
 use Rattle.vr_volume.specs.PutBack.{images_of, is_image_of, oldest}
 use Rattle.vr_volume.specs.Safe.{IsSafe, IsSafeImage}
-use Rattle.vr_volume.proofs.Apart.{part-past}
 use Rattle.vr_volume.proofs.Calls.{safe-less}
 use Rattle.vr_volume.proofs.Images.{image_of, images-append, oldest-append}
 use Rattle.vr_volume.proofs.Recovering.{each_image_is_safe, part-in}
 
-module _ (geometry : Geometry) (number : ℕ) (committed : List LogRecord → ℕ → Content) where
+module _ (geometry : Geometry) (number : ℕ) (owners : Owners) (committed : List LogRecord → ℕ
+    → Content) where
   -- ---- a call that puts into the log alone
 
-  module _ (log : LogNow) (a b : Seen) (safe : IsSafe geometry number log committed a)
+  module _ (log : LogNow) (a b : Seen) (safe : IsSafe geometry number owners log committed a)
       (call : Touches (InLog geometry) (HasLog log) a b) where
     -- the parts are outside the log
-    part-out : (content : LogContent) → IsLogOf log content → (part : ℕ) (shape : Shape)
-        → shape_by geometry (committed content.records 0) part ≡ Some shape → (n : ℕ)
-        → InPart shape n → Outside (InLog geometry) n
-    part-out content is part shape laid n inside there =
-        omega (
-          arith,
-          there.1,
-          part-past geometry (committed content.records 0) part shape laid n
-              inside,
-        )
+    part-out : (shape : Shape) (n : ℕ) → InPart shape owners n → Outside (InLog geometry) n
+    part-out shape n inside there = omega (arith, there.1, safe.past n (part_no shape).0 inside)
 
     image-safe : (image : Image) → IsImageOn (Outside (InLog geometry)) a.count a.may image
-        × HasLog log image → IsSafeImage geometry number log committed image
+        × HasLog log image → IsSafeImage geometry number owners log committed image
     image-safe image has = (
       has.1.0,
       has.1.2,
       record {
+        past = safe.past;
         header = safe.header (block_at image 0)
             (has.0.each 0 (omega (arith, safe.blocks.count, safe.allowed.two_areas))
             (λ inside. omega (arith, inside.0)));
         log_is = subst (λ (g : Geometry). Spells g image has.1.0) safe.shape has.1.1;
         committed = (safe.by_log has.1.0 has.1.2).committed;
-        parts = λ part shape laid. part-in shape part (images_of has.1.0.records)
+        parts = λ part shape laid. part-in shape owners part (images_of has.1.0.records)
             (committed has.1.0.records part) a
             ((safe.by_log has.1.0 has.1.2).parts part shape laid) image
             (record {
-              each = λ n below inside. has.0.each n below
-                  (part-out has.1.0 has.1.2 part shape laid n inside);
+              each = λ n below inside. has.0.each n below (part-out shape n inside);
             });
       },
     )
 
-    pub log-after : IsSafe geometry number log committed b
+    pub log-after : IsSafe geometry number owners log committed b
     log-after = record {
       allowed = safe.allowed;
+      past = safe.past;
       blocks = record {
         count = call.count_same ∙ safe.blocks.count;
         size = call.size_same ∙ safe.blocks.size;
@@ -91,28 +84,28 @@ module _ (geometry : Geometry) (number : ℕ) (committed : List LogRecord → �
       logs = call.rest;
       by_log = λ content is. record {
         committed = (safe.by_log content is).committed;
-        parts = λ part shape laid. safe-less a b call.count_same call.size_same shape part
+        parts = λ part shape laid. safe-less a b call.count_same call.size_same shape owners part
             (images_of content.records) (committed content.records part)
             (λ n block below inside may. call.adds_none n block below
-            (part-out content is part shape laid n inside) may)
-            ((safe.by_log content is).parts part shape laid);
+            (part-out shape n inside) may) ((safe.by_log content is).parts part shape laid);
       };
     }
 
-    pub log-guards : Guards a b (IsSafeImage geometry number log committed)
+    pub log-guards : Guards a b (IsSafeImage geometry number owners log committed)
     log-guards = record {
       during = during-weaken a b _ _ call.moments image-safe;
-      rest = each_image_is_safe geometry number log committed b log-after;
+      rest = each_image_is_safe geometry number owners log committed b log-after;
     }
 
   -- ---- a log of which an image may have less
 
-  pub safe-fewer : (log fewer : LogNow) (now : Seen) → IsSafe geometry number log committed now
-      → fewer.geometry ≡ geometry
+  pub safe-fewer : (log fewer : LogNow) (now : Seen)
+      → IsSafe geometry number owners log committed now → fewer.geometry ≡ geometry
       → ((content : LogContent) → IsLogOf fewer content → IsLogOf log content)
-      → LogStands fewer now → IsSafe geometry number fewer committed now
+      → LogStands fewer now → IsSafe geometry number owners fewer committed now
   safe-fewer log fewer now safe shape less stands = record {
     allowed = safe.allowed;
+    past = safe.past;
     blocks = safe.blocks;
     shape = shape;
     header = safe.header;
@@ -328,30 +321,31 @@ has-less log rec mid appended image has = (
 )
 
 -- an image that is safe by fewer logs is so by more
-pub image-less : (geometry : Geometry) (number : ℕ) (fewer more : LogNow)
+pub image-less : (geometry : Geometry) (number : ℕ) (owners : Owners) (fewer more : LogNow)
     (committed : List LogRecord → ℕ → Content)
     → ((content : LogContent) → IsLogOf fewer content → IsLogOf more content) → (image : Image)
-    → IsSafeImage geometry number fewer committed image
-    → IsSafeImage geometry number more committed image
-image-less geometry number fewer more committed less image has =
+    → IsSafeImage geometry number owners fewer committed image
+    → IsSafeImage geometry number owners more committed image
+image-less geometry number owners fewer more committed less image has =
     (has.0, less has.0 has.1, has.2)
 
 -- Once the record is forced the volume is safe by the log as it is then, the part is laid by it,
 -- and the place is free.
-pub change-then : (geometry : Geometry) (number : ℕ) (log new : LogNow) (rec : LogRecord)
+pub change-then : (geometry : Geometry) (number : ℕ) (owners : Owners) (log new : LogNow)
+    (rec : LogRecord)
     (committed : List LogRecord → ℕ → Content) (part : ℕ) (shape : Shape) (kept : Lengths)
-    (a b : Seen) → IsSafe geometry number (with_record log rec) committed a
+    (a b : Seen) → IsSafe geometry number owners (with_record log rec) committed a
     → Touches (InLog geometry) (HasLog (with_record log rec)) a b → IsLogged log rec new
     → LogStands new b
     → IsLaidBy geometry (log.records ++ rec ∷ []) committed part shape kept
     → (place : List ℕ)
     → oldest (images_of (log.records ++ rec ∷ [])) part place ≢ None
-    → IsSafe geometry number new committed b
+    → IsSafe geometry number owners new committed b
     × IsLaidSo geometry new committed part shape kept × IsFreeIn new part place
-change-then geometry number log new rec committed part shape kept a b more call logged stands laid
-    place there = (
-      safe-fewer geometry number committed (with_record log rec) new b
-          (log-after geometry number committed (with_record log rec) a b more call)
+change-then geometry number owners log new rec committed part shape kept a b more call logged
+    stands laid place there = (
+      safe-fewer geometry number owners committed (with_record log rec) new b
+          (log-after geometry number owners committed (with_record log rec) a b more call)
           (logged.geometry ∙ more.shape) logged.less stands,
       λ content is. subst
           (λ (records : List LogRecord). IsLaidBy geometry records committed part shape kept)

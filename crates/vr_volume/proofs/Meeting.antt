@@ -16,6 +16,7 @@ use Rattle.vr_types.specs.Seen.{Seen}
 use Rattle.vr_types.specs.declared.geometry.Geometry.{Geometry}
 use Rattle.vr_types.specs.declared.unit.PartNo.{PartNo}
 use Rattle.vr_types.specs.declared.unit.Unit.{Unit as UnitOfRecovery}
+use Rattle.vr_space.specs.Owners.{Owners}
 use Rattle.vr_space.specs.Part.{IsPlaceOf, MayHold, Shape}
 use Rattle.vr_log.specs.LogNow.{IsForced, LogNow, first_of}
 use Rattle.vr_log.specs.declared.record.EndKind.{EndKind}
@@ -346,13 +347,13 @@ module _ (geometry : Geometry) (state : State) (laid : IsLaidState geometry stat
             dropped kept there (ap (λ (i : BeforeImage). same_unit unit i.unit) (sym it) ∙ same)
             kind refl none (oldest kept-on part place) refl
 
-    module _ (number : ℕ) (now : Seen)
-        (safe : IsSafe geometry number log (committed_by state) now) where
+    module _ (number : ℕ) (owners : Owners) (now : Seen)
+        (safe : IsSafe geometry number owners log (committed_by state) now) where
       -- by all records that there are
-      by-all : IsSafeBy geometry log.records (committed_by state log.records) now
+      by-all : IsSafeBy geometry owners log.records (committed_by state log.records) now
       by-all = subst
-          (λ (records : List LogRecord). IsSafeBy geometry records (committed_by state records) now)
-          (take_all (length log.records) log.records (omega arith))
+          (λ (records : List LogRecord). IsSafeBy geometry owners records (committed_by state
+          records) now) (take_all (length log.records) log.records (omega arith))
           (safe.by_log (first_of log (length log.records)) (inl (record {
             count = length log.records;
             forced = omega (arith, forced);

@@ -33,7 +33,6 @@ use Rattle.vr_volume.specs.Committed.{committed_by, logged_of}
 use Rattle.vr_volume.specs.Laid.{shape_by}
 use Rattle.vr_volume.specs.PutBack.{AreAlone, images_of, is_image_of, oldest}
 use Rattle.vr_volume.specs.Steps.{Changing, IsChangeOf, IsFirstChange, IsPutIn, image_by}
-use Rattle.vr_volume.specs.Volume.{AreApart}
 use Rattle.vr_volume.proofs.Alone.{alone-append, is-own, is-there}
 use Rattle.vr_volume.proofs.Committing.{all-map, item-now}
 use Rattle.vr_volume.proofs.Images.{images-append, live-append, oldest-append}
@@ -98,8 +97,6 @@ module _ (geometry : Geometry) (old new : State) (change : Changing)
   laid-stays kept = record {
     each = λ part. by_part part (part == change.part.0) refl;
     catalog = subst (IsCatalog geometry) (sym catalog-stays) laid.catalog;
-    apart = subst (λ (catalog : Content). AreApart (shape_by geometry catalog))
-        (sym catalog-stays) laid.apart;
     others = λ part none.
         other-part part (λ same. none-some (sym (sym (shape-stays part) ∙ none)
         ∙ ap (shape_by geometry (old.contents 0)) same ∙ of.laid))

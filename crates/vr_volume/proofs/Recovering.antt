@@ -7,6 +7,7 @@ use Rattle.vr_types.specs.Content.{Content, Ascends, item_at}
 use Rattle.vr_types.specs.Image.{Image, block_at}
 use Rattle.vr_types.specs.Seen.{Seen, Left}
 use Rattle.vr_types.specs.declared.geometry.Geometry.{Geometry}
+use Rattle.vr_space.specs.Owners.{Owners}
 use Rattle.vr_space.specs.Part.{Shape, StandsFor, HasOnly}
 use Rattle.vr_space.proofs.CallerLemmas.{only-weaken, room-image, sound-image, stands_content}
 use Rattle.vr_altkey.proofs.CallerLemmas.{same_items}
@@ -20,7 +21,7 @@ use Rattle.vr_volume.specs.CatalogRules.{IsCatalog}
 use Rattle.vr_volume.specs.Laid.{shape_by}
 use Rattle.vr_volume.specs.PutBack.{images_of, oldest, put_back, lengths_kept}
 use Rattle.vr_volume.specs.Safe.{IsImageSafe, IsItemOf, IsPartIn, IsPartSafe, IsSafe, IsSafeImage}
-use Rattle.vr_volume.specs.Volume.{AreApart, CanPutBack, Recovers, shapes_by}
+use Rattle.vr_volume.specs.Volume.{CanPutBack, Recovers, shapes_by}
 use Rattle.vr_volume.proofs.PuttingBack.{back-ascends, back-item}
 
 some-same : (one other : Shape) → Some one ≡ Some other → one ≡ other
@@ -30,14 +31,14 @@ none-ascend : Ascends []
 unfolding IsStrictlySortedBy
 none-ascend = tt
 
-module _ (geometry : Geometry) (number : ℕ) (image : Image) (log : LogContent)
-    (committed : ℕ → Content) (safe : IsImageSafe geometry number log committed image) where
+module _ (geometry : Geometry) (number : ℕ) (owners : Owners) (image : Image) (log : LogContent)
+    (committed : ℕ → Content) (safe : IsImageSafe geometry number owners log committed image) where
   abbrev images : List BeforeImage
   images = images_of log.records
 
   -- what the image has of a part
   abbrev has : (part : ℕ) (shape : Shape) → shape_by geometry (committed 0) part ≡ Some shape
-      → HasOnly shape (IsItemOf part images (committed part)) image
+      → HasOnly shape owners (IsItemOf part images (committed part)) image
   has part shape is = (safe.parts part shape is).has
 
   abbrev held : (part : ℕ) (shape : Option Shape) → shape_by geometry (committed 0) part ≡ shape
@@ -98,10 +99,11 @@ module _ (geometry : Geometry) (number : ℕ) (image : Image) (log : LogContent)
       header = safe.header;
       log_is = safe.log_is;
       catalog = subst (IsCatalog geometry) (sym (is-back 0)) safe.committed.catalog;
-      apart = subst (λ (c : Content). AreApart (shape_by geometry c)) (sym (is-back 0))
-          safe.committed.apart;
+      owners = owners;
+      past = safe.past;
       laid = λ part shape is. held-stands part (shape_by geometry (committed 0) part) refl shape
           (sym (laid-same part) ∙ is);
+      within = λ part shape is. (has part shape (sym (laid-same part) ∙ is)).within;
       others = λ part is. none-held part (shape_by geometry (committed 0) part) refl
           (sym (laid-same part) ∙ is);
     };
@@ -115,33 +117,36 @@ module _ (geometry : Geometry) (number : ℕ) (image : Image) (log : LogContent)
 
 -- ---- what a crash may leave
 
-pub part-in : (shape : Shape) (part : ℕ) (images : List BeforeImage) (content : Content)
-    (now : Seen) → IsPartSafe shape part images content now → (image : Image)
-    → Rattle.vr_types.specs.Regions.IsImageOn (Rattle.vr_space.specs.Part.InPart shape) now.count
-    now.may image
-    → IsPartIn shape part images content image
-part-in shape part images content now safe image left = record {
-  has = only-weaken shape (Rattle.vr_space.specs.Part.MayHold shape now.may) _ safe.items image
-      (sound-image shape now safe.sound image left);
-  room = room-image shape (lengths_kept images part) now safe.sound safe.room image left;
+pub part-in : (shape : Shape) (owners : Owners) (part : ℕ) (images : List BeforeImage)
+    (content : Content)
+    (now : Seen) → IsPartSafe shape owners part images content now → (image : Image)
+    → Rattle.vr_types.specs.Regions.IsImageOn
+    (Rattle.vr_space.specs.Part.InPart shape owners) now.count now.may image
+    → IsPartIn shape owners part images content image
+part-in shape owners part images content now safe image left = record {
+  has = only-weaken shape owners
+      (Rattle.vr_space.specs.Part.MayHold shape now.may) _ safe.items image
+      (sound-image shape owners now safe.sound image left);
+  room = room-image shape owners (lengths_kept images part) now safe.sound safe.room image left;
 }
 
 -- Each image of a safe volume is a safe one.
-pub each_image_is_safe : (geometry : Geometry) (number : ℕ) (log : LogNow)
+pub each_image_is_safe : (geometry : Geometry) (number : ℕ) (owners : Owners) (log : LogNow)
     (committed : List LogRecord → ℕ → Content) (now : Seen)
-    → IsSafe geometry number log committed now → (image : Image) → Left now image
-    → IsSafeImage geometry number log committed image
-each_image_is_safe geometry number log committed now safe image left =
+    → IsSafe geometry number owners log committed now → (image : Image) → Left now image
+    → IsSafeImage geometry number owners log committed image
+each_image_is_safe geometry number owners log committed now safe image left =
     let has : HasLog log image =
     safe.logs image (record { each = λ n below inside. left.each n below }) in (
       has.0,
       has.2,
       record {
+        past = safe.past;
         header = safe.header (block_at image 0)
             (left.each 0 (omega (arith, safe.blocks.count, safe.allowed.two_areas)));
         log_is = subst (λ (g : Geometry). Spells g image has.0) safe.shape has.1;
         committed = (safe.by_log has.0 has.2).committed;
-        parts = λ part shape is. part-in shape part (images_of has.0.records)
+        parts = λ part shape is. part-in shape owners part (images_of has.0.records)
             (committed has.0.records part) now
             ((safe.by_log has.0 has.2).parts part shape is) image
             (record { each = λ n below inside. left.each n below });

@@ -9,6 +9,7 @@ use Rattle.vr_types.specs.Content.{Content}
 use Rattle.vr_types.specs.Regions.{IsImageOn}
 use Rattle.vr_types.specs.Seen.{Seen}
 use Rattle.vr_types.specs.declared.geometry.Geometry.{Geometry}
+use Rattle.vr_space.specs.Owners.{Owners}
 use Rattle.vr_history.specs.State.{BeforeImage}
 use Rattle.vr_log.specs.Content.{Content as LogContent}
 use Rattle.vr_log.specs.Live.{live_in}
@@ -32,9 +33,9 @@ pub no-images : (records : List LogRecord) → live_in records ≡ [] → images
 no-images records none =
     subst (λ live. filter_map (image_in live) records ≡ []) (sym none) (none-in records)
 
-module _ (geometry : Geometry) (number : ℕ) (log : LogNow)
+module _ (geometry : Geometry) (number : ℕ) (owners : Owners) (log : LogNow)
     (committed : List LogRecord → ℕ → Content) (now : Seen)
-    (safe : IsSafe geometry number log committed now) (forced : IsForced log)
+    (safe : IsSafe geometry number owners log committed now) (forced : IsForced log)
     (none-live : live_in log.records ≡ []) (same : committed [] ≡ committed log.records) where
   abbrev last : LogContent
   last = first_of log (length log.records)
@@ -47,21 +48,21 @@ module _ (geometry : Geometry) (number : ℕ) (log : LogNow)
     is = refl;
   })
 
-  by-last : IsSafeBy geometry log.records (committed log.records) now
-  by-last = subst (λ (records : List LogRecord). IsSafeBy geometry records (committed records) now)
+  by-last : IsSafeBy geometry owners log.records (committed log.records) now
+  by-last = subst
+      (λ (records : List LogRecord). IsSafeBy geometry owners records (committed records) now)
       (take_all (length log.records) log.records (omega arith)) (safe.by_log last last-is)
 
-  by-none : IsSafeBy geometry [] (committed []) now
-  by-none = subst (λ (contents : ℕ → Content). IsSafeBy geometry [] contents now) (sym same)
+  by-none : IsSafeBy geometry owners [] (committed []) now
+  by-none = subst (λ (contents : ℕ → Content). IsSafeBy geometry owners [] contents now) (sym same)
       (by-images [] (sym (no-images log.records none-live)))
     where
       by-images : (records : List LogRecord) → images_of records ≡ images_of log.records
-          → IsSafeBy geometry records (committed log.records) now
+          → IsSafeBy geometry owners records (committed log.records) now
       by-images records images = record {
         committed = record {
           each = by-last.committed.each;
           catalog = by-last.committed.catalog;
-          apart = by-last.committed.apart;
           inside = by-last.committed.inside;
           others = by-last.committed.others;
           images = subst
@@ -73,16 +74,16 @@ module _ (geometry : Geometry) (number : ℕ) (log : LogNow)
               (sym images) ∙ is);
         };
         parts = λ part shape laid. subst (λ (all : List BeforeImage).
-            Rattle.vr_volume.specs.Safe.IsPartSafe shape part all (committed log.records part) now)
-            (sym images) (by-last.parts part shape laid);
+            Rattle.vr_volume.specs.Safe.IsPartSafe shape owners part all (committed log.records
+            part) now) (sym images) (by-last.parts part shape laid);
       }
 
   -- which log an image may have
   older-by : (behind : Option LogContent) → log.behind ≡ behind → (content : LogContent)
-      → left_by behind last ≡ Some content → IsSafeBy geometry content.records
+      → left_by behind last ≡ Some content → IsSafeBy geometry owners content.records
       (committed content.records) now
   older-by None is content left = subst
-      (λ (c : LogContent). IsSafeBy geometry c.records (committed c.records) now)
+      (λ (c : LogContent). IsSafeBy geometry owners c.records (committed c.records) now)
       (same-some last content left) (safe.by_log last last-is)
     where
       same-some : (one other : LogContent) → Some one ≡ Some other → one ≡ other
@@ -90,9 +91,10 @@ module _ (geometry : Geometry) (number : ℕ) (log : LogNow)
   older-by (Some older) is content left = safe.by_log content (inr (is ∙ left))
 
   pub safe-restarted : log.geometry ≡ geometry → LogStands (restarted log) now
-      → IsSafe geometry number (restarted log) committed now
+      → IsSafe geometry number owners (restarted log) committed now
   safe-restarted shape stands = record {
     allowed = safe.allowed;
+    past = safe.past;
     blocks = safe.blocks;
     shape = shape;
     header = safe.header;
@@ -100,7 +102,7 @@ module _ (geometry : Geometry) (number : ℕ) (log : LogNow)
         (subst (λ (g : Geometry). IsImageOn (InLog g) now.count now.may image) (sym shape) left);
     by_log = λ content is. ⊎_elim
         (λ (prefix : IsPrefixOf (restarted log) content). subst
-        (λ (records : List LogRecord). IsSafeBy geometry records (committed records) now)
+        (λ (records : List LogRecord). IsSafeBy geometry owners records (committed records) now)
         (sym (ap (λ (c : LogContent). c.records) prefix.is ∙ take-none prefix.count)) by-none)
         (λ behind. older-by log.behind refl content behind) is;
   }

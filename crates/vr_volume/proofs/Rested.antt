@@ -17,14 +17,16 @@ use Rattle.vr_types.specs.declared.geometry.Geometry.{Geometry}
 use Rattle.vr_types.specs.Blocks.{Keeps}
 use Rattle.vr_types.specs.declared.unit.PartNo.{PartNo}
 use Rattle.vr_types.specs.declared.unit.Unit.{Unit as UnitOfRecovery}
+use Rattle.vr_space.specs.Owners.{Owners}
 use Rattle.vr_space.specs.Known.{Known}
+use Rattle.vr_attach.specs.Owning.{IsPastLog}
 use Rattle.vr_space.specs.Part.{DueMore, HasKeptRoom, InPart, IsAtRest, KeyedShape}
 use Rattle.vr_space.specs.Part.{Knows, SameRecords}
 use Rattle.vr_space.specs.Part.{IsPlaceOf, IsSound, SetsOne, Shape, item_of, part_no}
 use Rattle.vr_space.specs.Room.{Lengths}
 use Rattle.vr_space.proofs.CallerLemmas.{StaysPart, knows-stays, rest-sound, rest-stays, room-stays}
 use Rattle.vr_space.proofs.CallerLemmas.{IsBlock, find-more, keyed-within, on-still, same-stays}
-use Rattle.vr_space.proofs.CallerLemmas.{left-is, within-less}
+use Rattle.vr_space.proofs.CallerLemmas.{left-is, one-owner, within-less}
 use Rattle.vr_space.specs.Keyed.{keyed_way}
 use Rattle.vr_space.specs.Way.{MayOnceForced}
 use Rattle.vr_log.specs.Content.{Content as LogContent}
@@ -44,7 +46,7 @@ use Rattle.vr_volume.specs.Rests.{IsGivenFor, IsPartAtRest, IsVolumeAtRest}
 use Rattle.vr_volume.specs.Safe.{IsSafe}
 use Rattle.vr_volume.specs.Steps.{Changing, IsChangeOf, IsFirstChange, IsNextChange, IsPutBack}
 use Rattle.vr_volume.specs.Steps.{IsPutIn, image_by}
-use Rattle.vr_volume.proofs.Calls.{safe-keeps}
+use Rattle.vr_volume.proofs.Calls.{Leaves, rest-grows, safe-grows, safe-keeps}
 use Rattle.vr_volume.proofs.Committing.{catalog-same}
 use Rattle.vr_volume.proofs.Images.{kept-append, kept_more}
 use Rattle.vr_volume.proofs.Meeting.{first-before}
@@ -101,31 +103,34 @@ module _ (log : LogNow) (forced : IsForced log) (a b : Seen) (stands : LogStands
   }
 
 -- a call of a part past the log leaves it
-pub stands-part : (log : LogNow) (shape : Shape) (Q : Image → Type 0) (a b : Seen) → IsForced log
-    → LogStands log a → ((n : ℕ) → InPart shape n → log.geometry.log < n)
-    → Touches (InPart shape) Q a b → LogStands log b
-stands-part log shape Q a b forced stands past call = stands-still log forced a b stands
+pub stands-part : (log : LogNow) (shape : Shape) (owners : Owners) (Q : Image → Type 0)
+    (a b : Seen) → IsForced log → LogStands log a → IsPastLog log.geometry owners
+    → Touches (InPart shape owners) Q a b → LogStands log b
+stands-part log shape owners Q a b forced stands past call = stands-still log forced a b stands
     call.count_same call.size_same
     (λ n block below inside may. call.adds_none n block below
-    (λ there. omega (arith, past n there, inside.1)) may)
+    (λ there. omega (arith, past n (part_no shape).0 there, inside.1)) may)
 
 -- ---- a part that a call leaves as it is
 
 -- a call of another part leaves it as it is,
-pub stays-apart : (shape other : Shape) (Q : Image → Type 0) (a b : Seen)
-    → ((n : ℕ) → InPart other n → InPart shape n → ⊥) → Touches (InPart shape) Q a b
-    → StaysPart other a b
-stays-apart shape other Q a b apart call = record {
+pub stays-apart : (shape other : Shape) (owners : Owners) (Q : Image → Type 0) (a b : Seen)
+    → (part_no other).0 ≢ (part_no shape).0 → Touches (InPart shape owners) Q a b
+    → StaysPart other owners a b
+stays-apart shape other owners Q a b apart call = record {
   count = call.count_same;
   size = call.size_same;
-  same = λ n inside. call.content n (apart n inside);
-  fewer = λ n block below inside may. call.adds_none n block below (apart n inside) may;
+  same = λ n inside. call.content n (outside n inside);
+  fewer = λ n block below inside may. call.adds_none n block below (outside n inside) may;
 }
+  where
+    outside : (n : ℕ) → InPart other owners n → InPart shape owners n → ⊥
+    outside n inside there = apart (one-owner other shape owners n inside there)
 
 -- and so do two calls
-pub stays-then : (shape : Shape) (a b c : Seen) → StaysPart shape a b → StaysPart shape b c
-    → StaysPart shape a c
-stays-then shape a b c first second = record {
+pub stays-then : (shape : Shape) (owners : Owners) (a b c : Seen) → StaysPart shape owners a b
+    → StaysPart shape owners b c → StaysPart shape owners a c
+stays-then shape owners a b c first second = record {
   count = second.count ∙ first.count;
   size = second.size ∙ first.size;
   same = λ n inside. second.same n inside ∙ first.same n inside;
@@ -134,44 +139,47 @@ stays-then shape a b c first second = record {
 }
 
 -- what has to be forced for its places stays
-pub due-stays : (shape : Shape) (a b : Seen) → StaysPart shape a b → IsSound shape a → Left a a.cur
-    → DueMore shape [] a b
-due-stays (KeyedShape part) a b stays sound left listed place due within item holds =
+pub due-stays : (shape : Shape) (owners : Owners) (a b : Seen) → StaysPart shape owners a b
+    → IsSound shape owners a → Left a a.cur → DueMore shape [] a b
+due-stays (KeyedShape part) owners a b stays (sound, owned) left listed place due within item
+    holds =
     let less : (n : ℕ) (block : Block) → IsBlock part a n → MayOnceForced listed b n block
     → MayOnceForced listed a n block =
     λ n block is may. (
-      stays.fewer n block is.0 is.1 may.0,
-      λ there. may.1 there ∙ stays.same n is.1,
+      stays.fewer n block is.0 (owned n is.1) may.0,
+      λ there. may.1 there ∙ stays.same n (owned n is.1),
     ) in
     due item (find-more (IsBlock part a) (MayOnceForced listed b) (MayOnceForced listed a) item less
     (keyed_way part place)
     (within-less (IsBlock part a) (MayOnceForced listed b) a.may
-    (λ n block is may. stays.fewer n block is.0 is.1 may.0) (keyed_way part place)
+    (λ n block is may. stays.fewer n block is.0 (owned n is.1) may.0) (keyed_way part place)
     (keyed-within part a sound place)) holds)
-    ∙ sym (same-stays a b (KeyedShape part) stays sound left place)
+    ∙ sym (same-stays a b (KeyedShape part) owners stays (sound, owned) left place)
 
-pub part-stays : (geometry : Geometry) (images more : List BeforeImage) (old new : State)
-    (shape : Shape) (known : Known) (a b : Seen) → StaysPart shape a b → Left a a.cur
-    → IsPartAtRest geometry images old shape known a
-    → new.contents 0 ≡ old.contents 0
+pub part-stays : (geometry : Geometry) (owners : Owners) (images more : List BeforeImage)
+    (old new : State)
+    (shape : Shape) (known : Known) (a b : Seen) → StaysPart shape owners a b → Left a a.cur
+    → IsPartAtRest geometry owners images old shape known a → new.contents 0 ≡ old.contents 0
     → new.contents (part_no shape).0 ≡ old.contents (part_no shape).0
     → lengths_kept more (part_no shape).0 ≡ lengths_kept images (part_no shape).0
-    → IsPartAtRest geometry more new shape known b
-part-stays geometry images more old new shape known a b stays left part catalog content kept =
+    → IsPartAtRest geometry owners more new shape known b
+part-stays geometry owners images more old new shape known a b stays left part catalog content kept
+    =
     record {
       laid = ap (λ (c : Content). shape_by geometry c (part_no shape).0) catalog ∙ part.laid;
       on = on-still shape a b part.on stays.count stays.size;
-      rests = rest-stays a b shape stays part.rests;
+      rests = rest-stays a b shape owners stays part.rests;
       room = subst (λ (lengths : Lengths). HasKeptRoom shape lengths b) (sym kept)
-          (room-stays a b shape (lengths_kept images (part_no shape).0) stays sound part.room);
-      knows = knows-stays a b shape known stays sound left part.knows;
+          (room-stays a b shape owners (lengths_kept images (part_no shape).0) stays sound
+          part.room);
+      knows = knows-stays a b shape owners known stays sound left part.knows;
       reads = λ place.
-          same-stays a b shape stays sound left place ∙ part.reads place
+          same-stays a b shape owners stays sound left place ∙ part.reads place
           ∙ sym (ap (λ (c : Content). item_at c place) content);
     }
   where
-    sound : IsSound shape a
-    sound = rest-sound shape a part.rests
+    sound : IsSound shape owners a
+    sound = rest-sound shape owners a part.rests
 
 -- ---- a first change
 
@@ -189,17 +197,17 @@ other-kept images image part apart = kept-append images image part
 
 -- ---- the part in which a record is set
 
-module _ (geometry : Geometry) (old new : State) (change : Changing) (a d : Seen)
-    (laid : IsLaidState geometry old) (of : IsChangeOf geometry old change)
+module _ (geometry : Geometry) (owners : Owners) (old new : State) (change : Changing)
+    (a d : Seen) (laid : IsLaidState geometry old) (of : IsChangeOf geometry old change)
     (put : IsPutIn change old new) where
   pub part-set : (shape : Shape) (known later : Known) (found : Option (List ℕ))
       (images after : List BeforeImage)
-      → IsPartAtRest geometry images old shape known a
+      → IsPartAtRest geometry owners images old shape known a
       → part_no shape ≡ change.part → d.count ≡ a.count → d.size ≡ a.size
-      → IsAtRest shape d → HasKeptRoom shape (lengths_kept after (part_no shape).0) d
+      → IsAtRest shape owners d → HasKeptRoom shape (lengths_kept after (part_no shape).0) d
       → Knows shape later d → SetsOne shape change.place found a.cur d.cur
       → change.new ≡ option_map Standing found
-      → IsPartAtRest geometry after new shape later d
+      → IsPartAtRest geometry owners after new shape later d
   part-set shape known later found images after part at count size rests room knows set given =
       record {
         laid = ap (λ (c : Content). shape_by geometry c (part_no shape).0)
@@ -231,34 +239,35 @@ module _ (geometry : Geometry) (old new : State) (change : Changing) (a d : Seen
           place (λ same there. apart there))
 
 -- each other part stays at rest
-module _ (geometry : Geometry) (number : ℕ) (log : LogNow) (images after : List BeforeImage)
-    (old new : State) (change : Changing) (a d : Seen)
-    (rest : IsVolumeAtRest geometry number log images old a)
+module _ (geometry : Geometry) (number : ℕ) (owners : Owners) (log : LogNow)
+    (images after : List BeforeImage) (old new : State) (change : Changing) (a d : Seen)
+    (rest : IsVolumeAtRest geometry number owners log images old a)
     (of : IsChangeOf geometry old change) (put : IsPutIn change old new)
     (kept : after ≡ images ++ image_by change ∷ []) where
   pub other-first-change : (shape : Shape) (known : Known)
-      → IsPartAtRest geometry images old shape known a
-      → ((part_no shape).0 ≡ change.part.0 → ⊥) → StaysPart shape a d → Left a a.cur
-      → IsPartAtRest geometry after new shape known d
+      → IsPartAtRest geometry owners images old shape known a
+      → ((part_no shape).0 ≡ change.part.0 → ⊥) → StaysPart shape owners a d → Left a a.cur
+      → IsPartAtRest geometry owners after new shape known d
   other-first-change shape known part apart stays left =
-      part-stays geometry images after old new shape known a d stays left part
+      part-stays geometry owners images after old new shape known a d stays left part
       (catalog-stays geometry old new change rest.laid of put)
       (other-part geometry old new change rest.laid of put (part_no shape).0 apart)
       (ap (λ (found : List BeforeImage). lengths_kept found (part_no shape).0) kept
       ∙ other-kept images (image_by change) (part_no shape).0 (λ same. apart (sym same)))
 
-module _ (geometry : Geometry) (number : ℕ) (log more : LogNow) (images after : List BeforeImage)
-    (old new : State) (change : Changing) (a d : Seen)
-    (rest : IsVolumeAtRest geometry number log images old a)
+module _ (geometry : Geometry) (number : ℕ) (owners : Owners) (log more : LogNow)
+    (images after : List BeforeImage) (old new : State) (change : Changing) (a d : Seen)
+    (rest : IsVolumeAtRest geometry number owners log images old a)
     (of : IsChangeOf geometry old change) (made : IsFirstChange log change old new)
     (logged : IsLogged log (Before change.unit change.part change.place change.old) more)
     (kept : after ≡ images ++ image_by change ∷ []) where
   -- The volume is at rest by the new state,
-  pub volume-first-change : LogStands more d → IsSafe geometry number more (committed_by old) d
-      → IsVolumeAtRest geometry number more after new d
+  pub volume-first-change : LogStands more d
+      → IsSafe geometry number owners more (committed_by old) d
+      → IsVolumeAtRest geometry number owners more after new d
   volume-first-change stands safe = record {
-    safe = safe-first-change geometry old new log change rest.laid rest.logged of number more d made
-        logged.records (λ content is. logged.all content is ∙ sym logged.records) safe;
+    safe = safe-first-change geometry old new log change rest.laid rest.logged of number owners
+        more d made logged.records (λ content is. logged.all content is ∙ sym logged.records) safe;
     stands = stands;
     sound = logged.sound;
     forced = logged.forced;
@@ -273,23 +282,24 @@ module _ (geometry : Geometry) (number : ℕ) (log more : LogNow) (images after 
 
   -- and so is the part that is changed.
   pub part-first-change : (shape : Shape) (known later : Known) (found : Option (List ℕ))
-      → IsPartAtRest geometry images old shape known a
+      → IsPartAtRest geometry owners images old shape known a
       → part_no shape ≡ change.part → d.count ≡ a.count → d.size ≡ a.size
-      → IsAtRest shape d → HasKeptRoom shape (lengths_kept after (part_no shape).0) d
+      → IsAtRest shape owners d → HasKeptRoom shape (lengths_kept after (part_no shape).0) d
       → Knows shape later d → SetsOne shape change.place found a.cur d.cur
       → change.new ≡ option_map Standing found
-      → IsPartAtRest geometry after new shape later d
+      → IsPartAtRest geometry owners after new shape later d
   part-first-change shape known later found part at count size rests room knows set
-      given = part-set geometry old new change a d rest.laid of made.contents shape known later
-      found images after part at count size rests room knows set given
+      given = part-set geometry owners old new change a d rest.laid of made.contents shape known
+      later found images after part at count size rests room knows set given
 
 -- ---- what a first change asks for
 
-module _ (geometry : Geometry) (number : ℕ) (log : LogNow) (images after : List BeforeImage)
+module _ (geometry : Geometry) (number : ℕ) (owners : Owners) (log : LogNow)
+    (images after : List BeforeImage)
     (old new : State) (change : Changing) (a : Seen) (shape : Shape) (known : Known)
     (place : List ℕ) (found : Option (List ℕ))
-    (rest : IsVolumeAtRest geometry number log images old a)
-    (part : IsPartAtRest geometry images old shape known a)
+    (rest : IsVolumeAtRest geometry number owners log images old a)
+    (part : IsPartAtRest geometry owners images old shape known a)
     (of : IsChangeOf geometry old change) (made : IsFirstChange log change old new)
     (given : IsGivenFor change shape place found)
     (kept : after ≡ images ++ image_by change ∷ []) where
@@ -340,8 +350,9 @@ module _ (geometry : Geometry) (number : ℕ) (log : LogNow) (images after : Lis
 
 -- ---- a place that was logged before
 
-module _ (geometry : Geometry) (number : ℕ) (log : LogNow) (images : List BeforeImage)
-    (old : State) (a : Seen) (rest : IsVolumeAtRest geometry number log images old a) where
+module _ (geometry : Geometry) (number : ℕ) (owners : Owners) (log : LogNow)
+    (images : List BeforeImage)
+    (old : State) (a : Seen) (rest : IsVolumeAtRest geometry number owners log images old a) where
   -- where a place has an image, each log has all records
   pub all-records : (part : ℕ) (place : List ℕ) → oldest images part place ≢ None
       → (content : LogContent) → IsLogOf log content → content.records ≡ log.records
@@ -359,7 +370,7 @@ module _ (geometry : Geometry) (number : ℕ) (log : LogNow) (images : List Befo
 
   -- and the part is laid by each.
   pub laid-again : (shape : Shape) (known : Known) (place : List ℕ)
-      → IsPartAtRest geometry images old shape known a
+      → IsPartAtRest geometry owners images old shape known a
       → oldest images (part_no shape).0 place ≢ None
       → (kept : Lengths) → kept ≡ lengths_kept images (part_no shape).0
       → IsLaidSo geometry log (committed_by old) (part_no shape).0 shape kept
@@ -397,26 +408,26 @@ module _ (geometry : Geometry) (number : ℕ) (log : LogNow) (images : List Befo
       -- each other part stays at rest
       pub other-stays : (shape other : Shape) (Q : Image → Type 0) (known later : Known)
           → IsPutIn change old new
-          → IsPartAtRest geometry images old shape known a → part_no shape ≡ change.part
-          → ((part_no other).0 ≡ change.part.0 → ⊥) → Touches (InPart shape) Q a d → Left a a.cur
-          → IsPartAtRest geometry images old other later a
-          → IsPartAtRest geometry images new other later d
+          → IsPartAtRest geometry owners images old shape known a → part_no shape ≡ change.part
+          → ((part_no other).0 ≡ change.part.0 → ⊥) → Touches (InPart shape owners) Q a d
+          → Left a a.cur → IsPartAtRest geometry owners images old other later a
+          → IsPartAtRest geometry owners images new other later d
       other-stays shape other Q known later put part at apart call left others =
-          part-stays geometry images images old new other later a d
-          (stays-apart shape other Q a d
-          (rest.laid.apart (part_no other).0 (part_no shape).0 other shape others.laid part.laid
-          (λ same. apart (same ∙ ap (λ (p : PartNo). p.0) at))) call)
+          part-stays geometry owners images images old new other later a d
+          (stays-apart shape other owners Q a d
+          (λ same. apart (same ∙ ap (λ (p : PartNo). p.0) at)) call)
           left others (catalog-stays geometry old new change rest.laid of put)
           (other-part geometry old new change rest.laid of put (part_no other).0 apart) refl
 
   module _ (new : State) (change : Changing) (d : Seen) (of : IsChangeOf geometry old change)
-      (stands : LogStands log d) (safe : IsSafe geometry number log (committed_by old) d) where
+      (stands : LogStands log d)
+      (safe : IsSafe geometry number owners log (committed_by old) d) where
     -- The volume is at rest by the state after a further change,
     pub volume-next-change : IsNextChange change old new
-        → IsVolumeAtRest geometry number log images new d
+        → IsVolumeAtRest geometry number owners log images new d
     volume-next-change made = record {
-      safe = safe-next-change geometry old new log change rest.laid rest.logged of number d made
-          (all-records change.part.0 change.place (kept-some change made.kept)) safe;
+      safe = safe-next-change geometry old new log change rest.laid rest.logged of number owners d
+          made (all-records change.part.0 change.place (kept-some change made.kept)) safe;
       stands = stands;
       sound = rest.sound;
       forced = rest.forced;
@@ -427,11 +438,11 @@ module _ (geometry : Geometry) (number : ℕ) (log : LogNow) (images : List Befo
 
     -- and by that after a before-image is put back.
     pub volume-put-back : IsPutBack change old new
-        → IsVolumeAtRest geometry number log images new d
+        → IsVolumeAtRest geometry number owners log images new d
     volume-put-back made = record {
-      safe = safe-put-back geometry old new log change rest.laid rest.logged of number d made
-          (all-records change.part.0 change.place (kept-some change (put-some geometry log old new change
-          rest.laid rest.logged of made))) safe;
+      safe = safe-put-back geometry old new log change rest.laid rest.logged of number owners d made
+          (all-records change.part.0 change.place (kept-some change (put-some geometry log old new
+          change rest.laid rest.logged of made))) safe;
       stands = stands;
       sound = rest.sound;
       forced = rest.forced;
@@ -443,14 +454,14 @@ module _ (geometry : Geometry) (number : ℕ) (log : LogNow) (images : List Befo
     -- and so is the part that is changed.
     pub part-put : (shape : Shape) (known later : Known) (place : List ℕ)
         (found : Option (List ℕ)) → IsPutIn change old new
-        → IsPartAtRest geometry images old shape known a
+        → IsPartAtRest geometry owners images old shape known a
         → IsGivenFor change shape place found → d.count ≡ a.count → d.size ≡ a.size
-        → IsAtRest shape d → HasKeptRoom shape (lengths_kept images (part_no shape).0) d
+        → IsAtRest shape owners d → HasKeptRoom shape (lengths_kept images (part_no shape).0) d
         → Knows shape later d → SetsOne shape place found a.cur d.cur
-        → IsPartAtRest geometry images new shape later d
+        → IsPartAtRest geometry owners images new shape later d
     part-put shape known later place found put part given count size rests room knows
-        set = part-set geometry old new change a d rest.laid of put shape known later found images
-        images part given.part count size rests room knows
+        set = part-set geometry owners old new change a d rest.laid of put shape known later found
+        images images part given.part count size rests room knows
         (subst (λ (q : List ℕ). SetsOne shape q found a.cur d.cur) given.place_is set) given.item
 
 -- ---- calls that leave the records as they are
@@ -465,8 +476,9 @@ none-images records none = ap (λ (units : List UnitOfRecovery). filter_map (ima
     empty (Before unit part place old ∷ rs) = empty rs
     empty (End unit kind ∷ rs) = empty rs
 
-module _ (geometry : Geometry) (number : ℕ) (log : LogNow) (images : List BeforeImage)
-    (state : State) (a : Seen) (rest : IsVolumeAtRest geometry number log images state a) where
+module _ (geometry : Geometry) (number : ℕ) (owners : Owners) (log : LogNow)
+    (images : List BeforeImage) (state : State) (a : Seen)
+    (rest : IsVolumeAtRest geometry number owners log images state a) where
   -- the images of each log that an image may have
   images-rest : (content : LogContent) → IsLogOf log content → images ≡ images_of content.records
   images-rest content (inl prefix) = rest.kept ∙ ap images_of (sym (⊎_elim (λ all. all)
@@ -489,7 +501,7 @@ module _ (geometry : Geometry) (number : ℕ) (log : LogNow) (images : List Befo
 
   -- the part is laid by each log
   pub laid-rest : (shape : Shape) (known : Known)
-      → IsPartAtRest geometry images state shape known a → (kept : Lengths)
+      → IsPartAtRest geometry owners images state shape known a → (kept : Lengths)
       → kept ≡ lengths_kept images (part_no shape).0
       → IsLaidSo geometry log (committed_by state) (part_no shape).0 shape kept
   laid-rest shape known part kept room content is = record {
@@ -500,8 +512,8 @@ module _ (geometry : Geometry) (number : ℕ) (log : LogNow) (images : List Befo
   }
 
   -- The volume stays at rest where its blocks are safe and its log stands.
-  pub volume-same : (d : Seen) → IsSafe geometry number log (committed_by state) d
-      → LogStands log d → IsVolumeAtRest geometry number log images state d
+  pub volume-same : (d : Seen) → IsSafe geometry number owners log (committed_by state) d
+      → LogStands log d → IsVolumeAtRest geometry number owners log images state d
   volume-same d safe stands = record {
     safe = safe;
     stands = stands;
@@ -513,13 +525,13 @@ module _ (geometry : Geometry) (number : ℕ) (log : LogNow) (images : List Befo
   }
 
 -- The part stays at rest where each place has the record that it had.
-pub part-same-records : (geometry : Geometry) (images : List BeforeImage) (state : State)
-    (shape : Shape) (known later : Known) (a d : Seen)
-    → IsPartAtRest geometry images state shape known a → d.count ≡ a.count → d.size ≡ a.size
-    → IsAtRest shape d → HasKeptRoom shape (lengths_kept images (part_no shape).0) d
+pub part-same-records : (geometry : Geometry) (owners : Owners) (images : List BeforeImage)
+    (state : State) (shape : Shape) (known later : Known) (a d : Seen)
+    → IsPartAtRest geometry owners images state shape known a → d.count ≡ a.count → d.size ≡ a.size
+    → IsAtRest shape owners d → HasKeptRoom shape (lengths_kept images (part_no shape).0) d
     → Knows shape later d → SameRecords shape a.cur d.cur
-    → IsPartAtRest geometry images state shape later d
-part-same-records geometry images state shape known later a d part count size rests room
+    → IsPartAtRest geometry owners images state shape later d
+part-same-records geometry owners images state shape known later a d part count size rests room
     knows same = record {
       laid = part.laid;
       on = on-still shape a d part.on count size;
@@ -533,8 +545,8 @@ part-same-records geometry images state shape known later a d part count size re
 
 -- the log and each part stay
 module _ (tells : Bool) (told : IsTrue tells) (a b : Seen) (call : Keeps tells a b) where
-  pub stays-keeps : (shape : Shape) → StaysPart shape a b
-  stays-keeps shape = record {
+  pub stays-keeps : (shape : Shape) (owners : Owners) → StaysPart shape owners a b
+  stays-keeps shape owners = record {
     count = call.count_same;
     size = call.size_same;
     same = λ n inside. ap (λ (image : Image). block_at image n) (call.content told);
@@ -546,19 +558,48 @@ module _ (tells : Bool) (told : IsTrue tells) (a b : Seen) (call : Keeps tells a
       (λ n block below inside may. call.adds_none told n block below may)
 
   -- A volume at rest stays so.
-  pub volume-keeps : (geometry : Geometry) (number : ℕ) (log : LogNow)
+  pub volume-keeps : (geometry : Geometry) (number : ℕ) (owners : Owners) (log : LogNow)
       (images : List BeforeImage) (state : State)
-      → IsVolumeAtRest geometry number log images state a
-      → IsVolumeAtRest geometry number log images state b
-  volume-keeps geometry number log images state rest =
-      volume-same geometry number log images state a rest b
-      (safe-keeps tells told geometry number log (committed_by state) a b call rest.safe)
+      → IsVolumeAtRest geometry number owners log images state a
+      → IsVolumeAtRest geometry number owners log images state b
+  volume-keeps geometry number owners log images state rest =
+      volume-same geometry number owners log images state a rest b
+      (safe-keeps tells told geometry number owners log (committed_by state) a b call rest.safe)
       (stands-keeps log rest.forced rest.stands)
 
-  pub part-keeps : (geometry : Geometry) (images : List BeforeImage) (state : State)
-      (shape : Shape) (known : Known) → Left a a.cur
-      → IsPartAtRest geometry images state shape known a
-      → IsPartAtRest geometry images state shape known b
-  part-keeps geometry images state shape known left part =
-      part-stays geometry images images state state shape known a b (stays-keeps shape) left part
-      refl refl refl
+  pub part-keeps : (geometry : Geometry) (owners : Owners) (images : List BeforeImage)
+      (state : State) (shape : Shape) (known : Known) → Left a a.cur
+      → IsPartAtRest geometry owners images state shape known a
+      → IsPartAtRest geometry owners images state shape known b
+  part-keeps geometry owners images state shape known left part =
+      part-stays geometry owners images images state state shape known a b (stays-keeps shape
+      owners) left part refl refl refl
+
+-- ---- owners who leave each part the blocks that it has
+
+pub part-grows : (geometry : Geometry) (owners grown : Owners) (images : List BeforeImage)
+    (state : State) (shape : Shape) (known : Known) (now : Seen) → Leaves owners grown
+    → IsPartAtRest geometry owners images state shape known now
+    → IsPartAtRest geometry grown images state shape known now
+part-grows geometry owners grown images state shape known now leaves part = record {
+  laid = part.laid;
+  on = part.on;
+  rests = rest-grows shape owners grown now leaves part.rests;
+  room = part.room;
+  knows = part.knows;
+  reads = part.reads;
+}
+
+pub volume-grows : (geometry : Geometry) (number : ℕ) (owners grown : Owners) (log : LogNow)
+    (images : List BeforeImage) (state : State) (now : Seen) → Leaves owners grown
+    → IsPastLog geometry grown → IsVolumeAtRest geometry number owners log images state now
+    → IsVolumeAtRest geometry number grown log images state now
+volume-grows geometry number owners grown log images state now leaves past rest = record {
+  safe = safe-grows geometry number owners grown log (committed_by state) now leaves past rest.safe;
+  stands = rest.stands;
+  sound = rest.sound;
+  forced = rest.forced;
+  laid = rest.laid;
+  logged = rest.logged;
+  kept = rest.kept;
+}

@@ -7,6 +7,7 @@ use Rattle.std.specs.Prelude.{All}
 use Rattle.vr_types.specs.Content.{Content, Ascends, item_at}
 use Rattle.vr_types.specs.Seen.{Seen}
 use Rattle.vr_types.specs.declared.geometry.Geometry.{Geometry}
+use Rattle.vr_space.specs.Owners.{Owners}
 use Rattle.vr_altkey.proofs.CallerLemmas.{same_items}
 use Rattle.vr_log.specs.Content.{Content as LogContent}
 use Rattle.vr_log.specs.LogNow.{IsBehind, IsForced, IsLogOf, IsPrefixOf, LogNow, first_of}
@@ -20,7 +21,7 @@ use Rattle.vr_volume.specs.PutBack.{images_of}
 use Rattle.vr_volume.specs.Safe.{AreCommitted, IsPartSafe, IsSafe, IsSafeBy}
 use Rattle.vr_volume.specs.Steps.{Changing, IsChangeOf, IsFirstChange, IsNextChange}
 use Rattle.vr_volume.specs.Steps.{IsPutBack}
-use Rattle.vr_volume.specs.Volume.{AreApart, CanPutBack}
+use Rattle.vr_volume.specs.Volume.{CanPutBack}
 use Rattle.vr_volume.proofs.Committing.{before-same, committed-ascends}
 use Rattle.vr_volume.proofs.Moving.{items-first-change, laid-first-change, logged-first-change}
 use Rattle.vr_volume.proofs.Undoing.{items-next-change, items-put-back, laid-next-change}
@@ -28,8 +29,8 @@ use Rattle.vr_volume.proofs.Undoing.{laid-put-back, logged-next-change, logged-p
 
 -- ---- contents that are the same, part by part
 
-module _ (geometry : Geometry) (records : List LogRecord) (one other : ℕ → Content)
-    (same : (part : ℕ) → other part ≡ one part) where
+module _ (geometry : Geometry) (owners : Owners) (records : List LogRecord)
+    (one other : ℕ → Content) (same : (part : ℕ) → other part ≡ one part) where
   shapes-same : (part : ℕ) → shape_by geometry (other 0) part ≡ shape_by geometry (one 0) part
   shapes-same part = ap (λ (catalog : Content). shape_by geometry catalog part) (same 0)
 
@@ -37,8 +38,6 @@ module _ (geometry : Geometry) (records : List LogRecord) (one other : ℕ → C
   committed-same are = record {
     each = λ part. subst Ascends (sym (same part)) (are.each part);
     catalog = subst (IsCatalog geometry) (sym (same 0)) are.catalog;
-    apart = subst (λ (catalog : Content). AreApart (shape_by geometry catalog)) (sym (same 0))
-        are.apart;
     inside = λ part shape laid. are.inside part shape (sym (shapes-same part) ∙ laid);
     others = λ part none. same part ∙ are.others part (sym (shapes-same part) ∙ none);
     images = subst (λ (catalog : Content). All (CanPutBack (shape_by geometry catalog))
@@ -48,11 +47,12 @@ module _ (geometry : Geometry) (records : List LogRecord) (one other : ℕ → C
         ∙ sym (ap (λ (content : Content). item_at content place) (same part));
   }
 
-  pub by-same : (now : Seen) → IsSafeBy geometry records one now → IsSafeBy geometry records other now
+  pub by-same : (now : Seen) → IsSafeBy geometry owners records one now
+      → IsSafeBy geometry owners records other now
   by-same now by = record {
     committed = committed-same by.committed;
     parts = λ part shape laid.
-        let mine : IsPartSafe shape part (images_of records) (one part) now =
+        let mine : IsPartSafe shape owners part (images_of records) (one part) now =
         by.parts part shape (sym (shapes-same part) ∙ laid) in
         record {
           sound = mine.sound;
@@ -63,19 +63,20 @@ module _ (geometry : Geometry) (records : List LogRecord) (one other : ℕ → C
   }
 
 -- It stays safe where each log that an image may have commits the same.
-pub safe-same : (geometry : Geometry) (number : ℕ) (log : LogNow)
+pub safe-same : (geometry : Geometry) (number : ℕ) (owners : Owners) (log : LogNow)
     (one other : List LogRecord → ℕ → Content) (now : Seen)
-    → IsSafe geometry number log one now
+    → IsSafe geometry number owners log one now
     → ((content : LogContent) → IsLogOf log content → (part : ℕ)
     → other content.records part ≡ one content.records part)
-    → IsSafe geometry number log other now
-safe-same geometry number log one other now safe same = record {
+    → IsSafe geometry number owners log other now
+safe-same geometry number owners log one other now safe same = record {
   allowed = safe.allowed;
+  past = safe.past;
   blocks = safe.blocks;
   shape = safe.shape;
   header = safe.header;
   logs = safe.logs;
-  by_log = λ content is. by-same geometry content.records (one content.records)
+  by_log = λ content is. by-same geometry owners content.records (one content.records)
       (other content.records) (same content is) now (safe.by_log content is);
 }
 
@@ -120,15 +121,15 @@ module _ (geometry : Geometry) (old new : State) where
   module _ (log : LogNow) (change : Changing) (laid : IsLaidState geometry old)
       (logged : HasLogged log old) (of : IsChangeOf geometry old change) where
     -- Once a first change is logged and forced,
-    pub safe-first-change : (number : ℕ) (more : LogNow) (now : Seen)
+    pub safe-first-change : (number : ℕ) (owners : Owners) (more : LogNow) (now : Seen)
         → IsFirstChange log change old new
         → more.records
         ≡ log.records ++ Before change.unit change.part change.place change.old ∷ []
         → ((content : LogContent) → IsLogOf more content → content.records ≡ more.records)
-        → IsSafe geometry number more (committed_by old) now
-        → IsSafe geometry number more (committed_by new) now
-    safe-first-change number more now made grown all safe =
-        safe-same geometry number more (committed_by old) (committed_by new) now safe
+        → IsSafe geometry number owners more (committed_by old) now
+        → IsSafe geometry number owners more (committed_by new) now
+    safe-first-change number owners more now made grown all safe =
+        safe-same geometry number owners more (committed_by old) (committed_by new) now safe
         (λ content is part.
         ap (λ (records : List LogRecord). committed_by new records part) (all content is)
         ∙ contents-same log more laid logged
@@ -141,12 +142,12 @@ module _ (geometry : Geometry) (old new : State) where
         (sym grown ∙ sym (all content is)))
 
     -- a further one is made,
-    pub safe-next-change : (number : ℕ) (now : Seen) → IsNextChange change old new
+    pub safe-next-change : (number : ℕ) (owners : Owners) (now : Seen) → IsNextChange change old new
         → ((content : LogContent) → IsLogOf log content → content.records ≡ log.records)
-        → IsSafe geometry number log (committed_by old) now
-        → IsSafe geometry number log (committed_by new) now
-    safe-next-change number now made all safe =
-        safe-same geometry number log (committed_by old) (committed_by new) now safe
+        → IsSafe geometry number owners log (committed_by old) now
+        → IsSafe geometry number owners log (committed_by new) now
+    safe-next-change number owners now made all safe =
+        safe-same geometry number owners log (committed_by old) (committed_by new) now safe
         (λ content is part.
         ap (λ (records : List LogRecord). committed_by new records part) (all content is)
         ∙ contents-same log log laid logged
@@ -157,12 +158,12 @@ module _ (geometry : Geometry) (old new : State) where
         (sym (all content is)))
 
     -- or a before-image is put back, the volume is safe by the new state.
-    pub safe-put-back : (number : ℕ) (now : Seen) → IsPutBack change old new
+    pub safe-put-back : (number : ℕ) (owners : Owners) (now : Seen) → IsPutBack change old new
         → ((content : LogContent) → IsLogOf log content → content.records ≡ log.records)
-        → IsSafe geometry number log (committed_by old) now
-        → IsSafe geometry number log (committed_by new) now
-    safe-put-back number now made all safe =
-        safe-same geometry number log (committed_by old) (committed_by new) now safe
+        → IsSafe geometry number owners log (committed_by old) now
+        → IsSafe geometry number owners log (committed_by new) now
+    safe-put-back number owners now made all safe =
+        safe-same geometry number owners log (committed_by old) (committed_by new) now safe
         (λ content is part.
         ap (λ (records : List LogRecord). committed_by new records part) (all content is)
         ∙ contents-same log log laid logged

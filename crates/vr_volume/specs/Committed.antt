@@ -23,7 +23,6 @@ use Rattle.vr_history.specs.State.{BeforeImage, Logged, State, is_live}
 use Rattle.vr_volume.specs.CatalogRules.{IsCatalog}
 use Rattle.vr_volume.specs.Laid.{shape_by}
 use Rattle.vr_volume.specs.PutBack.{AreAlone, images_of, oldest, put_back}
-use Rattle.vr_volume.specs.Volume.{AreApart}
 
 abbrev pub is_committing : EndKind → Bool
 is_committing Committed = true
@@ -53,12 +52,10 @@ pub record IsKeptIn (geometry : Geometry) (state : State) (image : BeforeImage) 
   pub laid : shape_by geometry (state.contents 0) image.part ≡ Some shape
   pub place : IsPlaceOf shape image.place
 
--- The parts of the state are laid by its catalog, each on blocks of its own; a part that isn't laid
--- has no record.
+-- The parts of the state are laid by its catalog; a part that isn't laid has no record.
 pub record IsLaidState (geometry : Geometry) (state : State) : Type 0 where
   pub each : (part : ℕ) → Ascends (state.contents part)
   pub catalog : IsCatalog geometry (state.contents 0)
-  pub apart : AreApart (shape_by geometry (state.contents 0))
   pub others : (part : ℕ) → shape_by geometry (state.contents 0) part ≡ None
       → state.contents part ≡ []
   pub kept : All (IsKeptIn geometry state) state.befores

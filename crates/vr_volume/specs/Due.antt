@@ -5,6 +5,7 @@ use Rattle.vr_types.specs.Locks.{same_unit}
 use Rattle.vr_types.specs.Seen.{Seen}
 use Rattle.vr_types.specs.declared.geometry.Geometry.{Geometry}
 use Rattle.vr_types.specs.declared.unit.Unit.{Unit as UnitOfRecovery}
+use Rattle.vr_space.specs.Owners.{Owners}
 use Rattle.vr_space.specs.Part.{IsDueTo, IsSound, Shape, item_of}
 use Rattle.vr_log.specs.LogNow.{LogNow}
 use Rattle.vr_history.specs.State.{BeforeImage, State}
@@ -19,9 +20,10 @@ IsDueFor geometry log state unit listed now = (part : ℕ) (place : List ℕ) (i
     → same_unit unit image.unit ≡ true → shape_by geometry (state.contents 0) part ≡ Some shape
     → IsDueTo shape listed now place
 
--- Each part that is laid is in order, and reads as the state has it.
-abbrev pub AreRead : Geometry → State → Seen → Type 0
-AreRead geometry state now = (part : ℕ) (shape : Shape)
+-- Each part that is laid is in order, in the blocks that these owners give it, and reads as the state
+-- has it.
+abbrev pub AreRead : Geometry → Owners → State → Seen → Type 0
+AreRead geometry owners state now = (part : ℕ) (shape : Shape)
     → shape_by geometry (state.contents 0) part ≡ Some shape
-    → IsSound shape now × ((place : List ℕ)
+    → IsSound shape owners now × ((place : List ℕ)
     → item_of shape now.cur place ≡ item_at (state.contents part) place)

@@ -6,7 +6,9 @@ use Rattle.vr_types.specs.Content.{Standing, item_at}
 use Rattle.vr_types.specs.Seen.{Seen}
 use Rattle.vr_types.specs.declared.geometry.Geometry.{Geometry}
 use Rattle.vr_space.specs.Known.{Known}
+use Rattle.vr_space.specs.Owners.{Owners}
 use Rattle.vr_space.specs.Part.{HasKeptRoom, IsAtRest, IsOn, Knows, Shape, item_of, part_no}
+use Rattle.vr_attach.specs.Owning.{IsPastLog}
 use Rattle.vr_log.specs.LogNow.{IsForced, LogNow}
 use Rattle.vr_log.specs.Standing.{LogStands}
 use Rattle.vr_history.specs.State.{BeforeImage, State}
@@ -17,9 +19,9 @@ use Rattle.vr_volume.specs.Safe.{IsSafe}
 use Rattle.vr_volume.specs.Steps.{Changing}
 
 -- The volume, its log and what is kept of units. Every record of the log is forced.
-pub record IsVolumeAtRest (geometry : Geometry) (number : ℕ) (log : LogNow)
+pub record IsVolumeAtRest (geometry : Geometry) (number : ℕ) (owners : Owners) (log : LogNow)
     (images : List BeforeImage) (state : State) (now : Seen) : Type 0 where
-  pub safe : IsSafe geometry number log (committed_by state) now
+  pub safe : IsSafe geometry number owners log (committed_by state) now
   pub stands : LogStands log now
   pub sound : log.broken ≡ false
   pub forced : IsForced log
@@ -28,15 +30,20 @@ pub record IsVolumeAtRest (geometry : Geometry) (number : ℕ) (log : LogNow)
   pub kept : images ≡ images_of log.records
 
 -- One part of it: it is laid so, reads as the state has it, and has room for what is kept.
-pub record IsPartAtRest (geometry : Geometry) (images : List BeforeImage) (state : State)
-    (shape : Shape) (known : Known) (now : Seen) : Type 0 where
+pub record IsPartAtRest (geometry : Geometry) (owners : Owners) (images : List BeforeImage)
+    (state : State) (shape : Shape) (known : Known) (now : Seen) : Type 0 where
   pub laid : shape_by geometry (state.contents 0) (part_no shape).0 ≡ Some shape
   pub on : IsOn shape now
-  pub rests : IsAtRest shape now
+  pub rests : IsAtRest shape owners now
   pub room : HasKeptRoom shape (lengths_kept images (part_no shape).0) now
   pub knows : Knows shape known now
   pub reads : (place : List ℕ) → item_of shape now.cur place
       ≡ item_at (state.contents (part_no shape).0) place
+
+-- The part is at rest, whichever blocks are its own, as long as they are past the log.
+abbrev pub RestsPastLog : Geometry → Shape → Seen → Type 0
+RestsPastLog geometry shape now = (owners : Owners) × IsPastLog geometry owners
+    × IsAtRest shape owners now
 
 -- What a call that changes a place is given is what the change makes of it: a record that stands
 -- there, or none.

@@ -6,14 +6,16 @@ use Rattle.std.specs.Option.{option_and_then}
 use Rattle.vr_types.specs.Content.{Content as ContentOf, record_of}
 use Rattle.vr_types.specs.Image.{Image, block_at}
 use Rattle.vr_types.specs.declared.geometry.Geometry.{Geometry}
+use Rattle.vr_space.specs.Owners.{Owners}
 use Rattle.vr_space.specs.Part.{Shape, KeyedShape, StandsFor, IsPlaceOf, IsRecordOf, HasRoom}
+use Rattle.vr_space.specs.Part.{StaysIn}
+use Rattle.vr_attach.specs.Owning.{IsPastLog}
 use Rattle.vr_history.specs.State.{BeforeImage}
 use Rattle.vr_log.specs.Content.{Content as LogContent}
 use Rattle.vr_log.specs.Spells.{Spells}
 use Rattle.vr_volume.specs.CatalogRules.{IsCatalog}
 use Rattle.vr_volume.specs.Header.{header_block}
 use Rattle.vr_volume.specs.Laid.{shape_by}
-pub use Rattle.vr_attach.specs.Laid.{AreApart}
 use Rattle.vr_volume.specs.PutBack.{AreAlone, images_of, put_back, lengths_kept}
 
 -- the content of part 0 once the before-images are put back: it says which parts there are
@@ -24,15 +26,19 @@ catalog_back log contents = put_back 0 (images_of log.records) (contents 0)
 abbrev pub shapes_by : Geometry → LogContent → (ℕ → ContentOf) → ℕ → Option Shape
 shapes_by geometry log contents = shape_by geometry (catalog_back log contents)
 
--- The blocks of the image stand for this log and these contents: a part that isn't laid has none.
+-- The blocks of the image stand for this log and these contents: each part in blocks of its own,
+-- which are past the log; a part that isn't laid has none.
 pub record VolumeStandsFor (geometry : Geometry) (number : ℕ) (image : Image) (log : LogContent)
     (contents : ℕ → ContentOf) : Type 0 where
   pub header : block_at image 0 ≡ header_block geometry number
   pub log_is : Spells geometry image log
   pub catalog : IsCatalog geometry (catalog_back log contents)
-  pub apart : AreApart (shapes_by geometry log contents)
+  pub owners : Owners
+  pub past : IsPastLog geometry owners
   pub laid : (part : ℕ) (shape : Shape) → shapes_by geometry log contents part ≡ Some shape
       → StandsFor shape image (contents part)
+  pub within : (part : ℕ) (shape : Shape) → shapes_by geometry log contents part ≡ Some shape
+      → StaysIn shape owners image
   pub others : (part : ℕ) → shapes_by geometry log contents part ≡ None → contents part ≡ []
 
 -- a part is on blocks that the volume has, with their size

@@ -9,7 +9,9 @@ ghost use Rattle.vr_types.specs.Regions.{Touches};
 ghost use Rattle.vr_types.specs.Space.{free_count};
 ghost use Rattle.vr_types.specs.declared.fault.DeviceFault.TheVariants.{Read, Write};
 ghost use Rattle.vr_types.specs.declared.geometry.Geometry.{Geometry};
+ghost use Rattle.vr_space.specs.Owners.{Owners};
 ghost use Rattle.vr_space.specs.declared.room.Room.TheVariants as answers;
+ghost use Rattle.vr_attach.specs.Owning.{IsPastLog};
 ghost use Rattle.vr_space.specs.Known.{HasMet, Known, places_met};
 ghost use Rattle.vr_space.specs.Part.{
   CanSet,
@@ -23,8 +25,10 @@ ghost use Rattle.vr_space.specs.Part.{
   IsLengthOf,
   IsOn,
   IsPlaceOf,
+  IsQuiet,
   IsStageDue,
   Knows,
+  MayGrow,
   OwnersAfter,
   SameRecords,
   SetsOne,
@@ -57,7 +61,7 @@ pub fn set_free<B: Blocks, P: Part, K: Kept>(
     requires on { IsOn (P.shape part.old) (B.seen blocks.old) }
     requires place { IsPlaceOf (P.shape part.old) place.now }
     requires record { IsGiven (P.shape part.old) place.now bytes }
-    requires rests { IsTrue B.tells → IsAtRest (P.shape part.old) (B.seen blocks.old) }
+    requires rests { IsTrue B.tells → IsQuiet (P.shape part.old) (B.seen blocks.old) }
     requires room { IsTrue B.tells → HasKeptRoom (P.shape part.old)
         (K.kept kept.now (part_no (P.shape part.old))) (B.seen blocks.old) }
     requires knows { IsTrue B.tells → Knows (P.shape part.old) (P.known part.old)
@@ -65,23 +69,24 @@ pub fn set_free<B: Blocks, P: Part, K: Kept>(
     requires can { IsTrue B.tells → CanSet (P.shape part.old) (P.known part.old)
         (B.seen blocks.old).cur (K.kept kept.now (part_no (P.shape part.old))) place.now
         (given bytes) }
-    ensures safe { IsTrue B.tells → (geometry : Geometry) (number : ℕ) (log : LogNow)
-        (committed : List LogRecord → ℕ → Content)
-        → IsSafe geometry number log committed (B.seen blocks.old)
+    ensures safe { IsTrue B.tells → (geometry : Geometry) (number : ℕ) (owners : Owners)
+        (log : LogNow) (committed : List LogRecord → ℕ → Content)
+        → IsSafe geometry number owners log committed (B.seen blocks.old)
         → IsLaidSo geometry log committed (part_no (P.shape part.old)).0 (P.shape part.old)
         (K.kept kept.now (part_no (P.shape part.old)))
         → IsFreeIn log (part_no (P.shape part.old)).0 place.now
         → Guards (B.seen blocks.old) (B.seen blocks.new)
-        (IsSafeImage geometry number log committed)
-        × IsSafe geometry number log committed (B.seen blocks.new) }
+        (IsSafeImage geometry number owners log committed)
+        × IsSafe geometry number owners log committed (B.seen blocks.new) }
     ensures set { IsTrue B.tells → OnOk result (SetsOne (P.shape part.old) place.now
         (given bytes.entry) (B.seen blocks.old).cur (B.seen blocks.new).cur) }
     ensures due { IsTrue B.tells → OnOk result
         (DueMoreAt (P.shape part.old) place.now (P.put part.new)
         (B.seen blocks.old) (B.seen blocks.new)) }
-    ensures put { OnOk result (All (InPart (P.shape part.old)) (P.put part.new)) }
-    ensures rests { IsTrue B.tells → OnOk result
-        (IsAtRest (P.shape part.old) (B.seen blocks.new)) }
+    ensures put { OnOk result (All (λ n. n < (B.seen blocks.new).count) (P.put part.new)) }
+    ensures rests { IsTrue B.tells → (owners : Owners)
+        → IsAtRest (P.shape part.old) owners (B.seen blocks.old)
+        → OnOk result (IsAtRest (P.shape part.old) owners (B.seen blocks.new)) }
     ensures room { IsTrue B.tells → HasKeptRoom (P.shape part.old)
         (K.kept kept.now (part_no (P.shape part.old))) (B.seen blocks.new) }
     ensures knows { IsTrue B.tells → OnOk result
@@ -93,7 +98,9 @@ pub fn set_free<B: Blocks, P: Part, K: Kept>(
         × (IsTrue B.tells
         → Knows (P.shape part.old) (P.known part.new) (B.seen blocks.new))) }
     ensures reads { HasMet (P.known part.old) place.now → IfErr result (λ fault. fault ≡ Write) }
-    ensures touches { IsTrue B.tells → Touches (InPart (P.shape part.old))
+    ensures touches { IsTrue B.tells → (owners : Owners)
+        → IsAtRest (P.shape part.old) owners (B.seen blocks.old)
+        → Touches (InPart (P.shape part.old) owners)
         (HasRoom (P.shape part.old) (K.kept kept.now (part_no (P.shape part.old))))
         (B.seen blocks.old) (B.seen blocks.new) }
     ensures count { (B.seen blocks.new).count ≡ (B.seen blocks.old).count }
@@ -106,7 +113,8 @@ pub fn set_free<B: Blocks, P: Part, K: Kept>(
 }
 
 /// Does the stage that comes before a record of a part. At each moment of it, whether it fails or
-/// not, each image is a safe one, and the volume is safe from then on.
+/// not, each image is a safe one, and the volume is safe from then on, by owners who leave each part
+/// its blocks and give this one those of the area that it may claim.
 pub fn do_stage<B: Blocks, P: Part, K: Kept>(
     blocks: &mut B,
     part: &mut P,
@@ -118,7 +126,7 @@ pub fn do_stage<B: Blocks, P: Part, K: Kept>(
     requires on { IsOn (P.shape part.old) (B.seen blocks.old) }
     requires place { IsPlaceOf (P.shape part.old) place.now }
     requires length { IsLengthOf (P.shape part.old) length }
-    requires rests { IsTrue B.tells → IsAtRest (P.shape part.old) (B.seen blocks.old) }
+    requires rests { IsTrue B.tells → IsQuiet (P.shape part.old) (B.seen blocks.old) }
     requires room { IsTrue B.tells → HasKeptRoom (P.shape part.old)
         (K.kept kept.now (part_no (P.shape part.old))) (B.seen blocks.old) }
     requires knows { IsTrue B.tells → Knows (P.shape part.old) (P.known part.old)
@@ -126,14 +134,15 @@ pub fn do_stage<B: Blocks, P: Part, K: Kept>(
     requires due { IsTrue B.tells → IsStageDue (P.shape part.old) (P.known part.old)
         (B.seen blocks.old).cur (free_count space.old)
         (K.kept kept.now (part_no (P.shape part.old))) place.now length }
-    ensures safe { IsTrue B.tells → (geometry : Geometry) (number : ℕ) (log : LogNow)
-        (committed : List LogRecord → ℕ → Content)
-        → IsSafe geometry number log committed (B.seen blocks.old)
+    ensures safe { IsTrue B.tells → (geometry : Geometry) (number : ℕ)
+        (owners grown : Owners) (log : LogNow) (committed : List LogRecord → ℕ → Content)
+        → MayGrow (P.shape part.old) space.old owners grown → IsPastLog geometry grown
+        → IsSafe geometry number owners log committed (B.seen blocks.old)
         → IsLaidSo geometry log committed (part_no (P.shape part.old)).0 (P.shape part.old)
         (K.kept kept.now (part_no (P.shape part.old)))
         → Guards (B.seen blocks.old) (B.seen blocks.new)
-        (IsSafeImage geometry number log committed)
-        × IsSafe geometry number log committed (B.seen blocks.new) }
+        (IsSafeImage geometry number grown log committed)
+        × IsSafe geometry number grown log committed (B.seen blocks.new) }
     ensures stage { IsTrue B.tells → IfOk result (λ kind. answers.Stage kind
         ≡ room_of (P.shape part.old) (P.known part.old) (B.seen blocks.old).cur
         (free_count space.old) (K.kept kept.now (part_no (P.shape part.old))) place.now length) }
@@ -144,8 +153,13 @@ pub fn do_stage<B: Blocks, P: Part, K: Kept>(
         (B.seen blocks.old).cur (B.seen blocks.new).cur }
     ensures due { IsTrue B.tells → OnOk result
         (DueMore (P.shape part.old) [] (B.seen blocks.old) (B.seen blocks.new)) }
-    ensures rests { IsTrue B.tells → OnOk result
-        (IsAtRest (P.shape part.old) (B.seen blocks.new)) }
+    ensures rests { IsTrue B.tells → (owners grown : Owners)
+        → MayGrow (P.shape part.old) space.old owners grown
+        → IsAtRest (P.shape part.old) owners (B.seen blocks.old)
+        → OnOk result (IsAtRest (P.shape part.old) grown (B.seen blocks.new)) }
+    ensures stays { IsTrue B.tells → (owners : Owners) → space.new ≡ space.old
+        → IsAtRest (P.shape part.old) owners (B.seen blocks.old)
+        → OnOk result (IsAtRest (P.shape part.old) owners (B.seen blocks.new)) }
     ensures room { IsTrue B.tells → HasKeptRoom (P.shape part.old)
         (K.kept kept.now (part_no (P.shape part.old))) (B.seen blocks.new) }
     ensures knows { IsTrue B.tells → OnOk result
@@ -160,32 +174,35 @@ pub fn do_stage<B: Blocks, P: Part, K: Kept>(
     ensures cause { HasCause (B.faults blocks.old) (B.faults blocks.new) result }
     ensures shape { P.shape part.new ≡ P.shape part.old }
     // A volume that was at rest is so by the same state, and so is each of its parts.
-    ensures at_rest { IsTrue B.tells → OnOk result ((number : ℕ) (log : LogNow)
-        (images : List BeforeImage) (state : State)
-        → IsVolumeAtRest log.geometry number log images state (B.seen blocks.old)
-        → IsPartAtRest log.geometry images state (P.shape part.old) (P.known part.old)
+    ensures at_rest { IsTrue B.tells → OnOk result ((number : ℕ) (owners grown : Owners)
+        (log : LogNow) (images : List BeforeImage) (state : State)
+        → MayGrow (P.shape part.old) space.old owners grown → IsPastLog log.geometry grown
+        → IsVolumeAtRest log.geometry number owners log images state (B.seen blocks.old)
+        → IsPartAtRest log.geometry owners images state (P.shape part.old) (P.known part.old)
         (B.seen blocks.old)
         → K.kept kept.now (part_no (P.shape part.old))
         ≡ lengths_kept images (part_no (P.shape part.old)).0
-        → IsVolumeAtRest log.geometry number log images state (B.seen blocks.new)
-        × IsPartAtRest log.geometry images state (P.shape part.old) (P.known part.new)
+        → IsVolumeAtRest log.geometry number grown log images state (B.seen blocks.new)
+        × IsPartAtRest log.geometry grown images state (P.shape part.old) (P.known part.new)
         (B.seen blocks.new)) }
-    ensures others { IsTrue B.tells → OnOk result ((number : ℕ) (log : LogNow)
-        (images : List BeforeImage) (state : State) (other : Shape) (known : Known)
-        → IsVolumeAtRest log.geometry number log images state (B.seen blocks.old)
-        → IsPartAtRest log.geometry images state (P.shape part.old) (P.known part.old)
+    ensures others { IsTrue B.tells → OnOk result ((number : ℕ) (owners grown : Owners)
+        (log : LogNow) (images : List BeforeImage) (state : State) (other : Shape) (known : Known)
+        → MayGrow (P.shape part.old) space.old owners grown
+        → IsVolumeAtRest log.geometry number owners log images state (B.seen blocks.old)
+        → IsPartAtRest log.geometry owners images state (P.shape part.old) (P.known part.old)
         (B.seen blocks.old)
         → (part_no other).0 ≢ (part_no (P.shape part.old)).0
-        → IsPartAtRest log.geometry images state other known (B.seen blocks.old)
-        → IsPartAtRest log.geometry images state other known (B.seen blocks.new)) }
+        → IsPartAtRest log.geometry owners images state other known (B.seen blocks.old)
+        → IsPartAtRest log.geometry grown images state other known (B.seen blocks.new)) }
     // What has to be forced for the places of another part stays.
-    ensures others_due { IsTrue B.tells → OnOk result ((number : ℕ) (log : LogNow)
-        (images : List BeforeImage) (state : State) (other : Shape) (known : Known)
-        → IsVolumeAtRest log.geometry number log images state (B.seen blocks.old)
-        → IsPartAtRest log.geometry images state (P.shape part.old) (P.known part.old)
+    ensures others_due { IsTrue B.tells → OnOk result ((number : ℕ) (owners grown : Owners)
+        (log : LogNow) (images : List BeforeImage) (state : State) (other : Shape) (known : Known)
+        → MayGrow (P.shape part.old) space.old owners grown
+        → IsVolumeAtRest log.geometry number owners log images state (B.seen blocks.old)
+        → IsPartAtRest log.geometry owners images state (P.shape part.old) (P.known part.old)
         (B.seen blocks.old)
         → (part_no other).0 ≢ (part_no (P.shape part.old)).0
-        → IsPartAtRest log.geometry images state other known (B.seen blocks.old)
+        → IsPartAtRest log.geometry owners images state other known (B.seen blocks.old)
         → DueMore other [] (B.seen blocks.old) (B.seen blocks.new)) }
 {
     let kind = part.advance(blocks, space, kept, place, length)?;
@@ -196,24 +213,24 @@ pub fn do_stage<B: Blocks, P: Part, K: Kept>(
 /// volume is safe from then on.
 pub fn force_blocks<B: Blocks>(blocks: &mut B, list: &[u32]) -> Result<(), DeviceFault>
     requires { All (λ n. n < (B.seen blocks.old).count) list.now }
-    ensures safe { IsTrue B.tells → (geometry : Geometry) (number : ℕ) (log : LogNow)
-        (committed : List LogRecord → ℕ → Content)
-        → IsSafe geometry number log committed (B.seen blocks.old)
+    ensures safe { IsTrue B.tells → (geometry : Geometry) (number : ℕ) (owners : Owners)
+        (log : LogNow) (committed : List LogRecord → ℕ → Content)
+        → IsSafe geometry number owners log committed (B.seen blocks.old)
         → Guards (B.seen blocks.old) (B.seen blocks.new)
-        (IsSafeImage geometry number log committed)
-        × IsSafe geometry number log committed (B.seen blocks.new) }
+        (IsSafeImage geometry number owners log committed)
+        × IsSafe geometry number owners log committed (B.seen blocks.new) }
     ensures forced { IsTrue B.tells → OnOk result
         (Forced list.now (B.seen blocks.old).cur (B.seen blocks.new).may) }
     ensures after { Keeps B.tells (B.seen blocks.old) (B.seen blocks.new) }
     // A volume that was at rest stays so, and so does each part.
-    ensures at_rest { IsTrue B.tells → (geometry : Geometry) (number : ℕ) (log : LogNow)
-        (images : List BeforeImage) (state : State)
-        → IsVolumeAtRest geometry number log images state (B.seen blocks.old)
-        → IsVolumeAtRest geometry number log images state (B.seen blocks.new) }
-    ensures parts { IsTrue B.tells → (geometry : Geometry) (images : List BeforeImage)
-        (state : State) (shape : Shape) (known : Known)
-        → IsPartAtRest geometry images state shape known (B.seen blocks.old)
-        → IsPartAtRest geometry images state shape known (B.seen blocks.new) }
+    ensures at_rest { IsTrue B.tells → (geometry : Geometry) (number : ℕ) (owners : Owners)
+        (log : LogNow) (images : List BeforeImage) (state : State)
+        → IsVolumeAtRest geometry number owners log images state (B.seen blocks.old)
+        → IsVolumeAtRest geometry number owners log images state (B.seen blocks.new) }
+    ensures parts { IsTrue B.tells → (geometry : Geometry) (owners : Owners)
+        (images : List BeforeImage) (state : State) (shape : Shape) (known : Known)
+        → IsPartAtRest geometry owners images state shape known (B.seen blocks.old)
+        → IsPartAtRest geometry owners images state shape known (B.seen blocks.new) }
     ensures cause { HasWriteCause (B.faults blocks.old) (B.faults blocks.new) result }
 {
     blocks.force(list)

@@ -6,6 +6,7 @@ ghost use Rattle.vr_types.specs.Image.{Image, block_at};
 ghost use Rattle.vr_types.specs.Seen.{Left};
 ghost use Rattle.vr_types.specs.declared.unit.PartNo.{PartNo};
 ghost use Rattle.vr_types.specs.declared.geometry.Geometry.{Geometry};
+ghost use Rattle.vr_space.specs.Owners.{Owners};
 ghost use Rattle.vr_log.specs.Content.{Content as LogContent};
 ghost use Rattle.vr_log.specs.LogNow.{LogNow, with_record};
 ghost use Rattle.vr_log.specs.declared.record.EndKind.TheVariants.{BackedOut, Committed};
@@ -43,18 +44,19 @@ pub fn one_recovery()
 
 /// A safe image recovers to the contents that are committed by its log.
 pub fn image_recovers()
-    ensures { (geometry : Geometry) (number : ℕ) (log : LogContent) (committed : ℕ → Content)
-        (image : Image) → IsImageSafe geometry number log committed image
+    ensures { (geometry : Geometry) (number : ℕ) (owners : Owners) (log : LogContent)
+        (committed : ℕ → Content) (image : Image)
+        → IsImageSafe geometry number owners log committed image
         → Recovers geometry number image committed }
 {}
 
 /// Each image that a crash may leave of a safe volume is a safe one.
 pub fn each_image_is_safe<B: Blocks>(blocks: &B)
-    ensures { (geometry : Geometry) (number : ℕ) (log : LogNow)
+    ensures { (geometry : Geometry) (number : ℕ) (owners : Owners) (log : LogNow)
         (committed : List LogRecord → ℕ → Content)
-        → IsSafe geometry number log committed (B.seen blocks.now)
+        → IsSafe geometry number owners log committed (B.seen blocks.now)
         → (image : Image) → Left (B.seen blocks.now) image
-        → IsSafeImage geometry number log committed image }
+        → IsSafeImage geometry number owners log committed image }
 {}
 
 /// What is committed in the state that a history gives, by a log that has the commits of the units
@@ -77,29 +79,29 @@ pub fn committed_by_its_history()
 /// by the log with the end of a unit that is backed out (`backed_out`). With a commit the image
 /// recovers to that, or to what is committed where the unit counts (`commit`).
 pub fn crash_recovers<B: Blocks>(blocks: &B)
-    ensures rest { (geometry : Geometry) (number : ℕ) (log : LogNow) (images : List BeforeImage)
-        (state : State)
-        → IsVolumeAtRest geometry number log images state (B.seen blocks.now)
-        → (image : Image) → IsSafeImage geometry number log (committed_by state) image
+    ensures rest { (geometry : Geometry) (number : ℕ) (owners : Owners) (log : LogNow)
+        (images : List BeforeImage) (state : State)
+        → IsVolumeAtRest geometry number owners log images state (B.seen blocks.now)
+        → (image : Image) → IsSafeImage geometry number owners log (committed_by state) image
         → RecoversTo geometry number state [] image }
-    ensures before { (geometry : Geometry) (number : ℕ) (log : LogNow) (images : List BeforeImage)
-        (state : State)
-        → IsVolumeAtRest geometry number log images state (B.seen blocks.now)
+    ensures before { (geometry : Geometry) (number : ℕ) (owners : Owners) (log : LogNow)
+        (images : List BeforeImage) (state : State)
+        → IsVolumeAtRest geometry number owners log images state (B.seen blocks.now)
         → (unit : UnitOfRecovery) (part : PartNo) (place : List ℕ) (old : Option (List ℕ))
         (image : Image)
-        → IsSafeImage geometry number (with_record log (Before unit part place old))
+        → IsSafeImage geometry number owners (with_record log (Before unit part place old))
         (committed_by state) image → RecoversTo geometry number state [] image }
-    ensures backed_out { (geometry : Geometry) (number : ℕ) (log : LogNow)
+    ensures backed_out { (geometry : Geometry) (number : ℕ) (owners : Owners) (log : LogNow)
         (images : List BeforeImage) (state : State)
-        → IsVolumeAtRest geometry number log images state (B.seen blocks.now)
+        → IsVolumeAtRest geometry number owners log images state (B.seen blocks.now)
         → (unit : UnitOfRecovery) (image : Image)
-        → IsSafeImage geometry number (with_record log (End unit BackedOut))
+        → IsSafeImage geometry number owners (with_record log (End unit BackedOut))
         (committed_by state) image → RecoversTo geometry number state [] image }
-    ensures commit { (geometry : Geometry) (number : ℕ) (log : LogNow)
+    ensures commit { (geometry : Geometry) (number : ℕ) (owners : Owners) (log : LogNow)
         (images : List BeforeImage) (state : State)
-        → IsVolumeAtRest geometry number log images state (B.seen blocks.now)
+        → IsVolumeAtRest geometry number owners log images state (B.seen blocks.now)
         → (unit : UnitOfRecovery) (image : Image)
-        → IsSafeImage geometry number (with_record log (End unit Committed))
+        → IsSafeImage geometry number owners (with_record log (End unit Committed))
         (committed_by state) image → RecoversTo geometry number state [] image
         ⊎ RecoversTo geometry number state (unit ∷ []) image }
 {}

@@ -9,6 +9,7 @@ ghost use Rattle.vr_types.specs.Moments.{Guards};
 ghost use Rattle.vr_types.specs.Regions.{Touches};
 ghost use Rattle.vr_types.specs.declared.unit.PartNo.{PartNo};
 ghost use Rattle.vr_types.specs.declared.unit.Unit.{Unit as UnitOfRecovery};
+ghost use Rattle.vr_space.specs.Owners.{Owners};
 ghost use Rattle.vr_log.specs.Live.{EndsLive, is_in, live_in, need_of};
 ghost use Rattle.vr_log.specs.LogNow.{HasLog, HasLogCause, IsAppended, IsFullNo, IsFullWhere, IsOf};
 ghost use Rattle.vr_log.specs.LogNow.{IsForced, forced_now, restarted, with_record};
@@ -38,19 +39,20 @@ pub fn append_before<B: Blocks>(
     requires lengths { HasLengths rec.now }
     requires live { EndsLive (live_in log.old.records) rec.now }
     requires stands { IsTrue B.tells → LogStands log.old (B.seen blocks.old) }
-    ensures safe { IsTrue B.tells → (number : ℕ) (committed : List Rec → ℕ → Content)
+    ensures safe { IsTrue B.tells → (number : ℕ) (owners : Owners)
+        (committed : List Rec → ℕ → Content)
         (unit : UnitOfRecovery) (part : PartNo) (place : List ℕ) (old : Option (List ℕ))
         → rec.now ≡ Before unit part place old
-        → IsSafe log.old.geometry number log.old committed (B.seen blocks.old)
+        → IsSafe log.old.geometry number owners log.old committed (B.seen blocks.old)
         → IsFirstBefore log.old.geometry log.old committed unit part place old
         → Guards (B.seen blocks.old) (B.seen blocks.new)
-        (IsSafeImage log.old.geometry number (with_record log.old rec.now) committed) }
-    ensures appended { IsTrue B.tells → OnOk result ((number : ℕ)
+        (IsSafeImage log.old.geometry number owners (with_record log.old rec.now) committed) }
+    ensures appended { IsTrue B.tells → OnOk result ((number : ℕ) (owners : Owners)
         (committed : List Rec → ℕ → Content) (unit : UnitOfRecovery) (part : PartNo)
         (place : List ℕ) (old : Option (List ℕ)) → rec.now ≡ Before unit part place old
-        → IsSafe log.old.geometry number log.old committed (B.seen blocks.old)
+        → IsSafe log.old.geometry number owners log.old committed (B.seen blocks.old)
         → IsFirstBefore log.old.geometry log.old committed unit part place old
-        → IsSafe log.old.geometry number log.new committed (B.seen blocks.new)
+        → IsSafe log.old.geometry number owners log.new committed (B.seen blocks.new)
         × (oldest (images_of log.new.records) part.0 place ≢ None)) }
     ensures log { OnOk result (IsAppended log.old rec.now log.new) }
     ensures shape { OnOk result (IsOf log.new.geometry (B.seen blocks.new)) }
@@ -71,14 +73,15 @@ pub fn force_log<B: Blocks>(blocks: &mut B, log: &mut UndoLog) -> Result<(), Dev
     requires sound { log.old.broken ≡ false }
     requires shape { IsOf log.old.geometry (B.seen blocks.old) }
     requires stands { IsTrue B.tells → LogStands log.old (B.seen blocks.old) }
-    ensures safe { IsTrue B.tells → (number : ℕ) (committed : List Rec → ℕ → Content)
-        → IsSafe log.old.geometry number log.old committed (B.seen blocks.old)
-        → Guards (B.seen blocks.old) (B.seen blocks.new)
-        (IsSafeImage log.old.geometry number log.old committed) }
-    ensures after { IsTrue B.tells → OnOk result ((number : ℕ)
+    ensures safe { IsTrue B.tells → (number : ℕ) (owners : Owners)
         (committed : List Rec → ℕ → Content)
-        → IsSafe log.old.geometry number log.old committed (B.seen blocks.old)
-        → IsSafe log.old.geometry number log.new committed (B.seen blocks.new)) }
+        → IsSafe log.old.geometry number owners log.old committed (B.seen blocks.old)
+        → Guards (B.seen blocks.old) (B.seen blocks.new)
+        (IsSafeImage log.old.geometry number owners log.old committed) }
+    ensures after { IsTrue B.tells → OnOk result ((number : ℕ) (owners : Owners)
+        (committed : List Rec → ℕ → Content)
+        → IsSafe log.old.geometry number owners log.old committed (B.seen blocks.old)
+        → IsSafe log.old.geometry number owners log.new committed (B.seen blocks.new)) }
     ensures keeps { Keeps B.tells (B.seen blocks.old) (B.seen blocks.new) }
     ensures free { IsTrue B.tells → OnOk result ((part : ℕ) (place : List ℕ)
         → oldest (images_of log.old.records) part place ≢ None → IsFreeIn log.new part place) }
@@ -103,16 +106,18 @@ pub fn append_end<B: Blocks>(
     requires shape { IsOf log.old.geometry (B.seen blocks.old) }
     requires live { IsTrue (is_in unit (live_in log.old.records)) }
     requires stands { IsTrue B.tells → LogStands log.old (B.seen blocks.old) }
-    ensures safe { IsTrue B.tells → (number : ℕ) (committed : List Rec → ℕ → Content)
-        → IsSafe log.old.geometry number log.old committed (B.seen blocks.old)
+    ensures safe { IsTrue B.tells → (number : ℕ) (owners : Owners)
+        (committed : List Rec → ℕ → Content)
+        → IsSafe log.old.geometry number owners log.old committed (B.seen blocks.old)
         → IsEndOf log.old.geometry log.old committed unit kind (B.seen blocks.old)
         → Guards (B.seen blocks.old) (B.seen blocks.new)
-        (IsSafeImage log.old.geometry number (with_record log.old (End unit kind)) committed) }
-    ensures ended { IsTrue B.tells → OnOk result ((number : ℕ)
+        (IsSafeImage log.old.geometry number owners
+        (with_record log.old (End unit kind)) committed) }
+    ensures ended { IsTrue B.tells → OnOk result ((number : ℕ) (owners : Owners)
         (committed : List Rec → ℕ → Content)
-        → IsSafe log.old.geometry number log.old committed (B.seen blocks.old)
+        → IsSafe log.old.geometry number owners log.old committed (B.seen blocks.old)
         → IsEndOf log.old.geometry log.old committed unit kind (B.seen blocks.old)
-        → IsSafe log.old.geometry number log.new committed (B.seen blocks.new)) }
+        → IsSafe log.old.geometry number owners log.new committed (B.seen blocks.new)) }
     ensures touches { IsTrue B.tells → Touches (InLog log.old.geometry)
         (HasLog (with_record log.old (End unit kind))) (B.seen blocks.old) (B.seen blocks.new) }
     ensures log { OnOk result (IsAppended log.old (End unit kind) log.new) }
@@ -130,11 +135,12 @@ pub fn restart_log<B: Blocks>(blocks: &B, log: &mut UndoLog)
     requires sound { log.old.broken ≡ false }
     requires none_live { live_in log.old.records ≡ [] }
     requires forced { IsForced log.old }
-    ensures safe { IsTrue B.tells → (number : ℕ) (committed : List Rec → ℕ → Content)
+    ensures safe { IsTrue B.tells → (number : ℕ) (owners : Owners)
+        (committed : List Rec → ℕ → Content)
         → log.old.generation + 1 < 2 ^ 64 → LogStands log.old (B.seen blocks.now)
-        → IsSafe log.old.geometry number log.old committed (B.seen blocks.now)
+        → IsSafe log.old.geometry number owners log.old committed (B.seen blocks.now)
         → committed [] ≡ committed log.old.records
-        → IsSafe log.old.geometry number log.new committed (B.seen blocks.now)
+        → IsSafe log.old.geometry number owners log.new committed (B.seen blocks.now)
         × LogStands log.new (B.seen blocks.now) }
     ensures restarted { log.new ≡ restarted log.old }
 {

@@ -6,8 +6,10 @@ ghost use Rattle.vr_types.specs.Faults.{HasWriteCause};
 ghost use Rattle.vr_types.specs.Moments.{Guards};
 ghost use Rattle.vr_types.specs.Regions.{Touches};
 ghost use Rattle.vr_types.specs.declared.geometry.Geometry.{Geometry};
+ghost use Rattle.vr_space.specs.Owners.{Owners};
 ghost use Rattle.vr_space.specs.Known.{Known};
 ghost use Rattle.vr_space.specs.Part.{Shape};
+ghost use Rattle.vr_attach.specs.Owning.{IsPastLog};
 ghost use Rattle.vr_log.specs.Live.{is_in, live_in};
 ghost use Rattle.vr_log.specs.LogNow.{HasLog, IsForced, IsOf, restarted, with_record};
 ghost use Rattle.vr_log.specs.Standing.{InLog, LogStands};
@@ -81,23 +83,26 @@ pub fn end_unit<B: Blocks>(
     requires stands { IsTrue B.tells → LogStands log.old (B.seen blocks.old) }
     ensures touches { IsTrue B.tells → Touches (InLog log.old.geometry)
         (HasLog (with_record log.old (End unit kind))) (B.seen blocks.old) (B.seen blocks.new) }
-    ensures any_moment { IsTrue B.tells → (geometry : Geometry) (number : ℕ) (old : State)
-        → IsVolumeAtRest geometry number log.old (images_in undo.old) old (B.seen blocks.old)
+    ensures any_moment { IsTrue B.tells → (geometry : Geometry) (number : ℕ)
+        (owners : Owners) (old : State)
+        → IsVolumeAtRest geometry number owners log.old (images_in undo.old) old (B.seen blocks.old)
         → IsFirmFor geometry log.old old unit (B.seen blocks.old) → KeepsNoneIf kind old unit
         → Guards (B.seen blocks.old) (B.seen blocks.new)
-        (IsSafeImage geometry number (with_record log.old (End unit kind)) (committed_by old)) }
+        (IsSafeImage geometry number owners (with_record log.old (End unit kind))
+        (committed_by old)) }
     ensures rests { IsTrue B.tells → OnOk result ((geometry : Geometry) (number : ℕ)
-        (old new : State)
-        → IsVolumeAtRest geometry number log.old (images_in undo.old) old (B.seen blocks.old)
+        (owners : Owners) (old new : State)
+        → IsVolumeAtRest geometry number owners log.old (images_in undo.old) old (B.seen blocks.old)
         → IsCurrent old.numbers unit → IsFirmFor geometry log.old old unit (B.seen blocks.old)
         → KeepsNoneIf kind old unit → IsEndedIn unit old new
         → log.old.generation + 1 < 2 ^ 64
-        → IsVolumeAtRest geometry number log.new (images_in undo.new) new (B.seen blocks.new)) }
-    ensures others { IsTrue B.tells → OnOk result ((geometry : Geometry) (old new : State)
-        (shape : Shape) (known : Known)
-        → log.old.geometry ≡ geometry → IsEndedIn unit old new
-        → IsPartAtRest geometry (images_in undo.old) old shape known (B.seen blocks.old)
-        → IsPartAtRest geometry (images_in undo.new) new shape known (B.seen blocks.new)) }
+        → IsVolumeAtRest geometry number owners log.new (images_in undo.new) new
+        (B.seen blocks.new)) }
+    ensures others { IsTrue B.tells → OnOk result ((geometry : Geometry) (owners : Owners)
+        (old new : State) (shape : Shape) (known : Known)
+        → log.old.geometry ≡ geometry → IsPastLog geometry owners → IsEndedIn unit old new
+        → IsPartAtRest geometry owners (images_in undo.old) old shape known (B.seen blocks.old)
+        → IsPartAtRest geometry owners (images_in undo.new) new shape known (B.seen blocks.new)) }
     ensures log { OnOk result (IsEndedLog log.old unit kind log.new) }
     ensures stands { IsTrue B.tells → log.old.generation + 1 < 2 ^ 64
         → OnOk result (LogStands log.new (B.seen blocks.new)) }

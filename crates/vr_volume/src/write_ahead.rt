@@ -7,13 +7,13 @@ ghost use Rattle.vr_types.specs.Content.{Content};
 ghost use Rattle.vr_types.specs.Moments.{Guards};
 ghost use Rattle.vr_types.specs.Regions.{Touches};
 ghost use Rattle.vr_types.specs.declared.unit.Unit.{Unit as UnitOfRecovery};
+ghost use Rattle.vr_space.specs.Owners.{Owners};
 ghost use Rattle.vr_space.specs.Known.{HasMet, Known};
 ghost use Rattle.vr_space.specs.Part.{
   CanSet,
   DueMore,
   DueMoreAt,
   HasKeptRoom,
-  InPart,
   IsAtRest,
   IsGiven,
   IsOn,
@@ -38,6 +38,8 @@ ghost use Rattle.vr_volume.specs.Laying.{IsLaidBy, IsLogged};
 ghost use Rattle.vr_volume.specs.Logged.{IsFirstBefore};
 ghost use Rattle.vr_volume.specs.PutBack.{lengths_kept};
 ghost use Rattle.vr_volume.specs.Rests.{IsGivenFor, IsPartAtRest, IsVolumeAtRest};
+ghost use Rattle.vr_volume.specs.Rests.{RestsPastLog};
+ghost use Rattle.vr_attach.specs.Owning.{IsPastLog};
 ghost use Rattle.vr_volume.specs.Safe.{IsSafe, IsSafeImage};
 ghost use Rattle.vr_volume.specs.Steps.{Changing, IsChangeOf, IsFirstChange, image_by};
 
@@ -92,10 +94,10 @@ pub fn change<B: Blocks, P: Part, K: Kept>(
     requires live { EndsLive (live_in log.old.records) rec.now }
     requires stands { IsTrue B.tells → LogStands log.old (B.seen blocks.old) }
     requires on { IsOn (P.shape part.old) (B.seen blocks.old) }
-    requires apart { (n : ℕ) → InPart (P.shape part.old) n → log.old.geometry.log < n }
     requires place { IsPlaceOf (P.shape part.old) place.now }
     requires record { IsGiven (P.shape part.old) place.now bytes }
-    requires rests { IsTrue B.tells → IsAtRest (P.shape part.old) (B.seen blocks.old) }
+    requires rests { IsTrue B.tells → RestsPastLog log.old.geometry (P.shape part.old)
+        (B.seen blocks.old) }
     requires room { IsTrue B.tells → HasKeptRoom (P.shape part.old)
         (K.kept kept.now (part_no (P.shape part.old))) (B.seen blocks.old) }
     requires knows { IsTrue B.tells → Knows (P.shape part.old) (P.known part.old)
@@ -103,35 +105,38 @@ pub fn change<B: Blocks, P: Part, K: Kept>(
     requires can { IsTrue B.tells → CanSet (P.shape part.old) (P.known part.old)
         (B.seen blocks.old).cur (K.kept kept.now (part_no (P.shape part.old))) place.now
         (given bytes) }
-    ensures any_moment { IsTrue B.tells → (number : ℕ) (committed : List Rec → ℕ → Content)
+    ensures any_moment { IsTrue B.tells → (number : ℕ) (owners : Owners)
+        (committed : List Rec → ℕ → Content)
         (unit : UnitOfRecovery) (old : Option (List ℕ))
         → rec.now ≡ Before unit (part_no (P.shape part.old)) place.now old
-        → IsSafe log.old.geometry number log.old committed (B.seen blocks.old)
+        → IsSafe log.old.geometry number owners log.old committed (B.seen blocks.old)
         → IsFirstBefore log.old.geometry log.old committed unit (part_no (P.shape part.old))
         place.now old
         → IsLaidBy log.old.geometry (log.old.records ++ rec.now ∷ []) committed
         (part_no (P.shape part.old)).0 (P.shape part.old)
         (K.kept kept.now (part_no (P.shape part.old)))
         → Guards (B.seen blocks.old) (B.seen blocks.new)
-        (IsSafeImage log.old.geometry number (with_record log.old rec.now) committed) }
-    ensures after { IsTrue B.tells → OnOk result ((number : ℕ) (committed : List Rec → ℕ → Content)
+        (IsSafeImage log.old.geometry number owners (with_record log.old rec.now) committed) }
+    ensures after { IsTrue B.tells → OnOk result ((number : ℕ) (owners : Owners)
+        (committed : List Rec → ℕ → Content)
         (unit : UnitOfRecovery) (old : Option (List ℕ))
         → rec.now ≡ Before unit (part_no (P.shape part.old)) place.now old
-        → IsSafe log.old.geometry number log.old committed (B.seen blocks.old)
+        → IsSafe log.old.geometry number owners log.old committed (B.seen blocks.old)
         → IsFirstBefore log.old.geometry log.old committed unit (part_no (P.shape part.old))
         place.now old
         → IsLaidBy log.old.geometry (log.old.records ++ rec.now ∷ []) committed
         (part_no (P.shape part.old)).0 (P.shape part.old)
         (K.kept kept.now (part_no (P.shape part.old)))
-        → IsSafe log.old.geometry number log.new committed (B.seen blocks.new)) }
+        → IsSafe log.old.geometry number owners log.new committed (B.seen blocks.new)) }
     ensures log { IsTrue B.tells → OnOk result (IsLogged log.old rec.now log.new) }
-    ensures rests { IsTrue B.tells → OnOk result
-        (IsAtRest (P.shape part.old) (B.seen blocks.new)) }
+    ensures rests { IsTrue B.tells → (owners : Owners) → IsPastLog log.old.geometry owners
+        → IsAtRest (P.shape part.old) owners (B.seen blocks.old)
+        → OnOk result (IsAtRest (P.shape part.old) owners (B.seen blocks.new)) }
     ensures room { IsTrue B.tells → OnOk result (HasKeptRoom (P.shape part.old)
         (K.kept kept.now (part_no (P.shape part.old))) (B.seen blocks.new)) }
     ensures knows { IsTrue B.tells → OnOk result
         (Knows (P.shape part.old) (P.known part.new) (B.seen blocks.new)) }
-    ensures put { OnOk result (All (InPart (P.shape part.old)) (P.put part.new)) }
+    ensures put { OnOk result (All (λ n. n < (B.seen blocks.new).count) (P.put part.new)) }
     ensures due { IsTrue B.tells → OnOk result
         (DueMoreAt (P.shape part.old) place.now (P.put part.new)
         (B.seen blocks.old) (B.seen blocks.new)) }
@@ -145,10 +150,10 @@ pub fn change<B: Blocks, P: Part, K: Kept>(
     ensures split { OnOk result ((P.known part.new).split ≡ (P.known part.old).split) }
     ensures stands { IsTrue B.tells → OnOk result (LogStands log.new (B.seen blocks.new)) }
     // A volume that was at rest is so by the state after the change, and so is the part.
-    ensures at_rest { IsTrue B.tells → OnOk result ((number : ℕ) (old new : State)
+    ensures at_rest { IsTrue B.tells → OnOk result ((number : ℕ) (owners : Owners) (old new : State)
         (change : Changing) (images after : List BeforeImage)
-        → IsVolumeAtRest log.old.geometry number log.old images old (B.seen blocks.old)
-        → IsPartAtRest log.old.geometry images old (P.shape part.old) (P.known part.old)
+        → IsVolumeAtRest log.old.geometry number owners log.old images old (B.seen blocks.old)
+        → IsPartAtRest log.old.geometry owners images old (P.shape part.old) (P.known part.old)
         (B.seen blocks.old)
         → IsChangeOf log.old.geometry old change → IsFirstChange log.old change old new
         → rec.now ≡ Before change.unit change.part change.place change.old
@@ -156,8 +161,8 @@ pub fn change<B: Blocks, P: Part, K: Kept>(
         → after ≡ images ++ image_by change ∷ []
         → K.kept kept.now (part_no (P.shape part.old))
         ≡ lengths_kept after (part_no (P.shape part.old)).0
-        → IsVolumeAtRest log.old.geometry number log.new after new (B.seen blocks.new)
-        × IsPartAtRest log.old.geometry after new (P.shape part.old) (P.known part.new)
+        → IsVolumeAtRest log.old.geometry number owners log.new after new (B.seen blocks.new)
+        × IsPartAtRest log.old.geometry owners after new (P.shape part.old) (P.known part.new)
         (B.seen blocks.new)) }
     // What it may answer: that the log is full exactly where it is, and then nothing is done; a fault
     // of the device only where there was one.
@@ -168,24 +173,24 @@ pub fn change<B: Blocks, P: Part, K: Kept>(
     // Where the place is met, no read is made of it.
     ensures reads { HasMet (P.known part.old) place.now → IfErr result (λ no. no ≢ Read) }
     // Each other part is at rest, too.
-    ensures others { IsTrue B.tells → OnOk result ((number : ℕ) (old new : State)
+    ensures others { IsTrue B.tells → OnOk result ((number : ℕ) (owners : Owners) (old new : State)
         (change : Changing) (images after : List BeforeImage) (other : Shape) (known : Known)
-        → IsVolumeAtRest log.old.geometry number log.old images old (B.seen blocks.old)
-        → IsPartAtRest log.old.geometry images old (P.shape part.old) (P.known part.old)
+        → IsVolumeAtRest log.old.geometry number owners log.old images old (B.seen blocks.old)
+        → IsPartAtRest log.old.geometry owners images old (P.shape part.old) (P.known part.old)
         (B.seen blocks.old)
         → IsChangeOf log.old.geometry old change → IsFirstChange log.old change old new
         → part_no (P.shape part.old) ≡ change.part
         → after ≡ images ++ image_by change ∷ [] → (part_no other).0 ≢ change.part.0
-        → IsPartAtRest log.old.geometry images old other known (B.seen blocks.old)
-        → IsPartAtRest log.old.geometry after new other known (B.seen blocks.new)) }
+        → IsPartAtRest log.old.geometry owners images old other known (B.seen blocks.old)
+        → IsPartAtRest log.old.geometry owners after new other known (B.seen blocks.new)) }
     // What has to be forced for the places of another part stays.
-    ensures others_due { IsTrue B.tells → OnOk result ((number : ℕ) (images : List BeforeImage)
-        (state : State) (other : Shape) (known : Known)
-        → IsVolumeAtRest log.old.geometry number log.old images state (B.seen blocks.old)
-        → IsPartAtRest log.old.geometry images state (P.shape part.old) (P.known part.old)
+    ensures others_due { IsTrue B.tells → OnOk result ((number : ℕ) (owners : Owners)
+        (images : List BeforeImage) (state : State) (other : Shape) (known : Known)
+        → IsVolumeAtRest log.old.geometry number owners log.old images state (B.seen blocks.old)
+        → IsPartAtRest log.old.geometry owners images state (P.shape part.old) (P.known part.old)
         (B.seen blocks.old)
         → (part_no other).0 ≢ (part_no (P.shape part.old)).0
-        → IsPartAtRest log.old.geometry images state other known (B.seen blocks.old)
+        → IsPartAtRest log.old.geometry owners images state other known (B.seen blocks.old)
         → DueMore other [] (B.seen blocks.old) (B.seen blocks.new)) }
     ensures set { IsTrue B.tells → OnOk result (SetsOne (P.shape part.old) place.now
         (given bytes.entry) (B.seen blocks.old).cur (B.seen blocks.new).cur) }

@@ -8,8 +8,9 @@ pub returns-clause-value : goal.returns-clause-value
 returns-clause-value c =
     ok_then c.answer_here.result c.answer_here.ensures.value
     (λ reply is state agrees at logs lives.
-    is ∙ answer_is c.args.case.now state agrees (option_copied c.args.present) c.args.logged
-    c.args.live at logs lives)
+    is
+    ∙ answer_is c.args.case.now state agrees (option_copied c.args.looked.place)
+    (option_copied c.args.looked.present) at.place at.present c.args.logged c.args.live logs lives)
 
 pub returns-clause-memory : goal.returns-clause-memory
 returns-clause-memory c =

@@ -8,4 +8,6 @@ pub returns-clause-value : goal.returns-clause-value
 returns-clause-value c =
     ok_then c.done_here.result c.done_here.ensures.value
     (λ reply is state agrees at.
-    is ∙ done_is c.args.case.now state agrees (option_copied c.args.present) at)
+    is
+    ∙ done_is c.args.case.now state agrees (option_copied c.args.looked.place)
+    (option_copied c.args.looked.present) at.place at.present)

@@ -10,10 +10,11 @@ pub returns : goal.returns
 returns c = record {
   value = λ state is at logs lives.
       c.full_here.ensures
-      ∙ full_is c.args.case.now state is (option_copied c.args.present) c.args.logged c.args.live at
-      logs lives;
+      ∙ full_is c.args.case.now state is (option_copied c.args.looked.present) c.args.logged
+      c.args.live at.present logs lives;
   stays = λ direct.
       ap (λ (o : Option Refusal). option_and_then (stand_refused c.args.case.now.request.now) o)
       c.full_here.ensures
-      ∙ full_stays c.args.case.now direct (option_copied c.args.present) c.args.logged c.args.live;
+      ∙ full_stays c.args.case.now direct (option_copied c.args.looked.present) c.args.logged
+      c.args.live;
 }

@@ -1,9 +1,9 @@
-use Rattle.vr_volume.proofs.Calls.{free-safe, part-after, part-guards}
+use Rattle.vr_volume.proofs.Calls.{free-safe, part-after, part-guards, quiet-safe}
 use Rattle.vr_volume.proofs.changing.set_free.Goals as goal
 use Rattle.vr_space.specs.Part.{Just, given, item_of, left_by, part_no}
 
 pub returns-clause-safe : goal.returns-clause-safe
-returns-clause-safe g c told geometry number log committed safe laid free =
+returns-clause-safe g c told geometry number owners log committed safe laid free =
     let B = g.B.Blocks in
     let shape = g.P.Part.shape c.args.part.now in
     let part = (part_no shape).0 in
@@ -13,9 +13,13 @@ returns-clause-safe g c told geometry number log committed safe laid free =
     let new = left_by shape (item_of shape a.cur c.args.place.now) (given c.args.bytes) in
     let A = Just c.args.place.now new in
     let added = free-safe geometry log committed part shape c.args.place.now new free in
-    let left = g.met.B.Blocks.cur_may c.args.blocks.now told in (
-      part-guards geometry number log committed part shape kept A a b safe laid added
-          (c.set.ensures.adds told) (c.set.ensures.rooms told) left (c.set.ensures.room told),
-      part-after geometry number log committed part shape kept A a b safe laid added
-          (c.set.ensures.adds told) (c.set.ensures.rooms told) left (c.set.ensures.room told),
+    let left = g.met.B.Blocks.cur_may c.args.blocks.now told in
+    let rests = quiet-safe geometry number owners log committed part shape kept a safe left laid
+    (c.requires.rests told) in
+    let adds = c.set.ensures.adds told owners rests in
+    let rooms = c.set.ensures.rooms told owners rests in (
+      part-guards geometry number owners log committed part shape kept A a b safe laid added
+          adds rooms left (c.set.ensures.room told),
+      part-after geometry number owners log committed part shape kept A a b safe laid added
+          adds rooms left (c.set.ensures.room told),
     )

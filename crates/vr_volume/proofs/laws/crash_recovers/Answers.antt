@@ -6,12 +6,12 @@ pub returns : goal.returns
 returns g c =
     let now = g.B.Blocks.seen c.args.blocks.now in
     record {
-      rest = λ geometry number log images state is.
-          rest-recovers geometry number log images state now is;
-      before = λ geometry number log images state is.
-          before-recovers geometry number log images state now is;
-      backed_out = λ geometry number log images state is.
-          backed-out-recovers geometry number log images state now is;
-      commit = λ geometry number log images state is.
-          commit-recovers geometry number log images state now is;
+      rest = λ geometry number owners log images state is.
+          rest-recovers geometry number owners log images state now is;
+      before = λ geometry number owners log images state is.
+          before-recovers geometry number owners log images state now is;
+      backed_out = λ geometry number owners log images state is.
+          backed-out-recovers geometry number owners log images state now is;
+      commit = λ geometry number owners log images state is.
+          commit-recovers geometry number owners log images state now is;
     }

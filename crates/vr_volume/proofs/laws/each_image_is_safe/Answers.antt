@@ -2,6 +2,6 @@ use Rattle.vr_volume.proofs.Recovering.{each_image_is_safe}
 use Rattle.vr_volume.proofs.laws.each_image_is_safe.Goals as goal
 
 pub returns : goal.returns
-returns g c geometry number log committed safe image left =
-    each_image_is_safe geometry number log committed (g.B.Blocks.seen c.args.blocks.now) safe image
-    left
+returns g c geometry number owners log committed safe image left =
+    each_image_is_safe geometry number owners log committed (g.B.Blocks.seen c.args.blocks.now)
+    safe image left

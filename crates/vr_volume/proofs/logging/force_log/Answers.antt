@@ -6,26 +6,26 @@ use Rattle.vr_volume.proofs.LogCalls.{log-guards, safe-fewer}
 use Rattle.vr_volume.proofs.logging.force_log.Goals as goal
 
 pub returns-in_err-force-clause-safe : goal.returns-in_err-force-clause-safe
-returns-in_err-force-clause-safe g c told number committed safe =
+returns-in_err-force-clause-safe g c told number owners committed safe =
     let B = g.B.Blocks in
-    log-guards c.args.log.now.geometry number committed c.args.log.now
+    log-guards c.args.log.now.geometry number owners committed c.args.log.now
     (B.seen c.args.blocks.now) (B.seen c.force.new.blocks) safe (c.force.ensures.moments told)
 
 pub returns-clause-safe : goal.returns-clause-safe
-returns-clause-safe g c told number committed safe =
+returns-clause-safe g c told number owners committed safe =
     let B = g.B.Blocks in
-    log-guards c.args.log.now.geometry number committed c.args.log.now
+    log-guards c.args.log.now.geometry number owners committed c.args.log.now
     (B.seen c.args.blocks.now) (B.seen c.force.new.blocks) safe (c.force.ensures.moments told)
 
 pub returns-clause-after : goal.returns-clause-after
-returns-clause-after g c told number committed safe =
+returns-clause-after g c told number owners committed safe =
     let B = g.B.Blocks in
     let log = c.args.log.now in
     let new = c.force.new.self in
     let b = B.seen c.force.new.blocks in
     let is = c.in_ok-force.ensures.forced in
-    safe-fewer log.geometry number committed log new b
-    (log-after log.geometry number committed log (B.seen c.args.blocks.now) b safe
+    safe-fewer log.geometry number owners committed log new b
+    (log-after log.geometry number owners committed log (B.seen c.args.blocks.now) b safe
     (c.force.ensures.moments told))
     (ap (λ (l : LogNow). l.geometry) is
     ∙ forced-geometry log)

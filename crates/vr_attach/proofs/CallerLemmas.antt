@@ -1,0 +1,3 @@
+-- What the crates above cite: where a part is laid, and owners of its blocks.
+pub use Rattle.vr_attach.proofs.Owning.{IsLaidAs, laid-as, owner-past-log, area-owned, apart-owned}
+pub use Rattle.vr_attach.proofs.Owning.{owned-apart, first-stays, stays-owned}
