@@ -1,5 +1,5 @@
--- Which part each block of a volume is of, by who owns its areas. The header and the log are of none.
--- The rules are this project's own.
+-- Which part each block of a volume is of, by who owns its areas. The header and the log are of
+-- none. The rules are this project's own.
 use Rattle.std.specs.Prelude.{◌≡◌, ℕ, ◌+◌, ◌-◌, ◌/◌, ◌<◌, nat_le, List, Option, Some, None}
 use Rattle.std.specs.Prelude.{if◌then◌else◌, slice_index_or}
 use Rattle.std.specs.Option.{option_map}

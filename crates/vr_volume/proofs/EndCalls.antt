@@ -150,8 +150,8 @@ module _ (geometry : Geometry) (number : ℕ) (owners : Owners) (log : LogNow)
 
   safe-end : IsSafe geometry number owners more (committed_by old) a
   safe-end = safe-ended geometry number owners log (committed_by old) a unit kind rest.safe
-      (end-of geometry old rest.laid log rest.logged rest.forced unit kind number owners a rest.safe firm
-      none)
+      (end-of geometry old rest.laid log rest.logged rest.forced unit kind number owners a
+      rest.safe firm none)
 
   log-call : Touches (InLog geometry) (HasLog more) a b
   log-call = subst (λ (shape : Geometry). Touches (InLog shape) (HasLog more) a b) rest.safe.shape
@@ -278,8 +278,8 @@ pub part-after : (geometry : Geometry) (owners : Owners) (log : LogNow) (Q : Ima
     → IsPartAtRest geometry owners (others_of unit images) new shape known b
 part-after geometry owners log Q images old new unit shape known a b is past left call made part =
     record {
-      laid = ap (λ (catalog : Content). shape_by geometry catalog (part_no shape).0) (made.contents 0)
-          ∙ part.laid;
+      laid = ap (λ (catalog : Content). shape_by geometry catalog (part_no shape).0)
+          (made.contents 0) ∙ part.laid;
       on = on-still shape a b part.on stays.count stays.size;
       rests = rest-stays a b shape owners stays part.rests;
       room = fewer-room shape owners (lengths_kept (others_of unit images) (part_no shape).0)
@@ -287,10 +287,12 @@ part-after geometry owners log Q images old new unit shape known a b is past lef
           (kept-under (part_no shape).0 (others_of unit images) images [] [] tt tt
           (some-filter (λ (image : BeforeImage). is_other unit image.unit) images))
           (rest-sound shape owners b (rest-stays a b shape owners stays part.rests))
-          (room-stays a b shape owners (lengths_kept images (part_no shape).0) stays sound part.room);
+          (room-stays a b shape owners (lengths_kept images (part_no shape).0) stays sound
+          part.room);
       knows = knows-stays a b shape owners known stays sound left part.knows;
       reads = λ place. same-stays a b shape owners stays sound left place ∙ part.reads place
-          ∙ sym (ap (λ (content : Content). item_at content place) (made.contents (part_no shape).0));
+          ∙ sym (ap (λ (content : Content). item_at content place)
+          (made.contents (part_no shape).0));
     }
   where
     sound : IsSound shape owners a

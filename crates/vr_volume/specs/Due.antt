@@ -20,8 +20,8 @@ IsDueFor geometry log state unit listed now = (part : ℕ) (place : List ℕ) (i
     → same_unit unit image.unit ≡ true → shape_by geometry (state.contents 0) part ≡ Some shape
     → IsDueTo shape listed now place
 
--- Each part that is laid is in order, in the blocks that these owners give it, and reads as the state
--- has it.
+-- Each part that is laid is in order, in the blocks that these owners give it, and reads as the
+-- state has it.
 abbrev pub AreRead : Geometry → Owners → State → Seen → Type 0
 AreRead geometry owners state now = (part : ℕ) (shape : Shape)
     → shape_by geometry (state.contents 0) part ≡ Some shape

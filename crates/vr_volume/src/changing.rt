@@ -113,8 +113,8 @@ pub fn set_free<B: Blocks, P: Part, K: Kept>(
 }
 
 /// Does the stage that comes before a record of a part. At each moment of it, whether it fails or
-/// not, each image is a safe one, and the volume is safe from then on, by owners who leave each part
-/// its blocks and give this one those of the area that it may claim.
+/// not, each image is a safe one, and the volume is safe from then on, by owners who leave each
+/// part its blocks and give this one those of the area that it may claim.
 pub fn do_stage<B: Blocks, P: Part, K: Kept>(
     blocks: &mut B,
     part: &mut P,

@@ -257,8 +257,8 @@ returns-clause-at_rest g c told number owners old new change images after rest p
     place found rest part of made given-for kept in
     let logged = subst (λ (r : LogRecord). IsLogged log r more) is
     (c.in_ok-log_forced.ensures.logged told) in
-    let safe = (returns-clause-after g c told) number owners (committed_by old) change.unit change.old it
-    rest.safe next
+    let safe = (returns-clause-after g c told) number owners (committed_by old) change.unit
+    change.old it rest.safe next
     (subst (λ (r : LogRecord). IsLaidBy log.geometry (log.records ++ r ∷ []) (committed_by old)
     (part_no shape).0 shape (g.K.Kept.kept c.args.kept.now (part_no shape))) (sym it)
     (record { laid = laid.laid; kept_is = room ∙ laid.kept_is })) in
