@@ -13,6 +13,7 @@ use Rattle.vr_types.specs.declared.geometry.Geometry.{Geometry}
 use Rattle.vr_types.specs.declared.unit.PartNo.{PartNo}
 use Rattle.vr_types.specs.declared.unit.Unit.{Unit as UnitOfRecovery}
 use Rattle.vr_space.specs.Known.{Known}
+use Rattle.vr_space.specs.Owners.{Owners}
 use Rattle.vr_space.specs.Part.{IsDueTo, Shape, part_no}
 use Rattle.vr_log.specs.LogNow.{LogNow}
 use Rattle.vr_history.specs.Effects.{without_last}
@@ -31,7 +32,7 @@ use Rattle.vr_event.specs.Changing.{IsSetIn}
 use Rattle.vr_event.specs.Ends.{IsTakenFrom, IsToBack, back_at}
 use Rattle.vr_event.specs.Parts.{but_split}
 use Rattle.vr_event.specs.Store.{ChangedBy, IsFitImage, IsPartSet, IsRestedPart, IsSet, IsStored}
-use Rattle.vr_event.specs.Store.{PartNow, StoreNow, blocks_of, part_among}
+use Rattle.vr_event.specs.Store.{PartNow, StoreNow, blocks_of, owners_of, part_among}
 use Rattle.vr_event.proofs.Among.{HasShape, among-all, among-shape}
 use Rattle.vr_event.proofs.Keeping.{stored-sound}
 use Rattle.vr_event.proofs.PartsAt.{IsPartAt}
@@ -41,13 +42,13 @@ use Rattle.vr_event.proofs.Storing.{due-longer}
 use Rattle.vr_event.proofs.Worked.{all-both}
 
 -- The log has an image of its place.
-pub place-back : (geometry : Geometry) (number : ℕ) (log : LogNow) (images : List BeforeImage)
-    (old new : State) (change : Changing) (shape : Shape) (known : Known) (place : List ℕ)
-    (found : Option (List ℕ)) (now : Seen)
-    → IsToBack geometry number log images old new change shape known place found now
+pub place-back : (geometry : Geometry) (number : ℕ) (owners : Owners) (log : LogNow)
+    (images : List BeforeImage) (old new : State) (change : Changing) (shape : Shape)
+    (known : Known) (place : List ℕ) (found : Option (List ℕ)) (now : Seen)
+    → IsToBack geometry number owners log images old new change shape known place found now
     → oldest images (part_no shape).0 place ≢ None
-place-back geometry number log images old new change shape known place found now to =
-    place-some geometry number log images old now to.volume change shape place found to.given
+place-back geometry number owners log images old new change shape known place found now to =
+    place-some geometry number owners log images old now to.volume change shape place found to.given
     (put-some geometry log old new change to.volume.laid to.volume.logged to.of to.step)
 
 some-same : {X : Type 0} {x y : X} → Some x ≡ Some y → x ≡ y
@@ -82,7 +83,7 @@ module _ (number : ℕ) (store : StoreNow) (unit : UnitOfRecovery) (old new : St
   module _ (b : Seen) (undo : List KeptRecord) (changed : List ChangedBy) (parts : List PartNow)
       (now : PartNow) (into : IsPartAt change.part.0 before now store.parts parts)
       (same : but_split now ≡ but_split before)
-      (sets : IsSetIn store.log.geometry number store.log (images_in store.undo)
+      (sets : IsSetIn store.log.geometry number (owners_of store) store.log (images_in store.undo)
       (images_in store.undo) old new before.shape now.known change.place
       (blocks_of unit changed) a b)
       (had : (n : ℕ) → Contains (blocks_of unit store.changed) n
@@ -139,8 +140,8 @@ module _ (number : ℕ) (store : StoreNow) (unit : UnitOfRecovery) (old new : St
         subst (λ (v : UnitOfRecovery). IsDueTo shape (blocks_of v changed) b q) (sym one)
         (due-either p q shape laid (blocks_of unit changed) (p == change.part.0) refl
         (λ here. inr (λ n there. there))
-        (due-longer shape (blocks_of unit store.changed) (blocks_of unit changed) q a
-        (stored-sound number store old a stored p shape laid) had
+        (due-longer shape (owners_of store) (blocks_of unit store.changed) (blocks_of unit changed)
+        q a (stored-sound number store old a stored p shape laid) had
         (subst (λ (v : UnitOfRecovery). IsDueTo shape (blocks_of v store.changed) a q) one
         (stored.due u p q image shape is its laid))))
     due-by u p q image shape is its laid false mine =
@@ -161,9 +162,11 @@ module _ (number : ℕ) (store : StoreNow) (unit : UnitOfRecovery) (old new : St
         (record store { undo = undo; parts = parts; changed = changed }) new b
     stored-back = record {
       volume = subst (λ (i : List BeforeImage).
-          IsVolumeAtRest store.log.geometry number store.log i new b) (sym images) sets.volume;
+          IsVolumeAtRest store.log.geometry number (owners_of store) store.log i new b) (sym images)
+          sets.volume;
       parts = subst (λ (i : List BeforeImage). All (λ (p : PartNow).
-          IsPartAtRest store.log.geometry i new p.shape p.known b) parts) (sym images) each;
+          IsPartAtRest store.log.geometry (owners_of store) i new p.shape p.known b) parts)
+          (sym images) each;
       whole = λ p shape laid. shapes-same parts store.parts same-parts p
           ∙ stored.whole p shape (laid-old p shape laid);
       befores = befores ∙ ap (without_last unit) stored.befores
@@ -175,19 +178,20 @@ module _ (number : ℕ) (store : StoreNow) (unit : UnitOfRecovery) (old new : St
     }
       where
         P : PartNow → Type 0
-        P p = IsPartAtRest store.log.geometry (images_in store.undo) new p.shape p.known b
+        P p = IsPartAtRest store.log.geometry (owners_of store) (images_in store.undo) new p.shape
+            p.known b
 
         each : All P parts
         each = subst (All P) (sym into.is)
-            (all-with (λ (p : PartNow). IsPartSet store.log a p × IsRestedPart store old a p) P
+            (all-with (λ (p : PartNow). IsPartSet a p × IsRestedPart store old a p) P
             change.part.0 now
             (λ p apart both. sets.others p.shape p.known
             (λ is. apart (ap (λ (n : PartNo). n.0) (sym both.0.number) ∙ is
             ∙ number-at (record store { undo = [] }) a set change.part.0 before found)) both.1)
-            (subst (λ (s : Shape). IsPartAtRest store.log.geometry (images_in store.undo) new s
-            now.known b) (sym (ap (λ (p : PartNow). p.shape) same)) sets.part)
-            store.parts set.apart
-            (all-both (IsPartSet store.log a) (IsRestedPart store old a) store.parts set.parts
+            (subst (λ (s : Shape). IsPartAtRest store.log.geometry (owners_of store)
+            (images_in store.undo) new s now.known b) (sym (ap (λ (p : PartNow). p.shape) same))
+            sets.part) store.parts set.apart
+            (all-both (IsPartSet a) (IsRestedPart store old a) store.parts set.parts
             stored.parts))
 
 -- ---- one that was taken out
@@ -210,10 +214,10 @@ module _ (number : ℕ) (store : StoreNow) (unit : UnitOfRecovery) (part : PartN
     (found : part_among store.parts part.0 ≡ Some before)
     (from : IsTakenFrom number store unit state a) where
   -- the part is at rest
-  pub taken-part : IsPartAtRest store.log.geometry (images_in store.undo) state before.shape
-      before.known a
+  pub taken-part : IsPartAtRest store.log.geometry (owners_of store) (images_in store.undo) state
+      before.shape before.known a
   taken-part = subst (λ (i : List BeforeImage).
-      IsPartAtRest store.log.geometry i state before.shape before.known a)
+      IsPartAtRest store.log.geometry (owners_of store) i state before.shape before.known a)
       (sym from.images)
       (among-all (IsRestedPart (record store { undo = from.undo }) state a) store.parts part.0
       before from.stored.parts found)
@@ -221,12 +225,13 @@ module _ (number : ℕ) (store : StoreNow) (unit : UnitOfRecovery) (part : PartN
   module _ (was item : Option (List ℕ)) (new : State)
       (of : IsChangeOf store.log.geometry state (back_at unit part place was item))
       (back : IsPutBack (back_at unit part place was item) state new) where
-    pub to-back : IsToBack store.log.geometry number store.log (images_in store.undo) state new
-        (back_at unit part place was item) before.shape before.known place item a
+    pub to-back : IsToBack store.log.geometry number (owners_of store) store.log
+        (images_in store.undo) state new (back_at unit part place was item) before.shape
+        before.known place item a
     to-back = record {
       volume = subst (λ (i : List BeforeImage).
-          IsVolumeAtRest store.log.geometry number store.log i state a) (sym from.images)
-          from.stored.volume;
+          IsVolumeAtRest store.log.geometry number (owners_of store) store.log i state a)
+          (sym from.images) from.stored.volume;
       part = taken-part;
       of = of;
       step = back;
@@ -240,7 +245,7 @@ module _ (number : ℕ) (store : StoreNow) (unit : UnitOfRecovery) (part : PartN
     -- Once it is put back the store is the state's after it.
     pub stored-taken : (b : Seen) (changed : List ChangedBy) (parts : List PartNow) (now : PartNow)
         → IsPartAt part.0 before now store.parts parts → but_split now ≡ but_split before
-        → IsSetIn store.log.geometry number store.log (images_in store.undo)
+        → IsSetIn store.log.geometry number (owners_of store) store.log (images_in store.undo)
         (images_in store.undo) state new before.shape now.known place
         (blocks_of unit changed) a b
         → ((n : ℕ) → Contains (blocks_of unit store.changed) n
@@ -252,6 +257,6 @@ module _ (number : ℕ) (store : StoreNow) (unit : UnitOfRecovery) (part : PartN
         stored-back number (record store { undo = from.undo }) unit state new
         (back_at unit part place was item) a (set-bare store a set) from.stored before
         found refl of back b store.undo changed parts now into same
-        (subst (λ (i : List BeforeImage). IsSetIn store.log.geometry number store.log i i state new
-        before.shape now.known place (blocks_of unit changed) a b) from.images sets)
-        had others from.images from.befores (ap (map place_of) from.images)
+        (subst (λ (i : List BeforeImage). IsSetIn store.log.geometry number (owners_of store)
+        store.log i i state new before.shape now.known place (blocks_of unit changed) a b)
+        from.images sets) had others from.images from.befores (ap (map place_of) from.images)

@@ -14,8 +14,11 @@ use Rattle.vr_types.specs.Seen.{Left, Seen}
 use Rattle.vr_types.specs.declared.geometry.Geometry.{Geometry}
 use Rattle.vr_types.specs.declared.unit.Unit.{Unit as UnitOfRecovery}
 use Rattle.vr_space.specs.Known.{Known}
+use Rattle.vr_space.specs.Owners.{Owners}
 use Rattle.vr_space.specs.Part.{IsDueTo, IsSound, Shape, item_of}
 use Rattle.vr_space.proofs.CallerLemmas.{StaysPart}
+use Rattle.vr_attach.specs.Owning.{owner_of}
+use Rattle.vr_attach.proofs.CallerLemmas.{owner-past-log}
 use Rattle.vr_log.specs.Live.{live_in}
 use Rattle.vr_log.specs.LogNow.{IsOf, LogNow}
 use Rattle.vr_log.specs.Standing.{InLog}
@@ -33,13 +36,12 @@ use Rattle.vr_volume.specs.Laid.{shape_by}
 use Rattle.vr_volume.specs.PutBack.{images_of, is_image_of, oldest}
 use Rattle.vr_volume.specs.Rests.{IsPartAtRest, IsVolumeAtRest}
 use Rattle.vr_volume.specs.Steps.{IsEndedIn}
-use Rattle.vr_volume.proofs.Apart.{part-past}
 use Rattle.vr_volume.proofs.Calls.{stays-part}
 use Rattle.vr_volume.proofs.ForceCalls.{due-kept, firm-for}
 use Rattle.vr_volume.proofs.Meeting.{filter-alone, find-passes}
 use Rattle.vr_volume.proofs.Rested.{due-stays}
-use Rattle.vr_event.specs.Store.{ChangedBy, IsFitImage, IsPartSet, IsRestedPart, IsSet, IsStored}
-use Rattle.vr_event.specs.Store.{StoreNow, blocks_of}
+use Rattle.vr_event.specs.Store.{ChangedBy, IsFitImage, IsRestedPart, IsSet, IsStored}
+use Rattle.vr_event.specs.Store.{StoreNow, blocks_of, owners_of}
 use Rattle.vr_event.proofs.Among.{HasShape, among-all, among-shape}
 use Rattle.vr_event.proofs.Keeping.{set-still, stored-keeps, stored-sound}
 use Rattle.vr_event.proofs.Recorded.{number-at}
@@ -53,11 +55,12 @@ module _ (tells : Bool) (told : IsTrue tells) (a b : Seen) (call : Keeps tells a
     (store : StoreNow) (unit : UnitOfRecovery) (changed : List ChangedBy)
     (others : (other : UnitOfRecovery) → same_unit other unit ≡ false
     → blocks_of other changed ≡ blocks_of other store.changed)
-    (due : (shape : Shape) (place : List ℕ) → IsSound shape a
+    (due : (shape : Shape) (owners : Owners) (place : List ℕ) → IsSound shape owners a
     → IsDueTo shape (blocks_of unit store.changed) a place
     → IsDueTo shape (blocks_of unit changed) b place) where
   -- what was due to the blocks of each unit is due to those that it has then
-  due-of : (other : UnitOfRecovery) (shape : Shape) (place : List ℕ) → IsSound shape a
+  due-of : (other : UnitOfRecovery) (shape : Shape) (place : List ℕ)
+      → IsSound shape (owners_of store) a
       → IsDueTo shape (blocks_of other store.changed) a place
       → IsDueTo shape (blocks_of other changed) b place
   due-of other shape place sound had = by_test (same_unit other unit) refl
@@ -67,12 +70,13 @@ module _ (tells : Bool) (told : IsTrue tells) (a b : Seen) (call : Keeps tells a
       by_test true is =
           let same : other ≡ unit = unit_same other unit is in
           subst (λ (u : UnitOfRecovery). IsDueTo shape (blocks_of u changed) b place) (sym same)
-          (due shape place sound
+          (due shape (owners_of store) place sound
           (subst (λ (u : UnitOfRecovery). IsDueTo shape (blocks_of u store.changed) a place) same
           had))
       by_test false is =
           subst (λ (listed : List ℕ). IsDueTo shape listed b place) (sym (others other is))
-          (due-kept tells told a b call shape (blocks_of other store.changed) place sound had)
+          (due-kept tells told a b call shape (owners_of store) (blocks_of other store.changed)
+          place sound had)
 
   pub stored-forced : (volume : ℕ) (state : State) → Left a a.cur
       → IsStored volume store state a
@@ -96,7 +100,7 @@ module _ (tells : Bool) (told : IsTrue tells) (a b : Seen) (call : Keeps tells a
 module _ (store : StoreNow) (a : Seen) (set : IsSet store a) (volume : ℕ) (old : State)
     (stored : IsStored volume store old a) (unit : UnitOfRecovery) where
   -- each part that is laid reads as the state has it
-  are-read : AreRead store.log.geometry old a
+  are-read : AreRead store.log.geometry (owners_of store) old a
   are-read part shape laid = (stored-sound volume store old a stored part shape laid, reads)
     where
       has : HasShape store.parts part shape
@@ -114,7 +118,7 @@ module _ (store : StoreNow) (a : Seen) (set : IsSet store a) (volume : ℕ) (old
 
   -- Once none of its blocks is left, a crash leaves what stands at its places.
   pub firm : blocks_of unit store.changed ≡ [] → IsFirmFor store.log.geometry store.log old unit a
-  firm none = firm-for store.log.geometry store.log old unit a
+  firm none = firm-for store.log.geometry (owners_of store) store.log old unit a
       (subst (λ (listed : List ℕ). IsDueFor store.log.geometry store.log old unit listed a) none
       (stored.due unit)) are-read
 
@@ -131,10 +135,10 @@ module _ (store : StoreNow) (a : Seen) (set : IsSet store a) (volume : ℕ) (old
       (others : (other : UnitOfRecovery) → same_unit other unit ≡ false
       → blocks_of other changed ≡ blocks_of other store.changed)
       (made : IsEndedIn unit old new)
-      (rests : IsVolumeAtRest store.log.geometry volume log (images_in undo) new b)
-      (parts : (shape : Shape) (known : Known)
-      → IsPartAtRest store.log.geometry (images_in store.undo) old shape known a
-      → IsPartAtRest store.log.geometry (images_in undo) new shape known b) where
+      (rests : IsVolumeAtRest store.log.geometry volume (owners_of store) log (images_in undo) new
+      b) (parts : (shape : Shape) (known : Known)
+      → IsPartAtRest store.log.geometry (owners_of store) (images_in store.undo) old shape known a
+      → IsPartAtRest store.log.geometry (owners_of store) (images_in undo) new shape known b) where
     laid-old : (part : ℕ) (shape : Shape)
         → shape_by log.geometry (new.contents 0) part ≡ Some shape
         → shape_by store.log.geometry (old.contents 0) part ≡ Some shape
@@ -150,13 +154,9 @@ module _ (store : StoreNow) (a : Seen) (set : IsSet store a) (volume : ℕ) (old
         ∙ ap (filter (λ (image : BeforeImage). is_other unit image.unit)) stored.volume.kept
 
     -- a part is past the log, which alone is touched
-    stays : (part : ℕ) (shape : Shape)
-        → shape_by store.log.geometry (old.contents 0) part ≡ Some shape → StaysPart shape a b
-    stays part shape laid = stays-part store.log.geometry shape Q a b
-        (λ n inside. omega (
-          arith,
-          part-past store.log.geometry (old.contents 0) part shape laid n inside,
-        )) call
+    stays : (shape : Shape) → StaysPart shape (owners_of store) a b
+    stays shape = stays-part store.log.geometry shape (owners_of store) Q a b
+        (owner-past-log store.log.geometry store.space) call
 
     -- an image that the log has then is another unit's, and it had it before
     image-old : (part : ℕ) (place : List ℕ) (image : BeforeImage)
@@ -191,7 +191,7 @@ module _ (store : StoreNow) (a : Seen) (set : IsSet store a) (volume : ℕ) (old
         by_test false apart =
             let laid-before = laid-old part shape laid in
             subst (λ (listed : List ℕ). IsDueTo shape listed b place) (sym (others other apart))
-            (due-stays shape a b (stays part shape laid-before)
+            (due-stays shape (owners_of store) a b (stays shape)
             (stored-sound volume store old a stored part shape laid-before) left
             (blocks_of other store.changed) place
             (stored.due other part place image shape had.0 is laid-before)
@@ -201,13 +201,13 @@ module _ (store : StoreNow) (a : Seen) (set : IsSet store a) (volume : ℕ) (old
     pub stored-ended : IsStored volume
         (record store { log = log; undo = undo; changed = changed }) new b
     stored-ended = record {
-      volume = subst (λ (g : Geometry). IsVolumeAtRest g volume log (images_in undo) new b)
-          (sym ended.geometry) rests;
+      volume = subst (λ (g : Geometry). IsVolumeAtRest g volume (owner_of g store.space) log
+          (images_in undo) new b) (sym ended.geometry) rests;
       parts = All-weaker (IsRestedPart store old a)
           (IsRestedPart (record store { log = log; undo = undo; changed = changed }) new b)
           (λ part rested. subst
           (λ (g : Geometry).
-          IsPartAtRest g (images_in undo) new part.shape part.known b)
+          IsPartAtRest g (owner_of g store.space) (images_in undo) new part.shape part.known b)
           (sym ended.geometry) (parts part.shape part.known rested))
           store.parts stored.parts;
       whole = λ part shape laid. stored.whole part shape (laid-old part shape laid);
@@ -248,13 +248,7 @@ set-ended store a b log undo changed set idle kept same sound shape each =
       allowed = subst IsAllowed (sym same) still.allowed;
       blocks = shape;
       sound = sound;
-      parts = All-weaker (IsPartSet store.log b) (IsPartSet log b)
-          (λ part is. record {
-            number = is.number;
-            on = is.on;
-            apart = λ n inside. subst (λ (g : Geometry). g.log < n) (sym same)
-                (is.apart n inside);
-          }) store.parts still.parts;
+      parts = still.parts;
       apart = still.apart;
       changed = each b.count still.changed;
       idle = idle;

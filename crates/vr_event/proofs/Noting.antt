@@ -11,6 +11,7 @@ use Rattle.vr_types.specs.Seen.{Left, Seen}
 use Rattle.vr_types.specs.declared.geometry.Geometry.{Geometry}
 use Rattle.vr_types.proofs.CallerLemmas.{during-weaken, guards-then}
 use Rattle.vr_space.specs.Known.{Known}
+use Rattle.vr_space.specs.Owners.{Owners}
 use Rattle.vr_space.specs.Part.{DueMoreAt, IsSound, Shape}
 use Rattle.vr_space.proofs.CallerLemmas.{due-keeps, due-then, rest-sound}
 use Rattle.vr_log.specs.LogNow.{LogNow}
@@ -31,13 +32,14 @@ module _ (tells : Bool) (told : IsTrue tells) (b c : Seen) (call : Keeps tells b
     });
   })
 
-  module _ (shape : Shape) (place put : List ℕ) (a : Seen) (due : DueMoreAt shape place put a b)
-      (before : IsSound shape a) (sound : IsSound shape b) where
+  module _ (shape : Shape) (owners : Owners) (place put : List ℕ) (a : Seen)
+      (due : DueMoreAt shape place put a b) (before : IsSound shape owners a)
+      (sound : IsSound shape owners b) where
     -- blocks that are in the list,
     due-noted : (listed : List ℕ) → ((n : ℕ) → Contains put n → Contains listed n)
         → DueMoreAt shape place listed a c
     due-noted listed noted all at was either =
-        due-keeps tells told shape b c call sound all at
+        due-keeps tells told shape owners b c call sound all at
         (due all at was (⊎_elim (λ apart. inl apart)
         (λ within. inr (λ n there. within n (noted n there))) either))
         (λ n there. absurd (omega (arith, there.1)))
@@ -45,7 +47,7 @@ module _ (tells : Bool) (told : IsTrue tells) (b c : Seen) (call : Keeps tells b
     -- or forced
     due-forced : (listed : List ℕ) → Forced put b.cur c.may → DueMoreAt shape place listed a c
     due-forced listed forced all at was either =
-        due-fewer shape (put ++ all) all at b c sound
+        due-fewer shape owners (put ++ all) all at b c sound
         (λ n block below may. call.adds_none told n block below may)
         (λ n block below may. (
           call.adds_none told n block below may.0,
@@ -56,7 +58,7 @@ module _ (tells : Bool) (told : IsTrue tells) (b c : Seen) (call : Keeps tells b
         ))
         (call.content told)
         (due (put ++ all) at
-        (due-fewer shape all (put ++ all) at a a before (λ n block below may. may)
+        (due-fewer shape owners all (put ++ all) at a a before (λ n block below may. may)
         (λ n block below may. (
           may.0,
           λ there. may.1 (Contains-append_right put all n there),
@@ -69,22 +71,22 @@ module _ (tells : Bool) (told : IsTrue tells) (b c : Seen) (call : Keeps tells b
     due-after listed noted = ⊎_elim (due-noted listed) (due-forced listed) noted
 
   -- The volume and its parts stay as the record that was set left them.
-  pub set-noted : (geometry : Geometry) (number : ℕ) (log : LogNow) (images after : List BeforeImage)
-      (old new : State) (shape : Shape) (known : Known)
-      (place put listed : List ℕ) (a : Seen) → IsSound shape a → Left b b.cur
-      → IsSetIn geometry number log images after old new shape known place put a b
+  pub set-noted : (geometry : Geometry) (number : ℕ) (owners : Owners) (log : LogNow)
+      (images after : List BeforeImage) (old new : State) (shape : Shape) (known : Known)
+      (place put listed : List ℕ) (a : Seen) → IsSound shape owners a → Left b b.cur
+      → IsSetIn geometry number owners log images after old new shape known place put a b
       → IsNoted put listed b.cur c.may
-      → IsSetIn geometry number log images after old new shape known place listed a c
-  set-noted geometry number log images after old new shape known place put listed a before left
-      set noted = record {
-        volume = volume-keeps tells told b c call geometry number log after new set.volume;
-        part = part-keeps tells told b c call geometry after new shape known left set.part;
-        others = λ other known' apart rested. part-keeps tells told b c call geometry after new
-            other known' left (set.others other known' apart rested);
+      → IsSetIn geometry number owners log images after old new shape known place listed a c
+  set-noted geometry number owners log images after old new shape known place put listed a before
+      left set noted = record {
+        volume = volume-keeps tells told b c call geometry number owners log after new set.volume;
+        part = part-keeps tells told b c call geometry owners after new shape known left set.part;
+        others = λ other known' apart rested. part-keeps tells told b c call geometry owners after
+            new other known' left (set.others other known' apart rested);
         others_due = λ other known' apart rested. due-then other [] a b c
             (set.others_due other known' apart rested)
-            (due-keeps tells told other b c call
-            (rest-sound other b (set.others other known' apart rested).rests));
-        due = due-after shape place put a set.due before (rest-sound shape b set.part.rests) listed
-            noted;
+            (due-keeps tells told other owners b c call
+            (rest-sound other owners b (set.others other known' apart rested).rests));
+        due = due-after shape owners place put a set.due before
+            (rest-sound shape owners b set.part.rests) listed noted;
       }

@@ -7,8 +7,10 @@ use Rattle.vr_types.specs.Content.{Content}
 use Rattle.vr_types.specs.Seen.{Left, Seen}
 use Rattle.vr_types.specs.Space.{free_count}
 use Rattle.vr_types.specs.declared.unit.PartNo.{PartNo}
+use Rattle.vr_space.specs.Owners.{Owners}
 use Rattle.vr_space.specs.Part.{MayHold, item_of}
 use Rattle.vr_space.proofs.CallerLemmas.{content_item, rest-sound, sound-image}
+use Rattle.vr_attach.specs.Owning.{owner_of}
 use Rattle.vr_log.specs.Live.{is_in, live_in, used_by}
 use Rattle.vr_log.specs.LogNow.{LogNow}
 use Rattle.vr_log.specs.declared.record.LogRecord.{LogRecord}
@@ -37,7 +39,11 @@ free-owned owners count is = omega (arith, counted 0 owners, is)
 
 module _ (number : ℕ) (log : LogNow) (parts : List PartNow) (contents : ℕ → Content)
     (space : List (Option PartNo)) (now : Seen) (records : log.records ≡ [])
-    (sound : log.broken ≡ false) (is : IsOpened number log parts contents now) where
+    (sound : log.broken ≡ false)
+    (is : IsOpened number (owner_of log.geometry space) log parts contents now) where
+  abbrev owners : Owners
+  owners = owner_of log.geometry space
+
   abbrev state : State
   state = opening_state contents (owned_in space)
 
@@ -63,7 +69,7 @@ module _ (number : ℕ) (log : LogNow) (parts : List PartNow) (contents : ℕ �
     current = All-nil (λ (image : BeforeImage). IsCurrent state.numbers image.unit);
   }
 
-  volume-rests : IsVolumeAtRest log.geometry number log [] state now
+  volume-rests : IsVolumeAtRest log.geometry number owners log [] state now
   volume-rests = record {
     safe = is.safe;
     stands = is.stands;
@@ -72,7 +78,6 @@ module _ (number : ℕ) (log : LogNow) (parts : List PartNow) (contents : ℕ �
     laid = record {
       each = is.each;
       catalog = is.catalog;
-      apart = is.apart;
       others = is.others;
       kept = All-nil (IsKeptIn log.geometry state);
     };
@@ -81,16 +86,19 @@ module _ (number : ℕ) (log : LogNow) (parts : List PartNow) (contents : ℕ �
   }
 
   -- what is read at a place is what a crash may leave there
-  read-may : (left : Left now now.cur) (part : PartNow) → IsPartOpened log.geometry contents now part
+  read-may : (left : Left now now.cur) (part : PartNow) → IsPartOpened log.geometry owners contents
+      now part
       → (place : List ℕ) → MayHold part.shape now.may place (item_of part.shape now.cur place)
   read-may left part opened place =
-      let has = sound-image part.shape now (rest-sound part.shape now opened.rests) now.cur
+      let has = sound-image part.shape owners now
+      (rest-sound part.shape owners now opened.rests) now.cur
       (record { each = λ n below inside. left.each n below }) in
       subst (MayHold part.shape now.may place)
       (content_item part.shape now.cur has.content has.stands place) (has.each place)
 
-  part-rests : Left now now.cur → (part : PartNow) → IsPartOpened log.geometry contents now part
-      → IsPartAtRest log.geometry [] state part.shape part.known now
+  part-rests : Left now now.cur → (part : PartNow) → IsPartOpened log.geometry owners contents now
+      part
+      → IsPartAtRest log.geometry owners [] state part.shape part.known now
   part-rests left part opened = record {
     laid = opened.laid;
     on = opened.on;
@@ -105,7 +113,7 @@ module _ (number : ℕ) (log : LogNow) (parts : List PartNow) (contents : ℕ �
       → IsStored number (opened_store log parts space) state now
   opened-stored left = record {
     volume = volume-rests;
-    parts = All-weaker (IsPartOpened log.geometry contents now)
+    parts = All-weaker (IsPartOpened log.geometry owners contents now)
         (IsRestedPart (opened_store log parts space) state now) (part-rests left) parts is.opened;
     whole = is.whole;
     befores = refl;

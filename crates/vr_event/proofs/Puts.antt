@@ -22,7 +22,7 @@ use Rattle.vr_event.specs.Changing.{IsKeptFor, IsPrepared, IsReadyBy, IsSettable
 use Rattle.vr_event.specs.Changing.{need_with, with_kept}
 use Rattle.vr_event.specs.Putting.{HasRoomAt, IsFitting, IsToMake, need_at}
 use Rattle.vr_event.specs.Store.{ChangedBy, IsSet, IsStored, PartNow, StoreNow, blocks_of}
-use Rattle.vr_event.specs.Store.{part_among, shape_among}
+use Rattle.vr_event.specs.Store.{owners_of, part_among, shape_among}
 use Rattle.vr_event.specs.declared.preparing.Prepared.{Prepared}
 use Rattle.vr_event.proofs.Kept.{stored-changed}
 use Rattle.vr_event.proofs.Readying.{numbered, rested, undo-images}
@@ -106,7 +106,8 @@ module _ (store kept : StoreNow) (now : Seen) (unit : UnitOfRecovery) (part : Pa
     images-are = undo-images volume kept unit part place prepared was state now ready one found set
         at None
 
-    its-rest : IsPartAtRest kept.log.geometry (images_in store.undo) state one.shape one.known now
+    its-rest : IsPartAtRest kept.log.geometry (owners_of kept) (images_in store.undo) state
+        one.shape one.known now
     its-rest = rested volume kept unit part place prepared was state now ready one found set at None
 
     reads : item_of one.shape now.cur place ≡ option_map Standing was
@@ -136,7 +137,8 @@ module _ (store kept : StoreNow) (now : Seen) (unit : UnitOfRecovery) (part : Pa
         by_mine true None is = refl
         by_mine true (Some bytes) is = kept_fits one.shape now.cur (lengths (images_in store.undo))
             place bytes (length bytes)
-            (rest-stands one.shape now (rest-sound one.shape now its-rest.rests) left) is
+            (rest-stands one.shape (owners_of kept) now
+            (rest-sound one.shape (owners_of kept) now its-rest.rests) left) is
             (omega arith) place m
 
     can-kept : (item : Option (List ℕ))

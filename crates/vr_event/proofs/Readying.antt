@@ -10,6 +10,7 @@ use Rattle.vr_types.specs.declared.geometry.Geometry.{Geometry}
 use Rattle.vr_types.specs.declared.unit.PartNo.{PartNo}
 use Rattle.vr_types.specs.declared.unit.Unit.{Unit as UnitOfRecovery}
 use Rattle.vr_space.specs.Known.{Known}
+use Rattle.vr_space.specs.Owners.{Owners}
 use Rattle.vr_space.specs.Part.{HasKeptRoom, IsFirm, IsPlaceOf, Shape, part_no}
 use Rattle.vr_space.specs.Room.{Lengths}
 use Rattle.vr_history.specs.Effects.{image_kept, with_change}
@@ -30,7 +31,7 @@ use Rattle.vr_volume.proofs.Committing.{catalog-same}
 use Rattle.vr_volume.proofs.Meeting.{item-there}
 use Rattle.vr_volume.proofs.Rested.{laid-by-more}
 use Rattle.vr_event.specs.Changing.{IsMadeOf, IsReadyBy, IsToSet, has_kept, has_logged, need_with}
-use Rattle.vr_event.specs.Store.{IsRestedPart, IsSet, PartNow, StoreNow, part_among}
+use Rattle.vr_event.specs.Store.{IsRestedPart, IsSet, PartNow, StoreNow, owners_of, part_among}
 use Rattle.vr_event.specs.declared.preparing.Prepared.{Prepared}
 use Rattle.vr_event.proofs.Among.{among-all}
 use Rattle.vr_event.proofs.Recorded.{number-at}
@@ -38,12 +39,12 @@ use Rattle.vr_event.proofs.Setting.{first-here, images-more, lengths-same, step-
 use Rattle.vr_event.proofs.Steps.{change-by, images, step-made}
 
 -- by all records of a log
-all-safe : (geometry : Geometry) (number : ℕ) (log : LogNow)
+all-safe : (geometry : Geometry) (number : ℕ) (owners : Owners) (log : LogNow)
     (committed : List LogRecord → ℕ → Content) (a : Seen) → log.forced ≤ length log.records
-    → IsSafe geometry number log committed a
-    → IsSafeBy geometry log.records (committed log.records) a
-all-safe geometry number log committed a forced safe =
-    subst (λ (rs : List LogRecord). IsSafeBy geometry rs (committed rs) a)
+    → IsSafe geometry number owners log committed a
+    → IsSafeBy geometry owners log.records (committed log.records) a
+all-safe geometry number owners log committed a forced safe =
+    subst (λ (rs : List LogRecord). IsSafeBy geometry owners rs (committed rs) a)
     (take_all (length log.records) log.records (omega arith))
     (safe.by_log (first_of log (length log.records)) (inl (record {
       count = length log.records;
@@ -54,26 +55,26 @@ all-safe geometry number log committed a forced safe =
 
 -- ---- room for what is kept, and what a place may hold
 
-module _ (geometry : Geometry) (number : ℕ) (log : LogNow) (images after : List BeforeImage)
-    (old new : State) (change : Changing) (prepared : Prepared) (shape : Shape)
-    (known : Known) (place : List ℕ) (found : Option (List ℕ)) (a : Seen)
-    (to : IsToSet geometry number log images after old new change prepared shape known place found
-    a) (left : Left a a.cur) (at : IsPlaceOf shape place) where
+module _ (geometry : Geometry) (number : ℕ) (owners : Owners) (log : LogNow)
+    (images after : List BeforeImage) (old new : State) (change : Changing) (prepared : Prepared)
+    (shape : Shape) (known : Known) (place : List ℕ) (found : Option (List ℕ)) (a : Seen)
+    (to : IsToSet geometry number owners log images after old new change prepared shape known place
+    found a) (left : Left a a.cur) (at : IsPlaceOf shape place) where
   room-first : prepared.logged ≡ false
       → HasKeptRoom shape (lengths_kept after (part_no shape).0) a
   room-first logged =
       let rec : LogRecord = records.Before change.unit (part_no shape) place change.old in
-      let step = step-first geometry number log images after old new change prepared shape known
-      place found a to logged in
-      let more = images-more geometry number log images after old new change prepared shape known
-      place found a to logged in
-      let first = first-here geometry number log images after old new change prepared shape known
-      place found a to logged at in
-      let laid = laid-by-more geometry number log images after old new change a shape known
+      let step = step-first geometry number owners log images after old new change prepared shape
+      known place found a to logged in
+      let more = images-more geometry number owners log images after old new change prepared shape
+      known place found a to logged in
+      let first = first-here geometry number owners log images after old new change prepared shape
+      known place found a to logged at in
+      let laid = laid-by-more geometry number owners log images after old new change a shape known
       place found to.volume to.part to.of step to.given more in
-      let by = all-safe geometry number (with_record log rec) (committed_by old) a
+      let by = all-safe geometry number owners (with_record log rec) (committed_by old) a
       (omega (arith, first.forced, length-append log.records (rec ∷ [])))
-      (safe-more geometry number log (committed_by old) a change.unit (part_no shape) place
+      (safe-more geometry number owners log (committed_by old) a change.unit (part_no shape) place
       change.old to.volume.safe left first) in
       subst (λ (lengths : Lengths). HasKeptRoom shape lengths a) (sym laid.kept_is)
       (by.parts (part_no shape).0 shape laid.laid).room
@@ -84,15 +85,15 @@ module _ (geometry : Geometry) (number : ℕ) (log : LogNow) (images after : Lis
       by_logged : (there : Bool) → prepared.logged ≡ there
           → HasKeptRoom shape (lengths_kept after (part_no shape).0) a
       by_logged true logged = subst (λ (lengths : Lengths). HasKeptRoom shape lengths a)
-          (sym (lengths-same geometry number log images after old new change prepared shape known
-          place found a to logged)) to.part.room
+          (sym (lengths-same geometry number owners log images after old new change prepared shape
+          known place found a to logged)) to.part.room
       by_logged false logged = room-first logged
 
   -- a place that no unit has logged has what stands there, whatever a crash leaves
   pub firm-to : oldest (images_of log.records) (part_no shape).0 place ≡ None
       → IsFirm shape a place
   firm-to none item holds =
-      ((all-safe geometry number log (committed_by old) a (omega (arith, to.volume.forced))
+      ((all-safe geometry number owners log (committed_by old) a (omega (arith, to.volume.forced))
       to.volume.safe).parts (part_no shape).0 shape
       (ap (λ (c : Content). shape_by geometry c (part_no shape).0)
       (catalog-same geometry old to.volume.laid log.records) ∙ to.part.laid)).items place item holds
@@ -123,7 +124,8 @@ module _ (number : ℕ) (store : StoreNow) (unit : UnitOfRecovery) (part : PartN
   abbrev pub kept : List BeforeImage
   kept = images number store unit part place prepared was old a ready
 
-  pub rested : IsPartAtRest store.log.geometry kept old before.shape before.known a
+  pub rested : IsPartAtRest store.log.geometry (owners_of store) kept old before.shape before.known
+      a
   rested = among-all (IsRestedPart (record store { undo = ready.kept.old }) old a) store.parts
       part.0 before ready.kept.stored.parts found
 
@@ -159,8 +161,8 @@ module _ (number : ℕ) (store : StoreNow) (unit : UnitOfRecovery) (part : PartN
 
   pub to-set : (need : ℕ) (after : State) → IsMadeOf unit part place new-item need old after
       → need ≡ need_with prepared.logged store.log prepared.rec
-      → IsToSet store.log.geometry number store.log kept (images_in store.undo) old after change
-      prepared before.shape before.known place item a
+      → IsToSet store.log.geometry number (owners_of store) store.log kept (images_in store.undo)
+      old after change prepared before.shape before.known place item a
   to-set need after made needs = record {
     volume = ready.kept.stored.volume;
     part = rested;
@@ -183,7 +185,7 @@ module _ (number : ℕ) (store : StoreNow) (unit : UnitOfRecovery) (part : PartN
     used = old.used + need_with prepared.logged store.log prepared.rec;
   }
 
-  pub to-any : IsToSet store.log.geometry number store.log kept (images_in store.undo) old made-state
-      change prepared before.shape before.known place item a
+  pub to-any : IsToSet store.log.geometry number (owners_of store) store.log kept
+      (images_in store.undo) old made-state change prepared before.shape before.known place item a
   to-any = to-set (need_with prepared.logged store.log prepared.rec) made-state
       (record { contents = refl; befores = refl; logged = refl; used = refl; numbers = refl }) refl

@@ -13,7 +13,7 @@ use Rattle.vr_space.proofs.CallerLemmas.{rest-sound, rest-stands}
 use Rattle.vr_history.specs.State.{State}
 use Rattle.vr_volume.specs.Laid.{shape_by}
 use Rattle.vr_event.specs.Store.{IsPartSet, IsRestedPart, IsSet, IsStored, PartNow, Stands}
-use Rattle.vr_event.specs.Store.{StoreNow}
+use Rattle.vr_event.specs.Store.{StoreNow, owners_of}
 use Rattle.vr_event.specs.Store.{part_among, shape_among}
 use Rattle.vr_event.proofs.Among.{among-all, among-number}
 use Rattle.vr_types.specs.declared.unit.PartNo.{PartNo}
@@ -66,9 +66,9 @@ module _ (store : StoreNow) (now : Seen) (set : IsSet store now) where
       among-all (IsRestedPart store state now) store.parts number part stored.parts found
 
   pub set-at : (number : ℕ) (part : PartNow) → part_among store.parts number ≡ Some part
-      → IsPartSet store.log now part
+      → IsPartSet now part
   set-at number part found =
-      among-all (IsPartSet store.log now) store.parts number part set.parts found
+      among-all (IsPartSet now) store.parts number part set.parts found
 
   pub number-at : (number : ℕ) (part : PartNow) → part_among store.parts number ≡ Some part
       → (part_no part.shape).0 ≡ number
@@ -83,9 +83,9 @@ module _ (store : StoreNow) (now : Seen) (set : IsSet store now) where
   -- its blocks stand for a content
   pub stand-at : (number : ℕ) (part : PartNow) → part_among store.parts number ≡ Some part
       → Left now now.cur → Stands store now → StandFor part.shape now.cur
-  stand-at number part found left stands = rest-stands part.shape now
-      (rest-sound part.shape now (rested-at stands.number stands.state number part found
-      stands.stored).rests) left
+  stand-at number part found left stands = rest-stands part.shape (owners_of store) now
+      (rest-sound part.shape (owners_of store) now (rested-at stands.number stands.state number part
+      found stands.stored).rests) left
 
   -- what is read there is the record of the state
   pub record-read : (volume : ℕ) (state : State) (number : ℕ) (part : PartNow)

@@ -16,40 +16,44 @@ use Rattle.vr_volume.specs.Crashes.{RecoversTo}
 use Rattle.vr_volume.specs.Safe.{IsSafeImage}
 use Rattle.vr_volume.proofs.CallerLemmas.{before-recovers, rest-recovers}
 use Rattle.vr_event.specs.Changing.{IsReadyBy, log_with}
-use Rattle.vr_event.specs.Store.{IsStored, StoreNow}
+use Rattle.vr_event.specs.Store.{IsStored, StoreNow, owners_of}
 use Rattle.vr_event.specs.declared.preparing.Prepared.{Prepared}
 use Rattle.vr_event.proofs.Keeping.{moments-keeps}
 
 -- of a store that is a state's
 pub stored-recovers : (number : ℕ) (store : StoreNow) (state : State) (a b : Seen)
     → IsStored number store state a
-    → Guards a b (IsSafeImage store.log.geometry number store.log (committed_by state))
+    → Guards a b (IsSafeImage store.log.geometry number (owners_of store) store.log
+    (committed_by state))
     → Guards a b (RecoversTo store.log.geometry number state [])
 stored-recovers number store state a b stored guards =
-    guards-weaken a b (IsSafeImage store.log.geometry number store.log (committed_by state))
-    (RecoversTo store.log.geometry number state []) guards
-    (rest-recovers store.log.geometry number store.log (images_in store.undo) state a stored.volume)
+    guards-weaken a b (IsSafeImage store.log.geometry number (owners_of store) store.log
+    (committed_by state)) (RecoversTo store.log.geometry number state []) guards
+    (rest-recovers store.log.geometry number (owners_of store) store.log (images_in store.undo)
+    state a stored.volume)
 
 -- and of one in which a change is made
 module _ (number : ℕ) (store : StoreNow) (unit : UnitOfRecovery) (part : PartNo) (place : List ℕ)
     (prepared : Prepared) (was : Option (List ℕ)) (state : State) (a : Seen)
     (ready : IsReadyBy number store unit part place prepared was state a) where
   by_logged : (there : Bool) (image : Image) → IsSafeImage store.log.geometry number
-      (log_with there store.log (Before unit part place was)) (committed_by state) image
+      (owners_of store) (log_with there store.log (Before unit part place was)) (committed_by state)
+      image
       → RecoversTo store.log.geometry number state [] image
-  by_logged true = rest-recovers store.log.geometry number store.log (images_in ready.kept.old)
-      state a ready.kept.stored.volume
-  by_logged false = before-recovers store.log.geometry number store.log (images_in ready.kept.old)
-      state a ready.kept.stored.volume unit part place was
+  by_logged true = rest-recovers store.log.geometry number (owners_of store) store.log
+      (images_in ready.kept.old) state a ready.kept.stored.volume
+  by_logged false = before-recovers store.log.geometry number (owners_of store) store.log
+      (images_in ready.kept.old) state a ready.kept.stored.volume unit part place was
 
   pub made-recovers : (b : Seen) → Guards a b (IsSafeImage store.log.geometry number
-      (log_with prepared.logged store.log prepared.rec) (committed_by state))
+      (owners_of store) (log_with prepared.logged store.log prepared.rec) (committed_by state))
       → Guards a b (RecoversTo store.log.geometry number state [])
   made-recovers b guards = guards-weaken a b
-      (IsSafeImage store.log.geometry number (log_with prepared.logged store.log prepared.rec)
-      (committed_by state)) (RecoversTo store.log.geometry number state []) guards
+      (IsSafeImage store.log.geometry number (owners_of store)
+      (log_with prepared.logged store.log prepared.rec) (committed_by state))
+      (RecoversTo store.log.geometry number state []) guards
       (λ image safe. by_logged prepared.logged image
-      (subst (λ (rec : LogRecord). IsSafeImage store.log.geometry number
+      (subst (λ (rec : LogRecord). IsSafeImage store.log.geometry number (owners_of store)
       (log_with prepared.logged store.log rec) (committed_by state) image)
       ready.prepared_is.rec safe))
 

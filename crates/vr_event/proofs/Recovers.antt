@@ -20,36 +20,36 @@ use Rattle.vr_volume.proofs.CallerLemmas.{backed-out-recovers, commit-recovers, 
 use Rattle.vr_record_file.specs.Now.{FileNow}
 use Rattle.vr_event.specs.Acting.{IsLeftIn}
 use Rattle.vr_event.specs.EndedFile.{HasEnded, IsEndBy}
-use Rattle.vr_event.specs.Store.{IsStored, StoreNow}
+use Rattle.vr_event.specs.Store.{IsStored, StoreNow, owners_of}
 use Rattle.vr_event.proofs.Keeping.{moments-keeps}
 
 module _ (number : ℕ) (store : StoreNow) (state : State) (a b : Seen)
     (stored : IsStored number store state a) where
   -- what was committed,
   pub recovers-safe : Guards a b
-      (IsSafeImage store.log.geometry number store.log (committed_by state))
+      (IsSafeImage store.log.geometry number (owners_of store) store.log (committed_by state))
       → Guards a b (RecoversTo store.log.geometry number state [])
   recovers-safe guards = guards-weaken a b _ _ guards
-      (rest-recovers store.log.geometry number store.log (images_in store.undo) state a
-      stored.volume)
+      (rest-recovers store.log.geometry number (owners_of store) store.log (images_in store.undo)
+      state a stored.volume)
 
   -- also where a unit ends that is backed out; or with a unit that is committed
   pub recovers-end : (after : ℕ) (unit : UnitOfRecovery) (line : ℕ) (kind : EndKind)
       (request : Request) (old new : FileNow) → IsEndBy kind request
       → HasEnded after unit line request old new
-      → Guards a b (IsSafeImage store.log.geometry number
+      → Guards a b (IsSafeImage store.log.geometry number (owners_of store)
       (with_record store.log (End unit kind)) (committed_by state))
       → Guards a b (IsLeftIn store.log.geometry number state after unit line request old new)
   recovers-end after unit line Committed request old new is ended guards =
       guards-weaken a b _ _ guards
       (λ image safe. ⊎_elim (λ one. inl one) (λ counted. inr (is, ended, counted))
-      (commit-recovers store.log.geometry number store.log (images_in store.undo) state a
-      stored.volume unit image safe))
+      (commit-recovers store.log.geometry number (owners_of store) store.log (images_in store.undo)
+      state a stored.volume unit image safe))
   recovers-end after unit line BackedOut request old new is ended guards =
       guards-weaken a b _ _ guards
       (λ image safe. inl
-      (backed-out-recovers store.log.geometry number store.log (images_in store.undo) state a
-      stored.volume unit image safe))
+      (backed-out-recovers store.log.geometry number (owners_of store) store.log
+      (images_in store.undo) state a stored.volume unit image safe))
 
   -- where nothing is put
   pub recovers-keeps : (tells : Bool) → IsTrue tells → Keeps tells a b

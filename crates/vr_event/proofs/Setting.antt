@@ -6,6 +6,7 @@ use Rattle.vr_types.specs.Seen.{Seen}
 use Rattle.vr_types.specs.declared.geometry.Geometry.{Geometry}
 use Rattle.vr_types.specs.declared.unit.PartNo.{PartNo}
 use Rattle.vr_space.specs.Known.{Known}
+use Rattle.vr_space.specs.Owners.{Owners}
 use Rattle.vr_space.specs.Part.{DueMore, DueMoreAt, IsPlaceOf, Shape, part_no}
 use Rattle.vr_log.specs.LogNow.{LogNow}
 use Rattle.vr_log.specs.declared.record.LogRecord.{LogRecord}
@@ -30,11 +31,11 @@ step-puts false log change old new step = step.contents
 step-puts true log change old new step =
     ⊎_elim (λ next. next.contents) (λ again. again.contents) step
 
-module _ (geometry : Geometry) (number : ℕ) (log : LogNow) (images after : List BeforeImage)
-    (old new : State) (change : Changing) (prepared : Prepared) (shape : Shape)
-    (known : Known) (place : List ℕ) (found : Option (List ℕ)) (a : Seen)
-    (to : IsToSet geometry number log images after old new change prepared shape known place found
-    a) where
+module _ (geometry : Geometry) (number : ℕ) (owners : Owners) (log : LogNow)
+    (images after : List BeforeImage) (old new : State) (change : Changing) (prepared : Prepared)
+    (shape : Shape) (known : Known) (place : List ℕ) (found : Option (List ℕ)) (a : Seen)
+    (to : IsToSet geometry number owners log images after old new change prepared shape known place
+    found a) where
   pub same-part : (part_no shape).0 ≡ change.part.0
   same-part = ap (λ (p : PartNo). p.0) to.given.part
 
@@ -54,10 +55,10 @@ module _ (geometry : Geometry) (number : ℕ) (log : LogNow) (images after : Lis
 
     pub place-logged : oldest images (part_no shape).0 place ≢ None
     place-logged = ⊎_elim
-        (λ next. place-some geometry number log images old a to.volume change shape place found
-        to.given next.kept)
-        (λ again. place-again geometry number log images old a to.volume new change again shape
-        place found to.given)
+        (λ next. place-some geometry number owners log images old a to.volume change shape place
+        found to.given next.kept)
+        (λ again. place-again geometry number owners log images old a to.volume new change again
+        shape place found to.given)
         step-again
 
     pub lengths-same : lengths_kept after (part_no shape).0 ≡ lengths_kept images (part_no shape).0
@@ -65,31 +66,31 @@ module _ (geometry : Geometry) (number : ℕ) (log : LogNow) (images after : Lis
         ap (λ (kept : List BeforeImage). lengths_kept kept (part_no shape).0) images-same
 
     pub guards-again : (b : Seen)
-        → Guards a b (IsSafeImage geometry number log (committed_by old))
-        → Guards a b (IsSafeImage geometry number (log_with prepared.logged log prepared.rec)
+        → Guards a b (IsSafeImage geometry number owners log (committed_by old))
+        → Guards a b (IsSafeImage geometry number owners (log_with prepared.logged log prepared.rec)
         (committed_by old))
-    guards-again b = subst (λ (l : Bool). Guards a b (IsSafeImage geometry number
+    guards-again b = subst (λ (l : Bool). Guards a b (IsSafeImage geometry number owners
         (log_with l log prepared.rec) (committed_by old))) (sym logged)
 
     pub set-again : (b : Seen) (now : Known) (put : List ℕ)
-        → IsVolumeAtRest geometry number log images new b
-        × IsPartAtRest geometry images new shape now b
+        → IsVolumeAtRest geometry number owners log images new b
+        × IsPartAtRest geometry owners images new shape now b
         → ((other : Shape) (known : Known)
         → (part_no other).0 ≢ (part_no shape).0
-        → IsPartAtRest geometry images old other known a
-        → IsPartAtRest geometry images new other known b)
+        → IsPartAtRest geometry owners images old other known a
+        → IsPartAtRest geometry owners images new other known b)
         → ((other : Shape) (known : Known)
         → (part_no other).0 ≢ (part_no shape).0
-        → IsPartAtRest geometry images old other known a → DueMore other [] a b)
+        → IsPartAtRest geometry owners images old other known a → DueMore other [] a b)
         → DueMoreAt shape place put a b
-        → IsSetIn geometry number log images after old new shape now place put a b
+        → IsSetIn geometry number owners log images after old new shape now place put a b
     set-again b now put rests others others_due due = record {
-      volume = subst (λ (i : List BeforeImage). IsVolumeAtRest geometry number log i new b)
+      volume = subst (λ (i : List BeforeImage). IsVolumeAtRest geometry number owners log i new b)
           (sym images-same) rests.0;
-      part = subst (λ (i : List BeforeImage). IsPartAtRest geometry i new shape now b)
+      part = subst (λ (i : List BeforeImage). IsPartAtRest geometry owners i new shape now b)
           (sym images-same) rests.1;
       others = λ other known apart rested.
-          subst (λ (i : List BeforeImage). IsPartAtRest geometry i new other known b)
+          subst (λ (i : List BeforeImage). IsPartAtRest geometry owners i new other known b)
           (sym images-same) (others other known apart rested);
       others_due = others_due;
       due = due;
@@ -104,13 +105,13 @@ module _ (geometry : Geometry) (number : ℕ) (log : LogNow) (images after : Lis
     step-first = subst (λ (b : Bool). IsStep b log change old new) logged to.step
 
     pub rec-here : prepared.rec ≡ records.Before change.unit (part_no shape) place change.old
-    rec-here = to.rec ∙ rec-is geometry number log images after old new change a shape known
+    rec-here = to.rec ∙ rec-is geometry number owners log images after old new change a shape known
         place found to.volume to.part to.of step-first to.given images-more
 
     pub first-here : IsPlaceOf shape place
         → IsFirstBefore geometry log (committed_by old) change.unit (part_no shape) place
         change.old
-    first-here at = first-of geometry number log images after old new change a shape known
+    first-here at = first-of geometry number owners log images after old new change a shape known
         place found to.volume to.part to.of step-first to.given images-more at
 
     pub laid-here : IsLaidBy geometry (log.records ++ prepared.rec ∷ []) (committed_by old)
@@ -118,13 +119,13 @@ module _ (geometry : Geometry) (number : ℕ) (log : LogNow) (images after : Lis
     laid-here = subst (λ (rec : LogRecord). IsLaidBy geometry (log.records ++ rec ∷ [])
         (committed_by old) (part_no shape).0 shape (lengths_kept after (part_no shape).0))
         (sym rec-here)
-        (laid-by-more geometry number log images after old new change a shape known place found
-        to.volume to.part to.of step-first to.given images-more)
+        (laid-by-more geometry number owners log images after old new change a shape known place
+        found to.volume to.part to.of step-first to.given images-more)
 
     pub guards-first : (b : Seen)
-        → Guards a b (IsSafeImage geometry number
+        → Guards a b (IsSafeImage geometry number owners
         (Rattle.vr_log.specs.LogNow.with_record log prepared.rec) (committed_by old))
-        → Guards a b (IsSafeImage geometry number (log_with prepared.logged log prepared.rec)
+        → Guards a b (IsSafeImage geometry number owners (log_with prepared.logged log prepared.rec)
         (committed_by old))
-    guards-first b = subst (λ (l : Bool). Guards a b (IsSafeImage geometry number
+    guards-first b = subst (λ (l : Bool). Guards a b (IsSafeImage geometry number owners
         (log_with l log prepared.rec) (committed_by old))) (sym logged)

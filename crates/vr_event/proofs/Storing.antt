@@ -8,7 +8,6 @@ use Rattle.std.specs.Option.{option_or}
 use Rattle.std.proofs.lemmas.Bool.{true≢false}
 use Rattle.std.proofs.lemmas.Bool.Decides.{Decides-eqb}
 use Rattle.std.proofs.lemmas.List.{append-nil}
-use Rattle.std.proofs.lemmas.List.Elements.{All-weaker}
 use Rattle.vr_types.specs.Content.{Content, Item}
 use Rattle.vr_types.specs.Geometry.{IsAllowed}
 use Rattle.vr_types.specs.Locks.{same_unit}
@@ -16,8 +15,10 @@ use Rattle.vr_types.specs.Seen.{Left, Seen}
 use Rattle.vr_types.specs.declared.geometry.Geometry.{Geometry}
 use Rattle.vr_types.specs.declared.unit.PartNo.{PartNo}
 use Rattle.vr_types.specs.declared.unit.Unit.{Unit as UnitOfRecovery}
+use Rattle.vr_space.specs.Owners.{Owners}
 use Rattle.vr_space.specs.Part.{IsDueTo, IsPlaceOf, IsSound, Shape, part_no}
 use Rattle.vr_space.proofs.CallerLemmas.{firm-due, rest-sound}
+use Rattle.vr_attach.specs.Owning.{owner_of}
 use Rattle.vr_history.specs.State.{BeforeImage, Logged, State, is_kept, is_logged}
 use Rattle.vr_history.proofs.Same.{unit_same}
 use Rattle.vr_log.specs.Live.{live_in}
@@ -36,7 +37,7 @@ use Rattle.vr_event.specs.Changing.{IsMadeOf, IsReadyBy, IsSetIn, IsToSet, has_k
 use Rattle.vr_event.specs.Changing.{need_with}
 use Rattle.vr_event.specs.Parts.{but_split}
 use Rattle.vr_event.specs.Store.{ChangedBy, IsPartSet, IsRestedPart, IsSet, IsStored, PartNow}
-use Rattle.vr_event.specs.Store.{StoreNow, blocks_of, part_among}
+use Rattle.vr_event.specs.Store.{StoreNow, blocks_of, owners_of, part_among}
 use Rattle.vr_event.specs.declared.preparing.Prepared.{Prepared}
 use Rattle.vr_event.proofs.Among.{HasShape, among-all, among-number, among-shape}
 use Rattle.vr_event.proofs.PartsAt.{IsPartAt}
@@ -54,11 +55,12 @@ some-same : {X : Type 0} {x y : X} → Some x ≡ Some y → x ≡ y
 some-same same = cc
 
 -- what is due to some blocks is due to more
-pub due-longer : (shape : Shape) (listed longer place : List ℕ) (a : Seen) → IsSound shape a
+pub due-longer : (shape : Shape) (owners : Owners) (listed longer place : List ℕ) (a : Seen)
+    → IsSound shape owners a
     → ((n : ℕ) → Contains listed n → Contains longer n) → IsDueTo shape listed a place
     → IsDueTo shape longer a place
-due-longer shape listed longer place a sound within due =
-    due-fewer shape listed longer place a a sound (λ n block below may. may)
+due-longer shape owners listed longer place a sound within due =
+    due-fewer shape owners listed longer place a a sound (λ n block below may. may)
     (λ n block below may. (may.0, λ there. may.1 (within n there))) refl due
 
 module _ (number : ℕ) (store : StoreNow) (unit : UnitOfRecovery) (part : PartNo) (place : List ℕ)
@@ -109,24 +111,26 @@ module _ (number : ℕ) (store : StoreNow) (unit : UnitOfRecovery) (part : PartN
   module _ (need : ℕ) (after : State)
       (made : IsMadeOf unit part place made-of need old after)
       (needs : need ≡ need_with prepared.logged store.log prepared.rec) (left : Left a a.cur) where
-    abbrev its-to : IsToSet store.log.geometry number store.log images (images_in store.undo) old
-        after its-change prepared before.shape before.known place item a
+    abbrev its-to : IsToSet store.log.geometry number (owners_of store) store.log images
+        (images_in store.undo) old after its-change prepared before.shape before.known place item a
     its-to = to-set number store unit part place prepared was old a ready before found set at item
         need after made needs
 
     catalog-same-set : after.contents 0 ≡ old.contents 0
     catalog-same-set = catalog-stays store.log.geometry old after its-change its-to.volume.laid
-        its-to.of (to-puts store.log.geometry number store.log images (images_in store.undo) old
-        after its-change prepared before.shape before.known place item a its-to)
+        its-to.of (to-puts store.log.geometry number (owners_of store) store.log images
+        (images_in store.undo) old after its-change prepared before.shape before.known place item a
+        its-to)
 
     -- ---- what was due
 
     sound-of : (p : ℕ) (shape : Shape)
-        → shape_by store.log.geometry (old.contents 0) p ≡ Some shape → IsSound shape a
+        → shape_by store.log.geometry (old.contents 0) p ≡ Some shape
+        → IsSound shape (owners_of store) a
     sound-of p shape laid =
         let has = among-shape store.parts p shape (stored.whole p shape laid) in
-        subst (λ (s : Shape). IsSound s a) has.is
-        (rest-sound has.part.shape a (among-all (IsRestedPart (record store {
+        subst (λ (s : Shape). IsSound s (owners_of store) a) has.is
+        (rest-sound has.part.shape (owners_of store) a (among-all (IsRestedPart (record store {
           undo = ready.kept.old;
         }) old a) store.parts p has.part stored.parts has.found).rests)
 
@@ -151,10 +155,10 @@ module _ (number : ℕ) (store : StoreNow) (unit : UnitOfRecovery) (part : PartN
         → IsDueTo shape (blocks_of u store.changed) a place
     due-first u shape none laid =
         subst (λ (s : Shape). IsDueTo s (blocks_of u store.changed) a place) (shape-here shape laid)
-        (firm-due before.shape (blocks_of u store.changed) place a
-        (rest-sound before.shape a its-to.part.rests)
-        (firm-to store.log.geometry number store.log images (images_in store.undo) old after
-        its-change prepared before.shape before.known place item a its-to left at
+        (firm-due before.shape (owners_of store) (blocks_of u store.changed) place a
+        (rest-sound before.shape (owners_of store) a its-to.part.rests)
+        (firm-to store.log.geometry number (owners_of store) store.log images (images_in store.undo)
+        old after its-change prepared before.shape before.known place item a its-to left at
         (ap (λ (n : ℕ). oldest (images_of store.log.records) n place)
         (numbered number store unit part place prepared was old a ready before found set at item)
         ∙ ap (λ (i : List BeforeImage). oldest i part.0 place) (sym stored.volume.kept) ∙ none)))
@@ -202,8 +206,8 @@ module _ (number : ℕ) (store : StoreNow) (unit : UnitOfRecovery) (part : PartN
         (now : PartNow)
         (into : IsPartAt part.0 before now store.parts parts) (number-same : now.number ≡ before.number)
         (shape-same : now.shape ≡ before.shape)
-        (sets : IsSetIn store.log.geometry number log images (images_in store.undo) old after
-        before.shape now.known place (blocks_of unit changed) a b)
+        (sets : IsSetIn store.log.geometry number (owners_of store) log images
+        (images_in store.undo) old after before.shape now.known place (blocks_of unit changed) a b)
         (had : (n : ℕ) → Contains (blocks_of unit store.changed) n
         → Contains (blocks_of unit changed) n)
         (others : (other : UnitOfRecovery) → same_unit other unit ≡ false
@@ -216,7 +220,7 @@ module _ (number : ℕ) (store : StoreNow) (unit : UnitOfRecovery) (part : PartN
 
         there-no : (part_no has.part.shape).0 ≡ p
         there-no = ap (λ (n : PartNo). n.0)
-            (among-all (IsPartSet store.log a) store.parts p has.part set.parts has.found).number
+            (among-all (IsPartSet a) store.parts p has.part set.parts has.found).number
             ∙ among-number store.parts p has.part has.found
 
         due-other : (listed : List ℕ) → (p ≡ part.0 → ⊥) → IsDueTo shape listed a q
@@ -259,8 +263,8 @@ module _ (number : ℕ) (store : StoreNow) (unit : UnitOfRecovery) (part : PartN
           subst (λ (v : UnitOfRecovery). IsDueTo shape (blocks_of v changed) b q) (sym same)
           (due-either p q shape laid (blocks_of unit changed) (p == part.0) refl
           (λ here. inr (λ n there. there))
-          (due-longer shape (blocks_of unit store.changed) (blocks_of unit changed) q a
-          (sound-of p shape laid) had
+          (due-longer shape (owners_of store) (blocks_of unit store.changed)
+          (blocks_of unit changed) q a (sound-of p shape laid) had
           (subst (λ (v : UnitOfRecovery). IsDueTo shape (blocks_of v store.changed) a q) same
           (due-was u p q image shape is mine laid))))
       due-by u p q image shape is mine laid false own =
@@ -335,11 +339,12 @@ module _ (number : ℕ) (store : StoreNow) (unit : UnitOfRecovery) (part : PartN
 
       pub stored-made : IsStored number changed-store after b
       stored-made = record {
-        volume = subst (λ (g : Geometry). Rattle.vr_volume.specs.Rests.IsVolumeAtRest g number log
-            (images_in store.undo) after b) (sym geometry-same) sets.volume;
+        volume = subst (λ (g : Geometry). Rattle.vr_volume.specs.Rests.IsVolumeAtRest g number
+            (owner_of g store.space) log (images_in store.undo) after b) (sym geometry-same)
+            sets.volume;
         parts = subst (λ (g : Geometry). All (λ (p : PartNow).
-            Rattle.vr_volume.specs.Rests.IsPartAtRest g (images_in store.undo) after p.shape p.known
-            b) parts) (sym geometry-same) each;
+            Rattle.vr_volume.specs.Rests.IsPartAtRest g (owner_of g store.space)
+            (images_in store.undo) after p.shape p.known b) parts) (sym geometry-same) each;
         whole = λ p shape laid. shapes-same parts store.parts same-parts p
             ∙ stored.whole p shape (laid-old log.geometry geometry-same p shape laid);
         befores = befores-same;
@@ -350,12 +355,13 @@ module _ (number : ℕ) (store : StoreNow) (unit : UnitOfRecovery) (part : PartN
       }
         where
           P : PartNow → Type 0
-          P p = Rattle.vr_volume.specs.Rests.IsPartAtRest store.log.geometry (images_in store.undo)
+          P p = Rattle.vr_volume.specs.Rests.IsPartAtRest store.log.geometry (owners_of store)
+              (images_in store.undo)
               after p.shape p.known b
 
           each : All P parts
           each = subst (All P) (sym into.is)
-              (all-with (λ (p : PartNow). IsPartSet store.log a p
+              (all-with (λ (p : PartNow). IsPartSet a p
               × IsRestedPart (record store { undo = ready.kept.old }) old a p) P part.0 now
               (λ p apart both. sets.others p.shape p.known
               (λ same. apart (ap (λ (n : PartNo). n.0) (sym both.0.number) ∙ same
@@ -363,9 +369,9 @@ module _ (number : ℕ) (store : StoreNow) (unit : UnitOfRecovery) (part : PartN
               item))
               both.1)
               (subst (λ (s : Shape). Rattle.vr_volume.specs.Rests.IsPartAtRest store.log.geometry
-              (images_in store.undo) after s now.known b) (sym shape-same) sets.part)
-              store.parts set.apart
-              (all-both (IsPartSet store.log a)
+              (owners_of store) (images_in store.undo) after s now.known b) (sym shape-same)
+              sets.part) store.parts set.apart
+              (all-both (IsPartSet a)
               (IsRestedPart (record store { undo = ready.kept.old }) old a) store.parts set.parts
               stored.parts))
 
@@ -379,12 +385,7 @@ set-logged store log changed now same sound idle each set = record {
   allowed = subst IsAllowed (sym same) set.allowed;
   blocks = subst (λ (g : Geometry). IsOf g now) (sym same) set.blocks;
   sound = sound;
-  parts = All-weaker (IsPartSet store.log now) (IsPartSet log now)
-      (λ part is. record {
-        number = is.number;
-        on = is.on;
-        apart = λ n inside. subst (λ (g : Geometry). g.log < n) (sym same) (is.apart n inside);
-      }) store.parts set.parts;
+  parts = set.parts;
   apart = set.apart;
   changed = each;
   idle = idle;

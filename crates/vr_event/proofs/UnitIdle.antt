@@ -197,7 +197,6 @@ module _ (number : ℕ) (store : StoreNow) (old new : State) (now : Seen) (unit 
           laid = record {
             each = laid.each;
             catalog = laid.catalog;
-            apart = laid.apart;
             others = laid.others;
             kept = All-weaker (IsKeptIn store.log.geometry old)
                 (IsKeptIn store.log.geometry risen)

@@ -11,6 +11,7 @@ use Rattle.vr_types.specs.declared.geometry.Geometry.{Geometry}
 use Rattle.vr_types.specs.declared.unit.PartNo.{PartNo}
 use Rattle.vr_types.specs.declared.unit.Unit.{Unit as UnitOfRecovery}
 use Rattle.vr_space.specs.Known.{Known}
+use Rattle.vr_space.specs.Owners.{Owners}
 use Rattle.vr_space.specs.Part.{CanSet, DueMore, DueMoreAt, Shape, part_no}
 use Rattle.vr_log.specs.Live.{live_in, need_of}
 use Rattle.vr_log.specs.LogNow.{LogNow, with_record as with_logged}
@@ -129,11 +130,12 @@ IsSettable store image number place item =
 
 -- What a call that sets a record has to know: the volume and the part are at rest by the state, and
 -- the change of the state is the one that was prepared, whose before-image is kept.
-pub record IsToSet (geometry : Geometry) (number : ℕ) (log : LogNow) (images after : List BeforeImage)
-    (old new : State) (change : Changing) (prepared : Prepared) (shape : Shape)
-    (known : Known) (place : List ℕ) (found : Option (List ℕ)) (now : Seen) : Type 0 where
-  pub volume : IsVolumeAtRest geometry number log images old now
-  pub part : IsPartAtRest geometry images old shape known now
+pub record IsToSet (geometry : Geometry) (number : ℕ) (owners : Owners) (log : LogNow)
+    (images after : List BeforeImage) (old new : State) (change : Changing) (prepared : Prepared)
+    (shape : Shape) (known : Known) (place : List ℕ) (found : Option (List ℕ))
+    (now : Seen) : Type 0 where
+  pub volume : IsVolumeAtRest geometry number owners log images old now
+  pub part : IsPartAtRest geometry owners images old shape known now
   pub of : IsChangeOf geometry old change
   pub step : IsStep prepared.logged log change old new
   pub rec : prepared.rec ≡ records.Before change.unit change.part change.place change.old
@@ -148,14 +150,14 @@ IsNoted put listed blocks may =
 -- A call that set a record in a part, and logged it or not, made `b` of `a`: the volume, the part
 -- and each other part are at rest by the new state, and of what was due only the place is due to
 -- what the call put, too.
-pub record IsSetIn (geometry : Geometry) (number : ℕ) (log : LogNow) (images after : List BeforeImage)
-    (old new : State) (shape : Shape) (known : Known) (place put : List ℕ)
-    (a b : Seen) : Type 0 where
-  pub volume : IsVolumeAtRest geometry number log after new b
-  pub part : IsPartAtRest geometry after new shape known b
+pub record IsSetIn (geometry : Geometry) (number : ℕ) (owners : Owners) (log : LogNow)
+    (images after : List BeforeImage) (old new : State) (shape : Shape) (known : Known)
+    (place put : List ℕ) (a b : Seen) : Type 0 where
+  pub volume : IsVolumeAtRest geometry number owners log after new b
+  pub part : IsPartAtRest geometry owners after new shape known b
   pub others : (other : Shape) (known : Known) → (part_no other).0 ≢ (part_no shape).0
-      → IsPartAtRest geometry images old other known a
-      → IsPartAtRest geometry after new other known b
+      → IsPartAtRest geometry owners images old other known a
+      → IsPartAtRest geometry owners after new other known b
   pub others_due : (other : Shape) (known : Known) → (part_no other).0 ≢ (part_no shape).0
-      → IsPartAtRest geometry images old other known a → DueMore other [] a b
+      → IsPartAtRest geometry owners images old other known a → DueMore other [] a b
   pub due : DueMoreAt shape place put a b

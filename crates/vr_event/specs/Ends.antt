@@ -6,6 +6,7 @@ use Rattle.vr_types.specs.declared.geometry.Geometry.{Geometry}
 use Rattle.vr_types.specs.declared.unit.PartNo.{PartNo}
 use Rattle.vr_types.specs.declared.unit.Unit.{Unit as UnitOfRecovery}
 use Rattle.vr_space.specs.Known.{Known}
+use Rattle.vr_space.specs.Owners.{Owners}
 use Rattle.vr_space.specs.Part.{Shape}
 use Rattle.vr_log.specs.LogNow.{LogNow}
 use Rattle.vr_history.specs.Effects.{without_last}
@@ -18,11 +19,11 @@ use Rattle.vr_event.specs.Store.{IsStored, StoreNow}
 
 -- The volume and the part are at rest by the state, and what is given is the last before-image that
 -- the unit keeps.
-pub record IsToBack (geometry : Geometry) (number : ℕ) (log : LogNow) (images : List BeforeImage)
-    (old new : State) (change : Changing) (shape : Shape) (known : Known) (place : List ℕ)
-    (found : Option (List ℕ)) (now : Seen) : Type 0 where
-  pub volume : IsVolumeAtRest geometry number log images old now
-  pub part : IsPartAtRest geometry images old shape known now
+pub record IsToBack (geometry : Geometry) (number : ℕ) (owners : Owners) (log : LogNow)
+    (images : List BeforeImage) (old new : State) (change : Changing) (shape : Shape)
+    (known : Known) (place : List ℕ) (found : Option (List ℕ)) (now : Seen) : Type 0 where
+  pub volume : IsVolumeAtRest geometry number owners log images old now
+  pub part : IsPartAtRest geometry owners images old shape known now
   pub of : IsChangeOf geometry old change
   pub step : IsPutBack change old new
   pub given : IsGivenFor change shape place found

@@ -5,12 +5,12 @@ use Rattle.vr_types.specs.Content.{Ascends, Content, Item, item_at}
 use Rattle.vr_types.specs.Seen.{Seen}
 use Rattle.vr_types.specs.declared.geometry.Geometry.{Geometry}
 use Rattle.vr_types.specs.declared.unit.PartNo.{PartNo}
+use Rattle.vr_space.specs.Owners.{Owners}
 use Rattle.vr_space.specs.Part.{HasKeptRoom, IsAtRest, IsOn, Knows, MayHold, Shape, part_no}
 use Rattle.vr_log.specs.LogNow.{IsForced, LogNow}
 use Rattle.vr_log.specs.Standing.{LogStands}
 use Rattle.vr_history.specs.State.{Owned}
 use Rattle.vr_volume.specs.CatalogRules.{IsCatalog}
-use Rattle.vr_attach.specs.Laid.{AreApart}
 use Rattle.vr_volume.specs.Laid.{shape_by}
 use Rattle.vr_volume.specs.Safe.{IsSafe}
 use Rattle.vr_event.specs.Store.{PartNow, StoreNow, shape_among}
@@ -30,30 +30,30 @@ abbrev pub opened_store : LogNow → List PartNow → List (Option PartNo) → S
 opened_store log parts space =
     record { log = log; undo = []; parts = parts; changed = []; space = space }
 
--- A part as it is opened: it is laid by the contents and at rest, and whatever a crash leaves of it,
--- each place has the item of its content.
-pub record IsPartOpened (geometry : Geometry) (contents : ℕ → Content) (now : Seen)
-    (part : PartNow) : Type 0 where
+-- A part as it is opened: it is laid by the contents and at rest in blocks of its own, and whatever
+-- a crash leaves of it, each place has the item of its content.
+pub record IsPartOpened (geometry : Geometry) (owners : Owners) (contents : ℕ → Content)
+    (now : Seen) (part : PartNow) : Type 0 where
   pub laid : shape_by geometry (contents 0) (part_no part.shape).0 ≡ Some part.shape
   pub on : IsOn part.shape now
-  pub rests : IsAtRest part.shape now
+  pub rests : IsAtRest part.shape owners now
   pub room : HasKeptRoom part.shape [] now
   pub knows : Knows part.shape part.known now
   pub holds : (place : List ℕ) (found : Option Item) → MayHold part.shape now.may place found
       → found ≡ item_at (contents (part_no part.shape).0) place
 
--- The volume is safe with these contents committed, and each part that they lay is one of these.
-pub record IsOpened (number : ℕ) (log : LogNow) (parts : List PartNow) (contents : ℕ → Content)
-    (now : Seen) : Type 0 where
-  pub safe : IsSafe log.geometry number log (λ records. contents) now
+-- The volume is safe with these contents committed, and each part that they lay is one of these, in
+-- the blocks that these owners give it.
+pub record IsOpened (number : ℕ) (owners : Owners) (log : LogNow) (parts : List PartNow)
+    (contents : ℕ → Content) (now : Seen) : Type 0 where
+  pub safe : IsSafe log.geometry number owners log (λ records. contents) now
   pub stands : LogStands log now
   pub forced : IsForced log
   pub each : (part : ℕ) → Ascends (contents part)
   pub catalog : IsCatalog log.geometry (contents 0)
-  pub apart : AreApart (shape_by log.geometry (contents 0))
   pub others : (part : ℕ) → shape_by log.geometry (contents 0) part ≡ None
       → contents part ≡ []
-  pub opened : All (IsPartOpened log.geometry contents now) parts
+  pub opened : All (IsPartOpened log.geometry owners contents now) parts
   pub whole : (part : ℕ) (shape : Shape)
       → shape_by log.geometry (contents 0) part ≡ Some shape
       → shape_among parts part ≡ Some shape

@@ -13,7 +13,9 @@ use Rattle.vr_types.specs.Seen.{Seen}
 use Rattle.vr_types.specs.declared.unit.PartNo.{PartNo}
 use Rattle.vr_types.specs.declared.unit.Unit.{Unit as UnitOfRecovery}
 use Rattle.vr_space.specs.Known.{Known}
-use Rattle.vr_space.specs.Part.{InPart, IsOn, IsPlaceOf, IsRecordOf, Shape, part_no}
+use Rattle.vr_space.specs.Owners.{Owners}
+use Rattle.vr_space.specs.Part.{IsOn, IsPlaceOf, IsRecordOf, Shape, part_no}
+use Rattle.vr_attach.specs.Owning.{owner_of}
 use Rattle.vr_log.specs.Live.{live_in}
 use Rattle.vr_log.specs.LogNow.{IsOf, LogNow}
 use Rattle.vr_history.specs.State.{BeforeImage, State}
@@ -83,13 +85,16 @@ store_of shape known log undo parts changed space = record {
   space = space;
 }
 
+-- which part each block is of, by who owns the areas
+abbrev pub owners_of : StoreNow → Owners
+owners_of store = owner_of store.log.geometry store.space
+
 -- ---- what holds whether or not the device reports its contents
 
--- a part is on blocks of the device past the log, under its number
-pub record IsPartSet (log : LogNow) (now : Seen) (part : PartNow) : Type 0 where
+-- a part is on blocks of the device, under its number
+pub record IsPartSet (now : Seen) (part : PartNow) : Type 0 where
   pub number : part_no part.shape ≡ part.number
   pub on : IsOn part.shape now
-  pub apart : (n : ℕ) → InPart part.shape n → log.geometry.log < n
 
 -- a record, or none, that may stand at a place of a part
 abbrev pub IsOldOf : Shape → List ℕ → Option Item → Type 0
@@ -109,7 +114,7 @@ pub record IsSet (store : StoreNow) (now : Seen) : Type 0 where
   pub allowed : IsAllowed store.log.geometry
   pub blocks : IsOf store.log.geometry now
   pub sound : store.log.broken ≡ false
-  pub parts : All (IsPartSet store.log now) store.parts
+  pub parts : All (IsPartSet now) store.parts
   pub apart : IsDistinct nat_eq (map (λ (part : PartNow). part.number.0) store.parts)
   pub changed : All (λ (by : ChangedBy). All (λ n. n < now.count) by.blocks) store.changed
   pub idle : live_in store.log.records ≡ [] → store.log.records ≡ []
@@ -119,13 +124,15 @@ pub record IsSet (store : StoreNow) (now : Seen) : Type 0 where
 
 abbrev pub IsRestedPart : StoreNow → State → Seen → PartNow → Type 0
 IsRestedPart store state now part =
-    IsPartAtRest store.log.geometry (images_in store.undo) state part.shape part.known now
+    IsPartAtRest store.log.geometry (owners_of store) (images_in store.undo) state part.shape
+    part.known now
 
--- The volume is at rest by the state, and so is each of its parts, of which none is missing. The
--- before-images are the state's, and once the blocks that a unit changed are forced, a crash leaves
--- what stands at its places.
+-- The volume is at rest by the state, and so is each of its parts, of which none is missing, in the
+-- blocks that are its own by who owns the areas. The before-images are the state's, and once the
+-- blocks that a unit changed are forced, a crash leaves what stands at its places.
 pub record IsStored (number : ℕ) (store : StoreNow) (state : State) (now : Seen) : Type 0 where
-  pub volume : IsVolumeAtRest store.log.geometry number store.log (images_in store.undo) state now
+  pub volume : IsVolumeAtRest store.log.geometry number (owners_of store) store.log
+      (images_in store.undo) state now
   pub parts : All (IsRestedPart store state now) store.parts
   pub whole : (part : ℕ) (shape : Shape)
       → shape_by store.log.geometry (state.contents 0) part ≡ Some shape

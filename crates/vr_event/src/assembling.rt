@@ -5,6 +5,7 @@ ghost use Rattle.std.specs.Prelude.{length};
 ghost use Rattle.vr_types.specs.Content.{Content};
 ghost use Rattle.vr_types.specs.Geometry.{area_count};
 ghost use Rattle.vr_catalog.specs.Catalog.{entries_in};
+ghost use Rattle.vr_attach.specs.Owning.{owner_of};
 ghost use Rattle.vr_history.specs.Effects.{has_part, parts_laid};
 ghost use Rattle.vr_history.specs.State.{opening_state};
 ghost use Rattle.vr_answer.specs.Scope.{AreKeyedClusters};
@@ -47,8 +48,8 @@ impl<B: Blocks, P: Part> Volume<B, P> {
             → log.broken ≡ false → length space ≡ area_count geometry
             → AllByRecursion (λ area. has_part (parts_laid catalog) area.part ≡ true)
             (owned_in space)
-            → IsOpened number log (map (part_now P.shape P.known) parts.items) contents
-            (B.seen blocks)
+            → IsOpened number (owner_of log.geometry space) log
+            (map (part_now P.shape P.known) parts.items) contents (B.seen blocks)
             → IsHeld B.seen (opening_state contents (owned_in space)) result }
         ensures store { result.store
             ≡ opened_store log (map (part_now P.shape P.known) parts.items) space }

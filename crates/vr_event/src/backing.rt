@@ -24,7 +24,7 @@ ghost use Rattle.vr_event.specs.Changing.{IsSettable};
 ghost use Rattle.vr_event.specs.Ends.{IsTaken, IsTakenFrom, back_at};
 ghost use Rattle.vr_event.specs.Parts.{OnlyMet};
 ghost use Rattle.vr_event.specs.Store.{IsOldOf, IsSet, IsStored, Stands, blocks_of, part_among};
-ghost use Rattle.vr_event.specs.Store.{shape_among};
+ghost use Rattle.vr_event.specs.Store.{owners_of, shape_among};
 ghost use Rattle.vr_event.specs.Backing.{IsDueAtLast};
 
 use crate::staging::{advance_at, ask_at};
@@ -141,7 +141,8 @@ impl<P: Part> Store<P> {
         ensures moments { IsTrue B.tells → (volume : ℕ) (state : State)
             → IsStored volume self.old state (B.seen blocks.old)
             → Guards (B.seen blocks.old) (B.seen blocks.new)
-            (IsSafeImage self.old.log.geometry volume self.old.log (committed_by state)) }
+            (IsSafeImage self.old.log.geometry volume (owners_of self.old) self.old.log
+            (committed_by state)) }
         // It reads before it puts.
         ensures unread { IfErr result (λ fault. fault ≡ Read
             → (IsTrue B.tells → (volume : ℕ) (state : State)
@@ -199,7 +200,8 @@ impl<P: Part> Store<P> {
             (back_at unit before.now.part before.now.place was before.now.old)
             → IsPutBack (back_at unit before.now.part before.now.place was before.now.old) old new
             → Guards (B.seen blocks.old) (B.seen blocks.new)
-            (IsSafeImage self.old.log.geometry volume self.old.log (committed_by old)) }
+            (IsSafeImage self.old.log.geometry volume (owners_of self.old) self.old.log
+            (committed_by old)) }
         ensures set { IsSet self.new (B.seen blocks.new) }
         ensures parts { OnlyMet before.now.part.0 self.old.parts self.new.parts }
         ensures rest { self.new
@@ -242,7 +244,8 @@ impl<P: Part> Store<P> {
         ensures moments { IsTrue B.tells → (volume : ℕ) (old : State)
             → IsStored volume self.old old (B.seen blocks.old) → IsCurrent old.numbers unit
             → Guards (B.seen blocks.old) (B.seen blocks.new)
-            (IsSafeImage self.old.log.geometry volume self.old.log (committed_by old)) }
+            (IsSafeImage self.old.log.geometry volume (owners_of self.old) self.old.log
+            (committed_by old)) }
         ensures set { IsSet self.new (B.seen blocks.new) }
         ensures shapes { (number : ℕ)
             → shape_among self.new.parts number ≡ shape_among self.old.parts number }

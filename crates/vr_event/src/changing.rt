@@ -10,11 +10,10 @@ ghost use Rattle.vr_types.specs.Locks.{same_unit};
 ghost use Rattle.vr_types.specs.Moments.{Guards};
 ghost use Rattle.vr_types.specs.declared.unit.Unit.{Unit as UnitOfRecovery};
 ghost use Rattle.vr_space.specs.Known.{HasMet};
+ghost use Rattle.vr_space.specs.Owners.{Owners};
 ghost use Rattle.vr_space.specs.Part.{
   CanSet,
   HasKeptRoom,
-  InPart,
-  IsAtRest,
   IsGiven,
   IsOn,
   IsPlaceOf,
@@ -32,13 +31,14 @@ ghost use Rattle.vr_undo.specs.Records.{images_in};
 ghost use Rattle.vr_volume.specs.Cause.{HasChangeCause};
 ghost use Rattle.vr_volume.specs.Committed.{committed_by};
 ghost use Rattle.vr_volume.specs.PutBack.{lengths_kept};
+ghost use Rattle.vr_volume.specs.Rests.{RestsPastLog};
 ghost use Rattle.vr_volume.specs.Safe.{IsSafeImage};
 ghost use Rattle.vr_volume.specs.Steps.{Changing};
 ghost use Rattle.vr_event.specs.Changing.{IsBefore, IsMadeOf, IsNoted, IsReady, IsReadyBy, IsSetIn};
 ghost use Rattle.vr_event.specs.Changing.{IsSettable, IsToSet, log_with, need_with};
 ghost use Rattle.vr_event.specs.Parts.{OnlyMet};
 ghost use Rattle.vr_event.specs.Store.{ChangedBy, IsSet, IsStored, blocks_of, changed_by};
-ghost use Rattle.vr_event.specs.Store.{part_among, shape_among};
+ghost use Rattle.vr_event.specs.Store.{owners_of, part_among, shape_among};
 
 use crate::changed::{UnitBlocks, note};
 use crate::parts::index_of;
@@ -67,10 +67,10 @@ fn put_at<B: Blocks, P: Part>(
     requires live { EndsLive (live_in log.old.records) prepared.now.rec }
     requires stands { IsTrue B.tells → LogStands log.old (B.seen blocks.old) }
     requires on { IsOn (P.shape part.old) (B.seen blocks.old) }
-    requires apart { (n : ℕ) → InPart (P.shape part.old) n → log.old.geometry.log < n }
     requires place { IsPlaceOf (P.shape part.old) place.now }
     requires item { IsGiven (P.shape part.old) place.now bytes }
-    requires rests { IsTrue B.tells → IsAtRest (P.shape part.old) (B.seen blocks.old) }
+    requires rests { IsTrue B.tells → RestsPastLog log.old.geometry (P.shape part.old)
+        (B.seen blocks.old) }
     requires room { IsTrue B.tells → HasKeptRoom (P.shape part.old)
         (lengths_kept (images_in undo.now) (part_no (P.shape part.old)).0) (B.seen blocks.old) }
     requires knows { IsTrue B.tells → Knows (P.shape part.old) (P.known part.old)
@@ -78,23 +78,23 @@ fn put_at<B: Blocks, P: Part>(
     requires can { IsTrue B.tells → CanSet (P.shape part.old) (P.known part.old)
         (B.seen blocks.old).cur (lengths_kept (images_in undo.now) (part_no (P.shape part.old)).0)
         place.now (given bytes) }
-    ensures made { IsTrue B.tells → OnOk result ((volume : ℕ) (old new : State)
-        (change : Changing) (images : List BeforeImage)
-        → IsToSet log.old.geometry volume log.old images (images_in undo.now) old new change
+    ensures made { IsTrue B.tells → OnOk result ((volume : ℕ) (owners : Owners)
+        (old new : State) (change : Changing) (images : List BeforeImage)
+        → IsToSet log.old.geometry volume owners log.old images (images_in undo.now) old new change
         prepared.now (P.shape part.old) (P.known part.old) place.now
         (given bytes.entry) (B.seen blocks.old)
-        → IsSetIn log.old.geometry volume log.new images (images_in undo.now) old new
+        → IsSetIn log.old.geometry volume owners log.new images (images_in undo.now) old new
         (P.shape part.old) (P.known part.new) place.now (P.put part.new)
         (B.seen blocks.old) (B.seen blocks.new)) }
     // At every moment, whether it fails or not.
-    ensures moments { IsTrue B.tells → (volume : ℕ) (old new : State) (change : Changing)
-        (images : List BeforeImage)
-        → IsToSet log.old.geometry volume log.old images (images_in undo.now) old new change
+    ensures moments { IsTrue B.tells → (volume : ℕ) (owners : Owners) (old new : State)
+        (change : Changing) (images : List BeforeImage)
+        → IsToSet log.old.geometry volume owners log.old images (images_in undo.now) old new change
         prepared.now (P.shape part.old) (P.known part.old) place.now
         (given bytes.entry) (B.seen blocks.old)
         → Guards (B.seen blocks.old) (B.seen blocks.new) (IsSafeImage log.old.geometry volume
-        (log_with prepared.now.logged log.old prepared.now.rec) (committed_by old)) }
-    ensures put { OnOk result (All (InPart (P.shape part.old)) (P.put part.new)) }
+        owners (log_with prepared.now.logged log.old prepared.now.rec) (committed_by old)) }
+    ensures put { OnOk result (All (λ n. n < (B.seen blocks.new).count) (P.put part.new)) }
     ensures records { OnOk result (log.new.records
         ≡ (log_with prepared.now.logged log.old prepared.now.rec).records) }
     ensures geometry { OnOk result (log.new.geometry ≡ log.old.geometry) }
@@ -171,10 +171,10 @@ fn set_at<B: Blocks, P: Part>(
     requires live { EndsLive (live_in log.old.records) prepared.now.rec }
     requires stands { IsTrue B.tells → LogStands log.old (B.seen blocks.old) }
     requires on { IsOn (P.shape part.old) (B.seen blocks.old) }
-    requires apart { (n : ℕ) → InPart (P.shape part.old) n → log.old.geometry.log < n }
     requires place { IsPlaceOf (P.shape part.old) place.now }
     requires item { IsGiven (P.shape part.old) place.now bytes }
-    requires rests { IsTrue B.tells → IsAtRest (P.shape part.old) (B.seen blocks.old) }
+    requires rests { IsTrue B.tells → RestsPastLog log.old.geometry (P.shape part.old)
+        (B.seen blocks.old) }
     requires room { IsTrue B.tells → HasKeptRoom (P.shape part.old)
         (lengths_kept (images_in undo.now) (part_no (P.shape part.old)).0) (B.seen blocks.old) }
     requires knows { IsTrue B.tells → Knows (P.shape part.old) (P.known part.old)
@@ -182,23 +182,23 @@ fn set_at<B: Blocks, P: Part>(
     requires can { IsTrue B.tells → CanSet (P.shape part.old) (P.known part.old)
         (B.seen blocks.old).cur (lengths_kept (images_in undo.now) (part_no (P.shape part.old)).0)
         place.now (given bytes) }
-    ensures made { IsTrue B.tells → OnOk result ((volume : ℕ) (old new : State)
-        (change : Changing) (images : List BeforeImage)
-        → IsToSet log.old.geometry volume log.old images (images_in undo.now) old new change
+    ensures made { IsTrue B.tells → OnOk result ((volume : ℕ) (owners : Owners)
+        (old new : State) (change : Changing) (images : List BeforeImage)
+        → IsToSet log.old.geometry volume owners log.old images (images_in undo.now) old new change
         prepared.now (P.shape part.old) (P.known part.old) place.now
         (given bytes.entry) (B.seen blocks.old)
-        → IsSetIn log.old.geometry volume log.new images (images_in undo.now) old new
+        → IsSetIn log.old.geometry volume owners log.new images (images_in undo.now) old new
         (P.shape part.old) (P.known part.new) place.now
         (blocks_of unit (map changed_by changed.new.items)) (B.seen blocks.old)
         (B.seen blocks.new)) }
     // At every moment, whether it fails or not.
-    ensures moments { IsTrue B.tells → (volume : ℕ) (old new : State) (change : Changing)
-        (images : List BeforeImage)
-        → IsToSet log.old.geometry volume log.old images (images_in undo.now) old new change
+    ensures moments { IsTrue B.tells → (volume : ℕ) (owners : Owners) (old new : State)
+        (change : Changing) (images : List BeforeImage)
+        → IsToSet log.old.geometry volume owners log.old images (images_in undo.now) old new change
         prepared.now (P.shape part.old) (P.known part.old) place.now
         (given bytes.entry) (B.seen blocks.old)
         → Guards (B.seen blocks.old) (B.seen blocks.new) (IsSafeImage log.old.geometry volume
-        (log_with prepared.now.logged log.old prepared.now.rec) (committed_by old)) }
+        owners (log_with prepared.now.logged log.old prepared.now.rec) (committed_by old)) }
     ensures had { (n : ℕ) → Contains (blocks_of unit (map changed_by changed.old.items)) n
         → Contains (blocks_of unit (map changed_by changed.new.items)) n }
     ensures others { (other : UnitOfRecovery) → same_unit other unit ≡ false
@@ -269,7 +269,7 @@ impl<P: Part> Store<P> {
             → IsReadyBy volume self.old unit number place.now prepared.now was old
             (B.seen blocks.old)
             → Guards (B.seen blocks.old) (B.seen blocks.new)
-            (IsSafeImage self.old.log.geometry volume
+            (IsSafeImage self.old.log.geometry volume (owners_of self.old)
             (log_with prepared.now.logged self.old.log prepared.now.rec) (committed_by old)) }
         ensures set { OnOk result (IsSet self.new (B.seen blocks.new)) }
         ensures undo { self.new.undo ≡ self.old.undo }

@@ -7,6 +7,7 @@ ghost use Rattle.vr_types.specs.Faults.{HasWriteCause};
 ghost use Rattle.vr_types.specs.Locks.{same_unit};
 ghost use Rattle.vr_types.specs.Moments.{Guards};
 ghost use Rattle.vr_types.specs.declared.unit.Unit.{Unit as UnitOfRecovery};
+ghost use Rattle.vr_space.specs.Owners.{Owners};
 ghost use Rattle.vr_space.specs.Part.{IsDueTo, IsSound, Shape};
 ghost use Rattle.vr_log.specs.Live.{is_in, live_in};
 ghost use Rattle.vr_log.specs.LogNow.{with_record};
@@ -19,6 +20,7 @@ ghost use Rattle.vr_volume.specs.EndedLog.{IsEndedLog};
 ghost use Rattle.vr_volume.specs.Safe.{IsSafeImage};
 ghost use Rattle.vr_volume.specs.Steps.{IsEndedIn};
 ghost use Rattle.vr_event.specs.Store.{ChangedBy, IsSet, IsStored, Stands, blocks_of, changed_by};
+ghost use Rattle.vr_event.specs.Store.{owners_of};
 
 use crate::changed::{UnitBlocks, forget, place_of};
 use crate::store::Store;
@@ -48,7 +50,8 @@ impl<P: Part> Store<P> {
         ensures moments { IsTrue B.tells → (volume : ℕ) (state : State)
             → IsStored volume self.old state (B.seen blocks.old)
             → Guards (B.seen blocks.old) (B.seen blocks.new)
-            (IsSafeImage self.old.log.geometry volume self.old.log (committed_by state)) }
+            (IsSafeImage self.old.log.geometry volume (owners_of self.old) self.old.log
+            (committed_by state)) }
         ensures same { OnErr result (self.new ≡ self.old) }
         ensures rest { self.new ≡ record self.old { changed = self.new.changed } }
         ensures keeps { Keeps B.tells (B.seen blocks.old) (B.seen blocks.new) }
@@ -79,7 +82,8 @@ impl<P: Part> Store<P> {
         ensures moments { IsTrue B.tells → (volume : ℕ) (state : State)
             → IsStored volume self.old state (B.seen blocks.old) → KeepsNoneIf kind state unit
             → Guards (B.seen blocks.old) (B.seen blocks.new) (IsSafeImage self.old.log.geometry
-            volume (with_record self.old.log (End unit kind)) (committed_by state)) }
+            volume (owners_of self.old) (with_record self.old.log (End unit kind))
+            (committed_by state)) }
         ensures set { OnOk result (IsSet self.new (B.seen blocks.new)) }
         ensures log { OnOk result (IsEndedLog self.old.log unit kind self.new.log) }
         ensures images { OnOk result (images_in self.new.undo
@@ -115,8 +119,8 @@ fn force_listed<B: Blocks>(
 ) -> Result<u32, DeviceFault>
     requires { All (λ (by : ChangedBy). All (λ n. n < (B.seen blocks.old).count) by.blocks)
         (map changed_by changed.old.items) }
-    ensures due { IsTrue B.tells → (shape : Shape) (place : List ℕ)
-        → IsSound shape (B.seen blocks.old)
+    ensures due { IsTrue B.tells → (shape : Shape) (owners : Owners) (place : List ℕ)
+        → IsSound shape owners (B.seen blocks.old)
         → IsDueTo shape (blocks_of unit (map changed_by changed.old.items)) (B.seen blocks.old)
         place
         → IsDueTo shape (blocks_of unit (map changed_by changed.new.items)) (B.seen blocks.new)

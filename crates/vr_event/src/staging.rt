@@ -8,13 +8,14 @@ ghost use Rattle.vr_space.specs.Known.{HasMet};
 ghost use Rattle.vr_space.specs.Part.{IsLengthOf, IsPlaceOf, OwnersAfter};
 ghost use Rattle.vr_space.specs.Split.{IsIntervalStage};
 ghost use Rattle.vr_space.specs.declared.room.Room.TheVariants as answers;
+ghost use Rattle.vr_attach.specs.Owning.{owner_of};
 ghost use Rattle.vr_history.specs.State.{State};
 ghost use Rattle.vr_volume.specs.Committed.{committed_by};
 ghost use Rattle.vr_volume.specs.Safe.{IsSafeImage};
 ghost use Rattle.vr_event.specs.Parts.{OnlyMet, OnlySplit};
 ghost use Rattle.vr_event.specs.Room.{IsDueAt, IsRoomAt};
 ghost use Rattle.vr_event.specs.Store.{IsSet, IsStored, Stands, part_among, part_now, shape_among};
-ghost use Rattle.vr_event.specs.Store.{store_of};
+ghost use Rattle.vr_event.specs.Store.{owners_of, store_of};
 
 use crate::changed::UnitBlocks;
 use crate::parts::{Laid, index_of};
@@ -119,7 +120,8 @@ pub(crate) fn advance_at<B: Blocks, P: Part>(
         → IsStored volume (store_of P.shape P.known log.now undo.now parts.old.items
         changed.now.items space.old) state (B.seen blocks.old)
         → Guards (B.seen blocks.old) (B.seen blocks.new)
-        (IsSafeImage log.now.geometry volume log.now (committed_by state)) }
+        (IsSafeImage log.now.geometry volume (owner_of log.now.geometry space.old) log.now
+        (committed_by state)) }
     // It reads before it puts.
     ensures unread { IfErr result (λ fault. fault ≡ Read
         → Keeps B.tells (B.seen blocks.old) (B.seen blocks.new)
@@ -223,7 +225,8 @@ impl<P: Part> Store<P> {
         ensures moments { IsTrue B.tells → (volume : ℕ) (state : State)
             → IsStored volume self.old state (B.seen blocks.old)
             → Guards (B.seen blocks.old) (B.seen blocks.new)
-            (IsSafeImage self.old.log.geometry volume self.old.log (committed_by state)) }
+            (IsSafeImage self.old.log.geometry volume (owners_of self.old) self.old.log
+            (committed_by state)) }
         // It reads before it puts.
         ensures unread { IfErr result (λ fault. fault ≡ Read
             → Keeps B.tells (B.seen blocks.old) (B.seen blocks.new)

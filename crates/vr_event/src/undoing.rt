@@ -8,14 +8,14 @@ ghost use Rattle.vr_types.specs.Moments.{Guards};
 ghost use Rattle.vr_types.specs.declared.fault.DeviceFault.TheVariants.{Write};
 ghost use Rattle.vr_types.specs.declared.unit.Unit.{Unit as UnitOfRecovery};
 ghost use Rattle.vr_space.specs.Known.{HasMet};
+ghost use Rattle.vr_space.specs.Owners.{Owners};
 ghost use Rattle.vr_space.specs.Part.{
   CanSet,
   HasKeptRoom,
-  InPart,
-  IsAtRest,
   IsGiven,
   IsOn,
   IsPlaceOf,
+  IsQuiet,
   Knows,
   given,
   part_no,
@@ -30,7 +30,7 @@ ghost use Rattle.vr_event.specs.Changing.{IsSetIn, IsSettable};
 ghost use Rattle.vr_event.specs.Ends.{IsTaken, IsTakenFrom, IsToBack, back_at};
 ghost use Rattle.vr_event.specs.Parts.{OnlyMet};
 ghost use Rattle.vr_event.specs.Store.{ChangedBy, IsSet, IsStored, blocks_of, changed_by};
-ghost use Rattle.vr_event.specs.Store.{part_among, shape_among};
+ghost use Rattle.vr_event.specs.Store.{owners_of, part_among, shape_among};
 
 use crate::changed::UnitBlocks;
 use crate::changing::note_put;
@@ -55,10 +55,9 @@ fn set_back<B: Blocks, P: Part>(
     bytes: Option<&[u8]>,
 ) -> Result<(), DeviceFault>
     requires on { IsOn (P.shape part.old) (B.seen blocks.old) }
-    requires apart { (n : ℕ) → InPart (P.shape part.old) n → log.now.geometry.log < n }
     requires place { IsPlaceOf (P.shape part.old) place.now }
     requires item { IsGiven (P.shape part.old) place.now bytes }
-    requires rests { IsTrue B.tells → IsAtRest (P.shape part.old) (B.seen blocks.old) }
+    requires rests { IsTrue B.tells → IsQuiet (P.shape part.old) (B.seen blocks.old) }
     requires room { IsTrue B.tells → HasKeptRoom (P.shape part.old)
         (lengths_kept (images_in undo.now) (part_no (P.shape part.old)).0) (B.seen blocks.old) }
     requires knows { IsTrue B.tells → Knows (P.shape part.old) (P.known part.old)
@@ -66,22 +65,23 @@ fn set_back<B: Blocks, P: Part>(
     requires can { IsTrue B.tells → CanSet (P.shape part.old) (P.known part.old)
         (B.seen blocks.old).cur (lengths_kept (images_in undo.now) (part_no (P.shape part.old)).0)
         place.now (given bytes) }
-    ensures back { IsTrue B.tells → OnOk result ((volume : ℕ) (old new : State)
-        (change : Changing)
-        → IsToBack log.now.geometry volume log.now (images_in undo.now) old new change
+    ensures back { IsTrue B.tells → OnOk result ((volume : ℕ) (owners : Owners)
+        (old new : State) (change : Changing)
+        → IsToBack log.now.geometry volume owners log.now (images_in undo.now) old new change
         (P.shape part.old) (P.known part.old) place.now (given bytes.entry)
         (B.seen blocks.old)
-        → IsSetIn log.now.geometry volume log.now (images_in undo.now) (images_in undo.now) old new
-        (P.shape part.old) (P.known part.new) place.now
+        → IsSetIn log.now.geometry volume owners log.now (images_in undo.now) (images_in undo.now)
+        old new (P.shape part.old) (P.known part.new) place.now
         (blocks_of unit (map changed_by changed.new.items)) (B.seen blocks.old)
         (B.seen blocks.new)) }
     // At every moment, whether it fails or not.
-    ensures moments { IsTrue B.tells → (volume : ℕ) (old new : State) (change : Changing)
-        → IsToBack log.now.geometry volume log.now (images_in undo.now) old new change
+    ensures moments { IsTrue B.tells → (volume : ℕ) (owners : Owners) (old new : State)
+        (change : Changing)
+        → IsToBack log.now.geometry volume owners log.now (images_in undo.now) old new change
         (P.shape part.old) (P.known part.old) place.now (given bytes.entry)
         (B.seen blocks.old)
         → Guards (B.seen blocks.old) (B.seen blocks.new)
-        (IsSafeImage log.now.geometry volume log.now (committed_by old)) }
+        (IsSafeImage log.now.geometry volume owners log.now (committed_by old)) }
     ensures had { (n : ℕ) → Contains (blocks_of unit (map changed_by changed.old.items)) n
         → Contains (blocks_of unit (map changed_by changed.new.items)) n }
     ensures others { (other : UnitOfRecovery) → same_unit other unit ≡ false
@@ -137,7 +137,8 @@ impl<P: Part> Store<P> {
             (back_at unit number place.now was (given bytes.entry))
             → IsPutBack (back_at unit number place.now was (given bytes.entry)) old new
             → Guards (B.seen blocks.old) (B.seen blocks.new)
-            (IsSafeImage self.old.log.geometry volume self.old.log (committed_by old)) }
+            (IsSafeImage self.old.log.geometry volume (owners_of self.old) self.old.log
+            (committed_by old)) }
         ensures set { IsSet self.new (B.seen blocks.new) }
         ensures parts { OnlyMet number.0 self.old.parts self.new.parts }
         ensures others { (other : UnitOfRecovery) → same_unit other unit ≡ false

@@ -16,7 +16,7 @@ force_changed-requires g c = unit-each c.args.unit c.args.changed.now.items c.de
     c.in-Some.is c.index_mut.ensures.value (g.B.Blocks.seen c.args.blocks.now).count c.requires
 
 pub returns-in-Some-clause-due : goal.returns-in-Some-clause-due
-returns-in-Some-clause-due g c told shape place sound due =
+returns-in-Some-clause-due g c told shape owners place sound due =
     let a = g.B.Blocks.seen c.args.blocks.now in
     let b = g.B.Blocks.seen c.force_changed.new.blocks in
     let after : UnitBlocks =
@@ -25,7 +25,7 @@ returns-in-Some-clause-due g c told shape place sound due =
     (sym (unit-after c.args.unit c.args.changed.now.items c.deref.result.now
     c.place_of.result c.deref.ensures.value c.place_of.ensures c.in-Some.at c.index_mut.result.now
     c.in-Some.is c.index_mut.ensures.value after refl))
-    (c.force_changed.ensures.due told shape place sound
+    (c.force_changed.ensures.due told shape owners place sound
     (subst (λ (listed : List ℕ). IsDueTo shape listed a place)
     (unit-listed c.args.unit c.args.changed.now.items c.deref.result.now
     c.place_of.result c.deref.ensures.value c.place_of.ensures c.in-Some.at c.index_mut.result.now

@@ -111,7 +111,7 @@ returns g c =
           c.room.ensures.keeps.count_same c.room.ensures.keeps.size_same c.requires.set;
       stored = λ told volume state stored. stored-met tells told a b c.room.ensures.keeps
           (g.met.B.Blocks.cur_may c.args.blocks.now told) store number before after parts
-          store.space at same volume state c.requires.set stored
+          at same volume state c.requires.set stored
           (c.room.ensures.knows told);
       parts = only-met number before after store.parts parts at refl
           (ap (λ (s : Shape). part-split laid.number s after.known.split) c.room.ensures.shape

@@ -12,44 +12,44 @@ use Rattle.vr_event.proofs.Noting.{guards-kept, set-noted}
 use Rattle.vr_event.proofs.undoing.set_back.Goals as goal
 
 pub returns-in_err-set_again-clause-moments : goal.returns-in_err-set_again-clause-moments
-returns-in_err-set_again-clause-moments g c told volume old new change to =
+returns-in_err-set_again-clause-moments g c told volume owners old new change to =
     let images = images_in c.args.undo.now in
-    c.set_again.ensures.any_moment told volume old images to.volume to.part
-    (place-back c.args.log.now.geometry volume c.args.log.now images old new change
+    c.set_again.ensures.any_moment told volume owners old images to.volume to.part
+    (place-back c.args.log.now.geometry volume owners c.args.log.now images old new change
     (g.P.Part.shape c.args.part.now) (g.P.Part.known c.args.part.now) c.args.place.now
     (given c.args.bytes)
     (g.B.Blocks.seen c.args.blocks.now) to) refl
 
 pub returns-in_err-note_put-clause-moments : goal.returns-in_err-note_put-clause-moments
-returns-in_err-note_put-clause-moments g c told volume old new change to =
+returns-in_err-note_put-clause-moments g c told volume owners old new change to =
     let log = c.args.log.now in
     let images = images_in c.args.undo.now in
     guards-kept g.B.Blocks.tells told (g.B.Blocks.seen c.set_again.new.blocks)
     (g.B.Blocks.seen c.note_put.new.blocks) c.note_put.ensures.keeps
     (g.B.Blocks.seen c.args.blocks.now)
-    (IsSafeImage log.geometry volume log (committed_by old))
-    (c.set_again.ensures.any_moment told volume old images to.volume to.part
-    (place-back log.geometry volume log images old new change
+    (IsSafeImage log.geometry volume owners log (committed_by old))
+    (c.set_again.ensures.any_moment told volume owners old images to.volume to.part
+    (place-back log.geometry volume owners log images old new change
     (g.P.Part.shape c.args.part.now) (g.P.Part.known c.args.part.now) c.args.place.now
     (given c.args.bytes)
     (g.B.Blocks.seen c.args.blocks.now) to) refl)
 
 pub returns-clause-moments : goal.returns-clause-moments
-returns-clause-moments g c told volume old new change to =
+returns-clause-moments g c told volume owners old new change to =
     let log = c.args.log.now in
     let images = images_in c.args.undo.now in
     guards-kept g.B.Blocks.tells told (g.B.Blocks.seen c.set_again.new.blocks)
     (g.B.Blocks.seen c.note_put.new.blocks) c.note_put.ensures.keeps
     (g.B.Blocks.seen c.args.blocks.now)
-    (IsSafeImage log.geometry volume log (committed_by old))
-    (c.set_again.ensures.any_moment told volume old images to.volume to.part
-    (place-back log.geometry volume log images old new change
+    (IsSafeImage log.geometry volume owners log (committed_by old))
+    (c.set_again.ensures.any_moment told volume owners old images to.volume to.part
+    (place-back log.geometry volume owners log images old new change
     (g.P.Part.shape c.args.part.now) (g.P.Part.known c.args.part.now) c.args.place.now
     (given c.args.bytes)
     (g.B.Blocks.seen c.args.blocks.now) to) refl)
 
 pub returns-clause-back : goal.returns-clause-back
-returns-clause-back g c told volume old new change to =
+returns-clause-back g c told volume owners old new change to =
     let log = c.args.log.now in
     let images = images_in c.args.undo.now in
     let shape = g.P.Part.shape c.args.part.now in
@@ -60,19 +60,19 @@ returns-clause-back g c told volume old new change to =
     let listed = blocks_of c.args.unit (map changed_by c.note_put.new.changed.items) in
     let done = c.in_ok-set_again.ensures in
     let same = ap (λ (p : PartNo). p.0) to.given.part in
-    let rests = done.back told volume old new change images to.volume to.part to.of to.step to.given
-    refl in
-    set-noted g.B.Blocks.tells told b d c.note_put.ensures.keeps log.geometry volume log images
-    images old new shape (g.P.Part.known c.set_again.new.part)
-    c.args.place.now put listed a (rest-sound shape a to.part.rests)
+    let rests = done.back told volume owners old new change images to.volume to.part to.of to.step
+    to.given refl in
+    set-noted g.B.Blocks.tells told b d c.note_put.ensures.keeps log.geometry volume owners log
+    images images old new shape (g.P.Part.known c.set_again.new.part)
+    c.args.place.now put listed a (rest-sound shape owners a to.part.rests)
     (g.met.B.Blocks.cur_may c.set_again.new.blocks told)
     (record {
       volume = rests.0;
       part = rests.1;
-      others = λ other known apart rested. done.others told volume old new change images other
-          known to.volume to.part to.of to.step.contents to.given.part
+      others = λ other known apart rested. done.others told volume owners old new change images
+          other known to.volume to.part to.of to.step.contents to.given.part
           (λ is. apart (is ∙ sym same)) rested;
-      others_due = λ other known apart rested. done.others_due told volume images old other
+      others_due = λ other known apart rested. done.others_due told volume owners images old other
           known to.volume to.part apart rested;
       due = done.due told;
     })

@@ -3,7 +3,8 @@ use Rattle.vr_types.specs.Moments.{Guards}
 use Rattle.vr_volume.specs.Committed.{committed_by}
 use Rattle.vr_volume.specs.Safe.{IsSafeImage}
 use Rattle.vr_undo.specs.Records.{befores_of, image_of}
-use Rattle.vr_event.specs.Store.{IsFitImage, IsSet, IsStored, StoreNow, part_now, shape_among}
+use Rattle.vr_event.specs.Store.{IsFitImage, IsSet, IsStored, StoreNow, owners_of, part_now}
+use Rattle.vr_event.specs.Store.{shape_among}
 use Rattle.vr_event.proofs.Kept.{err-as}
 use Rattle.vr_event.proofs.Lasting.{last-has, last-lent}
 use Rattle.vr_event.proofs.Placing.{shapes-same}
@@ -46,7 +47,7 @@ pub returns-in_err-kind-in-Some-clause-moments : goal.returns-in_err-kind-in-Som
 returns-in_err-kind-in-Some-clause-moments g c told volume state =
     subst (λ (s : StoreNow). IsStored volume s state (g.B.Blocks.seen c.args.blocks.now)
     → Guards (g.B.Blocks.seen c.args.blocks.now) (g.B.Blocks.seen c.advance_at.new.blocks)
-    (IsSafeImage s.log.geometry volume s.log (committed_by state))) c.self.view_is
+    (IsSafeImage s.log.geometry volume (owners_of s) s.log (committed_by state))) c.self.view_is
     (c.advance_at.ensures.moments told volume state)
 
 pub returns-in_err-kind-in-Some-clause-unread : goal.returns-in_err-kind-in-Some-clause-unread
@@ -70,7 +71,7 @@ pub returns-clause-moments : goal.returns-clause-moments
 returns-clause-moments g c told volume state =
     subst (λ (s : StoreNow). IsStored volume s state (g.B.Blocks.seen c.args.blocks.now)
     → Guards (g.B.Blocks.seen c.args.blocks.now) (g.B.Blocks.seen c.advance_at.new.blocks)
-    (IsSafeImage s.log.geometry volume s.log (committed_by state))) c.self.view_is
+    (IsSafeImage s.log.geometry volume (owners_of s) s.log (committed_by state))) c.self.view_is
     (c.advance_at.ensures.moments told volume state)
 
 pub returns-clause-stored : goal.returns-clause-stored

@@ -4,12 +4,14 @@ use Rattle.std.proofs.lemmas.List.Elements.{All-filter}
 use Rattle.vr_types.specs.Moments.{Guards}
 use Rattle.vr_log.specs.LogNow.{HasLog, with_record}
 use Rattle.vr_log.specs.declared.record.LogRecord.TheVariants.{End}
+use Rattle.vr_attach.proofs.CallerLemmas.{owner-past-log}
 use Rattle.vr_history.specs.Effects.{is_other}
 use Rattle.vr_history.specs.State.{BeforeImage, Logged}
 use Rattle.vr_undo.specs.Records.{befores_of, images_in, logged_of}
 use Rattle.vr_volume.specs.Committed.{committed_by}
 use Rattle.vr_volume.specs.Safe.{IsSafeImage}
-use Rattle.vr_event.specs.Store.{IsFitImage, IsSet, IsStored, StoreNow, blocks_of, changed_by, part_now}
+use Rattle.vr_event.specs.Store.{IsFitImage, IsSet, IsStored, StoreNow, blocks_of, changed_by}
+use Rattle.vr_event.specs.Store.{owners_of, part_now}
 use Rattle.vr_event.proofs.Ends.{firm, idle-ended, set-ended, stored-ended}
 use Rattle.vr_event.proofs.store.Store.end.Goals as goal
 
@@ -28,10 +30,10 @@ returns-in_err-end_unit-clause-moments g c told volume state stored keeps =
       space = inside.space;
     } in
     subst (λ (s : StoreNow). IsSet s a → blocks_of unit s.changed ≡ [] → IsStored volume s state a
-    → Guards a b (IsSafeImage s.log.geometry volume (with_record s.log (End unit kind))
-    (committed_by state))) c.self.view_is
-    (λ set none stored. c.end_unit.ensures.any_moment told store.log.geometry volume state
-    stored.volume (firm store a set volume state stored unit none) keeps)
+    → Guards a b (IsSafeImage s.log.geometry volume (owners_of s)
+    (with_record s.log (End unit kind)) (committed_by state))) c.self.view_is
+    (λ set none stored. c.end_unit.ensures.any_moment told store.log.geometry volume
+    (owners_of store) state stored.volume (firm store a set volume state stored unit none) keeps)
     c.requires.set c.requires.none_left stored
 
 pub returns-clause-moments : goal.returns-clause-moments
@@ -49,10 +51,10 @@ returns-clause-moments g c told volume state stored keeps =
       space = inside.space;
     } in
     subst (λ (s : StoreNow). IsSet s a → blocks_of unit s.changed ≡ [] → IsStored volume s state a
-    → Guards a b (IsSafeImage s.log.geometry volume (with_record s.log (End unit kind))
-    (committed_by state))) c.self.view_is
-    (λ set none stored. c.end_unit.ensures.any_moment told store.log.geometry volume state
-    stored.volume (firm store a set volume state stored unit none) keeps)
+    → Guards a b (IsSafeImage s.log.geometry volume (owners_of s)
+    (with_record s.log (End unit kind)) (committed_by state))) c.self.view_is
+    (λ set none stored. c.end_unit.ensures.any_moment told store.log.geometry volume
+    (owners_of store) state stored.volume (firm store a set volume state stored unit none) keeps)
     c.requires.set c.requires.none_left stored
 
 pub returns-clause-ended : goal.returns-clause-ended
@@ -82,10 +84,10 @@ returns-clause-ended g c told volume old new stored current keeps made below =
     (HasLog (with_record store.log (End unit kind)))
     (g.met.B.Blocks.cur_may c.args.blocks.now told) (c.end_unit.ensures.touches told) done.log
     done.images done.befores done.logged c.forget.ensures.others made
-    (done.rests told store.log.geometry volume old new stored.volume current
+    (done.rests told store.log.geometry volume (owners_of store) old new stored.volume current
     (firm store a set volume old stored unit none) keeps made generation)
-    (λ shape known rested. done.others told store.log.geometry old new shape known refl made
-    rested))
+    (λ shape known rested. done.others told store.log.geometry (owners_of store) old new shape
+    known refl (owner-past-log store.log.geometry store.space) made rested))
     c.requires.set c.requires.none_left below stored
 
 pub returns-clause-set : goal.returns-clause-set

@@ -6,6 +6,7 @@ use Rattle.vr_types.specs.Moments.{Guards}
 use Rattle.vr_space.specs.Known.{HasMet}
 use Rattle.vr_space.specs.Part.{CanSet, IsGiven, IsPlaceOf, Shape, given}
 use Rattle.vr_space.specs.Split.{SplitNow}
+use Rattle.vr_attach.proofs.CallerLemmas.{owner-past-log}
 use Rattle.vr_log.specs.Live.{live_in}
 use Rattle.vr_log.specs.declared.no.LogNo.{LogNo}
 use Rattle.vr_log.specs.declared.no.LogNo.TheVariants.{Read}
@@ -16,7 +17,7 @@ use Rattle.vr_volume.specs.Safe.{IsSafeImage}
 use Rattle.vr_event.specs.Changing.{IsReady, IsReadyBy, IsSettable, log_with, need_with}
 use Rattle.vr_event.specs.Parts.{OnlyMet}
 use Rattle.vr_event.specs.Store.{ChangedBy, IsSet, PartNow, StoreNow, changed_by, part_among}
-use Rattle.vr_event.specs.Store.{part_now, shape_among}
+use Rattle.vr_event.specs.Store.{owners_of, part_now, shape_among}
 use Rattle.vr_event.proofs.Fits.{ends-before, idle-made}
 use Rattle.vr_event.proofs.PartsAt.{laid-at, laid-found, none-laid, only-met, part-split}
 use Rattle.vr_event.proofs.Readying.{change, kept, made-state, rested, room-to, to-any, to-set}
@@ -65,13 +66,16 @@ set_at-requires g c =
       live = ends-before prepared.rec (live_in v.log.records) c.requires.before;
       stands = λ told. (some told).ready.kept.stored.volume.stands;
       on = (set-at v a is-set number before found).on;
-      apart = (set-at v a is-set number before found).apart;
       place = at-place;
       item = at-shape (λ (s : Shape). IsGiven s place c.args.bytes) v.parts number before found
           (subst (λ (s : StoreNow). IfSome (shape_among s.parts number)
           (λ s. IsGiven s place c.args.bytes)) (sym c.self.view_is) c.requires.item);
-      rests = λ told. (mine told).rests;
-      room = λ told. room-to v.log.geometry (some told).number v.log
+      rests = λ told. (
+        owners_of v,
+        owner-past-log v.log.geometry v.space,
+        (mine told).rests,
+      );
+      room = λ told. room-to v.log.geometry (some told).number (owners_of v) v.log
           (kept (some told).number v unit c.args.number place prepared (some told).was (some told).state a (some told).ready
           before found is-set at-place item)
           (images_in v.undo) (some told).state
@@ -124,9 +128,9 @@ returns-in_err-set_at-in-Some-clause-moments g c told volume was old ready =
     let by = subst (λ (s : StoreNow). IsReadyBy volume s unit c.args.number place prepared was old a)
     (sym c.self.view_is) ready in
     subst (λ (s : StoreNow). Guards a (g.B.Blocks.seen c.set_at.new.blocks)
-    (IsSafeImage s.log.geometry volume (log_with prepared.logged s.log prepared.rec)
+    (IsSafeImage s.log.geometry volume (owners_of s) (log_with prepared.logged s.log prepared.rec)
     (committed_by old))) c.self.view_is
-    (c.set_at.ensures.moments told volume old
+    (c.set_at.ensures.moments told volume (owners_of v) old
     (made-state volume v unit c.args.number place prepared was old a by
     before found is-set at-place item)
     (change volume v unit c.args.number place prepared was old a by
@@ -167,9 +171,9 @@ returns-clause-moments g c told volume was old ready =
     let by = subst (λ (s : StoreNow). IsReadyBy volume s unit c.args.number place prepared was old a)
     (sym c.self.view_is) ready in
     subst (λ (s : StoreNow). Guards a (g.B.Blocks.seen c.set_at.new.blocks)
-    (IsSafeImage s.log.geometry volume (log_with prepared.logged s.log prepared.rec)
+    (IsSafeImage s.log.geometry volume (owners_of s) (log_with prepared.logged s.log prepared.rec)
     (committed_by old))) c.self.view_is
-    (c.set_at.ensures.moments told volume old
+    (c.set_at.ensures.moments told volume (owners_of v) old
     (made-state volume v unit c.args.number place prepared was old a by
     before found is-set at-place item)
     (change volume v unit c.args.number place prepared was old a by
@@ -225,7 +229,7 @@ returns-clause-made g c told volume was old after need ready made needs =
     before found is-set at-place item need after made need-is
     (g.met.B.Blocks.cur_may c.args.blocks.now told) b c.set_at.new.log changed parts now at refl
     ensured.part
-    (ensured.made told volume old after
+    (ensured.made told volume (owners_of v) old after
     (change volume v unit c.args.number place prepared was old a by
     before found is-set at-place item)
     (kept volume v unit c.args.number place prepared was old a by

@@ -6,7 +6,7 @@ use Rattle.vr_volume.specs.Committed.{committed_by}
 use Rattle.vr_volume.specs.Safe.{IsSafeImage}
 use Rattle.vr_volume.specs.Steps.{IsChangeOf, IsPutBack}
 use Rattle.vr_event.specs.Ends.{IsTakenFrom, back_at}
-use Rattle.vr_event.specs.Store.{IsStored}
+use Rattle.vr_event.specs.Store.{IsStored, owners_of}
 use Rattle.vr_event.proofs.store.Store.put_before.Goals as goal
 
 pub returns-in-Some-clause-back : goal.returns-in-Some-clause-back
@@ -30,7 +30,7 @@ returns-in-Some-clause-moments g c told volume was old new =
     → IsChangeOf store.log.geometry old (back_at c.args.unit before.part before.place was found)
     → IsPutBack (back_at c.args.unit before.part before.place was found) old new
     → Guards a (g.B.Blocks.seen c.put_taken.new.blocks)
-    (IsSafeImage store.log.geometry volume store.log (committed_by old)))
+    (IsSafeImage store.log.geometry volume (owners_of store) store.log (committed_by old)))
     (ap (λ (b : List ℕ). Some b) c.as_slice.ensures ∙ sym c.in-Some.is) (c.put_taken.ensures.moments told volume was old new)
 
 pub returns-in-None-clause-back : goal.returns-in-None-clause-back
@@ -54,5 +54,5 @@ returns-in-None-clause-moments g c told volume was old new =
     → IsChangeOf store.log.geometry old (back_at c.args.unit before.part before.place was found)
     → IsPutBack (back_at c.args.unit before.part before.place was found) old new
     → Guards a (g.B.Blocks.seen c.put_taken-in-None.new.blocks)
-    (IsSafeImage store.log.geometry volume store.log (committed_by old)))
+    (IsSafeImage store.log.geometry volume (owners_of store) store.log (committed_by old)))
     (sym c.in-None.is) (c.put_taken-in-None.ensures.moments told volume was old new)

@@ -9,7 +9,7 @@ use Rattle.vr_volume.specs.PutBack.{lengths_kept}
 use Rattle.vr_volume.specs.Safe.{IsSafeImage}
 use Rattle.vr_event.specs.Backing.{HasNoStage, OnLast, last_of_unit}
 use Rattle.vr_event.specs.Store.{IsFitImage, IsSet, IsStored, Stands, StoreNow, changed_by, part_now}
-use Rattle.vr_event.specs.Store.{PartNow, part_among, shape_among}
+use Rattle.vr_event.specs.Store.{PartNow, owners_of, part_among, shape_among}
 use Rattle.vr_event.proofs.Lasting.{back-in, back-made, back-of, back-state, can-back, last-has}
 use Rattle.vr_event.proofs.Lasting.{last-out, on-last, set-taken, taken-from}
 use Rattle.vr_event.proofs.Placing.{shapes-same, split-met}
@@ -133,7 +133,7 @@ returns-in_err-put_before-in-Some-clause-moments g c told volume old stored curr
     let last = last-out unit (befores_of inside.undo) c.take_one.result before c.in-Some.is
     c.take_one.ensures.value in
     subst (λ (s : StoreNow). Guards a (g.B.Blocks.seen c.put_before.new.blocks)
-    (IsSafeImage s.log.geometry volume s.log (committed_by old))) c.self.view_is
+    (IsSafeImage s.log.geometry volume (owners_of s) s.log (committed_by old))) c.self.view_is
     (let was = subst (λ (s : StoreNow). IsStored volume s old a) (sym c.self.view_is) stored in
     c.put_before.ensures.moments told volume None old (back-state v a volume old was unit before last)
     (taken-from v a volume old was unit before last c.take_one.new.self c.take_one.ensures.images
@@ -197,7 +197,7 @@ returns-clause-moments g c told volume old stored current =
     let last = last-out unit (befores_of inside.undo) c.take_one.result before c.in-Some.is
     c.take_one.ensures.value in
     subst (λ (s : StoreNow). Guards a (g.B.Blocks.seen c.put_before.new.blocks)
-    (IsSafeImage s.log.geometry volume s.log (committed_by old))) c.self.view_is
+    (IsSafeImage s.log.geometry volume (owners_of s) s.log (committed_by old))) c.self.view_is
     (let was = subst (λ (s : StoreNow). IsStored volume s old a) (sym c.self.view_is) stored in
     c.put_before.ensures.moments told volume None old (back-state v a volume old was unit before last)
     (taken-from v a volume old was unit before last c.take_one.new.self c.take_one.ensures.images

@@ -15,7 +15,7 @@ use Rattle.vr_event.specs.Changing.{IsSettable}
 use Rattle.vr_event.specs.Ends.{IsTaken, IsTakenFrom, back_at}
 use Rattle.vr_event.specs.Parts.{OnlyMet}
 use Rattle.vr_event.specs.Store.{ChangedBy, IsSet, PartNow, StoreNow, changed_by, part_among}
-use Rattle.vr_event.specs.Store.{part_now, shape_among}
+use Rattle.vr_event.specs.Store.{owners_of, part_now, shape_among}
 use Rattle.vr_event.proofs.Backs.{stored-taken, taken-part, to-back}
 use Rattle.vr_event.proofs.PartsAt.{laid-at, laid-found, none-laid, only-met, part-split}
 use Rattle.vr_event.proofs.Recorded.{at-shape, number-at, set-at}
@@ -48,32 +48,6 @@ set_back-requires-clause-on g c =
     c.index_mut.ensures.value in
     let is-set = subst (λ (s : StoreNow). IsSet s a) (sym c.self.view_is) c.requires.set in
     (set-at v a is-set number before found).on
-
-pub set_back-requires-clause-apart : goal.set_back-requires-clause-apart
-set_back-requires-clause-apart g c =
-    let shape = g.P.Part.shape in
-    let known = g.P.Part.known in
-    let inside = c.self.inside in
-    let unit = c.args.unit in
-    let number = c.args.number.0 in
-    let place = c.args.place.now in
-    let item = given c.args.bytes in
-    let a = g.B.Blocks.seen c.args.blocks.now in
-    let laid = c.index_mut.result.now in
-    let v : StoreNow = record {
-      log = inside.log;
-      undo = inside.undo;
-      parts = map (part_now shape known) inside.parts.items;
-      changed = map changed_by inside.changed.items;
-      space = inside.space;
-    } in
-    let before = part_now shape known laid in
-    let found = laid-found shape known inside.parts.items number c.deref.result.now
-    c.index_of.result v.parts c.deref.ensures.value refl c.index_of.ensures c.in-Some.at
-    c.in-Some.is laid
-    c.index_mut.ensures.value in
-    let is-set = subst (λ (s : StoreNow). IsSet s a) (sym c.self.view_is) c.requires.set in
-    (set-at v a is-set number before found).apart
 
 pub set_back-requires-clause-place : goal.set_back-requires-clause-place
 set_back-requires-clause-place g c =
@@ -159,7 +133,7 @@ set_back-requires-clause-rests g c told =
     (sym c.self.view_is) (c.requires.taken told) in
     let mine = λ (told : IsTrue g.B.Blocks.tells). taken-part (taken told).number v unit
     c.args.number place (taken told).state a is-set before found (taken told).from in
-    (mine told).rests
+    (owners_of v, (mine told).rests)
 
 pub set_back-requires-clause-room : goal.set_back-requires-clause-room
 set_back-requires-clause-room g c told =
@@ -295,7 +269,7 @@ returns-clause-back g c told =
     (back_at unit c.args.number place was item)) (sym c.self.view_is) of in
     stored-taken volume v unit c.args.number place old a is-set before found by was item new its put
     b changed parts now at same
-    (back volume old new (back_at unit c.args.number place was item)
+    (back volume (owners_of v) old new (back_at unit c.args.number place was item)
     (to-back volume v unit c.args.number place old a is-set before found by was item new its put))
     c.set_back.ensures.had c.set_back.ensures.others)
     (c.set_back.ensures.back told)
@@ -328,9 +302,10 @@ returns-clause-moments g c told volume was old new from of put =
     let its = subst (λ (s : StoreNow). IsChangeOf s.log.geometry old
     (back_at unit c.args.number place was item)) (sym c.self.view_is) of in
     subst (λ (s : StoreNow). Guards a (g.B.Blocks.seen c.set_back.new.blocks)
-    (IsSafeImage s.log.geometry volume s.log (committed_by old))) c.self.view_is
-    (c.set_back.ensures.moments told volume old new (back_at unit c.args.number place was item)
-    (to-back volume v unit c.args.number place old a is-set before found by was item new its put))
+    (IsSafeImage s.log.geometry volume (owners_of s) s.log (committed_by old))) c.self.view_is
+    (c.set_back.ensures.moments told volume (owners_of v) old new
+    (back_at unit c.args.number place was item) (to-back volume v unit c.args.number place old a
+    is-set before found by was item new its put))
 
 pub returns-clause-set : goal.returns-clause-set
 returns-clause-set g c =
