@@ -89,7 +89,7 @@ pub fn words(alloc: Global, rest: &str, out: &mut String) -> Answer {
     Ok(())
 }
 
-/// A count of faults that was raised that often: `NUMBER`.
+/// A count of faults that was raised NUMBER times: `NUMBER`.
 pub fn faults(word: &str, out: &mut String) -> Answer {
     let mut faults = FaultCount::new();
     for _ in 0..word_of(word)? {

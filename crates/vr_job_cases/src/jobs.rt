@@ -234,7 +234,7 @@ pub fn job<R: Threads + Wait + Sync>(
     say_printed(desk, printed, out)
 }
 
-/// A source of so many line feeds.
+/// A source of line feeds.
 fn long_source(alloc: Global, length: u64) -> Result<Box<MemorySource>, Stop> {
     if length > LONGEST {
         return Err(Stop::Line);
@@ -244,7 +244,7 @@ fn long_source(alloc: Global, length: u64) -> Result<Box<MemorySource>, Stop> {
     Ok(Box::new(alloc, source)?)
 }
 
-/// What a job of so many empty lines does over a small new device: `long N`.
+/// What a job of N empty lines does over a small new device: `long N`.
 pub fn long<R: Threads + Wait + Sync>(
     rt: &R,
     alloc: Global,

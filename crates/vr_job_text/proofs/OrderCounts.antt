@@ -31,7 +31,7 @@ use Rattle.vr_job_text.specs.declared.reading.DeckLines.{DeckLines}
 use Rattle.vr_job_text.specs.declared.reading.Reading.{Reading}
 use Rattle.vr_job_text.specs.declared.text.Deck.{Deck}
 use Rattle.vr_job_text.specs.Card.{is_card, card_of, name_on, deck_number}
-use Rattle.vr_job_text.specs.Decks.{if_run, unrun_line, run_deck, deck_in, with_deck, with_read}
+use Rattle.vr_job_text.specs.Decks.{deck_read, deck_in, with_deck, with_read}
 use Rattle.vr_job_text.specs.Decks.{with_decks, decks_in, place_of}
 use Rattle.vr_job_text.specs.Job.{unread, with_open, closed, line_added, opened, step_of, step_added}
 use Rattle.vr_job_text.specs.Job.{with_step, ended_by, ended, begun_at, begun_by, may_number}
@@ -117,19 +117,15 @@ few_in_lines (line ∷ lines) from to e =
     omega (arith, one, few_in_lines lines after.0 to after.2)
 
 -- the deck that is read is that of the lines
-run_same : (read deck : DeckText) (line : Option ℕ) → if_run read line ≡ Ok deck → read ≡ deck
-run_same read deck None e = cc
-run_same read deck (Some line) e = let f : ⊥ = cc in absurd f
-
-run_is : (lines : List Line) (read : Result DeckText LineFault) (deck : DeckText)
-    → run_deck lines read ≡ Ok deck → read ≡ Ok deck
-run_is lines (Err fault) deck e = let f : ⊥ = cc in absurd f
-run_is lines (Ok read) deck e = ap Ok (run_same read deck (unrun_line read.orders) e)
+read_is : (read : Result DeckText LineFault) (deck : DeckText) → deck_read read ≡ Ok deck
+    → read ≡ Ok deck
+read_is (Err fault) deck e = let f : ⊥ = cc in absurd f
+read_is (Ok read) deck e = cc
 
 few_in_deck : (lines : List Line) (deck : DeckText) → deck_in lines ≡ Ok deck
     → length deck.orders ≤ length lines
 few_in_deck lines deck e =
-    omega (arith, few_in_lines lines empty_deck deck (run_is lines (deck_of lines) deck e))
+    omega (arith, few_in_lines lines empty_deck deck (read_is (deck_of lines) deck e))
 
 -- the orders of the decks of a step, and their lines
 abbrev orders_in : Deck → ℕ

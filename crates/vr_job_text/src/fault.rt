@@ -47,8 +47,7 @@ pub enum Kind {
     Card(CardCause),
     /// A line of a deck is.
     Deck(DeckCause),
-    /// Nothing is wrong, and the line is not run yet: a step of IDCAMS, a POINT, a GET other than
-    /// that of the record of a key, or a PUT at a place.
+    /// Nothing is wrong, and the line is not run yet: a step of IDCAMS.
     Form,
 }
 

@@ -11,7 +11,6 @@ mod laws;
 mod line;
 mod parse;
 mod reading;
-mod run;
 mod step;
 mod take;
 mod text;

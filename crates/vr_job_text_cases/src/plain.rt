@@ -80,7 +80,7 @@ fn first_fault(alloc: Global, text: &Text) -> Result<Option<Fault>, Stop> {
     Ok(None)
 }
 
-/// The fault that is told at a line, or at the end of a text, where no line before has one.
+/// The fault that is reported at a line, or at the end of a text, where no line before has one.
 fn fault_at(alloc: Global, text: &Text, at: usize) -> Result<Option<Fault>, Stop> {
     if let Some(look) = text.looks.get(at) {
         let wrong = card_fault(text, at, *look);

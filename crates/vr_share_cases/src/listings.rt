@@ -71,7 +71,7 @@ fn listing<R: Threads + Wait + Sync, G: Gate + Sync>(
     }
 }
 
-/// In how many of so many runs with no gate the listing is another.
+/// In how many of these runs with no gate the listing is another.
 fn differ_open<R: Threads + Wait + Sync>(
     rt: &R,
     alloc: Global,
@@ -86,7 +86,7 @@ fn differ_open<R: Threads + Wait + Sync>(
     Ok(differ)
 }
 
-/// In how many of so many runs where this deck goes first the listing is another, or it didn't.
+/// In how many of these runs where this deck goes first the listing is another, or it didn't.
 fn differ_in_order<R: Threads + Wait + Sync>(
     rt: &R,
     alloc: Global,

@@ -44,7 +44,7 @@ fn count(wrong: &mut u32, right: bool) {
     *wrong = wrong.saturating_add(if right { 0 } else { 1 });
 }
 
-/// Runs the jobs of so many rows of numbers, and judges each.
+/// Runs the job of each row of numbers, and judges it.
 pub fn stress<R: Threads + Wait + Sync>(rt: &R, alloc: Global, out: &mut String) -> Answer {
     let mut tally = Tally {
         requests: 0,

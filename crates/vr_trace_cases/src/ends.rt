@@ -63,7 +63,7 @@ fn refused_at(kind: TextKind, text: &str) -> Result<EndLine, Stop> {
     })
 }
 
-/// What is told of a volume, with its numbers.
+/// What is reported of a volume, with its numbers.
 fn volume_of(word: &str, text: &str) -> Result<EndLine, Stop> {
     let (volume, rest) = parted(text);
     let volume = word_of(volume)?;

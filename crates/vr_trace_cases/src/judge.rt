@@ -11,7 +11,7 @@ use vr_trace::{Histories, KeptDecks, KeptStep, KeptSteps, listing, trace_lines};
 /// The most entries of a small history.
 const PLACES: u32 = 6;
 
-/// `judge VOLUMES STAMPS`: how many of all histories of so many volumes and stamps the two programs
+/// `judge VOLUMES STAMPS`: how many of all histories of these many volumes and stamps the two programs
 /// print otherwise.
 pub fn judge(alloc: Global, text: &str, out: &mut String) -> Answer {
     let (volumes, stamps) = parted(text);

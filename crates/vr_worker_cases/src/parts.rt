@@ -41,7 +41,7 @@ fn requests_of(alloc: Global, deck: u32) -> Result<Vec<Bound>, OutOfMemory> {
     Ok(requests)
 }
 
-/// Of so many runs, in how many a deck's part of the merged history isn't its requests in order,
+/// In how many of these runs a deck's part of the merged history isn't its requests in order,
 /// each once, at stamps that rise.
 pub fn count_differ<R: Threads + Wait + Sync>(
     rt: &R,
