@@ -3,8 +3,8 @@ use Rattle.std.proofs.Common.{◌≡◌, ℕ, Bool, true, false, List, [], ◌�
 use Rattle.std.proofs.Common.{None, sym, ap, subst, ◌∙◌, length, drop, arith}
 use Rattle.std.proofs.lemmas.List.{length-take, length-drop}
 use Rattle.std.proofs.lemmas.List.Elements.{All-head, All-tail}
-use Rattle.std.specs.Prelude.{All, filter, cond}
-use Rattle.vr_types.specs.Content.{Content, Placed}
+use Rattle.std.specs.Prelude.{All, filter, cond, option_and_then}
+use Rattle.vr_types.specs.Content.{Content, Placed, record_of}
 use Rattle.vr_types.specs.Image.{Image, block_at}
 use Rattle.vr_types.proofs.CallerLemmas.{same_place}
 use Rattle.vr_ci.specs.Interval as ci
@@ -12,7 +12,7 @@ use Rattle.vr_seqset.specs.Entry.{Entry}
 use Rattle.vr_space.specs.Room.{Range, is_in}
 use Rattle.vr_space.specs.Keyed.{Keyed, HoldRanges, IsKept, entry_block, entries_of, items_of}
 use Rattle.vr_space.specs.Keyed.{placed, records_of, records_in, range_of, content_from}
-use Rattle.vr_space.specs.Part.{Shape, KeyedShape, IsPlaceOf, Stands, item_of}
+use Rattle.vr_space.specs.Part.{Shape, KeyedShape, IsPlaceOf, Stands, record_read}
 use Rattle.vr_space.specs.Part.{place_length}
 use Rattle.vr_space.proofs.CallerLemmas.{NoneAt, none-record, content_item}
 
@@ -73,14 +73,15 @@ none_of n (entry ∷ content) place keys other = (
 
 -- a place of another length has no record
 pub none_elsewhere : (shape : Shape) (image : Image) → Stands shape image → (place : List ℕ)
-    → (length place ≡ place_length shape → ⊥) → item_of shape image place ≡ None
+    → (length place ≡ place_length shape → ⊥) → record_read shape image place ≡ None
 none_elsewhere (KeyedShape part) image stands place other =
     let content = stands.0 in
     let keys : AreKeys part.key content =
     subst (AreKeys part.key) (sym stands.1.records)
     (keys-content part image None (entries_of (block_at image part.head)) stands.1.intervals) in
-    sym (content_item (KeyedShape part) image content stands.1 place)
-    ∙ none-record place content (none_of part.key content place keys other)
+    ap (option_and_then record_of)
+    (sym (content_item (KeyedShape part) image content stands.1 place)
+    ∙ none-record place content (none_of part.key content place keys other))
 
 -- one of that length is the part's
 pub place_by_length : (shape : Shape) (place : List ℕ) → length place ≡ place_length shape

@@ -6,23 +6,49 @@ use Rattle.std.proofs.lemmas.Cmp.{nat_list_cmp_total}
 use Rattle.std.specs.Ordering.{is_lt, is_le, ordering_reverse}
 use Rattle.std.specs.declared.cmp.Ordering.{Ordering}
 use Rattle.std.specs.declared.cmp.Ordering.TheVariants.{Less, Equal, Greater}
-use Rattle.vr_types.specs.Content.{Content, Placed, place_cmp, record_at, record_of, found_by}
+use Rattle.vr_types.specs.Content.{Content, Item, Placed, place_cmp, item_at, record_at, record_of}
+use Rattle.vr_types.specs.Content.{found_by}
 use Rattle.vr_types.specs.Content.Item.{Standing, Withdrawn}
 use Rattle.vr_types.specs.Image.{Image}
 use Rattle.vr_types.proofs.CallerLemmas.{same_place}
 use Rattle.vr_space.specs.Room.{is_above}
-use Rattle.vr_space.specs.Part.{IsOn, Shape, Stands, StandsFor, item_of}
+use Rattle.vr_space.specs.Part.{IsOn, Shape, Stands, StandsFor, record_read}
 use Rattle.vr_space.proofs.CallerLemmas.{AllAbove, Rising, rising-sorted, stands_content}
 use Rattle.vr_space.proofs.CallerLemmas.{content_item, on-still, none-record, none-above, above-weaken}
 use Rattle.vr_space.proofs.CallerLemmas.{above-more, by_other, lt_from_test, same_is_equal}
 use Rattle.vr_mount.specs.Records.{bytes_of}
-use Rattle.std.specs.Prelude.{IsTrue, Ok, Err}
+use Rattle.std.specs.Prelude.{IsTrue, Ok, Err, option_and_then}
 use Rattle.vr_types.specs.Blocks.{Keeps}
 use Rattle.vr_types.specs.Faults.{Faults}
 use Rattle.vr_types.specs.Seen.{Seen}
 use Rattle.vr_mount.specs.Listing.{AddsNext, AreRecords, HasListCause, HasNoneAfter, IsAddedNext}
 use Rattle.vr_mount.specs.Listing.{IsReadNext}
 use Rattle.vr_mount.specs.declared.no.ListNo.TheVariants.{Memory}
+
+-- ---- what is at a place
+
+record-by : (order : Ordering) (item : Item) (further : Option Item)
+    (record_further : Option (List ℕ)) → record_further ≡ option_and_then record_of further
+    → found_by order (record_of item) record_further
+    ≡ option_and_then record_of (found_by order (Some item) further)
+record-by Less item further record_further same = same
+record-by Equal item further record_further same = refl
+record-by Greater item further record_further same = same
+
+-- the record at a place is that of the item there
+item-record : (content : Content) (place : List ℕ)
+    → record_at content place ≡ option_and_then record_of (item_at content place)
+item-record [] place = refl
+item-record (entry ∷ content) place =
+    record-by (place_cmp place entry.0) entry.1 (item_at content place) (record_at content place)
+    (item-record content place)
+
+-- and the one that is read there
+record-read : (shape : Shape) (image : Image) (content : Content) → StandsFor shape image content
+    → (place : List ℕ) → record_at content place ≡ record_read shape image place
+record-read shape image content stands place =
+    item-record content place
+    ∙ ap (option_and_then record_of) (content_item shape image content stands place)
 
 -- ---- the first record of a content
 
@@ -123,9 +149,10 @@ first_is last place bytes (entry ∷ more) rises above allowed least item =
         nat_list_cmp_total.antisymm place entry.0 ∙ ap ordering_reverse is in
         let past : is_above (Some place) entry.0 ≡ true = ap is_lt less in
         let none : record_at (entry ∷ more) place ≡ None =
-        none-record place (entry ∷ more) (none-above place place (entry ∷ more)
-        (ap is_le (same_is_equal place))
-        (past, above-weaken (Some place) entry.0 more past rises.0)) in
+        item-record (entry ∷ more) place
+        ∙ ap (option_and_then record_of) (none-record place (entry ∷ more)
+        (none-above place place (entry ∷ more) (ap is_le (same_is_equal place))
+        (past, above-weaken (Some place) entry.0 more past rises.0))) in
         absurd cc
 
 -- ---- those that were read
@@ -138,7 +165,7 @@ pub record AreRead (shape : Shape) (image : Image) (last : Option (List ℕ))
   pub rises : Rising rest
   pub above : AllAbove last rest
   pub reads : (place : List ℕ) → is_above last place ≡ true
-      → record_at rest place ≡ item_of shape image place
+      → record_at rest place ≡ record_read shape image place
   pub bytes_are : bytes_of content ≡ read ++ bytes_of rest
 
 all_above : (content : Content) → AllAbove None content
@@ -152,7 +179,7 @@ none_read shape image content stands = record {
   rest = content;
   rises = rising-sorted content (stands_content shape image content stands).ascends;
   above = all_above content;
-  reads = λ place above. content_item shape image content stands place;
+  reads = λ place above. record-read shape image content stands place;
   bytes_are = refl;
 }
 

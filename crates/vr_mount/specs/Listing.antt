@@ -6,7 +6,7 @@ use Rattle.vr_types.specs.Content.{Content, place_cmp}
 use Rattle.vr_types.specs.Faults.{Faults}
 use Rattle.vr_types.specs.Image.{Image}
 use Rattle.vr_types.specs.declared.fault.DeviceFault.TheVariants as faults
-use Rattle.vr_space.specs.Part.{Shape, StandsFor, item_of}
+use Rattle.vr_space.specs.Part.{Shape, StandsFor, record_read}
 use Rattle.vr_space.specs.Room.{is_above}
 use Rattle.vr_mount.specs.Records.{bytes_of}
 use Rattle.vr_mount.specs.declared.no.ListNo.{ListNo}
@@ -23,14 +23,14 @@ AreRecords shape image read = (content : Content) → StandsFor shape image cont
 pub record IsNextAfter (shape : Shape) (image : Image) (last : Option (List ℕ)) (place : List ℕ)
     : Type 0 where
   pub above : is_above last place ≡ true
-  pub some : item_of shape image place ≢ None
+  pub some : record_read shape image place ≢ None
   pub least : (other : List ℕ) → is_above last other ≡ true → place_cmp other place ≡ Less
-      → item_of shape image other ≡ None
+      → record_read shape image other ≡ None
 
 -- no place past the last one has a record
 abbrev pub HasNoneAfter : Shape → Image → Option (List ℕ) → Type 0
 HasNoneAfter shape image last = (place : List ℕ) → is_above last place ≡ true
-    → item_of shape image place ≡ None
+    → record_read shape image place ≡ None
 
 -- which place comes after the last one, if one does
 abbrev pub FollowsLast : Shape → Image → Option (List ℕ) → Bool → List ℕ → Type 0
@@ -43,7 +43,7 @@ pub record IsReadNext (shape : Shape) (image : Image) (old new : Option (List �
   pub place : List ℕ
   pub next : IsNextAfter shape image old place
   pub last : new ≡ Some place
-  pub item : item_of shape image place ≡ Some bytes
+  pub item : record_read shape image place ≡ Some bytes
 
 -- the next record, if there is one
 abbrev pub ReadsNext : Shape → Image → Option (List ℕ) → Option (List ℕ) → Option (List ℕ)

@@ -2,7 +2,7 @@
 ghost use Rattle.std.specs.Prelude.{◌≡◌, ◌≤◌, ◌++◌, ◌∷◌, [], None, IfOk, OnOk, IsTrue};
 ghost use Rattle.vr_types.specs.Blocks.{Keeps};
 ghost use Rattle.vr_types.specs.Faults.{HasCause};
-ghost use Rattle.vr_space.specs.Part.{IsOn, Stands, given, item_of, place_length};
+ghost use Rattle.vr_space.specs.Part.{IsOn, Stands, given, place_length, record_read};
 ghost use Rattle.vr_mount.specs.Listing.{AddsNext, AreRecords, FollowsLast, HasListCause};
 ghost use Rattle.vr_mount.specs.Listing.{ReadsNext};
 
@@ -27,8 +27,7 @@ fn seek<B: Blocks, P: Part>(
     ensures keeps { Keeps B.tells (B.seen blocks.old) (B.seen blocks.new) }
     ensures cause { HasCause (B.faults blocks.old) (B.faults blocks.new) result }
     ensures shape { P.shape part.new ≡ P.shape part.old }
-    ensures split { P.split part.new ≡ P.split part.old }
-    ensures met { P.met part.new ≡ P.met part.old }
+    ensures known { P.known part.new ≡ P.known part.old }
     ensures put { P.put part.new ≡ P.put part.old }
 {
     match last {
@@ -59,12 +58,11 @@ fn copy_at<B: Blocks, P: Part>(
     requires length { place_length (P.shape part.old) ≡ length }
     requires stands { IsTrue B.tells → Stands (P.shape part.old) (B.seen blocks.old).cur }
     ensures item { IsTrue B.tells → IfOk result (λ found. found
-        ≡ item_of (P.shape part.old) (B.seen blocks.old).cur place.now) }
+        ≡ record_read (P.shape part.old) (B.seen blocks.old).cur place.now) }
     ensures keeps { Keeps B.tells (B.seen blocks.old) (B.seen blocks.new) }
     ensures cause { HasListCause (B.faults blocks.old) (B.faults blocks.new) result }
     ensures shape { P.shape part.new ≡ P.shape part.old }
-    ensures split { P.split part.new ≡ P.split part.old }
-    ensures met { P.met part.new ≡ P.met part.old }
+    ensures known { P.known part.new ≡ P.known part.old }
     ensures put { P.put part.new ≡ P.put part.old }
 {
     if place.as_slice().len() != length as usize {
@@ -90,8 +88,7 @@ fn read_next<B: Blocks, P: Part>(
     ensures keeps { Keeps B.tells (B.seen blocks.old) (B.seen blocks.new) }
     ensures cause { HasListCause (B.faults blocks.old) (B.faults blocks.new) result }
     ensures shape { P.shape part.new ≡ P.shape part.old }
-    ensures split { P.split part.new ≡ P.split part.old }
-    ensures met { P.met part.new ≡ P.met part.old }
+    ensures known { P.known part.new ≡ P.known part.old }
     ensures put { P.put part.new ≡ P.put part.old }
 {
     let mut into = empty_place(alloc, length)?;
@@ -131,8 +128,7 @@ fn add_next<B: Blocks, P: Part>(
     ensures keeps { Keeps B.tells (B.seen blocks.old) (B.seen blocks.new) }
     ensures cause { HasListCause (B.faults blocks.old) (B.faults blocks.new) result }
     ensures shape { P.shape part.new ≡ P.shape part.old }
-    ensures split { P.split part.new ≡ P.split part.old }
-    ensures met { P.met part.new ≡ P.met part.old }
+    ensures known { P.known part.new ≡ P.known part.old }
     ensures put { P.put part.new ≡ P.put part.old }
 {
     match read_next(alloc, blocks, part, length, last)? {
@@ -163,8 +159,7 @@ fn add_all<B: Blocks, P: Part>(
     ensures keeps { Keeps B.tells (B.seen blocks.old) (B.seen blocks.new) }
     ensures cause { HasListCause (B.faults blocks.old) (B.faults blocks.new) result }
     ensures shape { P.shape part.new ≡ P.shape part.old }
-    ensures split { P.split part.new ≡ P.split part.old }
-    ensures met { P.met part.new ≡ P.met part.old }
+    ensures known { P.known part.new ≡ P.known part.old }
     ensures put { P.put part.new ≡ P.put part.old }
 {
     for _turn in 0..u64::MAX {
@@ -196,8 +191,7 @@ pub fn records_of_part<B: Blocks, P: Part>(
     ensures keeps { Keeps B.tells (B.seen blocks.old) (B.seen blocks.new) }
     ensures cause { HasListCause (B.faults blocks.old) (B.faults blocks.new) result }
     ensures shape { P.shape part.new ≡ P.shape part.old }
-    ensures split { P.split part.new ≡ P.split part.old }
-    ensures met { P.met part.new ≡ P.met part.old }
+    ensures known { P.known part.new ≡ P.known part.old }
     ensures put { P.put part.new ≡ P.put part.old }
 {
     let mut records = Vec::new(alloc);

@@ -5,7 +5,7 @@ use Rattle.std.specs.Prelude.{All, filter}
 use Rattle.std.proofs.lemmas.Bool.{true≢false}
 use Rattle.std.proofs.lemmas.List.{take_all}
 use Rattle.std.proofs.lemmas.List.Elements.{All-filter, All-head, All-tail}
-use Rattle.vr_types.specs.Content.{Content}
+use Rattle.vr_types.specs.Content.{Content, Item}
 use Rattle.vr_types.specs.Image.{Block, Image}
 use Rattle.vr_types.specs.Locks.{same_unit}
 use Rattle.vr_types.specs.Regions.{Outside}
@@ -48,7 +48,7 @@ safe-recovers geometry number log contents image safe =
 -- a crash leaves no more of a part, so no more is held
 pub may-less : (shape : Shape) (a b : Seen) → IsSound shape a
     → ((n : ℕ) (block : Block) → n < a.count → InPart shape n → b.may n block → a.may n block)
-    → (place : List ℕ) (found : Option (List ℕ)) → MayHold shape b.may place found
+    → (place : List ℕ) (found : Option Item) → MayHold shape b.may place found
     → MayHold shape a.may place found
 may-less (KeyedShape part) a b sound fewer place found held =
     let less : (n : ℕ) (block : Block) → IsBlock part a n → b.may n block → a.may n block =

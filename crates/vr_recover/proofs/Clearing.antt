@@ -1,20 +1,19 @@
 -- A volume that was found recovers to the same while what an earlier log left is cleared, and may
 -- then be undone.
-use Rattle.std.proofs.Common.{◌≡◌, ◌≢◌, ℕ, ◌+◌, ◌<◌, ◌≤◌, List, [], ◌∷◌, Option, Some, None, length}
+use Rattle.std.proofs.Common.{◌≡◌, ℕ, ◌<◌, ◌≤◌, List, [], ◌∷◌, Option, Some, None, length}
 use Rattle.std.proofs.Common.{refl, sym, ap, subst, ◌∙◌, arith, map, get_or}
 use Rattle.std.specs.Prelude.{All}
 use Rattle.std.proofs.lemmas.List.Elements.{All-map}
 use Rattle.vr_types.specs.Blocks.{AllForced}
 use Rattle.vr_types.specs.Content.{Content}
-use Rattle.vr_types.specs.Geometry.{IsAllowed, head_block}
-use Rattle.vr_types.specs.Image.{Block, Image, block_at}
+use Rattle.vr_types.specs.Geometry.{IsAllowed}
+use Rattle.vr_types.specs.Image.{Image, block_at}
 use Rattle.vr_types.specs.Moments.{Guards}
 use Rattle.vr_types.specs.Regions.{IsImageOn, Outside, Touches}
 use Rattle.vr_types.specs.Seen.{Left, Seen}
 use Rattle.vr_types.specs.declared.geometry.Geometry.{Geometry}
 use Rattle.vr_types.specs.declared.unit.PartNo.{PartNo}
 use Rattle.vr_types.proofs.CallerLemmas.{during-weaken, guards-then}
-use Rattle.vr_catalog.specs.Catalog.{entries_in}
 use Rattle.vr_catalog.specs.declared.entry.CatEntry.{CatEntry}
 use Rattle.vr_attach.specs.Laid.{catalog_shape, shape_in}
 use Rattle.vr_history.specs.State.{BeforeImage}
@@ -27,13 +26,15 @@ use Rattle.vr_log.proofs.CallerLemmas.{one_log}
 use Rattle.vr_mount.proofs.Laying.{IsAt, shape_at}
 use Rattle.vr_space.specs.Keyed.{Keyed}
 use Rattle.vr_space.specs.Met.{Met}
-use Rattle.vr_space.specs.Part.{InPart, IsOn, KeyedShape, Shape, part_no}
+use Rattle.vr_space.specs.Split.{SplitNow}
+use Rattle.vr_space.specs.Part.{IsOn, KeyedShape, Shape, part_no}
 use Rattle.vr_volume.specs.PutBack.{images_of, lengths_kept}
 use Rattle.vr_volume.specs.Volume.{Recovers, shapes_by}
 use Rattle.vr_recover.specs.Found.{AreAttached, AreEntriesOf, IsFound, IsPartReady, IsPlanned}
 use Rattle.vr_recover.specs.Found.{IsUndoable}
 use Rattle.vr_recover.specs.Opening.{shape_owned, shapes_laid}
 use Rattle.vr_recover.specs.Undone.{FitsPart, IsCovered, IsPastLog, IsReady, IsSettled}
+use Rattle.vr_recover.specs.Undone.{nothing_known}
 use Rattle.vr_recover.proofs.Agreeing.{log-same, shapes-same}
 use Rattle.vr_recover.proofs.Areas.{area-on, two-areas}
 use Rattle.vr_recover.proofs.Keeping.{all-more}
@@ -195,19 +196,22 @@ module _ (geometry : Geometry) (content : LogContent) (entries : List CatEntry)
         (subst (λ (l : LogContent). LogStands (made geometry l) now) (sym logs) stands)
         (map shape_owned parts) laid-by covered-by)
 
-    ready-at : (keyed : Owned) → keyed.met ≡ []
+    ready-at : (keyed : Owned) → keyed.split ≡ None → keyed.met ≡ []
         → shapes_by geometry is.log is.contents keyed.part.part ≡ Some (KeyedShape keyed.part)
         → IsPartReady images now keyed
-    ready-at keyed none laid =
+    ready-at keyed no-split none laid =
         let opened = part-opened geometry number now recovered is of forced
         (KeyedShape keyed.part) laid in
-        subst (λ (met : List Met). IsReady (KeyedShape keyed.part) met
-        (lengths_kept images keyed.part.part) now) (sym none)
-        (subst (λ (l : LogContent). IsReady (KeyedShape keyed.part) []
-        (lengths_kept (images_of l.records) keyed.part.part) now) logs opened.ready)
+        subst (λ (split : Option SplitNow). IsReady (KeyedShape keyed.part)
+        (record { split = split; met = keyed.met }) (lengths_kept images keyed.part.part) now)
+        (sym no-split)
+        (subst (λ (met : List Met). IsReady (KeyedShape keyed.part)
+        (record { split = None; met = met }) (lengths_kept images keyed.part.part) now) (sym none)
+        (subst (λ (l : LogContent). IsReady (KeyedShape keyed.part) nothing_known
+        (lengths_kept (images_of l.records) keyed.part.part) now) logs opened.ready))
 
     pub ready-now : All (IsPartReady images now) parts
-    ready-now k d below = ready-at (get_or parts k d) (row.met k d below)
+    ready-now k d below = ready-at (get_or parts k d) (row.split k d below) (row.met k d below)
         (Rattle.vr_mount.proofs.Telling.mapped_all shape_owned
         (λ (shape : Shape). shapes_by geometry is.log is.contents (part_no shape).0 ≡ Some shape)
         parts laid-by k d below)

@@ -15,25 +15,22 @@ use Rattle.vr_catalog.specs.declared.entry.CatEntry.{CatEntry}
 use Rattle.vr_attach.specs.Header.{header_block}
 use Rattle.vr_attach.specs.Laid.{catalog_shape}
 use Rattle.vr_history.specs.State.{BeforeImage}
-use Rattle.vr_keyed.specs.Owned.{Owned}
+use Rattle.vr_keyed.specs.Owned.{Owned, known_of}
 use Rattle.vr_log.specs.Content.{Content as LogContent}
 use Rattle.vr_log.specs.LogNow.{IsForced, IsOf, LogNow}
 use Rattle.vr_log.specs.Spells.{Spells}
 use Rattle.vr_log.specs.Standing.{LogStands}
 use Rattle.vr_mount.specs.Areas.{AreOwners}
-use Rattle.vr_mount.specs.Header.{IsDamagedHeader, IsHeaderOf, version_in}
+use Rattle.vr_mount.specs.Header.{IsHeaderOf, version_in}
 use Rattle.vr_space.specs.Keyed.{Keyed}
-use Rattle.vr_space.specs.Met.{Met}
 use Rattle.vr_space.specs.Part.{IsOn, KeyedShape, Shape, StandsFor}
-use Rattle.vr_space.specs.Room.{Lengths}
 use Rattle.vr_space.proofs.CallerLemmas.{fewer-room}
 use Rattle.vr_volume.specs.PutBack.{images_of, lengths_kept}
 use Rattle.vr_volume.specs.Volume.{Recovers}
 use Rattle.vr_recover.specs.Found.{AreAttached, IsFound, IsPartReady, IsPlanned}
 use Rattle.vr_recover.specs.Opening.{InArea, InCatalog, InImages, InLog, InPart, IsDamaged, IsHandedOut}
-use Rattle.vr_recover.specs.Opening.{IsNoVolume, IsOfVersion, IsOpened, IsOpenedBy, IsRefused}
+use Rattle.vr_recover.specs.Opening.{IsNoVolume, IsOpened, IsRefused}
 use Rattle.vr_recover.specs.Opening.{IsPartOf, IsShownOf, IsVolume, Laid, Own, Twice, shape_owned}
-use Rattle.vr_recover.specs.Opening.{shapes_laid}
 use Rattle.vr_recover.specs.Undone.{IsPastLog, IsReady, IsUndone}
 use Rattle.vr_recover.specs.declared.open_no.OpenNo.{OpenNo}
 use Rattle.vr_recover.specs.declared.open_no.OpenNo.TheVariants as nos
@@ -326,12 +323,13 @@ module _ (geometry : Geometry) (content : LogContent) (entries : List CatEntry)
   }
 
   ready-free : (kept : List BeforeImage) (now : Seen) (keyed : Owned) → IsPartReady kept now keyed
-      → IsReady (shape_owned keyed) keyed.met [] now
+      → IsReady (shape_owned keyed) (known_of keyed) [] now
   ready-free kept now keyed ready = record {
     rests = ready.rests;
     room = fewer-room (shape_owned keyed) [] (lengths_kept kept keyed.part.part) now tt
         ready.rests.sound ready.room;
     knows = ready.knows;
+    no_split = ready.no_split;
   }
 
   pub opened-by : (number : ℕ) (log : LogNow) (kept : List BeforeImage) (a now : Seen)
@@ -351,7 +349,7 @@ module _ (geometry : Geometry) (content : LogContent) (entries : List CatEntry)
           undone = undone contents is;
           stands = stands;
           ready = all-more (IsPartReady kept now)
-              (λ (keyed : Owned). IsReady (shape_owned keyed) keyed.met [] now)
+              (λ (keyed : Owned). IsReady (shape_owned keyed) (known_of keyed) [] now)
               (λ keyed one. ready-free kept now keyed one) parts ready;
           catalog = found-entries geometry content entries layouts planned number a.cur found;
           rules = committed.catalog;

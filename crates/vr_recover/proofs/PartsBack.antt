@@ -14,7 +14,7 @@ use Rattle.vr_types.specs.Content.{Content, item_at}
 use Rattle.vr_types.specs.Seen.{Left, Seen}
 use Rattle.vr_types.specs.declared.geometry.Geometry.{Geometry}
 use Rattle.vr_types.specs.declared.unit.PartNo.{PartNo}
-use Rattle.vr_space.specs.Met.{Met}
+use Rattle.vr_space.specs.Known.{Known}
 use Rattle.vr_space.specs.Part.{IsSound, MayHold, Shape, part_no}
 use Rattle.vr_space.specs.Room.{Lengths}
 use Rattle.vr_space.proofs.CallerLemmas.{StaysPart, knows-stays, rest-sound, rest-stays, room-stays}
@@ -25,7 +25,7 @@ use Rattle.vr_log.specs.declared.record.LogRecord.{LogRecord}
 use Rattle.vr_volume.specs.Laid.{shape_by}
 use Rattle.vr_volume.specs.Laying.{IsLaidSo}
 use Rattle.vr_volume.specs.PutBack.{AreAlone, images_of, is_image_of, lengths_kept, oldest}
-use Rattle.vr_volume.specs.Safe.{AreCommitted, IsSafe, IsSafeBy, item_held}
+use Rattle.vr_volume.specs.Safe.{AreCommitted, IsSafe, IsSafeBy}
 use Rattle.vr_volume.proofs.Alone.{is-own, is-there}
 use Rattle.vr_recover.specs.Undone.{AreOpened, HasAll, HasAllRecords, HasContent, IsAllFirm}
 use Rattle.vr_recover.specs.Undone.{IsCovered, IsItemIn, IsKeptOf, IsReady, alike}
@@ -35,12 +35,13 @@ use Rattle.vr_recover.proofs.PuttingBack.{found-passes}
 -- ---- another part
 
 module _ (shape : Shape) (a b : Seen) (stays : StaysPart shape a b) where
-  pub ready-stays : (met : List Met) (kept : Lengths) → Left a a.cur → IsReady shape met kept a
-      → IsReady shape met kept b
-  ready-stays met kept left ready = record {
+  pub ready-stays : (known : Known) (kept : Lengths) → Left a a.cur → IsReady shape known kept a
+      → IsReady shape known kept b
+  ready-stays known kept left ready = record {
     rests = rest-stays a b shape stays ready.rests;
     room = room-stays a b shape kept stays (rest-sound shape a ready.rests) ready.room;
-    knows = knows-stays a b shape None met stays (rest-sound shape a ready.rests) left ready.knows;
+    knows = knows-stays a b shape known stays (rest-sound shape a ready.rests) left ready.knows;
+    no_split = ready.no_split;
   }
 
   module _ (sound : IsSound shape a) where
@@ -202,7 +203,7 @@ all-parts geometry log contents shapes a safe opened covered all part shape laid
     by_image (oldest (images_of log.records) part place) refl
   where
     by_image : (image : Option BeforeImage) → oldest (images_of log.records) part place ≡ image
-        → item_held shape found ≡ item_at (contents part) place
+        → found ≡ item_at (contents part) place
     by_image None none = (safe.parts part shape laid).items place found held none
     by_image (Some image) is =
         let has : (is_image_of part place image ≡ true) × IsCovered shapes image =
@@ -219,6 +220,5 @@ all-parts geometry log contents shapes a safe opened covered all part shape laid
         let content : HasContent other (contents (part_no other).0) a =
         all-at (λ (s : Shape). HasContent s (contents (part_no s).0) a) shapes has.1.0 other has.1.2
         all in
-        ap (λ (s : Shape). item_held s found) one
-        ∙ content place found (subst (λ (s : Shape). MayHold s a.may place found) one held)
+        content place found (subst (λ (s : Shape). MayHold s a.may place found) one held)
         ∙ sym (ap (λ (p : ℕ). item_at (contents p) place) same)

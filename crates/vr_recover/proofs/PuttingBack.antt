@@ -11,13 +11,13 @@ use Rattle.std.proofs.lemmas.List.{take_more}
 use Rattle.std.proofs.lemmas.List.Elements.{All-weaker, filter_map-append}
 use Rattle.std.proofs.lemmas.Slice.Eq.{bytes_eq-Decides}
 use Rattle.vr_types.specs.Blocks.{Forced, Keeps}
-use Rattle.vr_types.specs.Content.{Content, Standing, item_at}
+use Rattle.vr_types.specs.Content.{Content, Item, Standing, item_at}
 use Rattle.vr_types.specs.Seen.{Seen}
 use Rattle.vr_types.specs.declared.unit.PartNo.{PartNo}
 use Rattle.vr_types.specs.declared.unit.Unit.{Unit as UnitOfRecovery}
-use Rattle.vr_space.specs.Part.{DueMore, IsFirm, IsSound, KeyedShape, MayHold, SetsOne, Shape}
+use Rattle.vr_space.specs.Part.{DueMore, IsFirm, IsSound, MayHold, SetsOne, Shape}
 use Rattle.vr_space.specs.Part.{item_of, part_no}
-use Rattle.vr_space.proofs.CallerLemmas.{firm-due, forced-firm}
+use Rattle.vr_space.proofs.CallerLemmas.{firm-due, forced-firm, left-is}
 use Rattle.vr_history.specs.State.{BeforeImage}
 use Rattle.vr_log.specs.Live.{is_in, live_in}
 use Rattle.vr_log.specs.LogNow.{LogNow}
@@ -25,7 +25,7 @@ use Rattle.vr_log.specs.declared.record.LogRecord.{LogRecord}
 use Rattle.vr_log.specs.declared.record.LogRecord.TheVariants.{Before}
 use Rattle.vr_volume.specs.Laying.{IsFreeIn}
 use Rattle.vr_volume.specs.PutBack.{image_in, images_of, is_image_of, oldest}
-use Rattle.vr_volume.specs.Safe.{IsPartSafe, item_held}
+use Rattle.vr_volume.specs.Safe.{IsPartSafe}
 use Rattle.vr_volume.proofs.Alone.{is-own, is-there}
 use Rattle.vr_volume.proofs.Images.{image_of}
 use Rattle.vr_recover.specs.Undone.{ArePutBack, HasAllRecords, IsBackIn, IsItemIn}
@@ -39,35 +39,30 @@ firm-forced shape put tells told a b c due call forced sound after place firm =
     forced-firm tells told shape put place b c call forced after
     (due put place (firm-due shape put place a sound firm) (λ n there. there))
 
--- what is held is the record that was found
-held-is : (shape : Shape) (found : Option (List ℕ))
-    → item_held shape found ≡ option_map Standing found
-held-is (KeyedShape part) found = refl
-
 -- ---- one before-image
 
 module _ (shape : Shape) (content : Content) (image : BeforeImage) (old : Option (List ℕ))
     (a c : Seen) (set : SetsOne shape image.place old a.cur c.cur)
     (was : image.old ≡ option_map Standing old) (mine : image.part ≡ (part_no shape).0)
     (item : IsItemIn shape content image) where
-  at-place : item_held shape (item_of shape c.cur image.place) ≡ item_at content image.place
-  at-place = ap (item_held shape) set.here ∙ held-is shape old ∙ sym was ∙ item mine
+  at-place : item_of shape c.cur image.place ≡ item_at content image.place
+  at-place = set.here ∙ left-is shape (item_of shape a.cur image.place) old ∙ sym was ∙ item mine
 
   stays-read : (other : BeforeImage) → IsBackIn shape content a.cur other
       → IsBackIn shape content c.cur other
   stays-read other reads here = by_place (bytes_eq other.place image.place) refl
     where
       by_place : (same : Bool) → bytes_eq other.place image.place ≡ same
-          → item_held shape (item_of shape c.cur other.place) ≡ item_at content other.place
+          → item_of shape c.cur other.place ≡ item_at content other.place
       by_place true is =
           let there : other.place ≡ image.place =
           (bytes_eq-Decides other.place image.place).0 is in
-          ap (λ (q : List ℕ). item_held shape (item_of shape c.cur q)) there ∙ at-place
+          ap (λ (q : List ℕ). item_of shape c.cur q) there ∙ at-place
           ∙ sym (ap (item_at content) there)
       by_place false is =
           let apart : other.place ≢ image.place =
           λ same. true≢false (sym ((bytes_eq-Decides other.place image.place).1 same) ∙ is) in
-          ap (item_held shape) (set.others other.place apart) ∙ reads here
+          set.others other.place apart ∙ reads here
 
   pub one-back : ((place : List ℕ) → IsFirm shape a place → IsFirm shape c place)
       → ArePutBack shape content (image ∷ []) a c
@@ -236,13 +231,12 @@ found-passes P test (first ∷ images) image all is =
 pub part-back : (shape : Shape) (content : Content) (images : List BeforeImage) (a b : Seen)
     → ArePutBack shape content images a b → ((place : List ℕ) → IsFirm shape a place)
     → IsPartSafe shape (part_no shape).0 images content b → (place : List ℕ)
-    (found : Option (List ℕ)) → MayHold shape b.may place found
-    → item_held shape found ≡ item_at content place
+    (found : Option Item) → MayHold shape b.may place found → found ≡ item_at content place
 part-back shape content images a b put firm safe place found held =
     by_image (oldest images (part_no shape).0 place) refl
   where
     by_image : (image : Option BeforeImage) → oldest images (part_no shape).0 place ≡ image
-        → item_held shape found ≡ item_at content place
+        → found ≡ item_at content place
     by_image None none = safe.items place found held none
     by_image (Some image) is =
         let has : (is_image_of (part_no shape).0 place image ≡ true)
@@ -251,6 +245,6 @@ part-back shape content images a b put firm safe place found held =
         image put.back is in
         let there : (image.part ≡ (part_no shape).0) × (place ≡ image.place) =
         is-there (part_no shape).0 place image has.0 in
-        ap (item_held shape) (put.firm place (firm place) found held)
-        ∙ ap (λ (q : List ℕ). item_held shape (item_of shape b.cur q)) there.1
+        put.firm place (firm place) found held
+        ∙ ap (λ (q : List ℕ). item_of shape b.cur q) there.1
         ∙ has.1 there.0 ∙ sym (ap (item_at content) there.1)

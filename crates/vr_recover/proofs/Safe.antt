@@ -24,7 +24,6 @@ use Rattle.vr_volume.specs.Laid.{catalog_shape, shape_by}
 use Rattle.vr_volume.specs.Safe.{IsImageSafe}
 use Rattle.vr_volume.specs.Volume.{CanPutBack, Recovers}
 use Rattle.vr_volume.proofs.Recovering.{image_recovers}
-use Rattle.vr_volume.proofs.Standings.{item-read}
 use Rattle.vr_recover.specs.Formatted.{IsFormatted, catalog_of, contents_of}
 
 -- ---- room
@@ -130,8 +129,7 @@ module _ (geometry : Geometry) (number : ℕ) (entries : List CatEntry) (image :
       has = record {
         content = contents part;
         stands = formatted.laid part shape is;
-        each = λ place none. item-read shape image (contents part)
-            (formatted.laid part shape is) place;
+        each = λ place none. refl;
       };
       room = part-fits shape image (contents part) (formatted.laid part shape is);
     };

@@ -11,7 +11,7 @@ use Rattle.std.proofs.lemmas.Bool.{eqb-true}
 use Rattle.std.proofs.lemmas.List.{take_all}
 use Rattle.std.proofs.lemmas.List.Elements.{All-cons, All-head, All-nil, All-tail, All-weaker}
 use Rattle.vr_types.specs.Blocks.{AllForced}
-use Rattle.vr_types.specs.Content.{Content, item_at, place_cmp, record_at, record_of}
+use Rattle.vr_types.specs.Content.{Content, Item, item_at, place_cmp, record_of}
 use Rattle.vr_types.specs.Geometry.{IsAllowed}
 use Rattle.vr_types.specs.Image.{Block, block_at}
 use Rattle.vr_types.specs.Seen.{Seen}
@@ -37,12 +37,11 @@ use Rattle.vr_log.proofs.CallerLemmas.{stands_has}
 use Rattle.vr_volume.specs.CatalogRules.{IsCatalog}
 use Rattle.vr_volume.specs.Laid.{shape_by}
 use Rattle.vr_volume.specs.PutBack.{images_of, length_in, length_of, lengths_kept, oldest, put_back}
-use Rattle.vr_volume.specs.Safe.{AreCommitted, IsItemOf, IsPartSafe, IsSafe, IsSafeBy, item_held}
+use Rattle.vr_volume.specs.Safe.{AreCommitted, IsItemOf, IsPartSafe, IsSafe, IsSafeBy}
 use Rattle.vr_volume.specs.Volume.{AreApart, CanPutBack, IsInside, Recovers, catalog_back}
 use Rattle.vr_volume.specs.Volume.{shapes_by}
 use Rattle.vr_volume.proofs.Apart.{part-past}
 use Rattle.vr_volume.proofs.PuttingBack.{back-ascends, back-item}
-use Rattle.vr_volume.proofs.Standings.{item-read}
 use Rattle.vr_recover.specs.Undone.{FitsPart, IsAllFirm, IsCovered, IsOpenedPart, IsSettled}
 use Rattle.vr_recover.proofs.Safe.{none-ascend}
 
@@ -104,7 +103,7 @@ module _ (part : Keyed) (now : Seen) (on : IsOn (KeyedShape part) now)
 
 -- what may be found is what is read
 found-here : (now : Seen) (region : ℕ → Type 0) → ((n : ℕ) → region n → n < now.count)
-    → AllForced now.count now.cur now.may → (found : Option (List ℕ)) (way : Way)
+    → AllForced now.count now.cur now.may → (found : Option Item) (way : Way)
     → IsWithin region now.may way → MayFind now.may found way → found ≡ found_on now.cur way
 found-here now region there forced found (Found item) within is = is
 found-here now region there forced found (Reads n next) within is =
@@ -246,13 +245,11 @@ module _ (geometry : Geometry) (number : ℕ) (now : Seen) (recovered : ℕ → 
         ∙ ap (λ (o : Option BeforeImage). kept_or o (item_at (is.contents part) place)) there);
   }
 
-  item-of : (shape : Shape) (part : ℕ) (place : List ℕ) (found : Option (List ℕ))
-      → StandsFor shape now.cur (is.contents part)
-      → found ≡ record_at (is.contents part) place
-      → IsItemOf shape part images (recovered part) place found
-  item-of shape part place found on same none =
-      ap (item_held shape) same ∙ item-read shape now.cur (is.contents part) on place
-      ∙ sym (item-back part place
+  item-of : (part : ℕ) (place : List ℕ) (found : Option Item)
+      → found ≡ item_at (is.contents part) place
+      → IsItemOf part images (recovered part) place found
+  item-of part place found same none =
+      same ∙ sym (item-back part place
       ∙ ap (λ (o : Option BeforeImage). kept_or o (item_at (is.contents part) place)) none)
 
   part-by : (part : ℕ) (shape : Shape) → IsOn shape now
@@ -263,7 +260,7 @@ module _ (geometry : Geometry) (number : ℕ) (now : Seen) (recovered : ℕ → 
       let sound = part-sound keyed now on forced (is.contents part) there in
       record {
         sound = sound;
-        items = λ place found may. item-of (KeyedShape keyed) part place found there
+        items = λ place found may. item-of part place found
             (found-here now (λ n. (n < now.count)
             × Rattle.vr_space.specs.Part.InPart (KeyedShape keyed) n)
             (λ n inside. inside.0) forced found (keyed_way keyed place)
@@ -319,6 +316,7 @@ module _ (geometry : Geometry) (number : ℕ) (now : Seen) (recovered : ℕ → 
       };
       room = safe.room;
       knows = record { way = tt; blocks = All-nil (IsMet part now.cur) };
+      no_split = refl;
     };
     firm = λ place found held. found-here now (λ n. (n < now.count)
         × Rattle.vr_space.specs.Part.InPart (KeyedShape part) n)

@@ -1,10 +1,10 @@
 -- What the steps of opening find, for the private functions that take them. The rules are this
 -- project's own.
-use Rattle.std.specs.Prelude.{◌≡◌, ◌≢◌, ◌<◌, ◌≤◌, ◌^◌, ℕ, List, [], All, None, Option, Some, length}
+use Rattle.std.specs.Prelude.{◌≡◌, ◌<◌, ◌≤◌, ◌^◌, ℕ, List, [], All, None, Option, Some, length}
 use Rattle.std.specs.Prelude.{◌⊎◌, ◌∷◌, nat_eq, map, slice_get, false, IfSome}
 use Rattle.std.specs.List.{IsDistinct, filter_map}
 use Rattle.vr_types.specs.Content.{Content}
-use Rattle.vr_types.specs.Geometry.{IsAllowed, area_count, head_block}
+use Rattle.vr_types.specs.Geometry.{area_count, head_block}
 use Rattle.vr_types.specs.Image.{Image, block_at}
 use Rattle.vr_types.specs.LogSpace.{log_size}
 use Rattle.vr_types.specs.Seen.{Seen}
@@ -23,7 +23,7 @@ use Rattle.vr_attach.specs.Laid.{shape_of}
 use Rattle.vr_history.specs.State.{BeforeImage}
 use Rattle.vr_keyed.specs.Attached.{IsRuleShown}
 use Rattle.vr_keyed.specs.Lent.{ArePlaces}
-use Rattle.vr_keyed.specs.Owned.{Owned}
+use Rattle.vr_keyed.specs.Owned.{Owned, known_of}
 use Rattle.vr_log.specs.Content.{Content as LogContent}
 use Rattle.vr_log.specs.Live.{used_by}
 use Rattle.vr_log.specs.LogNow.{IsForced, IsOf, LogNow}
@@ -33,11 +33,11 @@ use Rattle.vr_log.specs.declared.record.LogRecord.{LogRecord}
 use Rattle.vr_mount.specs.Areas.{AreOn}
 use Rattle.vr_mount.specs.Numbers.{laid_area}
 use Rattle.vr_mount.specs.Records.{bytes_of}
-use Rattle.vr_volume.specs.PutBack.{AreAlone, images_of, lengths_kept, oldest}
+use Rattle.vr_volume.specs.PutBack.{images_of, lengths_kept, oldest}
 pub use Rattle.vr_recover.specs.Images.{AreOff, HasRoomOf, MayGoBack}
-use Rattle.vr_recover.specs.Opening.{IsAreaShown, IsCatalogShown, IsLogShown, IsTwiceShown}
+use Rattle.vr_recover.specs.Opening.{IsCatalogShown}
 use Rattle.vr_recover.specs.Opening.{shape_owned, shapes_laid}
-use Rattle.vr_recover.specs.Undone.{AreApart as ListApart, FitsPart, IsCovered, IsPastLog}
+use Rattle.vr_recover.specs.Undone.{AreApart as ListApart, FitsPart, IsPastLog}
 use Rattle.vr_recover.specs.Undone.{IsReady}
 use Rattle.vr_recover.specs.declared.open_no.OpenNo.{OpenNo}
 use Rattle.vr_recover.specs.declared.open_no.OpenNo.TheVariants as nos
@@ -237,7 +237,7 @@ pub record IsUndoable (log : LogNow) (records : List LogRecord) (parts : List Ow
 -- a part is ready, with room for those of these that are its own
 abbrev pub IsPartReady : List BeforeImage → Seen → Owned → Type 0
 IsPartReady images now keyed =
-    IsReady (shape_owned keyed) keyed.met (lengths_kept images keyed.part.part) now
+    IsReady (shape_owned keyed) (known_of keyed) (lengths_kept images keyed.part.part) now
 
 -- a record of the log, where it is a before-image by f, is the only one of its place among it and
 -- these

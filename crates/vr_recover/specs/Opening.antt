@@ -5,7 +5,7 @@ use Rattle.std.specs.Prelude.{Option, map, nat_eq, slice_get}
 use Rattle.std.specs.List.{IsDistinct, filter_map}
 use Rattle.vr_types.specs.Content.{Ascends, Content}
 use Rattle.vr_types.specs.Geometry.{IsAllowed, area_count, head_block}
-use Rattle.vr_types.specs.Image.{Image, block_at}
+use Rattle.vr_types.specs.Image.{block_at}
 use Rattle.vr_types.specs.Seen.{Seen}
 use Rattle.vr_types.specs.declared.geometry.Geometry.{Geometry}
 use Rattle.vr_types.specs.declared.unit.PartNo.{PartNo}
@@ -16,7 +16,7 @@ use Rattle.vr_catalog.specs.declared.entry.CatEntry.{CatEntry}
 use Rattle.vr_attach.specs.CatalogRules.{IsCatalog}
 use Rattle.vr_attach.specs.Laid.{AreApart, catalog_shape, shape_by, shape_in, shape_of}
 use Rattle.vr_keyed.specs.Attached.{IsRuleShown}
-use Rattle.vr_keyed.specs.Owned.{Owned}
+use Rattle.vr_keyed.specs.Owned.{Owned, known_of}
 use Rattle.vr_log.specs.Content.{Content as LogContent}
 use Rattle.vr_log.specs.Damage.{IsDamagedAt}
 use Rattle.vr_log.specs.LogNow.{IsForced, IsOf, LogNow}
@@ -195,7 +195,7 @@ pub record IsOpenedBy (number : ℕ) (geometry : Geometry) (entries : List CatEn
   pub volume : IsVolume number geometry contents old
   pub undone : IsUndone number log contents new
   pub stands : LogStands log new
-  pub ready : All (λ (keyed : Owned). IsReady (shape_owned keyed) keyed.met [] new) parts
+  pub ready : All (λ (keyed : Owned). IsReady (shape_owned keyed) (known_of keyed) [] new) parts
   pub catalog : entries ≡ entries_in (contents 0)
   pub rules : IsCatalog geometry (contents 0)
   pub apart : AreApart (shape_by geometry (contents 0))

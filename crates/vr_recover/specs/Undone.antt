@@ -3,13 +3,13 @@
 use Rattle.std.specs.Prelude.{◌≡◌, ◌<◌, ◌≤◌, ℕ, true, false, List, [], All, IfSome, Option, Some, None}
 use Rattle.std.specs.Prelude.{◌≢◌, length, slice_get}
 use Rattle.std.specs.Option.{option_and_then}
-use Rattle.vr_types.specs.Content.{Content, item_at, record_of}
+use Rattle.vr_types.specs.Content.{Content, Item, item_at, record_of}
 use Rattle.vr_types.specs.Image.{Image}
 use Rattle.vr_types.specs.Seen.{Seen}
 use Rattle.vr_types.specs.declared.geometry.Geometry.{Geometry}
 use Rattle.vr_types.specs.declared.unit.PartNo.{PartNo}
 use Rattle.vr_types.specs.declared.unit.Unit.{Unit as UnitOfRecovery}
-use Rattle.vr_space.specs.Met.{Met}
+use Rattle.vr_space.specs.Known.{Known}
 use Rattle.vr_space.specs.Part.{HasKeptRoom, InPart, IsAtRest, IsFirm, IsOn, IsPlaceOf, IsRecordOf}
 use Rattle.vr_space.specs.Part.{Knows, MayHold, Shape, item_of, part_no}
 use Rattle.vr_space.specs.Room.{Lengths, length_at}
@@ -21,14 +21,19 @@ use Rattle.vr_log.specs.declared.record.LogRecord.{LogRecord}
 use Rattle.vr_log.specs.declared.record.LogRecord.TheVariants.{Before, End}
 use Rattle.vr_volume.specs.Laid.{shape_by}
 use Rattle.vr_volume.specs.PutBack.{images_of, lengths_kept}
-use Rattle.vr_volume.specs.Safe.{IsSafe, item_held}
+use Rattle.vr_volume.specs.Safe.{IsSafe}
 
 -- Between two calls that put before-images back into it: the part is at rest, with no split under
 -- way, and has room for what is kept.
-pub record IsReady (shape : Shape) (met : List Met) (kept : Lengths) (now : Seen) : Type 0 where
+pub record IsReady (shape : Shape) (known : Known) (kept : Lengths) (now : Seen) : Type 0 where
   pub rests : IsAtRest shape now
   pub room : HasKeptRoom shape kept now
-  pub knows : Knows shape None met now
+  pub knows : Knows shape known now
+  pub no_split : known.split ≡ None
+
+-- what a part knows as it is attached: no split is under way, and nothing was met yet
+abbrev pub nothing_known : Known
+nothing_known = record { split = None; met = [] }
 
 -- room is kept for the record at the place, or there is none
 abbrev pub IsKeptAt : Lengths → List ℕ → Option (List ℕ) → Type 0
@@ -57,7 +62,7 @@ IsItemIn shape content image =
 -- the place of a before-image of the part reads its item in the content
 abbrev pub IsBackIn : Shape → Content → Image → BeforeImage → Type 0
 IsBackIn shape content now image = image.part ≡ (part_no shape).0
-    → item_held shape (item_of shape now image.place) ≡ item_at content image.place
+    → item_of shape now image.place ≡ item_at content image.place
 
 -- Calls put these before-images back into the part, and force them: what a crash left alone at a
 -- place it leaves alone, and no place that had its item lost it.
@@ -74,8 +79,8 @@ HasAllRecords log = (content : LogContent) → IsLogOf log content → content.r
 
 -- Whatever a crash leaves of a part, each place has the item of the content.
 abbrev pub HasContent : Shape → Content → Seen → Type 0
-HasContent shape content now = (place : List ℕ) (found : Option (List ℕ))
-    → MayHold shape now.may place found → item_held shape found ≡ item_at content place
+HasContent shape content now = (place : List ℕ) (found : Option Item)
+    → MayHold shape now.may place found → found ≡ item_at content place
 
 -- ---- several parts
 
@@ -148,7 +153,7 @@ pub record IsOpenedPart (geometry : Geometry) (images : List BeforeImage) (shape
     (now : Seen) : Type 0 where
   pub on : IsOn shape now
   pub past : IsPastLog geometry shape
-  pub ready : IsReady shape [] (lengths_kept images (part_no shape).0) now
+  pub ready : IsReady shape nothing_known (lengths_kept images (part_no shape).0) now
   pub firm : IsAllFirm shape now
   pub fits : All (FitsPart shape) images
 

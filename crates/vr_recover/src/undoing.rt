@@ -41,7 +41,7 @@ pub(crate) fn undo_units<B: Blocks, P: Part, K: Kept>(
     requires on { All (λ shape. IsOn shape (B.seen blocks.old)) (map P.shape parts.old) }
     requires apart { AreApart (map P.shape parts.old) }
     requires past { All (IsPastLog log.old.geometry) (map P.shape parts.old) }
-    requires split { All (λ part. P.split part ≡ None) parts.old }
+    requires split { All (λ part. (P.known part).split ≡ None) parts.old }
     requires sound { log.old.broken ≡ false }
     requires shape { IsOf log.old.geometry (B.seen blocks.old) }
     requires records { records.now ≡ log.old.records }
@@ -50,7 +50,7 @@ pub(crate) fn undo_units<B: Blocks, P: Part, K: Kept>(
         (map P.shape parts.old) }
     requires kept { IsKeptOf (K.kept kept.now) log.old }
     requires stands { IsTrue B.tells → LogStands log.old (B.seen blocks.old) }
-    requires ready { IsTrue B.tells → All (λ part. IsReady (P.shape part) (P.met part)
+    requires ready { IsTrue B.tells → All (λ part. IsReady (P.shape part) (P.known part)
         (K.kept kept.now (part_no (P.shape part))) (B.seen blocks.old)) parts.old }
     ensures any_moment { IsTrue B.tells → (number : ℕ) (contents : ℕ → Content)
         → IsSettled number log.old contents (map P.shape parts.old) (B.seen blocks.old)
@@ -61,9 +61,9 @@ pub(crate) fn undo_units<B: Blocks, P: Part, K: Kept>(
         → IsSettled number log.old contents (map P.shape parts.old) (B.seen blocks.old)
         → IsUndone number log.new contents (B.seen blocks.new)) }
     ensures ready { IsTrue B.tells → OnOk result (All (λ part. IsReady (P.shape part)
-        (P.met part) (K.kept kept.now (part_no (P.shape part))) (B.seen blocks.new)) parts.new) }
+        (P.known part) (K.kept kept.now (part_no (P.shape part))) (B.seen blocks.new)) parts.new) }
     ensures shapes { map P.shape parts.new ≡ map P.shape parts.old }
-    ensures split { All (λ part. P.split part ≡ None) parts.new }
+    ensures split { All (λ part. (P.known part).split ≡ None) parts.new }
     ensures records { OnOk result (log.new.records ≡ []) }
     ensures generation { OnOk result (log.new.generation ≡ next_generation log.old.generation) }
     ensures geometry { OnOk result (log.new.geometry ≡ log.old.geometry) }

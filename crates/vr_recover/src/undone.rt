@@ -57,9 +57,9 @@ fn set_forced<B: Blocks, P: Part, K: Kept>(
     requires rests { IsTrue B.tells → IsAtRest (P.shape part.old) (B.seen blocks.old) }
     requires room { IsTrue B.tells → HasKeptRoom (P.shape part.old)
         (K.kept kept.now (part_no (P.shape part.old))) (B.seen blocks.old) }
-    requires knows { IsTrue B.tells → Knows (P.shape part.old) (P.split part.old)
-        (P.met part.old) (B.seen blocks.old) }
-    requires can { IsTrue B.tells → CanSet (P.shape part.old) (P.split part.old)
+    requires knows { IsTrue B.tells → Knows (P.shape part.old) (P.known part.old)
+        (B.seen blocks.old) }
+    requires can { IsTrue B.tells → CanSet (P.shape part.old) (P.known part.old)
         (B.seen blocks.old).cur (K.kept kept.now (part_no (P.shape part.old))) place.now
         (given bytes) }
     ensures safe { IsTrue B.tells → (geometry : Geometry) (number : ℕ) (log : LogNow)
@@ -80,15 +80,15 @@ fn set_forced<B: Blocks, P: Part, K: Kept>(
         (IsAtRest (P.shape part.old) (B.seen blocks.new)) }
     ensures room { IsTrue B.tells → HasKeptRoom (P.shape part.old)
         (K.kept kept.now (part_no (P.shape part.old))) (B.seen blocks.new) }
-    ensures knows { IsTrue B.tells → OnOk result (Knows (P.shape part.old) (P.split part.old)
-        (P.met part.new) (B.seen blocks.new)) }
+    ensures knows { IsTrue B.tells → OnOk result (Knows (P.shape part.old) (P.known part.new)
+        (B.seen blocks.new)) }
     ensures touches { IsTrue B.tells → Touches (InPart (P.shape part.old)) Anything
         (B.seen blocks.old) (B.seen blocks.new) }
     ensures count { (B.seen blocks.new).count ≡ (B.seen blocks.old).count }
     ensures size { (B.seen blocks.new).size ≡ (B.seen blocks.old).size }
     ensures cause { HasCause (B.faults blocks.old) (B.faults blocks.new) result }
     ensures shape { P.shape part.new ≡ P.shape part.old }
-    ensures split { P.split part.new ≡ P.split part.old }
+    ensures split { (P.known part.new).split ≡ (P.known part.old).split }
 {
     set_free(blocks, part, kept, place, bytes)?;
     force_blocks(blocks, part.put_blocks())?;
@@ -117,13 +117,13 @@ fn put_record<B: Blocks, P: Part, K: Kept>(
 ) -> Result<(), DeviceFault>
     requires on { IsOn (P.shape part.old) (B.seen blocks.old) }
     requires number { part_no (P.shape part.old) ≡ number }
-    requires split { P.split part.old ≡ None }
+    requires split { (P.known part.old).split ≡ None }
     requires sound { log.now.broken ≡ false }
     requires fits { IfSome (image_in (live_in log.now.records) rec.now)
         (FitsPart (P.shape part.old)) }
     requires kept { IfSome (image_in (live_in log.now.records) rec.now)
         (HasKeptFor (P.shape part.old) (K.kept kept.now number)) }
-    requires ready { IsTrue B.tells → IsReady (P.shape part.old) (P.met part.old)
+    requires ready { IsTrue B.tells → IsReady (P.shape part.old) (P.known part.old)
         (K.kept kept.now number) (B.seen blocks.old) }
     ensures safe { IsTrue B.tells → (geometry : Geometry) (member : ℕ)
         (committed : List Rec → ℕ → Content)
@@ -141,7 +141,7 @@ fn put_record<B: Blocks, P: Part, K: Kept>(
         → ArePutBack (P.shape part.old) content
         (filter_map (image_in (live_in log.now.records)) (rec.now ∷ []))
         (B.seen blocks.old) (B.seen blocks.new)) }
-    ensures ready { IsTrue B.tells → OnOk result (IsReady (P.shape part.old) (P.met part.new)
+    ensures ready { IsTrue B.tells → OnOk result (IsReady (P.shape part.old) (P.known part.new)
         (K.kept kept.now number) (B.seen blocks.new)) }
     ensures touches { IsTrue B.tells → Touches (InPart (P.shape part.old)) Anything
         (B.seen blocks.old) (B.seen blocks.new) }
@@ -149,7 +149,7 @@ fn put_record<B: Blocks, P: Part, K: Kept>(
     ensures size { (B.seen blocks.new).size ≡ (B.seen blocks.old).size }
     ensures cause { HasCause (B.faults blocks.old) (B.faults blocks.new) result }
     ensures shape { P.shape part.new ≡ P.shape part.old }
-    ensures split { P.split part.new ≡ P.split part.old }
+    ensures split { (P.known part.new).split ≡ (P.known part.old).split }
 {
     if let LogRecord::Before {
         unit,
@@ -179,12 +179,12 @@ pub(crate) fn put_back<B: Blocks, P: Part, K: Kept>(
 ) -> Result<(), DeviceFault>
     requires on { IsOn (P.shape part.old) (B.seen blocks.old) }
     requires number { part_no (P.shape part.old) ≡ number }
-    requires split { P.split part.old ≡ None }
+    requires split { (P.known part.old).split ≡ None }
     requires sound { log.now.broken ≡ false }
     requires records { records.now ≡ log.now.records }
     requires fits { All (FitsPart (P.shape part.old)) (images_of log.now.records) }
     requires kept { IsKeptOf (K.kept kept.now) log.now }
-    requires ready { IsTrue B.tells → IsReady (P.shape part.old) (P.met part.old)
+    requires ready { IsTrue B.tells → IsReady (P.shape part.old) (P.known part.old)
         (K.kept kept.now number) (B.seen blocks.old) }
     ensures safe { IsTrue B.tells → (geometry : Geometry) (member : ℕ)
         (committed : List Rec → ℕ → Content)
@@ -198,7 +198,7 @@ pub(crate) fn put_back<B: Blocks, P: Part, K: Kept>(
         → All (IsItemIn (P.shape part.old) content) (images_of log.now.records)
         → ArePutBack (P.shape part.old) content (images_of log.now.records)
         (B.seen blocks.old) (B.seen blocks.new)) }
-    ensures ready { IsTrue B.tells → OnOk result (IsReady (P.shape part.old) (P.met part.new)
+    ensures ready { IsTrue B.tells → OnOk result (IsReady (P.shape part.old) (P.known part.new)
         (K.kept kept.now number) (B.seen blocks.new)) }
     ensures touches { IsTrue B.tells → Touches (InPart (P.shape part.old)) Anything
         (B.seen blocks.old) (B.seen blocks.new) }
@@ -206,7 +206,7 @@ pub(crate) fn put_back<B: Blocks, P: Part, K: Kept>(
     ensures size { (B.seen blocks.new).size ≡ (B.seen blocks.old).size }
     ensures cause { HasCause (B.faults blocks.old) (B.faults blocks.new) result }
     ensures shape { P.shape part.new ≡ P.shape part.old }
-    ensures split { P.split part.new ≡ P.split part.old }
+    ensures split { (P.known part.new).split ≡ (P.known part.old).split }
 {
     for rec in records {
         put_record(blocks, part, number, kept, log, rec)?;

@@ -43,13 +43,13 @@ pub(crate) fn put_back_all<B: Blocks, P: Part, K: Kept>(
     requires on { All (λ shape. IsOn shape (B.seen blocks.old)) (map P.shape parts.old) }
     requires apart { AreApart (map P.shape parts.old) }
     requires past { All (IsPastLog log.now.geometry) (map P.shape parts.old) }
-    requires split { All (λ part. P.split part ≡ None) parts.old }
+    requires split { All (λ part. (P.known part).split ≡ None) parts.old }
     requires sound { log.now.broken ≡ false }
     requires records { records.now ≡ log.now.records }
     requires fits { All (λ shape. All (FitsPart shape) (images_of log.now.records))
         (map P.shape parts.old) }
     requires kept { IsKeptOf (K.kept kept.now) log.now }
-    requires ready { IsTrue B.tells → All (λ part. IsReady (P.shape part) (P.met part)
+    requires ready { IsTrue B.tells → All (λ part. IsReady (P.shape part) (P.known part)
         (K.kept kept.now (part_no (P.shape part))) (B.seen blocks.old)) parts.old }
     ensures safe { IsTrue B.tells → (geometry : Geometry) (member : ℕ) (contents : ℕ → Content)
         → IsSafe geometry member log.now (alike contents) (B.seen blocks.old)
@@ -67,9 +67,9 @@ pub(crate) fn put_back_all<B: Blocks, P: Part, K: Kept>(
     ensures stands { IsTrue B.tells → IsForced log.now → LogStands log.now (B.seen blocks.old)
         → OnOk result (LogStands log.now (B.seen blocks.new)) }
     ensures ready { IsTrue B.tells → OnOk result (All (λ part. IsReady (P.shape part)
-        (P.met part) (K.kept kept.now (part_no (P.shape part))) (B.seen blocks.new)) parts.new) }
+        (P.known part) (K.kept kept.now (part_no (P.shape part))) (B.seen blocks.new)) parts.new) }
     ensures shapes { map P.shape parts.new ≡ map P.shape parts.old }
-    ensures split { All (λ part. P.split part ≡ None) parts.new }
+    ensures split { All (λ part. (P.known part).split ≡ None) parts.new }
     ensures count { (B.seen blocks.new).count ≡ (B.seen blocks.old).count }
     ensures size { (B.seen blocks.new).size ≡ (B.seen blocks.old).size }
     ensures cause { HasCause (B.faults blocks.old) (B.faults blocks.new) result }

@@ -19,8 +19,7 @@ loop-turn-init g c =
           (sym c.requires.none) (none_read shape image content stands));
       faults = refl;
       shape = refl;
-      split = refl;
-      met = refl;
+      known = refl;
       put = refl;
     }
 
@@ -53,8 +52,7 @@ loop-turn-preserved g c =
           (c.loop-turn.invariant.read told);
       faults = c.in_ok-more.ensures.cause.ok ∙ c.loop-turn.invariant.faults;
       shape = c.add_next.ensures.shape ∙ c.loop-turn.invariant.shape;
-      split = c.add_next.ensures.split ∙ c.loop-turn.invariant.split;
-      met = c.add_next.ensures.met ∙ c.loop-turn.invariant.met;
+      known = c.add_next.ensures.known ∙ c.loop-turn.invariant.known;
       put = c.add_next.ensures.put ∙ c.loop-turn.invariant.put;
     }
 

@@ -19,7 +19,6 @@ invariant-loop-turn g l =
           → AreRead shape first.cur l.last l.records.items content;
       faults : B.faults l.blocks ≡ B.faults l.fn.blocks;
       shape : P.shape l.part ≡ shape;
-      split : P.split l.part ≡ P.split l.fn.part;
-      met : P.met l.part ≡ P.met l.fn.part;
+      known : P.known l.part ≡ P.known l.fn.part;
       put : P.put l.part ≡ P.put l.fn.part;
     }

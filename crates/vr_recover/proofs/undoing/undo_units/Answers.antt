@@ -88,6 +88,6 @@ returns-clause-ready g c told k d below =
     (read-off g.P.Part.shape c.put_back_all.new.parts shapes k part d
     c.put_back_all.ensures.shapes below refl) c.requires.past)
     (c.end_all.ensures.touches told))
-    (g.P.Part.met part) (g.K.Kept.kept c.args.kept.now (part_no shape))
+    (g.P.Part.known part) (g.K.Kept.kept c.args.kept.now (part_no shape))
     (g.met.B.Blocks.cur_may c.put_back_all.new.blocks told)
     (c.in_ok-put_back_all.ensures.ready told k d below)

@@ -96,7 +96,7 @@ loop-rec-preserved g c =
       size = c.put_record.ensures.size ∙ c.loop-rec.invariant.size;
       faults = c.in_ok-put_record.ensures.cause.ok ∙ c.loop-rec.invariant.faults;
       ready = λ told. subst
-          (λ (s : Shape). IsReady s (g.P.Part.met c.put_record.new.part) kept d) same
+          (λ (s : Shape). IsReady s (g.P.Part.known c.put_record.new.part) kept d) same
           (c.in_ok-put_record.ensures.ready told);
       touches = λ told. touches-both (InPart shape) a b d (c.loop-rec.invariant.touches told)
           (subst (λ (s : Shape). Touches (InPart s) Anything b d) same

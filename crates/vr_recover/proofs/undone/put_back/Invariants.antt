@@ -18,11 +18,11 @@ use Rattle.vr_recover.proofs.undone.put_back.Given as goal
 abbrev pub invariant-loop-rec : goal.invariant-loop-rec
 invariant-loop-rec g l = record {
   shape : g.P.Part.shape l.part ≡ g.P.Part.shape l.fn.part;
-  split : g.P.Part.split l.part ≡ g.P.Part.split l.fn.part;
+  split : (g.P.Part.known l.part).split ≡ (g.P.Part.known l.fn.part).split;
   count : (g.B.Blocks.seen l.blocks).count ≡ (g.B.Blocks.seen l.fn.blocks).count;
   size : (g.B.Blocks.seen l.blocks).size ≡ (g.B.Blocks.seen l.fn.blocks).size;
   faults : g.B.Blocks.faults l.blocks ≡ g.B.Blocks.faults l.fn.blocks;
-  ready : IsTrue g.B.Blocks.tells → IsReady (g.P.Part.shape l.fn.part) (g.P.Part.met l.part)
+  ready : IsTrue g.B.Blocks.tells → IsReady (g.P.Part.shape l.fn.part) (g.P.Part.known l.part)
       (g.K.Kept.kept l.kept l.number) (g.B.Blocks.seen l.blocks);
   touches : IsTrue g.B.Blocks.tells → Touches (InPart (g.P.Part.shape l.fn.part)) Anything
       (g.B.Blocks.seen l.fn.blocks) (g.B.Blocks.seen l.blocks);

@@ -75,8 +75,8 @@ returns-clause-knows g c told =
     let B = g.B.Blocks in
     let shape = g.P.Part.shape c.args.part.now in
     let b = B.seen c.set_free.new.blocks in
-    knows-keeps B.tells told shape (g.P.Part.split c.args.part.now)
-    (g.P.Part.met c.set_free.new.part) b (B.seen c.force_blocks.new.blocks)
+    knows-keeps B.tells told shape (g.P.Part.known c.set_free.new.part) b
+    (B.seen c.force_blocks.new.blocks)
     c.force_blocks.ensures.after (rest-sound shape b (c.in_ok-set_free.ensures.rests told))
     (g.met.B.Blocks.cur_may c.set_free.new.blocks told) (c.in_ok-set_free.ensures.knows told)
 

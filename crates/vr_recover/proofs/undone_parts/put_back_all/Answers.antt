@@ -100,7 +100,7 @@ put_back-requires-clause-fits g c =
 pub put_back-requires-clause-ready : goal.put_back-requires-clause-ready
 put_back-requires-clause-ready g c told =
     let part = get_or c.loop-part.parts c.loop-part.part-index c.part-item.result in
-    subst (λ (no : PartNo). IsReady (g.P.Part.shape part) (g.P.Part.met part)
+    subst (λ (no : PartNo). IsReady (g.P.Part.shape part) (g.P.Part.known part)
     (g.K.Kept.kept c.args.kept.now no) (g.B.Blocks.seen c.loop-part.blocks))
     (put_back-requires-clause-number g c)
     (c.loop-part.invariant.ready told c.loop-part.part-index c.part-item.result
@@ -172,7 +172,7 @@ loop-part-preserved g c =
     let sounds : IsTrue B.tells → All (λ (s : Shape). IsSound s b) shapes =
     λ told. subst (All (λ (s : Shape). IsSound s b)) c.loop-part.invariant.shapes
     (All-map (λ (s : Shape). IsSound s b) g.P.Part.shape parts
-    (All-weaker (λ part. IsReady (g.P.Part.shape part) (g.P.Part.met part)
+    (All-weaker (λ part. IsReady (g.P.Part.shape part) (g.P.Part.known part)
     (kept (part_no (g.P.Part.shape part))) b)
     (λ part. IsSound (g.P.Part.shape part) b)
     (λ part ready. rest-sound (g.P.Part.shape part) b ready.rests) parts
@@ -186,8 +186,8 @@ loop-part-preserved g c =
       at = ap (λ (n : ℕ). n + 1) c.loop-part.invariant.at;
       shapes = map-set_same g.P.Part.shape parts index new c.part-item.result
           c.put_back.ensures.shape ∙ c.loop-part.invariant.shapes;
-      split = all-set (λ part. g.P.Part.split part ≡ None) (λ part. g.P.Part.split part ≡ None)
-          parts index new
+      split = all-set (λ part. (g.P.Part.known part).split ≡ None)
+          (λ part. (g.P.Part.known part).split ≡ None) parts index new
           (c.put_back.ensures.split
           ∙ c.loop-part.invariant.split index c.part-item.result within)
           (λ other part at off same. same) c.loop-part.invariant.split;
@@ -195,19 +195,19 @@ loop-part-preserved g c =
       size = c.put_back.ensures.size ∙ c.loop-part.invariant.size;
       faults = c.in_ok-put_back.ensures.cause.ok ∙ c.loop-part.invariant.faults;
       ready = λ told. all-set
-          (λ part. IsReady (g.P.Part.shape part) (g.P.Part.met part)
+          (λ part. IsReady (g.P.Part.shape part) (g.P.Part.known part)
           (kept (part_no (g.P.Part.shape part))) b)
-          (λ part. IsReady (g.P.Part.shape part) (g.P.Part.met part)
+          (λ part. IsReady (g.P.Part.shape part) (g.P.Part.known part)
           (kept (part_no (g.P.Part.shape part))) d)
           parts index new
-          (subst (λ (s : Shape). IsReady s (g.P.Part.met new) (kept (part_no s)) d)
+          (subst (λ (s : Shape). IsReady s (g.P.Part.known new) (kept (part_no s)) d)
           (sym c.put_back.ensures.shape)
-          (subst (λ (no : PartNo). IsReady shape (g.P.Part.met new) (kept no) d) numbered
+          (subst (λ (no : PartNo). IsReady shape (g.P.Part.known new) (kept no) d) numbered
           (c.in_ok-put_back.ensures.ready told)))
           (λ other part at off ready. ready-stays (g.P.Part.shape part) b d
           (stays told other (g.P.Part.shape part)
           (shape-at g.P.Part.shape parts shapes other part c.loop-part.invariant.shapes at) off)
-          (g.P.Part.met part) (kept (part_no (g.P.Part.shape part)))
+          (g.P.Part.known part) (kept (part_no (g.P.Part.shape part)))
           (g.met.B.Blocks.cur_may c.loop-part.blocks told) ready)
           (c.loop-part.invariant.ready told);
       safe = λ told geometry member contents safe opened.

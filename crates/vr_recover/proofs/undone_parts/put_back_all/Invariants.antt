@@ -14,12 +14,12 @@ abbrev pub invariant-loop-part : goal.invariant-loop-part
 invariant-loop-part g l = record {
   at : l.at ≡ l.part-index;
   shapes : map g.P.Part.shape l.parts ≡ map g.P.Part.shape l.fn.parts;
-  split : All (λ part. g.P.Part.split part ≡ None) l.parts;
+  split : All (λ part. (g.P.Part.known part).split ≡ None) l.parts;
   count : (g.B.Blocks.seen l.blocks).count ≡ (g.B.Blocks.seen l.fn.blocks).count;
   size : (g.B.Blocks.seen l.blocks).size ≡ (g.B.Blocks.seen l.fn.blocks).size;
   faults : g.B.Blocks.faults l.blocks ≡ g.B.Blocks.faults l.fn.blocks;
   ready : IsTrue g.B.Blocks.tells → All (λ part. IsReady (g.P.Part.shape part)
-      (g.P.Part.met part) (g.K.Kept.kept l.kept (part_no (g.P.Part.shape part)))
+      (g.P.Part.known part) (g.K.Kept.kept l.kept (part_no (g.P.Part.shape part)))
       (g.B.Blocks.seen l.blocks)) l.parts;
   safe : IsTrue g.B.Blocks.tells → (geometry : Geometry) (member : ℕ) (contents : ℕ → Content)
       → IsSafe geometry member l.log (alike contents) (g.B.Blocks.seen l.fn.blocks)
