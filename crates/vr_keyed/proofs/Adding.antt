@@ -4,7 +4,7 @@ use Rattle.std.proofs.Common.{◌++◌, length, All, refl, sym, ap, subst, ◌�
 use Rattle.std.proofs.Common.{append_assoc, ◌↔◌}
 use Rattle.std.proofs.lemmas.List.{append-nil}
 use Rattle.std.proofs.lemmas.List.Elements.{All-head, All-tail}
-use Rattle.std.specs.Prelude.{cond, OnOk, IfOk}
+use Rattle.std.specs.Prelude.{cond, OnOk, IfOk, OnErr, IfErr}
 use Rattle.std.specs.Result.{is_ok, is_err}
 use Rattle.std.specs.declared.result.Result.{Result}
 use Rattle.std.specs.declared.result.Result.TheVariants.{Ok, Err}
@@ -162,3 +162,9 @@ pub if-ok-map : {X E : Type 0} (r : Result X E) (P Q : X → Type 0) → ((x : X
     → IfOk r P → IfOk r Q
 if-ok-map (Ok x) P Q more is = more x is
 if-ok-map (Err e) P Q more is = is
+
+-- what is so of an error, with what is so where there is one
+pub if-err-both : {X E : Type 0} (r : Result X E) (O : Type 0) (P Q : E → Type 0)
+    → ((e : E) → O → P e → Q e) → OnErr r O → IfErr r P → IfErr r Q
+if-err-both (Ok x) O P Q more on is = is
+if-err-both (Err e) O P Q more on is = more e on is

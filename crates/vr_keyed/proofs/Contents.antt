@@ -4,12 +4,13 @@ use Rattle.std.proofs.Common.{◌++◌, ◌&&◌, Option, Some, None, All, refl,
 use Rattle.std.proofs.Common.{true≢false}
 use Rattle.std.specs.Prelude.{filter, cond, IfSome}
 use Rattle.std.specs.List.Sorted.{IsStrictlySortedBy}
+use Rattle.std.specs.Option.{option_map}
 use Rattle.std.specs.Ordering.{is_le, is_lt, ordering_reverse}
 use Rattle.std.specs.declared.cmp.Ordering.{Ordering}
 use Rattle.std.specs.declared.cmp.Ordering.TheVariants.{Less, Equal, Greater}
 use Rattle.std.proofs.lemmas.Cmp.{nat_list_cmp_total}
 use Rattle.std.proofs.lemmas.List.Elements.{All-head, All-tail, All-nil, All-cons, All-append}
-use Rattle.vr_types.specs.Content.{Content, Placed, place_cmp, record_at, record_of}
+use Rattle.vr_types.specs.Content.{Content, Placed, place_cmp, item_at}
 use Rattle.vr_types.specs.Content.{found_by}
 use Rattle.vr_types.specs.Content.Item.{Standing}
 use Rattle.vr_types.proofs.CallerLemmas.{same_place}
@@ -59,16 +60,16 @@ abbrev pub passing : (List ℕ → Bool) → Content → Content
 passing test content = filter (λ (entry : Placed). test entry.0) content
 
 pub passing-has : (test : List ℕ → Bool) (xs : Content) (place : List ℕ) → test place ≡ true
-    → record_at (passing test xs) place ≡ record_at xs place
+    → item_at (passing test xs) place ≡ item_at xs place
 passing-has test [] place is = refl
 passing-has test (entry ∷ xs) place is = by (test entry.0) refl (passing-has test xs place is)
   where
-    by : (b : Bool) → test entry.0 ≡ b → record_at (passing test xs) place ≡ record_at xs place
-        → record_at (cond b (entry ∷ passing test xs) (passing test xs)) place
-        ≡ record_at (entry ∷ xs) place
-    by true inside more = ap (found_by (place_cmp place entry.0) (record_of entry.1)) more
+    by : (b : Bool) → test entry.0 ≡ b → item_at (passing test xs) place ≡ item_at xs place
+        → item_at (cond b (entry ∷ passing test xs) (passing test xs)) place
+        ≡ item_at (entry ∷ xs) place
+    by true inside more = ap (found_by (place_cmp place entry.0) (Some entry.1)) more
     by false outside more = more
-        ∙ sym (by_other (place_cmp place entry.0) (record_of entry.1) (record_at xs place)
+        ∙ sym (by_other (place_cmp place entry.0) (Some entry.1) (item_at xs place)
         (λ same. true≢false (sym is ∙ ap test (same_place place entry.0 same) ∙ outside)))
 
 pub passing-none : (test : List ℕ → Bool) (xs : Content) (place : List ℕ) → test place ≡ false
@@ -214,7 +215,7 @@ module _ (range : Range) (place : List ℕ) (new : Option (List ℕ)) (content :
   none-both q (x ∷ xs) ys left right = (left.0, none-both q xs ys left.1 right)
 
   -- this one
-  pub set-here : record_at (content_set range place new content) place ≡ new
+  pub set-here : item_at (content_set range place new content) place ≡ option_map Standing new
   unfolding below above
   set-here =
       record-right below (given_at place new ++ above) place
@@ -228,15 +229,15 @@ module _ (range : Range) (place : List ℕ) (new : Option (List ℕ)) (content :
           (neither-left (is_lt (place_cmp place place)) (is_le (place_cmp place range.high))
           (ap is_lt (same_is_equal place)))
 
-      by : (o : Option (List ℕ)) → record_at (given_at place o ++ above) place ≡ o
+      by : (o : Option (List ℕ)) → item_at (given_at place o ++ above) place ≡ option_map Standing o
       by None = none-record place above none
       by (Some bytes) =
-          ap (λ (o : Ordering). found_by o (Some bytes) (record_at above place))
+          ap (λ (o : Ordering). found_by o (Some (Standing bytes)) (item_at above place))
           (same_is_equal place)
 
   -- each other that it had in the range
   pub set-other : (q : List ℕ) → is_in range q ≡ true → (q ≡ place → ⊥)
-      → record_at (content_set range place new content) q ≡ record_at content q
+      → item_at (content_set range place new content) q ≡ item_at content q
   unfolding below above
   set-other q inside apart = by (place_cmp q place) refl
     where
@@ -248,7 +249,7 @@ module _ (range : Range) (place : List ℕ) (new : Option (List ℕ)) (content :
       turned o is = nat_list_cmp_total.antisymm place q ∙ ap ordering_reverse is
 
       by : (o : Ordering) → place_cmp q place ≡ o
-          → record_at (content_set range place new content) q ≡ record_at content q
+          → item_at (content_set range place new content) q ≡ item_at content q
       by Less is =
           record-left below (given_at place new ++ above) q
           (none-both q (given_at place new) above (off-given q off)
@@ -302,7 +303,7 @@ module _ (range : Range) (place : List ℕ) (new : Option (List ℕ)) (content :
 
   -- none beyond it
   pub set-beyond : is_in range place ≡ true → (q : List ℕ) → is_in range q ≡ false
-      → record_at (content_set range place new content) q ≡ None
+      → item_at (content_set range place new content) q ≡ None
   unfolding below above
   set-beyond here q out =
       none-record q (content_set range place new content)

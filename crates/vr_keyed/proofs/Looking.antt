@@ -1,9 +1,11 @@
 -- What the blocks of a keyed part have at a place.
 use Rattle.std.proofs.Common.{◌≡◌, ℕ, Bool, true, false, List, [], ◌∷◌, Option, Some, None}
-use Rattle.std.proofs.Common.{ap, subst, ◌∙◌}
-use Rattle.std.specs.Prelude.{cond, unwrap_or}
+use Rattle.std.proofs.Common.{MatchOption, ap, subst, ◌∙◌}
+use Rattle.std.specs.Prelude.{cond, option_and_then, unwrap_or}
+use Rattle.std.specs.Borrow.{Bor}
 use Rattle.std.specs.Ordering.{is_le}
-use Rattle.vr_types.specs.Content.{place_cmp, record_at}
+use Rattle.vr_types.specs.Content.{Item, place_cmp, item_at, record_of}
+use Rattle.vr_types.specs.Content.Item.{Standing}
 use Rattle.vr_types.specs.Image.{Image, block_at}
 use Rattle.vr_seqset.specs.Entry.{Entry}
 use Rattle.vr_space.specs.Way.{found_on}
@@ -42,8 +44,16 @@ module _ (part : Keyed) (image : Image) (place : List ℕ) (n : ℕ)
       (holds-found part image None (entries_of (block_at image part.head)) place leads.at
       stands.1.intervals leads.found)
 
-  -- and has the record that is read
+  -- and has the item of the place
   pub led-item : item_of (KeyedShape part) image place
-      ≡ record_at (records_of part (block_at image n)) place
+      ≡ item_at (records_of part (block_at image n)) place
   led-item = ap (λ (o : Option (Range × Entry)). found_on image (way_in part place o)) leads.found
-      ∙ ap (λ (k : ℕ). record_at (records_of part (block_at image k)) place) leads.block
+      ∙ ap (λ (k : ℕ). item_at (records_of part (block_at image k)) place) leads.block
+
+-- what is found of an item is the record that is read
+pub found-read : (item : Option Item) (found : Option (Bor (List ℕ)))
+    → MatchOption found (item ≡ None) (λ s. item ≡ Some (Standing s.now))
+    → MatchOption found (option_and_then record_of item ≡ None)
+    (λ s. option_and_then record_of item ≡ Some s.now)
+found-read item None is = ap (option_and_then record_of) is
+found-read item (Some s) is = ap (option_and_then record_of) is

@@ -5,7 +5,8 @@ use Rattle.std.proofs.Common.{subst}
 use Rattle.std.proofs.lemmas.List.Elements.{All-head, All-cons, All-nil}
 use Rattle.std.specs.Prelude.{filter, not, bytes_eq, cond}
 use Rattle.std.proofs.lemmas.Slice.Eq.{bytes_eq-Decides}
-use Rattle.vr_space.specs.Met.{Met, places_met, met_next, HasMet}
+use Rattle.vr_space.specs.Met.{Met, met_next}
+use Rattle.vr_keyed.specs.Slots.{HasMetPlace, met_places}
 
 same-bytes : (one other : List ℕ) → one ≡ other → bytes_eq one other ≡ true
 same-bytes one other same = (bytes_eq-Decides one other).1 same
@@ -40,7 +41,7 @@ module _ (a b : Met) (place : List ℕ) where
   -- it is the last that was met
   pub next-first : (n : ℕ) → 0 < n → n ≤ 2 → a.place ≡ place
       → (n ≡ 2 → a.place ≡ b.place → ⊥)
-      → places_met (first-of n) ≡ met_next (places_met (first-of n)) place
+      → met_places (first-of n) ≡ met_next (met_places (first-of n)) place
   next-first zero some few here apart = absurd (omega (arith, some))
   next-first (suc zero) some few here apart =
       ap (λ (p : List ℕ). p ∷ []) here
@@ -54,18 +55,18 @@ module _ (a b : Met) (place : List ℕ) where
 
   -- it is the one before
   pub next-second : (n : ℕ) → n ≡ 2 → b.place ≡ place → (a.place ≡ place → ⊥)
-      → places_met (take n (b ∷ a ∷ [])) ≡ met_next (places_met (first-of n)) place
+      → met_places (take n (b ∷ a ∷ [])) ≡ met_next (met_places (first-of n)) place
   next-second n two here apart =
-      ap (λ (k : ℕ). places_met (take k (b ∷ a ∷ []))) two
+      ap (λ (k : ℕ). met_places (take k (b ∷ a ∷ []))) two
       ∙ ap (λ (p : List ℕ). p ∷ a.place ∷ []) here
       ∙ sym (ap (λ (ps : List (List ℕ)). place ∷ take 1 ps)
       (leaves place a.place (b.place ∷ []) apart
       ∙ ap (λ (ps : List (List ℕ)). a.place ∷ ps) (drops place b.place [] here)))
-      ∙ sym (ap (λ (k : ℕ). met_next (places_met (first-of k)) place) two)
+      ∙ sym (ap (λ (k : ℕ). met_next (met_places (first-of k)) place) two)
 
   -- it is none of them
   pub met-none : (n : ℕ) → n ≤ 2 → (0 < n → a.place ≡ place → ⊥)
-      → (n ≡ 2 → b.place ≡ place → ⊥) → HasMet (first-of n) place → ⊥
+      → (n ≡ 2 → b.place ≡ place → ⊥) → HasMetPlace (first-of n) place → ⊥
   met-none zero few first second has = absurd (omega (arith, has.1))
   met-none (suc zero) few first second (zero, within, is) = first (omega arith) is
   met-none (suc zero) few first second (suc k, within, is) = absurd (omega (arith, within))
@@ -77,9 +78,9 @@ module _ (a b : Met) (place : List ℕ) where
 
   -- a new one comes before the last of the others
   pub next-new : (n : ℕ) (new : Met) → n ≤ 2 → new.place ≡ place
-      → (HasMet (first-of n) place → ⊥)
-      → places_met (take (min n 1 + 1) (new ∷ a ∷ []))
-      ≡ met_next (places_met (first-of n)) place
+      → (HasMetPlace (first-of n) place → ⊥)
+      → met_places (take (min n 1 + 1) (new ∷ a ∷ []))
+      ≡ met_next (met_places (first-of n)) place
   next-new zero new few here none = ap (λ (p : List ℕ). p ∷ []) here
   next-new (suc zero) new few here none =
       ap (λ (p : List ℕ). p ∷ a.place ∷ []) here
@@ -92,7 +93,7 @@ module _ (a b : Met) (place : List ℕ) where
   next-new (suc (suc (suc n))) new few here none = absurd (omega (arith, few))
 
   -- the last of the others is at another place
-  pub met-apart : (n m : ℕ) → m ≡ min n 1 → m + 1 ≡ 2 → (HasMet (first-of n) place → ⊥)
+  pub met-apart : (n m : ℕ) → m ≡ min n 1 → m + 1 ≡ 2 → (HasMetPlace (first-of n) place → ⊥)
       → a.place ≡ place → ⊥
   met-apart zero m least two none here = omega (arith, least, two)
   met-apart (suc zero) m least two none here = none (0, omega arith, here)

@@ -3,7 +3,7 @@ use Rattle.std.proofs.Common.{◌≡◌, ◌≢◌, ◌⊎◌, ⊎_elim, ◌<◌
 use Rattle.std.proofs.Common.{Bool, IsTrue, true, false, ◌&&◌, List, [], ◌∷◌, Option, Some, None}
 use Rattle.std.proofs.Common.{All}
 use Rattle.std.proofs.Common.{refl, sym, ap, subst, ◌∙◌, arith, true≢false, length, map}
-use Rattle.std.specs.Prelude.{cond, filter, is_some, unwrap_or, slice_get}
+use Rattle.std.specs.Prelude.{cond, filter, is_some, option_and_then, unwrap_or, slice_get}
 use Rattle.std.specs.List.{position, position_from}
 use Rattle.std.specs.Ordering.{is_le, is_lt, ordering_reverse}
 use Rattle.std.specs.declared.cmp.Ordering.{Ordering}
@@ -11,7 +11,8 @@ use Rattle.std.specs.declared.cmp.Ordering.TheVariants.{Less, Equal, Greater}
 use Rattle.std.proofs.lemmas.Cmp.{nat_list_cmp_total}
 use Rattle.std.proofs.lemmas.Iterator.Adapters.{position_from-zero}
 use Rattle.std.proofs.lemmas.List.Elements.{All-head, All-tail}
-use Rattle.vr_types.specs.Content.{Content, place_cmp, places_of, record_at, record_of}
+use Rattle.vr_types.specs.Content.{Content, place_cmp, places_of, item_at, record_of}
+use Rattle.vr_types.specs.Content.Item.{Standing}
 use Rattle.vr_types.specs.Content.{found_by}
 use Rattle.vr_types.specs.Image.{Block, Image, block_at}
 use Rattle.vr_types.proofs.CallerLemmas.{same_place}
@@ -117,7 +118,7 @@ module _ (test : List ℕ → Bool) where
 
   -- none passes
   pub none-passes : (content : Content) (q : List ℕ) → first content ≡ None → test q ≡ true
-      → record_at content q ≡ None
+      → item_at content q ≡ None
   none-passes [] q none is = refl
   none-passes (entry ∷ content) q none is =
       by (test entry.0) refl none (λ more. none-passes content q more is)
@@ -125,11 +126,11 @@ module _ (test : List ℕ → Bool) where
       by : (b : Bool) → test entry.0 ≡ b
           → first_of (cond b (entry.0 ∷ filter test (places_of content))
           (filter test (places_of content))) ≡ None
-          → (first content ≡ None → record_at content q ≡ None)
-          → record_at (entry ∷ content) q ≡ None
+          → (first content ≡ None → item_at content q ≡ None)
+          → item_at (entry ∷ content) q ≡ None
       by true it same more = absurd cc
       by false it same more =
-          by_other (place_cmp q entry.0) (record_of entry.1) (record_at content q)
+          by_other (place_cmp q entry.0) (Some entry.1) (item_at content q)
           (λ equal. true≢false (sym is ∙ ap test (same_place q entry.0 equal) ∙ it))
           ∙ more same
 
@@ -151,17 +152,17 @@ module _ (test : List ℕ → Bool) where
   -- those before the first that passes don't
   pub none-before : (content : Content) (key q : List ℕ) → Rising content
       → first content ≡ Some key → test q ≡ true → place_cmp q key ≡ Less
-      → record_at content q ≡ None
+      → item_at content q ≡ None
   none-before [] key q rising is passes less = refl
   none-before (entry ∷ content) key q rising is passes less =
       by (test entry.0) refl is
       (λ more. none-before content key q rising.1 more passes less)
     where
       never : (xs : Content) → AllAbove (Some entry.0) xs → place_cmp q entry.0 ≡ Less
-          → record_at xs q ≡ None
+          → item_at xs q ≡ None
       never [] above under = refl
       never (x ∷ xs) above under =
-          by_other (place_cmp q x.0) (record_of x.1) (record_at xs q)
+          by_other (place_cmp q x.0) (Some x.1) (item_at xs q)
           (λ equal. absurd (unequal (nat_list_cmp_total.trans q entry.0 x.0 under
           (lt_from_test (place_cmp entry.0 x.0) above.0)) equal))
           ∙ never xs above.1 under
@@ -172,45 +173,47 @@ module _ (test : List ℕ → Bool) where
       by : (b : Bool) → test entry.0 ≡ b
           → first_of (cond b (entry.0 ∷ filter test (places_of content))
           (filter test (places_of content))) ≡ Some key
-          → (first content ≡ Some key → record_at content q ≡ None)
-          → record_at (entry ∷ content) q ≡ None
+          → (first content ≡ Some key → item_at content q ≡ None)
+          → item_at (entry ∷ content) q ≡ None
       by true it same more =
           let here : entry.0 ≡ key = ap (λ (o : Option (List ℕ)). unwrap_or o key) same in
           let under : place_cmp q entry.0 ≡ Less = ap (place_cmp q) here ∙ less in
-          by_other (place_cmp q entry.0) (record_of entry.1) (record_at content q)
+          by_other (place_cmp q entry.0) (Some entry.1) (item_at content q)
           (λ equal. absurd (two under equal))
           ∙ never content rising.0 under
         where
           two : place_cmp q entry.0 ≡ Less → place_cmp q entry.0 ≡ Equal → ⊥
           two is_less is_equal = cc
       by false it same more =
-          by_other (place_cmp q entry.0) (record_of entry.1) (record_at content q)
+          by_other (place_cmp q entry.0) (Some entry.1) (item_at content q)
           (λ equal. true≢false (sym passes ∙ ap test (same_place q entry.0 equal) ∙ it))
           ∙ more same
 
 -- the first has a record
 pub first-has : (part : Keyed) (test : List ℕ → Bool) (items : List ci.Item) (key : List ℕ)
     → first_of (filter test (map (item_key part) items)) ≡ Some key
-    → record_at (map (placed part) items) key ≢ None
+    → option_and_then record_of (item_at (map (placed part) items) key) ≢ None
 first-has part test [] key is none = absurd cc
 first-has part test (item ∷ items) key is none =
     by (test (item_key part item)) is (place_cmp key (item_key part item)) refl
     (λ more. first-has part test items key more)
   where
     Has : Ordering → Type 0
-    Has o = found_by o (Some item.bytes) (record_at (map (placed part) items) key) ≡ None
+    Has o = option_and_then record_of
+        (found_by o (Some (Standing item.bytes)) (item_at (map (placed part) items) key)) ≡ None
 
     none_by : (o : Ordering) → place_cmp key (item_key part item) ≡ o
-        → found_by o (Some item.bytes) (record_at (map (placed part) items) key) ≡ None
-    none_by o same = sym (ap (λ (u : Ordering).
-        found_by u (Some item.bytes) (record_at (map (placed part) items) key)) same) ∙ none
+        → Has o
+    none_by o same = sym (ap (λ (u : Ordering). option_and_then record_of
+        (found_by u (Some (Standing item.bytes)) (item_at (map (placed part) items) key))) same)
+        ∙ none
 
     by : (b : Bool)
         → first_of (cond b (item_key part item ∷ filter test (map (item_key part) items))
         (filter test (map (item_key part) items))) ≡ Some key
         → (o : Ordering) → place_cmp key (item_key part item) ≡ o
         → (first_of (filter test (map (item_key part) items)) ≡ Some key
-        → record_at (map (placed part) items) key ≢ None) → ⊥
+        → option_and_then record_of (item_at (map (placed part) items) key) ≢ None) → ⊥
     by true same o compared more =
         let here : item_key part item ≡ key =
         ap (λ (x : Option (List ℕ)). unwrap_or x key) same in
@@ -345,7 +348,7 @@ module _ (part : Keyed) (image : Image) (from : Whence)
 
     -- what is read at a place of the range
     nth-item : (q : List ℕ) → position (reaches q) all-entries ≡ Some n
-        → item_of (KeyedShape part) image q ≡ record_at (records_of part nth-block) q
+        → item_of (KeyedShape part) image q ≡ item_at (records_of part nth-block) q
     nth-item q is = ap (λ (o : Option (Range × Entry)). found_on image (way_in part q o))
         (found-entry q all-entries n has.entry is has.is)
 
@@ -386,7 +389,8 @@ module _ (part : Keyed) (image : Image) (from : Whence)
   -- none at all
   pub no-next : (n : ℕ) → length all-entries ≤ n → NoneBefore n
       → HasNoNext (KeyedShape part) image from
-  no-next n all none q allowed = by (position (reaches q) all-entries) refl
+  no-next n all none q allowed =
+      ap (option_and_then record_of) (by (position (reaches q) all-entries) refl)
     where
       by : (o : Option ℕ) → position (reaches q) all-entries ≡ o
           → item_of (KeyedShape part) image q ≡ None
@@ -406,8 +410,9 @@ module _ (part : Keyed) (image : Image) (from : Whence)
     allowed = right (is_in range place) (allows from place) passes;
     some = λ nothing. first-has part (is_sought range from)
         (Rattle.vr_space.specs.Keyed.items_of (nth-block n (Some place) has)) place has.first_is
-        (sym (nth-item n (Some place) has place at_n) ∙ nothing);
-    least = λ q allowed less. by q (position (reaches q) all-entries) refl allowed less;
+        (ap (option_and_then record_of) (sym (nth-item n (Some place) has place at_n)) ∙ nothing);
+    least = λ q allowed less. ap (option_and_then record_of)
+        (by q (position (reaches q) all-entries) refl allowed less);
   }
     where
       range : Range

@@ -5,8 +5,9 @@ use Rattle.std.specs.Prelude.{IfSome}
 use Rattle.std.proofs.lemmas.List.Elements.{All-head}
 use Rattle.vr_types.specs.Image.{Block}
 use Rattle.vr_space.specs.Keyed.{Keyed, IsHead}
-use Rattle.vr_space.specs.Met.{Met, places_met}
+use Rattle.vr_space.specs.Met.{Met}
 use Rattle.vr_space.specs.Part.{KeyedShape, IsRecordOf}
+use Rattle.vr_keyed.specs.Slots.{met_places}
 use Rattle.vr_keyed.specs.Ready.{refreshed}
 
 -- the first of those that were met
@@ -30,7 +31,7 @@ take-refreshed k n bytes a b one other first second =
     by (suc (suc (suc k))) = refl
 
 pub places-refreshed : (n : ℕ) (bytes : Block) (met : List Met)
-    → places_met (map (refreshed n bytes) met) ≡ places_met met
+    → met_places (map (refreshed n bytes) met) ≡ met_places met
 places-refreshed n bytes [] = refl
 places-refreshed n bytes (one ∷ met) =
     ap (λ (places : List (List ℕ)). one.place ∷ places) (places-refreshed n bytes met)

@@ -2,12 +2,12 @@
 use Rattle.std.proofs.Common.{◌≡◌, ◌≤◌, ◌-◌, ℕ, Bool, true, false, List, [], ◌∷◌}
 use Rattle.std.proofs.Common.{◌⊎◌, inl, inr, ⊎_elim, Option, Some, None, refl, sym, ap, subst, ◌∙◌}
 use Rattle.std.proofs.Common.{arith, true≢false, length, map}
-use Rattle.std.specs.Prelude.{filter, cond, IfSome}
+use Rattle.std.specs.Prelude.{IfSome}
 use Rattle.std.specs.Option.{option_map}
 use Rattle.std.specs.Ordering.{is_lt}
 use Rattle.std.specs.declared.cmp.Ordering.{Ordering}
 use Rattle.std.specs.declared.cmp.Ordering.TheVariants.{Less, Equal, Greater}
-use Rattle.vr_types.specs.Content.{Content, Placed, place_cmp, record_at, found_by}
+use Rattle.vr_types.specs.Content.{Content, Item, place_cmp, item_at, found_by}
 use Rattle.vr_types.specs.Content.Item.{Standing, Withdrawn}
 use Rattle.vr_types.specs.Image.{Block}
 use Rattle.vr_types.proofs.CallerLemmas.{same_place}
@@ -29,66 +29,48 @@ use Rattle.vr_keyed.proofs.Contents.{records-set}
 
 -- ---- lengths of a content
 
-abbrev pub length_in : Option (List ℕ) → Option ℕ
-length_in record_there = option_map (λ (bytes : List ℕ). length bytes) record_there
+abbrev item_length : Item → ℕ
+item_length (Standing bytes) = length bytes
+item_length (Withdrawn n) = n
+
+abbrev pub length_in : Option Item → Option ℕ
+length_in item = option_map item_length item
 
 abbrev lengths : Content → Lengths
 lengths content = map length_of content
 
--- the content has records alone
-abbrev pub AllStand : Content → Type 0
-AllStand [] = Unit {0}
-AllStand (entry ∷ content) = ((bytes : List ℕ) × (entry.1 ≡ Standing bytes)) × AllStand content
+length-found : (o : Ordering) (item : Item) (further : Option Item) (n : Option ℕ)
+    → n ≡ length_in further
+    → length_by o (item_length item) n ≡ length_in (found_by o (Some item) further)
+length-found Less item further n is = is
+length-found Equal item further n is = refl
+length-found Greater item further n is = is
 
-stand-placed : (part : Keyed) (items : List ci.Item) → AllStand (map (placed part) items)
-stand-placed part [] = tt
-stand-placed part (item ∷ items) = ((item.bytes, refl), stand-placed part items)
+-- the length at a place is that of the item there
+at-lengths : (content : Content) (q : List ℕ)
+    → length_at (lengths content) q ≡ length_in (item_at content q)
+at-lengths [] q = refl
+at-lengths ((place, Standing bytes) ∷ content) q =
+    length-found (place_cmp q place) (Standing bytes) (item_at content q)
+    (length_at (lengths content) q) (at-lengths content q)
+at-lengths ((place, Withdrawn n) ∷ content) q =
+    length-found (place_cmp q place) (Withdrawn n) (item_at content q)
+    (length_at (lengths content) q) (at-lengths content q)
 
-stand-filter : (range : Range) (content : Content) → AllStand content
-    → AllStand (filter (λ (entry : Placed). is_in range entry.0) content)
-stand-filter range [] all = tt
-stand-filter range (entry ∷ content) all =
-    by (is_in range entry.0) (stand-filter range content all.1)
-  where
-    rest : Content
-    rest = filter (λ (x : Placed). is_in range x.0) content
+past-lengths : (place : List ℕ) (content : Content) → AllAbove (Some place) content
+    → ArePast place (lengths content)
+past-lengths place [] all = tt
+past-lengths place ((p, Standing bytes) ∷ content) all =
+    (lt_from_test (place_cmp place p) all.0, past-lengths place content all.1)
+past-lengths place ((p, Withdrawn n) ∷ content) all =
+    (lt_from_test (place_cmp place p) all.0, past-lengths place content all.1)
 
-    by : (b : Bool) → AllStand rest → AllStand (cond b (entry ∷ rest) rest)
-    by true more = (all.0, more)
-    by false more = more
-
--- the length at a place is that of the record there
-at-lengths : (content : Content) (q : List ℕ) → AllStand content
-    → length_at (lengths content) q ≡ length_in (record_at content q)
-at-lengths [] q all = refl
-at-lengths ((place, Standing bytes) ∷ content) q all =
-    by (place_cmp q place) (at-lengths content q all.1)
-  where
-    by : (o : Ordering) → length_at (lengths content) q ≡ length_in (record_at content q)
-        → length_by o (length bytes) (length_at (lengths content) q)
-        ≡ length_in (found_by o (Some bytes) (record_at content q))
-    by Less more = more
-    by Equal more = refl
-    by Greater more = more
-at-lengths ((place, Withdrawn n) ∷ content) q all = absurd (never all.0.1)
-  where
-    never : {bytes : List ℕ} → Withdrawn n ≡ Standing bytes → ⊥
-    never same = cc
-
-past-lengths : (place : List ℕ) (content : Content) → AllStand content
-    → AllAbove (Some place) content → ArePast place (lengths content)
-past-lengths place [] stand all = tt
-past-lengths place ((p, Standing bytes) ∷ content) stand all =
-    (lt_from_test (place_cmp place p) all.0, past-lengths place content stand.1 all.1)
-past-lengths place ((p, Withdrawn n) ∷ content) stand all =
-    (lt_from_test (place_cmp place p) all.0, past-lengths place content stand.1 all.1)
-
-rise-lengths : (content : Content) → AllStand content → Rising content → Rise (lengths content)
-rise-lengths [] stand rising = tt
-rise-lengths ((p, Standing bytes) ∷ content) stand rising =
-    (past-lengths p content stand.1 rising.0, rise-lengths content stand.1 rising.1)
-rise-lengths ((p, Withdrawn n) ∷ content) stand rising =
-    (past-lengths p content stand.1 rising.0, rise-lengths content stand.1 rising.1)
+rise-lengths : (content : Content) → Rising content → Rise (lengths content)
+rise-lengths [] rising = tt
+rise-lengths ((p, Standing bytes) ∷ content) rising =
+    (past-lengths p content rising.0, rise-lengths content rising.1)
+rise-lengths ((p, Withdrawn n) ∷ content) rising =
+    (past-lengths p content rising.0, rise-lengths content rising.1)
 
 -- the room of items is the weight of their lengths
 room-weight : (part : Keyed) (items : List ci.Item)
@@ -139,165 +121,159 @@ module _ (part : Keyed) (range : Range) (place : List ℕ) (new : Option (List �
   rising : Rising (records_of part old)
   rising = block-rises part range old holds
 
-  stand-before : AllStand before
-  stand-before = stand-filter range (records_of part old) (stand-placed part (items_of old))
-
   rise-before : Rise (lengths before)
-  rise-before = rise-lengths before stand-before
-      (rising-filtered range (records_of part old) rising)
+  rise-before = rise-lengths before (rising-filtered range (records_of part old) rising)
 
   at-before : (q : List ℕ) → is_in range q ≡ true
-      → length_at (lengths before) q ≡ length_in (record_at (records_of part old) q)
-  at-before q inside = at-lengths before q stand-before
+      → length_at (lengths before) q ≡ length_in (item_at (records_of part old) q)
+  at-before q inside = at-lengths before q
       ∙ ap length_in (record-filter range (records_of part old) q inside)
 
-  module _ (stand : AllStand (content_set range place new (records_of part old))) where
-    rise-after : Rise (lengths after)
-    rise-after = rise-lengths after stand
-        (set-rises range place new (records_of part old) rising)
+  rise-after : Rise (lengths after)
+  rise-after = rise-lengths after (set-rises range place new (records_of part old) rising)
 
-    at-after : (q : List ℕ)
-        → length_at (lengths after) q ≡ length_in (record_at after q)
-    at-after q = at-lengths after q stand
+  at-after : (q : List ℕ)
+      → length_at (lengths after) q ≡ length_in (item_at after q)
+  at-after q = at-lengths after q
 
-    -- a test of the range, both ways
-    in-or : (q : List ℕ) → (is_in range q ≡ true) ⊎ (is_in range q ≡ false)
-    in-or q = by (is_in range q)
-      where
-        by : (b : Bool) → (b ≡ true) ⊎ (b ≡ false)
-        by true = inl refl
-        by false = inr refl
+  -- a test of the range, both ways
+  in-or : (q : List ℕ) → (is_in range q ≡ true) ⊎ (is_in range q ≡ false)
+  in-or q = by (is_in range q)
+    where
+      by : (b : Bool) → (b ≡ true) ⊎ (b ≡ false)
+      by true = inl refl
+      by false = inr refl
 
-    -- at another place it is what it was, or none
-    at-off : (q : List ℕ) (there : Option ℕ) → (q ≡ place → ⊥)
-        → NoMore (length_at (lengths before) q) there
-        → NoMore (length_at (lengths after) q) there
-    at-off q there apart under = ⊎_elim
-        (λ inside. subst (λ (o : Option ℕ). NoMore o there)
-        (at-before q inside
-        ∙ sym (at-after q ∙ ap length_in
-        (set-other range place new (records_of part old) q inside apart))) under)
-        (λ out. subst (λ (o : Option ℕ). NoMore o there)
-        (sym (at-after q ∙ ap length_in
-        (set-beyond range place new (records_of part old) here q out))) tt)
-        (in-or q)
+  -- at another place it is what it was, or none
+  at-off : (q : List ℕ) (there : Option ℕ) → (q ≡ place → ⊥)
+      → NoMore (length_at (lengths before) q) there
+      → NoMore (length_at (lengths after) q) there
+  at-off q there apart under = ⊎_elim
+      (λ inside. subst (λ (o : Option ℕ). NoMore o there)
+      (at-before q inside
+      ∙ sym (at-after q ∙ ap length_in
+      (set-other range place new (records_of part old) q inside apart))) under)
+      (λ out. subst (λ (o : Option ℕ). NoMore o there)
+      (sym (at-after q ∙ ap length_in
+      (set-beyond range place new (records_of part old) here q out))) tt)
+      (in-or q)
 
-    -- with a record of this length at the place
-    pub after-longer : (n : ℕ) → NoMore (length_in new) (Some n)
-        → IsUnder (lengths after) (with_length (lengths before) place n)
-    after-longer n most = record {
-      each = λ q. at-by (lengths before) place n q rise-before
-          (NoMore (length_at (lengths after) q))
-          (λ equal. subst (λ (p : List ℕ). NoMore (length_at (lengths after) p)
-          (Some (most_of n (length_at (lengths before) place))))
-          (sym (same_place q place equal))
-          (subst (λ (o : Option ℕ). NoMore o (Some (most_of n (length_at (lengths before) place))))
+  -- with a record of this length at the place
+  pub after-longer : (n : ℕ) → NoMore (length_in (option_map Standing new)) (Some n)
+      → IsUnder (lengths after) (with_length (lengths before) place n)
+  after-longer n most = record {
+    each = λ q. at-by (lengths before) place n q rise-before
+        (NoMore (length_at (lengths after) q))
+        (λ equal. subst (λ (p : List ℕ). NoMore (length_at (lengths after) p)
+        (Some (most_of n (length_at (lengths before) place))))
+        (sym (same_place q place equal))
+        (subst (λ (o : Option ℕ). NoMore o (Some (most_of n (length_at (lengths before) place))))
+        (sym (at-after place ∙ ap length_in
+        (set-here range place new (records_of part old))))
+        (longest (length_in (option_map Standing new)) (length_at (lengths before) place) most)))
+        (λ apart. at-off q (length_at (lengths before) q)
+        (λ same. apart (ap (place_cmp q) (sym same)
+        ∙ Rattle.vr_space.proofs.CallerLemmas.same_is_equal q))
+        (no-more-same (length_at (lengths before) q) (length_at (lengths before) q) refl));
+  }
+    where
+      longest : (o there : Option ℕ) → NoMore o (Some n) → NoMore o (Some (most_of n there))
+      longest None there under = tt
+      longest (Some k) None under = under
+      longest (Some k) (Some m) under = omega (arith, under)
+
+  -- without one
+  pub after-less : new ≡ None → IsUnder (lengths after) (lengths before)
+  after-less none = record {
+    each = λ q. by q (Rattle.std.specs.Ordering.is_eq (place_cmp q place)) refl;
+  }
+    where
+      at-none : (q : List ℕ) → place_cmp q place ≡ Equal
+          → NoMore (length_at (lengths after) q) (length_at (lengths before) q)
+      at-none q equal =
+          subst (λ (p : List ℕ). NoMore (length_at (lengths after) p)
+          (length_at (lengths before) p)) (sym (same_place q place equal))
+          (subst (λ (o : Option ℕ). NoMore o (length_at (lengths before) place))
           (sym (at-after place ∙ ap length_in
-          (set-here range place new (records_of part old))))
-          (longest (length_in new) (length_at (lengths before) place) most)))
-          (λ apart. at-off q (length_at (lengths before) q)
-          (λ same. apart (ap (place_cmp q) (sym same)
-          ∙ Rattle.vr_space.proofs.CallerLemmas.same_is_equal q))
-          (no-more-same (length_at (lengths before) q) (length_at (lengths before) q) refl));
-    }
-      where
-        longest : (o there : Option ℕ) → NoMore o (Some n) → NoMore o (Some (most_of n there))
-        longest None there under = tt
-        longest (Some k) None under = under
-        longest (Some k) (Some m) under = omega (arith, under)
+          (set-here range place new (records_of part old)
+          ∙ ap (option_map Standing) none))) tt)
 
-    -- without one
-    pub after-less : new ≡ None → IsUnder (lengths after) (lengths before)
-    after-less none = record {
-      each = λ q. by q (Rattle.std.specs.Ordering.is_eq (place_cmp q place)) refl;
-    }
-      where
-        at-none : (q : List ℕ) → place_cmp q place ≡ Equal
-            → NoMore (length_at (lengths after) q) (length_at (lengths before) q)
-        at-none q equal =
-            subst (λ (p : List ℕ). NoMore (length_at (lengths after) p)
-            (length_at (lengths before) p)) (sym (same_place q place equal))
-            (subst (λ (o : Option ℕ). NoMore o (length_at (lengths before) place))
-            (sym (at-after place ∙ ap length_in
-            (set-here range place new (records_of part old) ∙ none))) tt)
+      by : (q : List ℕ) (b : Bool) → Rattle.std.specs.Ordering.is_eq (place_cmp q place) ≡ b
+          → NoMore (length_at (lengths after) q) (length_at (lengths before) q)
+      by q true is = at-none q (equal_is (place_cmp q place) is)
+        where
+          equal_is : (o : Ordering) → Rattle.std.specs.Ordering.is_eq o ≡ true → o ≡ Equal
+          equal_is Less is_it = absurd (true≢false (sym is_it))
+          equal_is Equal is_it = refl
+          equal_is Greater is_it = absurd (true≢false (sym is_it))
+      by q false is = at-off q (length_at (lengths before) q)
+          (λ same. true≢false (sym (ap Rattle.std.specs.Ordering.is_eq
+          (ap (place_cmp q) (sym same) ∙ Rattle.vr_space.proofs.CallerLemmas.same_is_equal q))
+          ∙ is))
+          (no-more-same (length_at (lengths before) q) (length_at (lengths before) q) refl)
 
-        by : (q : List ℕ) (b : Bool) → Rattle.std.specs.Ordering.is_eq (place_cmp q place) ≡ b
-            → NoMore (length_at (lengths after) q) (length_at (lengths before) q)
-        by q true is = at-none q (equal_is (place_cmp q place) is)
-          where
-            equal_is : (o : Ordering) → Rattle.std.specs.Ordering.is_eq o ≡ true → o ≡ Equal
-            equal_is Less is_it = absurd (true≢false (sym is_it))
-            equal_is Equal is_it = refl
-            equal_is Greater is_it = absurd (true≢false (sym is_it))
-        by q false is = at-off q (length_at (lengths before) q)
-            (λ same. true≢false (sym (ap Rattle.std.specs.Ordering.is_eq
-            (ap (place_cmp q) (sym same) ∙ Rattle.vr_space.proofs.CallerLemmas.same_is_equal q))
-            ∙ is))
-            (no-more-same (length_at (lengths before) q) (length_at (lengths before) q) refl)
+  -- ---- room
 
-    -- ---- room
+  -- What is set has room: beside what is there and what is kept, or in what is kept for the
+  -- place, or it is taken away.
+  abbrev pub HasPlace : Lengths → Type 0
+  HasPlace kept = (new ≡ None)
+      ⊎ ((n : ℕ) × NoMore (length_in (option_map Standing new)) (Some n)
+      × ((weight (with_length (lengths_of part kept range old) place n) ≤ part.size - 4)
+      ⊎ ((m : ℕ) × (length_at kept place ≡ Some m) × (n ≤ m))))
 
-    -- What is set has room: beside what is there and what is kept, or in what is kept for the
-    -- place, or it is taken away.
-    abbrev pub HasPlace : Lengths → Type 0
-    HasPlace kept = (new ≡ None)
-        ⊎ ((n : ℕ) × NoMore (length_in new) (Some n)
-        × ((weight (with_length (lengths_of part kept range old) place n) ≤ part.size - 4)
-        ⊎ ((m : ℕ) × (length_at kept place ≡ Some m) × (n ≤ m))))
-
-    pub after-room : (kept : Lengths) → HasPlace kept
-        → weight (lengths_of part kept range old) ≤ part.size - 4
-        → weight (with_lengths (lengths after) (lengths_in range kept)) ≤ part.size - 4
-    after-room kept has fits = ⊎_elim
-        (λ none. omega (arith, fits, lighter (lengths before) rise-before (after-less none)))
-        (λ some. ⊎_elim
-        (λ beside. omega (
-          arith,
-          beside,
-          lighter (with_length (lengths before) place some.0)
-              (rise-with (lengths before) place some.0 rise-before)
-              (after-longer some.0 some.1),
-          under-weight
-              (with_lengths (with_length (lengths before) place some.0) (lengths_in range kept))
-              (with_length (with_lengths (lengths before) (lengths_in range kept)) place some.0)
-              (rise-withs (with_length (lengths before) place some.0) (lengths_in range kept)
-              (rise-with (lengths before) place some.0 rise-before))
-              (rise-with (with_lengths (lengths before) (lengths_in range kept)) place some.0
-              (rise-withs (lengths before) (lengths_in range kept) rise-before))
-              (with-last (lengths before) (lengths_in range kept) place some.0 rise-before),
-        ))
-        (λ covered. omega (
-          arith,
-          fits,
-          lighter (with_length (lengths before) place some.0)
-              (rise-with (lengths before) place some.0 rise-before)
-              (after-longer some.0 some.1),
-          under-weight
-              (with_lengths (with_length (lengths before) place some.0) (lengths_in range kept))
-              (with_lengths (lengths before) (lengths_in range kept))
-              (rise-withs (with_length (lengths before) place some.0) (lengths_in range kept)
-              (rise-with (lengths before) place some.0 rise-before))
-              (rise-withs (lengths before) (lengths_in range kept) rise-before)
-              (with-covered (lengths before) (lengths_in range kept) place some.0 covered.0
-              rise-before (at-range range kept place here ∙ covered.1) covered.2),
-        ))
-        some.2)
-        has
-      where
-        lighter : (other : Lengths) → Rise other → IsUnder (lengths after) other
-            → weight (with_lengths (lengths after) (lengths_in range kept))
-            ≤ weight (with_lengths other (lengths_in range kept))
-        lighter other rise under =
-            under-weight (with_lengths (lengths after) (lengths_in range kept))
-            (with_lengths other (lengths_in range kept))
-            (rise-withs (lengths after) (lengths_in range kept) rise-after)
-            (rise-withs other (lengths_in range kept) rise)
-            (under-withs (lengths after) other (lengths_in range kept) rise-after rise under)
+  pub after-room : (kept : Lengths) → HasPlace kept
+      → weight (lengths_of part kept range old) ≤ part.size - 4
+      → weight (with_lengths (lengths after) (lengths_in range kept)) ≤ part.size - 4
+  after-room kept has fits = ⊎_elim
+      (λ none. omega (arith, fits, lighter (lengths before) rise-before (after-less none)))
+      (λ some. ⊎_elim
+      (λ beside. omega (
+        arith,
+        beside,
+        lighter (with_length (lengths before) place some.0)
+            (rise-with (lengths before) place some.0 rise-before)
+            (after-longer some.0 some.1),
+        under-weight
+            (with_lengths (with_length (lengths before) place some.0) (lengths_in range kept))
+            (with_length (with_lengths (lengths before) (lengths_in range kept)) place some.0)
+            (rise-withs (with_length (lengths before) place some.0) (lengths_in range kept)
+            (rise-with (lengths before) place some.0 rise-before))
+            (rise-with (with_lengths (lengths before) (lengths_in range kept)) place some.0
+            (rise-withs (lengths before) (lengths_in range kept) rise-before))
+            (with-last (lengths before) (lengths_in range kept) place some.0 rise-before),
+      ))
+      (λ covered. omega (
+        arith,
+        fits,
+        lighter (with_length (lengths before) place some.0)
+            (rise-with (lengths before) place some.0 rise-before)
+            (after-longer some.0 some.1),
+        under-weight
+            (with_lengths (with_length (lengths before) place some.0) (lengths_in range kept))
+            (with_lengths (lengths before) (lengths_in range kept))
+            (rise-withs (with_length (lengths before) place some.0) (lengths_in range kept)
+            (rise-with (lengths before) place some.0 rise-before))
+            (rise-withs (lengths before) (lengths_in range kept) rise-before)
+            (with-covered (lengths before) (lengths_in range kept) place some.0 covered.0
+            rise-before (at-range range kept place here ∙ covered.1) covered.2),
+      ))
+      some.2)
+      has
+    where
+      lighter : (other : Lengths) → Rise other → IsUnder (lengths after) other
+          → weight (with_lengths (lengths after) (lengths_in range kept))
+          ≤ weight (with_lengths other (lengths_in range kept))
+      lighter other rise under =
+          under-weight (with_lengths (lengths after) (lengths_in range kept))
+          (with_lengths other (lengths_in range kept))
+          (rise-withs (lengths after) (lengths_in range kept) rise-after)
+          (rise-withs other (lengths_in range kept) rise)
+          (under-withs (lengths after) other (lengths_in range kept) rise-after rise under)
 
   -- the records that are written have room, and what is kept beside them
   pub set-room-of : (kept : Lengths) → IfSome new (IsRecordOf (KeyedShape part) place)
-      → ((stand : AllStand (content_set range place new (records_of part old)))
-      → HasPlace stand kept)
+      → HasPlace kept
       → weight (lengths_of part kept range old) ≤ part.size - 4
       → ci.room (items_set part range place new (items_of old)) ≤ part.size - 4
   set-room-of kept is has fits =
@@ -305,57 +281,50 @@ module _ (part : Keyed) (range : Range) (place : List ℕ) (new : Option (List �
       let same : map (placed part) items
       ≡ after = records-set part range place new (items_of old) is
       in
-      let stand : AllStand after = subst AllStand same (stand-placed part items) in
       omega (
         arith,
         room-weight part items,
         ap (λ (content : Content). weight (lengths content)) same,
         under-weight (lengths after) (with_lengths (lengths after) (lengths_in range kept))
-            (rise-after stand) (rise-withs (lengths after) (lengths_in range kept)
-            (rise-after stand))
-            (under-more (lengths after) (lengths_in range kept) (rise-after stand)),
-        after-room stand kept (has stand) fits,
+            rise-after (rise-withs (lengths after) (lengths_in range kept)
+            rise-after)
+            (under-more (lengths after) (lengths_in range kept) rise-after),
+        after-room kept has fits,
       )
 
   pub set-have-room : (kept : Lengths) (bytes : Block)
       → IfSome new (IsRecordOf (KeyedShape part) place)
       → items_of bytes ≡ items_set part range place new (items_of old)
       → HoldsRange part range bytes
-      → ((stand : AllStand (content_set range place new (records_of part old)))
-      → HasPlace stand kept)
+      → HasPlace kept
       → weight (lengths_of part kept range old) ≤ part.size - 4
       → HaveRoom part.size (lengths_of part kept range bytes)
   set-have-room kept bytes is items holds_new has fits =
-      let written : List ci.Item = items_set part range place new (items_of old) in
       let same : records_of part bytes ≡ after = ap (map (placed part)) items
       ∙ records-set part range place new (items_of old) is in
-      let stand : AllStand after = subst AllStand
-      (records-set part range place new (items_of old) is) (stand-placed part written) in
       let now : Content = records_in part range bytes in
-      let stand-now : AllStand now =
-      stand-filter range (records_of part bytes) (stand-placed part (items_of bytes)) in
-      let rise-now : Rise (lengths now) = rise-lengths now stand-now
+      let rise-now : Rise (lengths now) = rise-lengths now
       (rising-filtered range (records_of part bytes) (block-rises part range bytes holds_new)) in
       let under : IsUnder (lengths now) (lengths after) = record {
         each = λ q. ⊎_elim
             (λ inside. no-more-same (length_at (lengths now) q) (length_at (lengths after) q)
-            (at-lengths now q stand-now
+            (at-lengths now q
             ∙ ap length_in (record-filter range (records_of part bytes) q inside
-            ∙ ap (λ (content : Content). record_at content q) same)
-            ∙ sym (at-after stand q)))
+            ∙ ap (λ (content : Content). item_at content q) same)
+            ∙ sym (at-after q)))
             (λ out. subst (λ (o : Option ℕ). NoMore o (length_at (lengths after) q))
-            (sym (at-lengths now q stand-now
+            (sym (at-lengths now q
             ∙ ap length_in (none-record q now
             (none-filter range (records_of part bytes) q out)))) tt)
-            (in-or stand q);
+            (in-or q);
       } in
       omega (
         arith,
         under-weight (with_lengths (lengths now) (lengths_in range kept))
             (with_lengths (lengths after) (lengths_in range kept))
             (rise-withs (lengths now) (lengths_in range kept) rise-now)
-            (rise-withs (lengths after) (lengths_in range kept) (rise-after stand))
+            (rise-withs (lengths after) (lengths_in range kept) rise-after)
             (under-withs (lengths now) (lengths after) (lengths_in range kept) rise-now
-            (rise-after stand) under),
-        after-room stand kept (has stand) fits,
+            rise-after under),
+        after-room kept has fits,
       )

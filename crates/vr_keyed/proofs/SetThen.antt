@@ -2,30 +2,33 @@
 use Rattle.std.proofs.Common.{◌≡◌, ◌<◌, ◌≤◌, ℕ, zero, suc, Bool, IsTrue, List, [], ◌∷◌, Option}
 use Rattle.std.proofs.Common.{take, All, refl, sym, ap, subst, ◌∙◌, arith}
 use Rattle.std.proofs.lemmas.List.Elements.{All-head, All-tail, All-cons, All-nil}
+use Rattle.std.specs.Option.{option_map}
+use Rattle.vr_types.specs.Content.Item.{Standing}
 use Rattle.vr_types.specs.Image.{Image}
 use Rattle.vr_types.specs.Seen.{Seen, Left}
 use Rattle.vr_types.specs.Blocks.{Keeps}
 use Rattle.vr_types.proofs.CallerLemmas.{touches-then}
 use Rattle.vr_space.specs.Room.{Lengths}
 use Rattle.vr_space.specs.Keyed.{Keyed}
-use Rattle.vr_space.specs.Split.{SplitNow}
-use Rattle.vr_space.specs.Met.{Met, HasMet, places_met}
+use Rattle.vr_space.specs.Known.{Known}
+use Rattle.vr_space.specs.Met.{Met}
 use Rattle.vr_space.specs.Part.{KeyedShape, InPart, HasRoom, CanSet, SetsOne, Just}
 use Rattle.vr_space.proofs.CallerLemmas.{rest-keeps, room-keeps, way-keeps, keeps-adds, keeps-rooms}
 use Rattle.vr_space.proofs.CallerLemmas.{nothing-then, due-keeps, due-at-then}
+use Rattle.vr_keyed.specs.Slots.{HasMetPlace, met_places}
 use Rattle.vr_keyed.specs.Ready.{IsReady, MaySet, IsSetNow}
 
-module _ (part : Keyed) (kept : Lengths) (split : Option SplitNow) (place : List ℕ)
+module _ (part : Keyed) (kept : Lengths) (known : Known) (place : List ℕ)
     (item : Option (List ℕ)) (tells : Bool) (told : IsTrue tells) (a m : Seen)
-    (call : Keeps tells a m) (left : Left a a.cur) (ready : IsReady part kept split place item a)
+    (call : Keeps tells a m) (left : Left a a.cur) (ready : IsReady part kept known place item a)
   where
-    pub ready-keeps : IsReady part kept split place item m
+    pub ready-keeps : IsReady part kept known place item m
     ready-keeps = record {
       rests = rest-keeps tells told (KeyedShape part) a m call ready.rests;
       room = room-keeps tells told (KeyedShape part) kept a m call ready.rests.sound ready.room;
-      way = way-keeps tells told (KeyedShape part) split a m call ready.rests.sound left
+      way = way-keeps tells told (KeyedShape part) known a m call ready.rests.sound left
           ready.way;
-      can = subst (λ (image : Image). CanSet (KeyedShape part) split image kept place item)
+      can = subst (λ (image : Image). CanSet (KeyedShape part) known image kept place item)
           (sym (call.content told)) ready.can;
       valid = ready.valid;
     }
@@ -34,7 +37,7 @@ module _ (part : Keyed) (kept : Lengths) (split : Option SplitNow) (place : List
     pub may-keeps : MaySet part kept place item a m
     may-keeps = record {
       adds = Rattle.vr_space.proofs.CallerLemmas.adds-weaken (KeyedShape part)
-          Rattle.vr_space.specs.Part.Nothing (Just place item) a m
+          Rattle.vr_space.specs.Part.Nothing (Just place (option_map Standing item)) a m
           (keeps-adds tells told (KeyedShape part) a m call ready.rests.sound)
           (λ p i none. absurd none);
       room = room-keeps tells told (KeyedShape part) kept a m call ready.rests.sound ready.room;
@@ -44,7 +47,7 @@ module _ (part : Keyed) (kept : Lengths) (split : Option SplitNow) (place : List
 
     pub may-then : (b : Seen) → MaySet part kept place item m b → MaySet part kept place item a b
     may-then b may = record {
-      adds = nothing-then (KeyedShape part) (Just place item) a m b
+      adds = nothing-then (KeyedShape part) (Just place (option_map Standing item)) a m b
           (keeps-adds tells told (KeyedShape part) a m call ready.rests.sound) may.adds;
       room = may.room;
       rooms = touches-then (InPart (KeyedShape part)) (HasRoom (KeyedShape part) kept) a m b
@@ -52,8 +55,8 @@ module _ (part : Keyed) (kept : Lengths) (split : Option SplitNow) (place : List
           may.rooms;
     }
 
-    pub done-then : (b : Seen) (put : List ℕ) → IsSetNow part split put place item m b
-        → IsSetNow part split put place item a b
+    pub done-then : (b : Seen) (put : List ℕ) → IsSetNow part known put place item m b
+        → IsSetNow part known put place item a b
     done-then b put done = record {
       set = subst (λ (image : Image). SetsOne (KeyedShape part) place item image b.cur)
           (call.content told) done.set;
@@ -77,25 +80,25 @@ all-turned P n a b c d two first second all =
 
 -- places that were met, turned twice
 pub places-turned : (n k : ℕ) (a b c d e f : Met) → n ≡ 2 → k ≡ n
-    → places_met (take k (c ∷ d ∷ [])) ≡ places_met (take n (b ∷ a ∷ [])) → e ≡ d → f ≡ c
-    → places_met (take k (e ∷ f ∷ [])) ≡ places_met (take n (a ∷ b ∷ []))
+    → met_places (take k (c ∷ d ∷ [])) ≡ met_places (take n (b ∷ a ∷ [])) → e ≡ d → f ≡ c
+    → met_places (take k (e ∷ f ∷ [])) ≡ met_places (take n (a ∷ b ∷ []))
 places-turned n k a b c d e f two same middle first second =
     let k_two : k ≡ 2 = same ∙ two in
     let now : c.place ∷ d.place ∷ [] ≡ b.place ∷ a.place ∷ [] =
-    sym (ap (λ (j : ℕ). places_met (take j (c ∷ d ∷ []))) k_two) ∙ middle
-    ∙ ap (λ (j : ℕ). places_met (take j (b ∷ a ∷ []))) two in
+    sym (ap (λ (j : ℕ). met_places (take j (c ∷ d ∷ []))) k_two) ∙ middle
+    ∙ ap (λ (j : ℕ). met_places (take j (b ∷ a ∷ []))) two in
     let one : c.place ≡ b.place = cc in
     let other : d.place ≡ a.place = cc in
-    ap (λ (j : ℕ). places_met (take j (e ∷ f ∷ []))) k_two
+    ap (λ (j : ℕ). met_places (take j (e ∷ f ∷ []))) k_two
     ∙ ap (λ (x : Met). x.place ∷ f.place ∷ []) first
     ∙ ap (λ (x : Met). d.place ∷ x.place ∷ []) second
     ∙ ap (λ (p : List ℕ). p ∷ c.place ∷ []) other
     ∙ ap (λ (p : List ℕ). a.place ∷ p ∷ []) one
-    ∙ sym (ap (λ (j : ℕ). places_met (take j (a ∷ b ∷ []))) two)
+    ∙ sym (ap (λ (j : ℕ). met_places (take j (a ∷ b ∷ []))) two)
 
 -- a place that was met, and not before the last, is the last
 pub has-first : (n : ℕ) (a b : Met) (place : List ℕ) → n ≤ 2
-    → HasMet (take n (a ∷ b ∷ [])) place → (n ≡ 2 → b.place ≡ place → ⊥)
+    → HasMetPlace (take n (a ∷ b ∷ [])) place → (n ≡ 2 → b.place ≡ place → ⊥)
     → (0 < n) × (a.place ≡ place)
 has-first zero a b place few has none = absurd (omega (arith, has.1))
 has-first (suc zero) a b place few (zero, within, is) none = (omega arith, is)

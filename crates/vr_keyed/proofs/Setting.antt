@@ -6,12 +6,14 @@ use Rattle.std.proofs.lemmas.List.Elements.{Contains-push}
 use Rattle.std.proofs.lemmas.Map.Views.{Contains-from_any, list_any-from_Contains}
 use Rattle.std.proofs.lemmas.Cmp.{nat_eq_equiv}
 use Rattle.std.specs.List.{list_any}
+use Rattle.std.specs.Option.{option_map}
 use Rattle.std.specs.Prelude.{cond, IfSome, slice_index, nat_eq, nat_le, is_some, Contains}
 use Rattle.std.specs.List.Sorted.{IsStrictlySortedBy}
 use Rattle.std.specs.Ordering.{is_le, is_eq}
 use Rattle.std.specs.declared.cmp.Ordering.{Ordering}
 use Rattle.std.specs.declared.cmp.Ordering.TheVariants.{Less, Equal, Greater}
-use Rattle.vr_types.specs.Content.{Content, place_cmp, record_at}
+use Rattle.vr_types.specs.Content.{Content, place_cmp, item_at}
+use Rattle.vr_types.specs.Content.Item.{Standing}
 use Rattle.vr_types.specs.Image.{Block, block_at}
 use Rattle.vr_types.specs.Seen.{Seen, Left, Only}
 use Rattle.vr_types.specs.Blocks.{Puts}
@@ -29,6 +31,7 @@ use Rattle.vr_space.specs.Keyed.{Keyed, IsHead, IsKept, HoldsRange, EachMayLeave
 use Rattle.vr_space.specs.Keyed.{records_of, lengths_of, entries_of, entry_block, entry_for}
 use Rattle.vr_space.specs.Keyed.{range_of}
 use Rattle.vr_space.specs.Keyed.{way_in}
+use Rattle.vr_space.specs.Known.{Known}
 use Rattle.vr_space.specs.Split.{SplitNow, stage_at, stage_in}
 use Rattle.vr_space.specs.Met.{Met, IsMet}
 use Rattle.vr_space.specs.Part.{KeyedShape, InPart, IsRecordOf, HasRoomFor, IsDueTo, SetsOne, item_of}
@@ -41,7 +44,7 @@ use Rattle.vr_keyed.specs.Setting.{items_set}
 use Rattle.vr_keyed.specs.Ready.{IsReady, MaySet, IsSetNow, refreshed}
 use Rattle.vr_keyed.proofs.Contents.{content_set, records-set, set-here, set-other, set-kept}
 use Rattle.vr_keyed.proofs.Contents.{set-within, set-ascends}
-use Rattle.vr_keyed.proofs.Roomy.{AllStand, HasPlace, length_in, set-room-of, set-have-room}
+use Rattle.vr_keyed.proofs.Roomy.{HasPlace, length_in, set-room-of, set-have-room}
 
 -- ---- what is so of the interval of the entry that is found
 
@@ -146,8 +149,8 @@ test-apart n m is same = true≢false (sym (eq-eqb n m same) ∙ is)
 le-from : (n m : ℕ) → nat_le n m ≡ true → n ≤ m
 le-from n m is = Rattle.std.proofs.Common.leb-true n m is
 
-module _ (part : Keyed) (kept : Lengths) (split : Option SplitNow) (place : List ℕ)
-    (item : Option (List ℕ)) (met : Met) (a : Seen) (ready : IsReady part kept split place item a)
+module _ (part : Keyed) (kept : Lengths) (known : Known) (place : List ℕ)
+    (item : Option (List ℕ)) (met : Met) (a : Seen) (ready : IsReady part kept known place item a)
     (is : IsMet part a.cur met) (at_place : met.place ≡ place) (left : Left a a.cur) where
   abbrev top : Block
   top = block_at a.cur part.head
@@ -192,18 +195,17 @@ module _ (part : Keyed) (kept : Lengths) (split : Option SplitNow) (place : List
       (λ range block. HaveRoom part.size (lengths_of part kept range block)) None (entries_of top)
       place at (ready.room.each top may-top) leads met.block may-block
 
-  has-place : (stand : AllStand (content_set met.range place item (records_of part met.block)))
-      → HasPlace part met.range place item met.block old-holds in-range stand kept
-  has-place stand = by item refl ready.can.room
+  has-place : HasPlace part met.range place item met.block old-holds in-range kept
+  has-place = by item refl ready.can.room
     where
       by : (o : Option (List ℕ)) → item ≡ o
           → HasRoomFor (KeyedShape part) a.cur kept place o
-          → HasPlace part met.range place item met.block old-holds in-range stand kept
+          → HasPlace part met.range place item met.block old-holds in-range kept
       by None same room = inl same
       by (Some record_given) same room = inr (
         length record_given,
-        subst (λ (o : Option (List ℕ)).
-            Rattle.vr_keyed.proofs.Lengths.NoMore (length_in o) (Some (length record_given)))
+        subst (λ (o : Option (List ℕ)). Rattle.vr_keyed.proofs.Lengths.NoMore
+            (length_in (option_map Standing o)) (Some (length record_given)))
             (sym same) (omega arith),
         ⊎_elim
             (λ fits. inl (subst (λ (block : Block).
@@ -246,17 +248,17 @@ module _ (part : Keyed) (kept : Lengths) (split : Option SplitNow) (place : List
     same-range = of-same part met.number None (entries_of top) (λ range. range ≡ met.range) place at
         (head-apart part top now-head) leads is.number refl
 
-    has : record_at (records_of part bytes) place ≡ item
-    has = ap (λ (content : Content). record_at content place)
+    has : item_at (records_of part bytes) place ≡ option_map Standing item
+    has = ap (λ (content : Content). item_at content place)
         (written-records part met.range place item met.block bytes written ready.valid)
         ∙ set-here met.range place item (records_of part met.block)
 
-    keeps : KeepsOthers part a met.number bytes place item
+    keeps : KeepsOthers part a met.number bytes place (option_map Standing item)
     keeps q found leads_q there = by (is_eq (place_cmp q place)) refl
       where
         Kept : Type 0
-        Kept = (record_at (records_of part bytes) q ≡ item_of (KeyedShape part) a.cur q)
-            ⊎ ((q ≡ place) × (record_at (records_of part bytes) q ≡ item))
+        Kept = (item_at (records_of part bytes) q ≡ item_of (KeyedShape part) a.cur q)
+            ⊎ ((q ≡ place) × (item_at (records_of part bytes) q ≡ option_map Standing item))
 
         equal-is : (o : Ordering) → is_eq o ≡ true → o ≡ Equal
         equal-is Less it = absurd (true≢false (sym it))
@@ -275,37 +277,37 @@ module _ (part : Keyed) (kept : Lengths) (split : Option SplitNow) (place : List
         block-is = ap (block_at a.cur) there ∙ is.still
 
         by : (b : Bool) → is_eq (place_cmp q place) ≡ b
-            → (record_at (records_of part bytes) q ≡ item_of (KeyedShape part) a.cur q)
-            ⊎ ((q ≡ place) × (record_at (records_of part bytes) q ≡ item))
+            → (item_at (records_of part bytes) q ≡ item_of (KeyedShape part) a.cur q)
+            ⊎ ((q ≡ place) × (item_at (records_of part bytes) q ≡ option_map Standing item))
         by true it =
             let same : q ≡ place = same_place q place (equal-is (place_cmp q place) it) in
-            inr (same, ap (record_at (records_of part bytes)) same ∙ has)
+            inr (same, ap (item_at (records_of part bytes)) same ∙ has)
         by false it = inl
-            (ap (λ (content : Content). record_at content q)
+            (ap (λ (content : Content). item_at content q)
             (written-records part met.range place item met.block bytes written ready.valid)
             ∙ set-other met.range place item (records_of part met.block) q in-it
             (λ same. true≢false (sym (ap is_eq (ap (place_cmp q) (sym same) ∙ same_is_equal q))
             ∙ it))
-            ∙ sym (ap (λ (block : Block). record_at (records_of part block) q) block-is)
+            ∙ sym (ap (λ (block : Block). item_at (records_of part block) q) block-is)
             ∙ sym (ap (λ (o : Option (Range × Entry)). found_on a.cur (way_in part q o)) leads_q))
 
     module _ (tells : Bool) (told : IsTrue tells) (b : Seen)
         (call : Puts tells met.number bytes a b) where
       pub may-set : MaySet part kept place item a b
       may-set = record {
-        adds = set-adds part tells told a b met.number bytes place item ready.rests left call other
-            inside-part of-holds keeps;
+        adds = set-adds part tells told a b met.number bytes place (option_map Standing item)
+            ready.rests left call other inside-part of-holds keeps;
         room = room-after part tells told a b met.number bytes kept ready.rests call other
             ready.room of-room;
         rooms = rooms-after part tells told a b met.number bytes kept ready.rests call other
             inside-part ready.room of-holds of-room;
       }
 
-      off-split : (now : SplitNow) → split ≡ Some now → (m : ℕ) → InPart (KeyedShape part) m
+      off-split : (now : SplitNow) → known.split ≡ Some now → (m : ℕ) → InPart (KeyedShape part) m
           → IsSplitBlock part now m → m ≢ met.number
       off-split now some m within_part named same =
-          let stage : stage_at split is.entry ≡ None =
-          sym (ap (stage_in split) leads) ∙ ready.can.no_stage in
+          let stage : stage_at known.split is.entry ≡ None =
+          sym (ap (stage_in known.split) leads) ∙ ready.can.no_stage in
           let tests = either-false (nat_eq (slice_index is.entry.intervals 0) now.old)
           (nat_eq (slice_index is.entry.intervals 0) now.into) now.stage
           (subst (λ (o : Option SplitNow). stage_at o is.entry ≡ None) some stage) in
@@ -323,12 +325,12 @@ module _ (part : Keyed) (kept : Lengths) (split : Option SplitNow) (place : List
       read-now : (q : List ℕ) (found : Range × Entry)
           → entry_for None (entries_of top) q ≡ Some found → entry_block part found.1 ≡ met.number
           → item_of (KeyedShape part) b.cur q
-          ≡ record_at (records_of part (block_at b.cur met.number)) q
+          ≡ item_at (records_of part (block_at b.cur met.number)) q
       read-now q found leads_q there =
           led-is part tells told b b met.number bytes q found
           (ap (λ (block : Block). entry_for None (entries_of block) q)
           (head-still part tells told a b met.number bytes call other) ∙ leads_q)
-          ∙ ap (λ (n : ℕ). record_at (records_of part (block_at b.cur n)) q) there
+          ∙ ap (λ (n : ℕ). item_at (records_of part (block_at b.cur n)) q) there
 
       set-now : block_at b.cur met.number ≡ bytes
           → SetsOne (KeyedShape part) place item a.cur b.cur
@@ -341,16 +343,16 @@ module _ (part : Keyed) (kept : Lengths) (split : Option SplitNow) (place : List
           → entry_for None (entries_of top) q ≡ Some found
           → entry_block part found.1 ≡ met.number → (block : Block)
           → MayOnceForced listed b met.number block
-          → record_at (records_of part block) q ≡ item_of (KeyedShape part) b.cur q
+          → item_at (records_of part block) q ≡ item_of (KeyedShape part) b.cur q
       left-other now listed q found apart due leads_q there block once = ⊎_elim
           (λ old. ⊎_elim
-          (λ forced. ap (λ (x : Block). record_at (records_of part x) q) (once.1 forced)
+          (λ forced. ap (λ (x : Block). item_at (records_of part x) q) (once.1 forced)
           ∙ sym (read-now q found leads_q there))
-          (λ unforced. due (record_at (records_of part block) q) (
+          (λ unforced. due (item_at (records_of part block) q) (
             top,
             (may-top, λ here. refl),
             subst (λ (o : Option (Range × Entry)). MayFind (MayOnceForced listed a)
-                (record_at (records_of part block) q) (way_in part q o)) (sym leads_q) (
+                (item_at (records_of part block) q) (way_in part q o)) (sym leads_q) (
                   block,
                   subst (λ (n : ℕ). MayOnceForced listed a n block) (sym there)
                       (old, λ here. absurd (unforced here)),
@@ -359,24 +361,24 @@ module _ (part : Keyed) (kept : Lengths) (split : Option SplitNow) (place : List
           )
           ∙ sym ((set-now now).others q apart))
           (listed-or listed met.number))
-          (λ new. ap (λ (x : Block). record_at (records_of part x) q) (new.1 ∙ sym now)
+          (λ new. ap (λ (x : Block). item_at (records_of part x) q) (new.1 ∙ sym now)
           ∙ sym (read-now q found leads_q there))
           (call.adds told met.number block within once.0)
 
       pub done-set : block_at b.cur met.number ≡ bytes
-          → IsSetNow part split (met.number ∷ []) place item a b
+          → IsSetNow part known (met.number ∷ []) place item a b
       done-set now = record {
         set = set-now now;
         due = λ listed q due either. due-put part tells told a b met.number bytes listed q
             ready.rests left call other
             (λ found leads_q there block once. ⊎_elim
             (λ apart. left-other now listed q found apart due leads_q there block once)
-            (λ within_list. ap (λ (x : Block). record_at (records_of part x) q)
+            (λ within_list. ap (λ (x : Block). item_at (records_of part x) q)
             (once.1 (within_list met.number (Contains-push [] met.number)))
             ∙ sym (read-now q found leads_q there)) either) due;
         rests = rest-after part tells told a b met.number bytes ready.rests call other
             may-set.adds.sound;
-        way = way-puts tells told part split met.number bytes a b call ready.rests.sound left
+        way = way-puts tells told part known.split met.number bytes a b call ready.rests.sound left
             off-split ready.way;
       }
 

@@ -3,6 +3,7 @@ use Rattle.std.specs.Prelude.{ℕ, List, Option}
 use Rattle.vr_space.specs.Keyed.{Keyed}
 use Rattle.vr_space.specs.Split.{SplitNow}
 use Rattle.vr_space.specs.Met.{Met}
+use Rattle.vr_space.specs.Known.{Known}
 
 -- where it is, the split that is under way, what it met last, and which blocks its last `set` put
 pub record Owned : Type 0 where
@@ -10,3 +11,7 @@ pub record Owned : Type 0 where
   pub split : Option SplitNow
   pub met : List Met
   pub put : List ℕ
+
+-- what it keeps in memory of its blocks
+abbrev pub known_of : Owned → Known
+known_of keyed = record { split = keyed.split; met = keyed.met }

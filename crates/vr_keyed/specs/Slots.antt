@@ -1,6 +1,6 @@
 -- What is kept of the intervals that were met last. The rules are this project's own.
 use Rattle.std.specs.Prelude.{◌≡◌, ◌<◌, ℕ, Bool, true, false, List, [], ◌∷◌, Option, Some}
-use Rattle.std.specs.Prelude.{None, take, vec_len}
+use Rattle.std.specs.Prelude.{None, Contains, map, take, vec_len}
 use Rattle.vr_types.specs.Image.{Block}
 use Rattle.vr_seqset.specs.Entry.{Entry}
 use Rattle.vr_space.specs.Keyed.{Keyed, entries_of, entry_block, entry_for}
@@ -41,6 +41,14 @@ pub record IsLed (part : Keyed) (top : Block) (slot : Slot) : Type 0 where
 -- the intervals that were met, the last one first
 abbrev pub mets : Slots → List Met
 mets slots = take slots.filled (met_in slots.first ∷ met_in slots.second ∷ [])
+
+-- the places of intervals that were met
+abbrev pub met_places : List Met → List (List ℕ)
+met_places met = map (λ (one : Met). one.place) met
+
+-- a place of one of them
+abbrev pub HasMetPlace : List Met → List ℕ → Type 0
+HasMetPlace met place = Contains (met_places met) place
 
 pub record AreSlotsOf (part : Keyed) (slots : Slots) : Type 0 where
   pub first : IsSlotOf part slots.first

@@ -169,12 +169,11 @@ impl Keyed {
 
 impl Part for Keyed {
     ghost use Rattle.vr_space.specs.Part.{KeyedShape};
+    ghost use Rattle.vr_keyed.specs.Owned.{known_of};
 
     ghost shape = { λ keyed. KeyedShape keyed.part };
 
-    ghost split = { λ keyed. keyed.split };
-
-    ghost met = { λ keyed. keyed.met };
+    ghost known = { known_of };
 
     ghost put = { λ keyed. keyed.put };
 

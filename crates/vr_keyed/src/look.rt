@@ -6,7 +6,7 @@ ghost use Rattle.vr_types.specs.Image.{block_at};
 ghost use Rattle.vr_types.specs.Blocks.{Keeps};
 ghost use Rattle.vr_types.specs.Faults.{HasCause};
 ghost use Rattle.vr_space.specs.Keyed.{IsHead};
-ghost use Rattle.vr_space.specs.Part.{KeyedShape, IsOn, InPart, Stands, item_of};
+ghost use Rattle.vr_space.specs.Part.{KeyedShape, IsOn, InPart, Stands, record_read};
 ghost use Rattle.vr_keyed.specs.Look.{LeadsTo};
 
 use vr_space::{Layout, entry_for, record_at};
@@ -42,8 +42,9 @@ pub(crate) fn look_in<'a, B: Blocks>(
     requires place { length place.now ≡ layout.now.key }
     requires stands { IsTrue B.tells → Stands (KeyedShape layout.now) (B.seen blocks.old).cur }
     ensures item { IsTrue B.tells → IfOk result (λ found. MatchOption found
-        (item_of (KeyedShape layout.now) (B.seen blocks.old).cur place.now ≡ None)
-        (λ s. item_of (KeyedShape layout.now) (B.seen blocks.old).cur place.now ≡ Some s.now)) }
+        (record_read (KeyedShape layout.now) (B.seen blocks.old).cur place.now ≡ None)
+        (λ s. record_read (KeyedShape layout.now) (B.seen blocks.old).cur place.now
+        ≡ Some s.now)) }
     ensures* after { sem 𝓛 (Rests B.row blocks.entry (λ new.
         Keeps B.tells (B.seen blocks.old) (B.seen new)
         × HasCause (B.faults blocks.old) (B.faults new) result)) }

@@ -4,9 +4,10 @@ ghost use Rattle.vr_types.specs.Image.{Image, block_at};
 ghost use Rattle.vr_types.specs.Blocks.{Keeps};
 ghost use Rattle.vr_types.specs.Faults.{HasCause};
 ghost use Rattle.vr_space.specs.Keyed.{Keyed, IsHead};
-ghost use Rattle.vr_space.specs.Met.{IsMet, HasMet, places_met, met_next};
+ghost use Rattle.vr_space.specs.Met.{IsMet, met_next};
 ghost use Rattle.vr_space.specs.Part.{KeyedShape, IsOn};
 ghost use Rattle.vr_keyed.specs.Slots.{IsSlotOf, AreSlotsOf, IsFirst, IsLed, met_in, mets};
+ghost use Rattle.vr_keyed.specs.Slots.{HasMetPlace, met_places};
 
 use crate::slot::Slot;
 use crate::slots::Slots;
@@ -68,9 +69,9 @@ fn fill<B: Blocks>(
 /// Makes the interval of a place the one that was met last, if it is one of the two.
 fn recall(slots: &mut Slots, place: &[u8]) -> bool
     ensures found { IsTrue result → IsFirst place.now slots.new
-        × (places_met (mets slots.new) ≡ met_next (places_met (mets slots.old)) place.now) }
+        × (met_places (mets slots.new) ≡ met_next (met_places (mets slots.old)) place.now) }
     ensures none { result ≡ false
-        → (slots.new ≡ slots.old) × (HasMet (mets slots.old) place.now → ⊥) }
+        → (slots.new ≡ slots.old) × (HasMetPlace (mets slots.old) place.now → ⊥) }
     ensures met { (part : Keyed) (image : Image) → All (IsMet part image) (mets slots.old)
         → All (IsMet part image) (mets slots.new) }
     ensures room { (part : Keyed) → AreSlotsOf part slots.old → AreSlotsOf part slots.new }
@@ -99,11 +100,11 @@ fn read_in<B: Blocks>(
         → IsHead layout.now (block_at (B.seen blocks.old).cur layout.now.head) }
     requires met { IsTrue B.tells
         → All (IsMet layout.now (B.seen blocks.old).cur) (mets slots.old) }
-    requires none { HasMet (mets slots.old) place.now → ⊥ }
+    requires none { HasMetPlace (mets slots.old) place.now → ⊥ }
     ensures room { AreSlotsOf layout.now slots.new }
     ensures first { OnOk result (IsFirst place.now slots.new) }
     ensures places { OnOk result
-        (places_met (mets slots.new) ≡ met_next (places_met (mets slots.old)) place.now) }
+        (met_places (mets slots.new) ≡ met_next (met_places (mets slots.old)) place.now) }
     ensures met { IsTrue B.tells
         → All (IsMet layout.now (B.seen blocks.old).cur) (mets slots.new) }
     ensures keeps { Keeps B.tells (B.seen blocks.old) (B.seen blocks.new) }
@@ -134,10 +135,10 @@ pub(crate) fn meet<B: Blocks>(
     ensures room { AreSlotsOf layout.now slots.new }
     ensures first { OnOk result (IsFirst place.now slots.new) }
     ensures places { OnOk result
-        (places_met (mets slots.new) ≡ met_next (places_met (mets slots.old)) place.now) }
+        (met_places (mets slots.new) ≡ met_next (met_places (mets slots.old)) place.now) }
     ensures met { IsTrue B.tells
         → All (IsMet layout.now (B.seen blocks.old).cur) (mets slots.new) }
-    ensures known { HasMet (mets slots.old) place.now → IsOk result }
+    ensures known { HasMetPlace (mets slots.old) place.now → IsOk result }
     ensures keeps { Keeps B.tells (B.seen blocks.old) (B.seen blocks.new) }
     ensures cause { HasCause (B.faults blocks.old) (B.faults blocks.new) result }
 {

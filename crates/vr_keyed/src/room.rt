@@ -10,9 +10,9 @@ ghost use Rattle.vr_space.specs.Keyed.{IsHead, entry_block};
 ghost use Rattle.vr_space.specs.Split.{SplitNow, free_from, free_interval, keyed_room};
 ghost use Rattle.vr_space.specs.Split.{room_by_split};
 ghost use Rattle.vr_space.specs.Split.{stage_at};
-ghost use Rattle.vr_space.specs.Met.{IsMet, places_met, met_next};
+ghost use Rattle.vr_space.specs.Met.{IsMet, met_next};
 ghost use Rattle.vr_space.specs.Part.{KeyedShape, IsOn, Stands, part_no};
-ghost use Rattle.vr_keyed.specs.Slots.{AreSlotsOf, met_in, mets};
+ghost use Rattle.vr_keyed.specs.Slots.{AreSlotsOf, met_in, met_places, mets};
 ghost use Rattle.vr_space.specs.Lent.{range_lent};
 ghost use Rattle.vr_keyed.specs.Lent.{ArePlaces, HasRoomFor};
 ghost use Rattle.vr_keyed.specs.Splits.{IsSplit};
@@ -235,7 +235,7 @@ pub(crate) fn room_at<B: Blocks, K: Kept>(
         (K.kept kept.now (part_no (KeyedShape layout.now))) place.now longest) }
     ensures slots { AreSlotsOf layout.now slots.new }
     ensures places { OnOk result
-        (places_met (mets slots.new) ≡ met_next (places_met (mets slots.old)) place.now) }
+        (met_places (mets slots.new) ≡ met_next (met_places (mets slots.old)) place.now) }
     ensures met { IsTrue B.tells
         → All (IsMet layout.now (B.seen blocks.old).cur) (mets slots.new) }
     ensures room { HasRoomFor layout.now weights.new }

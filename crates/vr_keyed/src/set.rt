@@ -7,10 +7,11 @@ ghost use Rattle.vr_types.specs.Faults.{HasCause, HasWriteCause};
 ghost use Rattle.vr_types.specs.declared.fault.DeviceFault.TheVariants.{Read, Write};
 ghost use Rattle.vr_space.specs.Room.{Lengths};
 ghost use Rattle.vr_space.specs.Keyed.{Keyed, IsHead};
-ghost use Rattle.vr_space.specs.Split.{SplitNow};
-ghost use Rattle.vr_space.specs.Met.{IsMet, HasMet, places_met};
+ghost use Rattle.vr_space.specs.Known.{Known};
+ghost use Rattle.vr_space.specs.Met.{IsMet};
 ghost use Rattle.vr_space.specs.Part.{KeyedShape, IsOn, InPart, given};
 ghost use Rattle.vr_keyed.specs.Slots.{IsSlotOf, AreSlotsOf, IsFirst, met_in, mets};
+ghost use Rattle.vr_keyed.specs.Slots.{HasMetPlace, met_places};
 ghost use Rattle.vr_keyed.specs.Ready.{IsReady, MaySet, IsSetNow, put_of, refreshed};
 
 use crate::meet::meet;
@@ -62,18 +63,18 @@ fn put_set<B: Blocks>(
         → All (IsMet layout.now (B.seen blocks.old).cur) (mets slots.old) }
     ensures room { AreSlotsOf layout.now slots.new }
     ensures filled { slots.new.filled ≡ slots.old.filled }
-    ensures places { places_met (mets slots.new) ≡ places_met (mets slots.old) }
-    ensures may { IsTrue B.tells → (kept : Lengths) (split : Option SplitNow)
-        → IsReady layout.now kept split place.now (given bytes.entry) (B.seen blocks.old)
+    ensures places { met_places (mets slots.new) ≡ met_places (mets slots.old) }
+    ensures may { IsTrue B.tells → (kept : Lengths) (known : Known)
+        → IsReady layout.now kept known place.now (given bytes.entry) (B.seen blocks.old)
         → MaySet layout.now kept place.now (given bytes.entry)
         (B.seen blocks.old) (B.seen blocks.new) }
     ensures done { IsTrue B.tells → IfOk result (λ put.
-        (kept : Lengths) (split : Option SplitNow)
-        → IsReady layout.now kept split place.now (given bytes.entry) (B.seen blocks.old)
-        → IsSetNow layout.now split (put_of put) place.now (given bytes.entry)
+        (kept : Lengths) (known : Known)
+        → IsReady layout.now kept known place.now (given bytes.entry) (B.seen blocks.old)
+        → IsSetNow layout.now known (put_of put) place.now (given bytes.entry)
         (B.seen blocks.old) (B.seen blocks.new)) }
-    ensures met { IsTrue B.tells → OnOk result ((kept : Lengths) (split : Option SplitNow)
-        → IsReady layout.now kept split place.now (given bytes.entry) (B.seen blocks.old)
+    ensures met { IsTrue B.tells → OnOk result ((kept : Lengths) (known : Known)
+        → IsReady layout.now kept known place.now (given bytes.entry) (B.seen blocks.old)
         → All (IsMet layout.now (B.seen blocks.new).cur) (mets slots.new)) }
     ensures put { IfOk result (λ put. All (InPart (KeyedShape layout.now)) (put_of put)) }
     ensures count { (B.seen blocks.new).count ≡ (B.seen blocks.old).count }
@@ -105,18 +106,18 @@ fn set_second<B: Blocks>(
     requires met { IsTrue B.tells
         → All (IsMet layout.now (B.seen blocks.old).cur) (mets slots.old) }
     ensures room { AreSlotsOf layout.now slots.new }
-    ensures places { places_met (mets slots.new) ≡ places_met (mets slots.old) }
-    ensures may { IsTrue B.tells → (kept : Lengths) (split : Option SplitNow)
-        → IsReady layout.now kept split place.now (given bytes.entry) (B.seen blocks.old)
+    ensures places { met_places (mets slots.new) ≡ met_places (mets slots.old) }
+    ensures may { IsTrue B.tells → (kept : Lengths) (known : Known)
+        → IsReady layout.now kept known place.now (given bytes.entry) (B.seen blocks.old)
         → MaySet layout.now kept place.now (given bytes.entry)
         (B.seen blocks.old) (B.seen blocks.new) }
     ensures done { IsTrue B.tells → IfOk result (λ put.
-        (kept : Lengths) (split : Option SplitNow)
-        → IsReady layout.now kept split place.now (given bytes.entry) (B.seen blocks.old)
-        → IsSetNow layout.now split (put_of put) place.now (given bytes.entry)
+        (kept : Lengths) (known : Known)
+        → IsReady layout.now kept known place.now (given bytes.entry) (B.seen blocks.old)
+        → IsSetNow layout.now known (put_of put) place.now (given bytes.entry)
         (B.seen blocks.old) (B.seen blocks.new)) }
-    ensures met { IsTrue B.tells → OnOk result ((kept : Lengths) (split : Option SplitNow)
-        → IsReady layout.now kept split place.now (given bytes.entry) (B.seen blocks.old)
+    ensures met { IsTrue B.tells → OnOk result ((kept : Lengths) (known : Known)
+        → IsReady layout.now kept known place.now (given bytes.entry) (B.seen blocks.old)
         → All (IsMet layout.now (B.seen blocks.new).cur) (mets slots.new)) }
     ensures put { IfOk result (λ put. All (InPart (KeyedShape layout.now)) (put_of put)) }
     ensures count { (B.seen blocks.new).count ≡ (B.seen blocks.old).count }
@@ -148,21 +149,21 @@ pub(crate) fn set<B: Blocks>(
     requires met { IsTrue B.tells
         → All (IsMet layout.now (B.seen blocks.old).cur) (mets slots.old) }
     ensures room { AreSlotsOf layout.now slots.new }
-    ensures may { IsTrue B.tells → (kept : Lengths) (split : Option SplitNow)
-        → IsReady layout.now kept split place.now (given bytes.entry) (B.seen blocks.old)
+    ensures may { IsTrue B.tells → (kept : Lengths) (known : Known)
+        → IsReady layout.now kept known place.now (given bytes.entry) (B.seen blocks.old)
         → MaySet layout.now kept place.now (given bytes.entry)
         (B.seen blocks.old) (B.seen blocks.new) }
     ensures done { IsTrue B.tells → IfOk result (λ put.
-        (kept : Lengths) (split : Option SplitNow)
-        → IsReady layout.now kept split place.now (given bytes.entry) (B.seen blocks.old)
-        → IsSetNow layout.now split (put_of put) place.now (given bytes.entry)
+        (kept : Lengths) (known : Known)
+        → IsReady layout.now kept known place.now (given bytes.entry) (B.seen blocks.old)
+        → IsSetNow layout.now known (put_of put) place.now (given bytes.entry)
         (B.seen blocks.old) (B.seen blocks.new)) }
-    ensures met { IsTrue B.tells → OnOk result ((kept : Lengths) (split : Option SplitNow)
-        → IsReady layout.now kept split place.now (given bytes.entry) (B.seen blocks.old)
+    ensures met { IsTrue B.tells → OnOk result ((kept : Lengths) (known : Known)
+        → IsReady layout.now kept known place.now (given bytes.entry) (B.seen blocks.old)
         → All (IsMet layout.now (B.seen blocks.new).cur) (mets slots.new)) }
-    ensures places { HasMet (mets slots.old) place.now → OnOk result
-        (places_met (mets slots.new) ≡ places_met (mets slots.old)) }
-    ensures reads { HasMet (mets slots.old) place.now → IfErr result (λ fault. fault ≡ Write) }
+    ensures places { HasMetPlace (mets slots.old) place.now → OnOk result
+        (met_places (mets slots.new) ≡ met_places (mets slots.old)) }
+    ensures reads { HasMetPlace (mets slots.old) place.now → IfErr result (λ fault. fault ≡ Write) }
     ensures unread { IfErr result (λ fault. fault ≡ Read
         → Keeps B.tells (B.seen blocks.old) (B.seen blocks.new)
         × (IsTrue B.tells → All (IsMet layout.now (B.seen blocks.new).cur) (mets slots.new))) }

@@ -4,7 +4,9 @@ use Rattle.std.proofs.Common.{◌≡◌, ◌≢◌, ⊎_elim, ◌<◌, ◌+◌, 
 use Rattle.std.proofs.Common.{[], ◌∷◌, Option, Some, None, refl, sym, ap, subst, ◌∙◌}
 use Rattle.std.proofs.Common.{arith}
 use Rattle.std.specs.Prelude.{IfSome, slice_index}
-use Rattle.vr_types.specs.Content.{record_at}
+use Rattle.std.specs.Option.{option_map}
+use Rattle.vr_types.specs.Content.{Item, item_at}
+use Rattle.vr_types.specs.Content.Item.{Standing}
 use Rattle.vr_types.specs.Image.{Block, block_at}
 use Rattle.vr_types.specs.Seen.{Seen, Left}
 use Rattle.vr_types.specs.Blocks.{Puts}
@@ -102,33 +104,34 @@ module _ (part : Keyed) (tells : Bool) (told : IsTrue tells) (a b : Seen) (n : �
         (head-still part tells told a b n bytes call other)
 
     -- one place has the record that the bytes have there, and each other what it had
-    pub sets-one : (at : List ℕ) (new : Option (List ℕ)) (led : Range × Entry)
+    pub sets-one : (at : List ℕ) (given : Option (List ℕ)) (led : Range × Entry)
         → Puts tells n bytes a b → n ≢ part.head → block_at b.cur n ≡ bytes
         → entry_for None (now-entries part a n bytes) at ≡ Some led → entry_block part led.1 ≡ n
-        → record_at (records_of part bytes) at ≡ new → KeepsOthers part a n bytes at new
-        → SetsOne (KeyedShape part) at new a.cur b.cur
-    sets-one at new led call other now leads here has keeps = record {
+        → item_at (records_of part bytes) at ≡ option_map Standing given
+        → KeepsOthers part a n bytes at (option_map Standing given)
+        → SetsOne (KeyedShape part) at given a.cur b.cur
+    sets-one at given led call other now leads here has keeps = record {
       here = read-after call other at
           ∙ ap (λ (found : Option (Range × Entry)). found_on b.cur (way_in part at found)) leads
-          ∙ ap (λ (k : ℕ). record_at (records_of part (block_at b.cur k)) at) here
-          ∙ ap (λ (block : Block). record_at (records_of part block) at) now ∙ has;
+          ∙ ap (λ (k : ℕ). item_at (records_of part (block_at b.cur k)) at) here
+          ∙ ap (λ (block : Block). item_at (records_of part block) at) now ∙ has;
       others = λ place apart. read-after call other place
           ∙ still-found part tells told a b n bytes place
           (entry_for None (now-entries part a n bytes) place) call (λ found is there. ⊎_elim
-          (λ same. ap (λ (block : Block). record_at (records_of part block) place) now ∙ same
+          (λ same. ap (λ (block : Block). item_at (records_of part block) place) now ∙ same
           ∙ led-is part tells told a b n bytes place found is
-          ∙ ap (λ (k : ℕ). record_at (records_of part (block_at a.cur k)) place) there)
+          ∙ ap (λ (k : ℕ). item_at (records_of part (block_at a.cur k)) place) there)
           (λ it. absurd (apart it.0))
           (keeps place found is there));
     }
 
     -- what else may be found at a place once the list is forced
-    due-found : (listed place : List ℕ) (item : Option (List ℕ)) (found : Option (Range × Entry))
+    due-found : (listed place : List ℕ) (item : Option Item) (found : Option (Range × Entry))
         → part.head + part.area < a.count → Puts tells n bytes a b
         → ((at : Range × Entry) → found ≡ Some at → entry_block part at.1 < a.count)
         → ((at : Range × Entry) → found ≡ Some at → entry_block part at.1 ≡ n → (block : Block)
         → MayOnceForced listed b n block
-        → record_at (records_of part block) place ≡ found_on b.cur (way_in part place found))
+        → item_at (records_of part block) place ≡ found_on b.cur (way_in part place found))
         → (MayFind (MayOnceForced listed a) item (way_in part place found)
         → item ≡ found_on a.cur (way_in part place found))
         → MayFind (MayOnceForced listed b) item (way_in part place found)
@@ -145,7 +148,7 @@ module _ (part : Keyed) (tells : Bool) (told : IsTrue tells) (a b : Seen) (n : �
         ⊎_elim (λ old. old) (λ new. absurd (apart new.0))
         (call.adds told (entry_block part at.1) is.0 (below at refl) is.1.0) in
         due (is.0, (may, λ there. is.1.1 there ∙ still), is.2)
-        ∙ sym (ap (λ (block : Block). record_at (records_of part block) place) still))
+        ∙ sym (ap (λ (block : Block). item_at (records_of part block) place) still))
         (equal_or part tells told a b n bytes (entry_block part at.1) n)
 
     below-some : (found : Option (Range × Entry)) (at : Range × Entry) → found ≡ Some at
@@ -161,7 +164,7 @@ module _ (part : Keyed) (tells : Bool) (told : IsTrue tells) (a b : Seen) (n : �
         → Puts tells n bytes a b → n ≢ part.head
         → ((at : Range × Entry) → entry_for None (now-entries part a n bytes) place ≡ Some at
         → entry_block part at.1 ≡ n → (block : Block) → MayOnceForced listed b n block
-        → record_at (records_of part block) place ≡ item_of (KeyedShape part) b.cur place)
+        → item_at (records_of part block) place ≡ item_of (KeyedShape part) b.cur place)
         → IsDueTo (KeyedShape part) listed a place → IsDueTo (KeyedShape part) listed b place
     due-put listed place rests left call other leads due item is =
         let now : Block = block_at a.cur part.head in

@@ -4,7 +4,7 @@ use Rattle.std.proofs.Common.{◌≡◌, ◌≢◌, ◌⊎◌, inl, inr, ⊎_eli
 use Rattle.std.proofs.Common.{List, Some, None, refl, sym, ap, subst, ◌∙◌, arith}
 use Rattle.std.proofs.Common.{true≢false, length}
 use Rattle.std.specs.Prelude.{filter, map}
-use Rattle.vr_types.specs.Content.{Content, Placed, record_at}
+use Rattle.vr_types.specs.Content.{Content, Placed, item_at}
 use Rattle.vr_types.specs.Image.{Block, block_at}
 use Rattle.vr_types.specs.Seen.{Seen, Left, Only}
 use Rattle.vr_types.specs.Blocks.{Puts}
@@ -83,10 +83,10 @@ same-lengths part kept range block bytes same =
 -- and the same record at each place of the range
 pub same-record : (part : Keyed) (range : Range) (block bytes : Block) (place : List ℕ)
     → is_in range place ≡ true → records_in part range bytes ≡ records_in part range block
-    → record_at (records_of part bytes) place ≡ record_at (records_of part block) place
+    → item_at (records_of part bytes) place ≡ item_at (records_of part block) place
 same-record part range block bytes place within same =
     sym (record-filter range (records_of part bytes) place within)
-    ∙ ap (λ (xs : Content). record_at xs place) same
+    ∙ ap (λ (xs : Content). item_at xs place) same
     ∙ record-filter range (records_of part block) place within
 
 module _ (part : Keyed) (kept : Lengths) (split : SplitNow) (a : Seen)
@@ -124,8 +124,8 @@ module _ (part : Keyed) (kept : Lengths) (split : SplitNow) (a : Seen)
             (λ range each. subst (HaveRoom part.size) (sym (same range)) (each old_now now))
             (of-each part a n Q None (entries_of top)
             (resting.room.each top (may-top part split a resting.rests left)));
-        records = λ place at leads here. ap (λ (xs : Content). record_at xs place) copy.records
-            ∙ ap (λ (k : ℕ). record_at (records_of part (block_at a.cur k)) place) (sym here)
+        records = λ place at leads here. ap (λ (xs : Content). item_at xs place) copy.records
+            ∙ ap (λ (k : ℕ). item_at (records_of part (block_at a.cur k)) place) (sym here)
             ∙ sym (item-found part split a resting.rests left place at leads);
       }
 
@@ -179,11 +179,11 @@ module _ (part : Keyed) (kept : Lengths) (split : SplitNow) (a : Seen)
     moved-record : (place : List ℕ) (to : Range × Entry) → is_in to.0 place ≡ true
         → to.0 ≡ above_cut at_range split.cut
         → entry_for None (entries_of (block_at a.cur part.head)) place ≡ Some begun.at
-        → record_at (records_of part into_now) place ≡ item_of (KeyedShape part) a.cur place
+        → item_at (records_of part into_now) place ≡ item_of (KeyedShape part) a.cur place
     moved-record place to within range leads =
         same-record part (above_cut at_range split.cut) old_now into_now place
         (subst (λ (r : Range). is_in r place ≡ true) range within) copied.records
-        ∙ ap (λ (n : ℕ). record_at (records_of part (block_at a.cur n)) place)
+        ∙ ap (λ (n : ℕ). item_at (records_of part (block_at a.cur n)) place)
         (sym (is-old part split a resting.rests left begun))
         ∙ sym (item-found part split a resting.rests left place begun.at leads)
 
@@ -194,7 +194,7 @@ module _ (part : Keyed) (kept : Lengths) (split : SplitNow) (a : Seen)
         ≡ way_under part place (block_at a.cur part.head))
         ⊎ ((at : Range × Entry) × (entry_for None entries place ≡ Some at)
         × Only a (entry_block part at.1)
-        (λ block. record_at (records_of part block) place ≡ item_of (KeyedShape part) a.cur place))
+        (λ block. item_at (records_of part block) place ≡ item_of (KeyedShape part) a.cur place))
     switch-at entries place is = ⊎_elim
         (λ same. inl (ap (λ (es : List Entry). way_in part place (entry_for None es place)) is
         ∙ same))
@@ -205,7 +205,7 @@ module _ (part : Keyed) (kept : Lengths) (split : SplitNow) (a : Seen)
         inr (
           moved.to,
           ap (λ (es : List Entry). entry_for None es place) is ∙ moved.now_at,
-          λ block may. ap (λ (b : Block). record_at (records_of part b) place)
+          λ block may. ap (λ (b : Block). item_at (records_of part b) place)
               (copied.into block (subst (λ (n : ℕ). a.may n block)
               (ap (interval_block part) moved.interval) may))
               ∙ moved-record place moved.to within moved.its_range moved.was_at,
@@ -288,14 +288,14 @@ module _ (part : Keyed) (kept : Lengths) (split : SplitNow) (a : Seen)
       records = λ place at leads here. same-record part switched.at.0 old_now lower place
           (clean-in place at leads here)
           (range-records part switched.at.0 old_now lower has)
-          ∙ ap (λ (n : ℕ). record_at (records_of part (block_at a.cur n)) place) (sym here)
+          ∙ ap (λ (n : ℕ). item_at (records_of part (block_at a.cur n)) place) (sym here)
           ∙ sym (item-found part split a resting.rests left place at leads);
     }
 
     pub settled-old : IsSettledAt part (interval_block part split.old) a
     settled-old place at leads here block may =
-        ap (λ (b : Block). record_at (records_of part b) place) (switched.old block may)
-        ∙ ap (λ (n : ℕ). record_at (records_of part (block_at a.cur n)) place) (sym here)
+        ap (λ (b : Block). item_at (records_of part b) place) (switched.old block may)
+        ∙ ap (λ (n : ℕ). item_at (records_of part (block_at a.cur n)) place) (sym here)
         ∙ sym (item-found part split a resting.rests left place at leads)
 
 -- ---- what the stages leave

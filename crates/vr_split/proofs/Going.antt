@@ -114,7 +114,8 @@ module _ (part : Keyed) (tells : Bool) (told : IsTrue tells) (a m : Seen) (call 
   pub kept-way : (split : SplitNow) → Left a a.cur → KeyedUnderWay part (Some split) a
       → KeyedUnderWay part (Some split) m
   kept-way split left way =
-      way-keeps tells told (KeyedShape part) (Some split) a m call rests.sound left way
+      way-keeps tells told (KeyedShape part) (record { split = Some split; met = [] }) a m call
+      rests.sound left way
 
   pub then-part : (kept : Lengths) (b : Seen) → KeepsRoom part kept a → KeepsPart part kept m b
       → KeepsPart part kept a b

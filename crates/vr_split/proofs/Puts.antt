@@ -5,7 +5,7 @@ use Rattle.std.proofs.Common.{arith, true≢false, is_some, length}
 use Rattle.std.specs.Prelude.{cond, unwrap_or}
 use Rattle.std.specs.Ordering.{is_le}
 use Rattle.std.proofs.lemmas.Bool.{cases_lt}
-use Rattle.vr_types.specs.Content.{record_at, place_cmp}
+use Rattle.vr_types.specs.Content.{Item, item_at, place_cmp}
 use Rattle.vr_types.specs.Image.{Block, Image, MayAlso, block_at}
 use Rattle.vr_types.specs.Seen.{Seen, Left}
 use Rattle.vr_types.specs.Blocks.{Puts}
@@ -36,10 +36,10 @@ also a n bytes = record {
 
 -- A put into a block of the part: it owes that what a crash may leave is in order with the bytes
 -- too, and that A allows what may be held then.
-pub puts-adds : (part : Keyed) (tells : Bool) (A : List ℕ → Option (List ℕ)
+pub puts-adds : (part : Keyed) (tells : Bool) (A : List ℕ → Option Item
     → Type 0) (n : ℕ) (bytes : Block) (a b : Seen) → IsTrue tells → Puts tells n bytes a b
     → InPart (KeyedShape part) n → IsKeyedSound part (also a n bytes)
-    → ((place : List ℕ) (item : Option (List ℕ))
+    → ((place : List ℕ) (item : Option Item)
     → MayHold (KeyedShape part) (MayAlso a.may n bytes) place item
     → MayAlsoHold (KeyedShape part) a.may A place item) → AddsTo (KeyedShape part) A a b
 puts-adds part tells A n bytes a b told call inside sound allowed =
@@ -97,11 +97,11 @@ module _ (part : Keyed) (a : Seen) (n : ℕ) (bytes : Block) where
       }
 
   -- what may be found in an interval beside what might have been
-  found-also : (place : List ℕ) (item : Option (List ℕ)) (found : Option (Range × Entry))
+  found-also : (place : List ℕ) (item : Option Item) (found : Option (Range × Entry))
       → MayFind (MayAlso a.may n bytes) item (way_in part place found)
       → MayFind a.may item (way_in part place found)
       ⊎ ((at : Range × Entry) × (found ≡ Some at) × (entry_block part at.1 ≡ n)
-      × (item ≡ record_at (records_of part bytes) place))
+      × (item ≡ item_at (records_of part bytes) place))
   found-also place item None is = inl is
   found-also place item (Some at) is = ⊎_elim
       (λ old. inl (is.0, old, is.2))
@@ -110,18 +110,18 @@ module _ (part : Keyed) (a : Seen) (n : ℕ) (bytes : Block) where
         refl,
         new.0,
         is.2
-            ∙ ap (λ (block : Block). record_at (records_of part block) place) new.1,
+            ∙ ap (λ (block : Block). item_at (records_of part block) place) new.1,
       ))
       is.1
 
   -- what may be held with the bytes: what might have been, or what they have where the entries lead
   -- there
   pub interval-hold : IsKeyedAtRest part a → n ≢ part.head
-      → (place : List ℕ) (item : Option (List ℕ))
+      → (place : List ℕ) (item : Option Item)
       → MayHold (KeyedShape part) (MayAlso a.may n bytes) place item
       → MayHold (KeyedShape part) a.may place item
       ⊎ ((at : Range × Entry) × (entry_for None now-entries place ≡ Some at)
-      × (entry_block part at.1 ≡ n) × (item ≡ record_at (records_of part bytes) place))
+      × (entry_block part at.1 ≡ n) × (item ≡ item_at (records_of part bytes) place))
   interval-hold rests other place item is =
       let may : a.may part.head is.0 =
       ⊎_elim (λ old. old) (λ new. absurd (other (sym new.0))) is.1 in
@@ -142,14 +142,14 @@ module _ (part : Keyed) (a : Seen) (n : ℕ) (bytes : Block) where
   abbrev pub KeepsRecords : Type 0
   KeepsRecords = (place : List ℕ) (at : Range × Entry) → entry_for None now-entries place ≡ Some at
       → entry_block part at.1 ≡ n
-      → record_at (records_of part bytes) place ≡ item_of (KeyedShape part) a.cur place
+      → item_at (records_of part bytes) place ≡ item_of (KeyedShape part) a.cur place
 
   -- or they do at all places but one, which has this
-  abbrev pub KeepsOthers : List ℕ → Option (List ℕ) → Type 0
+  abbrev pub KeepsOthers : List ℕ → Option Item → Type 0
   KeepsOthers at new = (place : List ℕ) (found : Range × Entry)
       → entry_for None now-entries place ≡ Some found → entry_block part found.1 ≡ n
-      → (record_at (records_of part bytes) place ≡ item_of (KeyedShape part) a.cur place)
-      ⊎ ((place ≡ at) × (record_at (records_of part bytes) place ≡ new))
+      → (item_at (records_of part bytes) place ≡ item_of (KeyedShape part) a.cur place)
+      ⊎ ((place ≡ at) × (item_at (records_of part bytes) place ≡ new))
 
 -- ---- how entries lead
 
@@ -200,7 +200,7 @@ module _ (part : Keyed) (tells : Bool) (told : IsTrue tells) (a b : Seen) (n : �
         (interval-hold part a n bytes rests other place item holds))
 
     -- it is written with one record changed
-    pub set-adds : (at : List ℕ) (new : Option (List ℕ)) → IsKeyedAtRest part a → Left a a.cur
+    pub set-adds : (at : List ℕ) (new : Option Item) → IsKeyedAtRest part a → Left a a.cur
         → Puts tells n bytes a b → n ≢ part.head → InPart (KeyedShape part) n
         → OfBlock part n None (now-entries part a n bytes) (λ range. HoldsRange part range bytes)
         → KeepsOthers part a n bytes at new → AddsTo (KeyedShape part) (Just at new) a b
@@ -251,15 +251,15 @@ module _ (part : Keyed) (tells : Bool) (told : IsTrue tells) (a b : Seen) (n : �
     -- by way of the same entries
     pub still-found : (place : List ℕ) (found : Option (Range × Entry)) → Puts tells n bytes a b
         → ((at : Range × Entry) → found ≡ Some at → entry_block part at.1 ≡ n
-        → record_at (records_of part (block_at b.cur n)) place ≡ record_at
+        → item_at (records_of part (block_at b.cur n)) place ≡ item_at
         (records_of part (block_at a.cur n)) place)
         → found_on b.cur (way_in part place found) ≡ found_on a.cur (way_in part place found)
     still-found place None call here = refl
     still-found place (Some at) call here = ⊎_elim
-        (λ same. ap (λ (k : ℕ). record_at (records_of part (block_at b.cur k)) place) same
+        (λ same. ap (λ (k : ℕ). item_at (records_of part (block_at b.cur k)) place) same
         ∙ here at refl same
-        ∙ ap (λ (k : ℕ). record_at (records_of part (block_at a.cur k)) place) (sym same))
-        (λ apart. ap (λ (block : Block). record_at (records_of part block) place)
+        ∙ ap (λ (k : ℕ). item_at (records_of part (block_at a.cur k)) place) (sym same))
+        (λ apart. ap (λ (block : Block). item_at (records_of part block) place)
         (cur-elsewhere tells a b (entry_block part at.1) n bytes told apart call))
         (equal_or (entry_block part at.1) n)
 
@@ -273,7 +273,7 @@ module _ (part : Keyed) (tells : Bool) (told : IsTrue tells) (a b : Seen) (n : �
 
     pub led-is : (place : List ℕ) (at : Range × Entry)
         → entry_for None (now-entries part a n bytes) place ≡ Some at
-        → item_of (KeyedShape part) a.cur place ≡ record_at
+        → item_of (KeyedShape part) a.cur place ≡ item_at
         (records_of part (block_at a.cur (entry_block part at.1))) place
     led-is place at is =
         ap (λ (found : Option (Range × Entry)). found_on a.cur (way_in part place found)) is
@@ -285,8 +285,8 @@ module _ (part : Keyed) (tells : Bool) (told : IsTrue tells) (a b : Seen) (n : �
         ap (λ (top : Block). found_on b.cur (way_under part place top)) (head-still call other)
         ∙ still-found place (entry_for None (now-entries part a n bytes) place) call
         (λ at is here. ⊎_elim
-        (λ same. ap (λ (block : Block). record_at (records_of part block) place) same)
-        (λ new. ap (λ (block : Block). record_at (records_of part block) place) new
+        (λ same. ap (λ (block : Block). item_at (records_of part block) place) same)
+        (λ new. ap (λ (block : Block). item_at (records_of part block) place) new
         ∙ keeps place at is here ∙ led-is place at is
-        ∙ ap (λ (k : ℕ). record_at (records_of part (block_at a.cur k)) place) here)
+        ∙ ap (λ (k : ℕ). item_at (records_of part (block_at a.cur k)) place) here)
         (after-put call below long))

@@ -6,7 +6,7 @@ use Rattle.std.proofs.Common.{true≢false, eqb, cond, is_some, length}
 use Rattle.std.specs.Prelude.{min, unwrap_or}
 use Rattle.std.specs.List.{list_any}
 use Rattle.std.specs.declared.cmp.Ordering.TheVariants.{Less}
-use Rattle.vr_types.specs.Content.{place_cmp, record_at}
+use Rattle.vr_types.specs.Content.{place_cmp, item_at}
 use Rattle.vr_types.specs.Image.{Block, block_at}
 use Rattle.vr_types.specs.Seen.{Seen, Left}
 use Rattle.vr_seqset.specs.Entry.{Entry}
@@ -103,7 +103,7 @@ module _ (part : Keyed) (split : SplitNow) (a : Seen) (rests : IsKeyedAtRest par
   -- a place that leads there has the record that stands there
   pub item-found : (place : List ℕ) (at : Range × Entry)
       → entry_for None (entries_of top_now) place ≡ Some at
-      → item_of (KeyedShape part) a.cur place ≡ record_at
+      → item_of (KeyedShape part) a.cur place ≡ item_at
       (records_of part (block_at a.cur (entry_block part at.1))) place
   item-found place at is =
       ap (λ (found : Option (Range × Entry)). found_on a.cur (way_in part place found)) is

@@ -1,7 +1,7 @@
 -- Stages of a split, one put after another.
 use Rattle.std.proofs.Common.{◌≡◌, ◌≢◌, ◌<◌, ℕ, Bool, IsTrue, []}
 use Rattle.std.proofs.Common.{Some, None, sym, ap, subst, ◌∙◌, arith}
-use Rattle.vr_types.specs.Content.{record_at}
+use Rattle.vr_types.specs.Content.{item_at}
 use Rattle.vr_types.specs.Image.{Block, Image, block_at}
 use Rattle.vr_types.specs.Seen.{Seen, Left, Only}
 use Rattle.vr_types.specs.Blocks.{Puts}
@@ -44,7 +44,7 @@ module _ (part : Keyed) (tells : Bool) (told : IsTrue tells) (a b : Seen) (n : �
         (keeps-replace resting block below left can call).adds.sound;
     due = λ listed place due within. due-put part tells told a b n bytes listed place resting.rests
         left call (other-than block)
-        (λ at leads here there once. ap (λ (x : Block). record_at (records_of part x) place)
+        (λ at leads here there once. ap (λ (x : Block). item_at (records_of part x) place)
         (only there once.0) ∙ can.records place at leads here
         ∙ sym ((keeps-replace resting block below left can call).same place))
         due;

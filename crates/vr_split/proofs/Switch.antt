@@ -3,7 +3,7 @@ use Rattle.std.proofs.Common.{◌≡◌, inl, ⊎_elim, ◌<◌, ℕ, Bool, IsTr
 use Rattle.std.proofs.Common.{[], ◌∷◌, Option, Some, None, refl, sym, ap, subst, ◌∙◌}
 use Rattle.std.proofs.Common.{arith}
 use Rattle.std.specs.Prelude.{IfSome, slice_index}
-use Rattle.vr_types.specs.Content.{record_at}
+use Rattle.vr_types.specs.Content.{Item, item_at}
 use Rattle.vr_types.specs.Image.{Block, Image, MayAlso, block_at}
 use Rattle.vr_types.specs.Seen.{Seen, Left, Only}
 use Rattle.vr_types.specs.Blocks.{Puts}
@@ -51,7 +51,7 @@ module _ (part : Keyed) (tells : Bool) (told : IsTrue tells) (a b : Seen) (top :
   }
 
   -- what is found in an interval
-  still-found : (place : List ℕ) (item : Option (List ℕ)) (found : Option (Range × Entry))
+  still-found : (place : List ℕ) (item : Option Item) (found : Option (Range × Entry))
       → MayFind (MayAlso a.may part.head top) item (way_in part place found)
       → MayFind a.may item (way_in part place found)
   still-found place item None is = is
@@ -59,7 +59,7 @@ module _ (part : Keyed) (tells : Bool) (told : IsTrue tells) (a b : Seen) (top :
       (is.0, ⊎_elim (λ old. old) (λ new. absurd (omega (arith, new.0))) is.1, is.2)
 
   -- by way of the new head what may be held is found
-  leads : (place : List ℕ) (item : Option (List ℕ)) → IsKeyedSound part a → Left a a.cur
+  leads : (place : List ℕ) (item : Option Item) → IsKeyedSound part a → Left a a.cur
       → SwitchesAt part top a place → MayFind a.may item (way_under part place top)
       → MayHold (KeyedShape part) a.may place item
   leads place item sound left switches find = ⊎_elim
@@ -100,7 +100,7 @@ module _ (part : Keyed) (tells : Bool) (told : IsTrue tells) (a b : Seen) (top :
       → found_on b.cur (way_in part place found) ≡ found_on a.cur (way_in part place found)
   read-still place None call = refl
   read-still place (Some at) call =
-      ap (λ (block : Block). record_at (records_of part block) place)
+      ap (λ (block : Block). item_at (records_of part block) place)
       (cur-elsewhere tells a b (entry_block part at.1) part.head top told
       (λ same. omega (arith, same)) call)
 
@@ -197,7 +197,7 @@ module _ (part : Keyed) (tells : Bool) (told : IsTrue tells) (a b : Seen) (top :
   switch-rest sound only now =
       record { sound = sound; one_head = λ head may. only head may ∙ sym now }
 
-  once-still : (listed place : List ℕ) (item : Option (List ℕ)) (found : Option (Range × Entry))
+  once-still : (listed place : List ℕ) (item : Option Item) (found : Option (Range × Entry))
       → Puts tells part.head top a b
       → ((at : Range × Entry) → found ≡ Some at → entry_block part at.1 < a.count)
       → MayFind (MayOnceForced listed b) item (way_in part place found)

@@ -1,6 +1,6 @@
 -- What a stage of a split owes of the blocks that it puts. The rules are this project's own.
 use Rattle.std.specs.Prelude.{◌≡◌, ◌⊎◌, ◌<◌, ◌≤◌, ◌+◌, ℕ, List, [], ◌∷◌, Option, Some, None}
-use Rattle.vr_types.specs.Content.{record_at}
+use Rattle.vr_types.specs.Content.{item_at}
 use Rattle.vr_types.specs.Image.{Block, Image, block_at}
 use Rattle.vr_types.specs.Regions.{Touches}
 use Rattle.vr_types.specs.Seen.{Seen, Only}
@@ -41,7 +41,7 @@ pub record CanReplace (part : Keyed) (kept : Lengths) (image : Image) (n : ℕ) 
       (λ range. HaveRoom part.size (lengths_of part kept range bytes))
   pub records : (place : List ℕ) (at : Range × Entry)
       → entry_for None (read_entries part image) place ≡ Some at → entry_block part at.1 ≡ n
-      → record_at (records_of part bytes) place ≡ item_of (KeyedShape part) image place
+      → item_at (records_of part bytes) place ≡ item_of (KeyedShape part) image place
 
 -- A place is reached as before, or in a block that a crash leaves with its record.
 abbrev pub SwitchesAt : Keyed → Block → Seen → List ℕ → Type 0
@@ -49,7 +49,7 @@ SwitchesAt part top now place =
     (way_under part place top ≡ way_under part place (block_at now.cur part.head))
     ⊎ ((at : Range × Entry) × (entry_for None (entries_of top) place ≡ Some at)
     × Only now (entry_block part at.1)
-    (λ block. record_at (records_of part block) place ≡ item_of (KeyedShape part) now.cur place))
+    (λ block. item_at (records_of part block) place ≡ item_of (KeyedShape part) now.cur place))
 
 -- The head may replace the current one.
 pub record CanSwitch (part : Keyed) (kept : Lengths) (top : Block) (now : Seen) : Type 0 where
@@ -82,5 +82,5 @@ pub record IsStageDone (part : Keyed) (old new : Seen) : Type 0 where
 abbrev pub IsSettledAt : Keyed → ℕ → Seen → Type 0
 IsSettledAt part n now = (place : List ℕ) (at : Range × Entry)
     → entry_for None (read_entries part now.cur) place ≡ Some at → entry_block part at.1 ≡ n
-    → Only now n (λ block. record_at (records_of part block) place ≡ item_of (KeyedShape part)
+    → Only now n (λ block. item_at (records_of part block) place ≡ item_of (KeyedShape part)
     now.cur place)

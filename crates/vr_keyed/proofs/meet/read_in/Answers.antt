@@ -1,7 +1,7 @@
 use Rattle.std.proofs.Common.{◌+◌, ℕ, ◌∷◌, [], take, All, sym, ap, subst, ◌∙◌, arith}
-use Rattle.vr_space.specs.Met.{Met, IsMet, places_met}
+use Rattle.vr_space.specs.Met.{Met, IsMet}
 use Rattle.vr_keyed.specs.declared.slot.Slot.{Slot}
-use Rattle.vr_keyed.specs.Slots.{met_in}
+use Rattle.vr_keyed.specs.Slots.{met_in, met_places}
 use Rattle.vr_keyed.proofs.Meeting.{met-kept, met-added, met-apart, next-new}
 use Rattle.vr_keyed.proofs.meet.read_in.Goals as goal
 
@@ -27,12 +27,12 @@ pub returns-clause-places : goal.returns-clause-places
 returns-clause-places g c =
     let slots = c.args.slots.now in
     let m = c.min-slots.result in
-    ap (λ (s : Slot). places_met (take (m + 1) (met_in s ∷ met_in c.swap.new.y ∷ [])))
+    ap (λ (s : Slot). met_places (take (m + 1) (met_in s ∷ met_in c.swap.new.y ∷ [])))
     c.swap.ensures.x_after
-    ∙ ap (λ (s : Slot). places_met (take (m + 1) (met_in c.fill.new.slot ∷ met_in s ∷ [])))
+    ∙ ap (λ (s : Slot). met_places (take (m + 1) (met_in c.fill.new.slot ∷ met_in s ∷ [])))
     c.swap.ensures.y_after
     ∙ ap (λ (k : ℕ).
-    places_met (take (k + 1) (met_in c.fill.new.slot ∷ met_in slots.first ∷ [])))
+    met_places (take (k + 1) (met_in c.fill.new.slot ∷ met_in slots.first ∷ [])))
     c.min-slots.ensures
     ∙ next-new (met_in slots.first) (met_in slots.second) c.args.place.now slots.filled
     (met_in c.fill.new.slot) slots.few c.in_ok-fill.ensures.place c.requires.none

@@ -1,7 +1,7 @@
 use Rattle.std.proofs.Common.{◌≡◌, ℕ, [], ◌∷◌, All, take, sym, ap, subst, ◌∙◌}
-use Rattle.vr_space.specs.Met.{Met, IsMet, places_met}
+use Rattle.vr_space.specs.Met.{Met, IsMet}
 use Rattle.vr_keyed.specs.declared.slot.Slot.{Slot}
-use Rattle.vr_keyed.specs.Slots.{met_in, mets}
+use Rattle.vr_keyed.specs.Slots.{met_in, met_places, mets}
 use Rattle.vr_keyed.proofs.Adding.{on-ok-map}
 use Rattle.vr_keyed.proofs.SetThen.{all-turned, places-turned}
 use Rattle.vr_keyed.proofs.set.set_second.Goals as goal
@@ -13,15 +13,15 @@ returns-clause-places g c =
     let put = c.put_set-put.new.slots in
     let last = c.turn-2.new.self in
     let count : put.filled ≡ old.filled = c.put_set-put.ensures.filled ∙ c.turn.ensures.filled in
-    let turned : places_met (mets one)
-    ≡ places_met (take old.filled (met_in old.second ∷ met_in old.first ∷ [])) =
-    ap (λ (n : ℕ). places_met (take n (met_in one.first ∷ met_in one.second ∷ [])))
+    let turned : met_places (mets one)
+    ≡ met_places (take old.filled (met_in old.second ∷ met_in old.first ∷ [])) =
+    ap (λ (n : ℕ). met_places (take n (met_in one.first ∷ met_in one.second ∷ [])))
     c.turn.ensures.filled
-    ∙ ap (λ (s : Slot). places_met (take old.filled (met_in s ∷ met_in one.second ∷ [])))
+    ∙ ap (λ (s : Slot). met_places (take old.filled (met_in s ∷ met_in one.second ∷ [])))
     c.turn.ensures.first
-    ∙ ap (λ (s : Slot). places_met (take old.filled (met_in old.second ∷ met_in s ∷ [])))
+    ∙ ap (λ (s : Slot). met_places (take old.filled (met_in old.second ∷ met_in s ∷ [])))
     c.turn.ensures.second in
-    ap (λ (n : ℕ). places_met (take n (met_in last.first ∷ met_in last.second ∷ [])))
+    ap (λ (n : ℕ). met_places (take n (met_in last.first ∷ met_in last.second ∷ [])))
     c.turn-2.ensures.filled
     ∙ places-turned old.filled put.filled (met_in old.first) (met_in old.second)
     (met_in put.first) (met_in put.second) (met_in last.first) (met_in last.second)
@@ -38,10 +38,10 @@ returns-clause-met g c told =
     let two : put.filled ≡ 2 = c.put_set-put.ensures.filled ∙ c.turn.ensures.filled
     ∙ c.requires.second.0 in
     on-ok-map c.put_set-put.result _ _
-    (λ all kept split ready.
+    (λ all kept known ready.
     subst (λ (n : ℕ). All P (take n (met_in last.first ∷ met_in last.second ∷ [])))
     (sym c.turn-2.ensures.filled)
     (all-turned P put.filled (met_in put.first) (met_in put.second) (met_in last.first)
     (met_in last.second) two (ap met_in c.turn-2.ensures.first)
-    (ap met_in c.turn-2.ensures.second) (all kept split ready)))
+    (ap met_in c.turn-2.ensures.second) (all kept known ready)))
     (c.put_set-put.ensures.met told)

@@ -1,5 +1,5 @@
 use Rattle.std.proofs.Common.{◌≢◌, sym, ap, ◌∙◌, ⊎_elim, arith}
-use Rattle.vr_types.specs.Content.{record_at}
+use Rattle.vr_types.specs.Content.{item_at}
 use Rattle.vr_types.specs.Image.{Block}
 use Rattle.vr_types.specs.Seen.{Left}
 use Rattle.vr_space.specs.Keyed.{records_of}
@@ -38,7 +38,7 @@ returns-clause-keeps g c told part kept block resting settled can =
             resting.rests left call other
             (λ at leads here left_there once. ⊎_elim
             (λ old. settled place at leads here left_there old)
-            (λ new. ap (λ (x : Block). record_at (records_of part x) place) new.1
+            (λ new. ap (λ (x : Block). item_at (records_of part x) place) new.1
             ∙ can.records place at leads here)
             (call.adds told n left_there c.requires.below once.0)
             ∙ sym (same place))

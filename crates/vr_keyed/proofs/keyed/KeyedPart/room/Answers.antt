@@ -1,6 +1,8 @@
-use Rattle.std.proofs.Common.{◌≡◌, All, sym, ap, subst}
+use Rattle.std.proofs.Common.{◌≡◌, All, Option, sym, ap, subst}
 use Rattle.vr_types.specs.Image.{Image}
 use Rattle.vr_space.specs.Keyed.{Keyed as Layouts}
+use Rattle.vr_space.specs.Split.{SplitNow}
+use Rattle.vr_space.specs.UnderWay.{KeyedUnderWay}
 use Rattle.vr_space.specs.Met.{IsMet}
 use Rattle.vr_keyed.specs.Owned.{Owned}
 use Rattle.vr_keyed.specs.Slots.{mets}
@@ -16,8 +18,10 @@ returns-clause-knows g c told =
     let same : c.self.inside.layout ≡ now.part = ap (λ (o : Owned). o.part) c.self.view_is in
     let call = c.room_at.ensures.keeps in
     record {
-      way = way-still now.part B.tells told a b call c.requires.on.0
-          (c.requires.stands told).1.head now.split (c.requires.knows told).way;
+      way = subst (λ (split : Option SplitNow). KeyedUnderWay now.part split b)
+          (sym (ap (λ (o : Owned). o.split) c.self.view_is))
+          (way-still now.part B.tells told a b call c.requires.on.0
+          (c.requires.stands told).1.head now.split (c.requires.knows told).way);
       blocks = subst (λ (image : Image). All (IsMet now.part image) (mets c.room_at.new.slots))
           (sym (call.content told))
           (subst (λ (p : Layouts). All (IsMet p a.cur) (mets c.room_at.new.slots)) same

@@ -1,18 +1,22 @@
-use Rattle.std.proofs.Common.{◌≡◌, List, ℕ, All, rules, sym, ap, subst}
+use Rattle.std.proofs.Common.{◌≡◌, List, ℕ, All, Option, rules, sym, ap, subst}
 use Rattle.std.specs.Prelude.{IfErr}
+use Rattle.std.specs.Option.{option_map}
 use Rattle.std.proofs.lemmas.Result.{IfErr-weaker}
+use Rattle.vr_types.specs.Content.Item.{Standing}
 use Rattle.vr_types.specs.Blocks.{Keeps}
 use Rattle.vr_types.specs.Regions.{Touches}
 use Rattle.vr_types.specs.declared.fault.DeviceFault.TheVariants.{Read, Write}
 use Rattle.vr_space.specs.Room.{Lengths}
 use Rattle.vr_space.specs.Keyed.{Keyed as Layouts, KeepsRoom, IsKeyedAtRest}
+use Rattle.vr_space.specs.Split.{SplitNow}
+use Rattle.vr_space.specs.Known.{Known}
 use Rattle.vr_space.specs.UnderWay.{KeyedUnderWay}
-use Rattle.vr_space.specs.Met.{Met, IsMet, HasMet}
+use Rattle.vr_space.specs.Met.{Met, IsMet}
 use Rattle.vr_space.specs.Part.{KeyedShape, AddsTo, Just, SetsOne, DueMoreAt, HasRoom, InPart, Knows}
 use Rattle.vr_space.specs.Part.{given, part_no}
 use Rattle.vr_space.proofs.CallerLemmas.{way-keeps}
-use Rattle.vr_keyed.specs.Owned.{Owned}
-use Rattle.vr_keyed.specs.Slots.{mets}
+use Rattle.vr_keyed.specs.Owned.{Owned, known_of}
+use Rattle.vr_keyed.specs.Slots.{HasMetPlace, mets}
 use Rattle.vr_keyed.specs.Ready.{IsReady, put_of}
 use Rattle.vr_keyed.proofs.keyed.KeyedPart.set.Goals as goal
 
@@ -21,12 +25,13 @@ returns-in_err-put-clause-adds g c told =
     let B = g.B.Blocks in
     let now = c.args.self.now in
     let place = c.args.place.now in
+    let known = known_of now in
     let item = given c.args.bytes in
     let kept : Lengths = g.K.Kept.kept c.args._kept.now (part_no (KeyedShape now.part)) in
     let a = B.seen c.args.blocks.now in
     let b = B.seen c.set.new.blocks in
     let same : c.self.inside.layout ≡ now.part = ap (λ (o : Owned). o.part) c.self.view_is in
-    let here : IsReady now.part kept now.split place item a = record {
+    let here : IsReady now.part kept known place item a = record {
       rests = c.requires.rests told;
       room = c.requires.room told;
       way = (c.requires.knows told).way;
@@ -34,12 +39,12 @@ returns-in_err-put-clause-adds g c told =
       valid = c.requires.record;
     } in
     let spot : c.as_slice.result.now ≡ place = c.as_slice.ensures in
-    let ready : IsReady c.self.inside.layout kept now.split c.as_slice.result.now item a =
-    subst (λ (p : Layouts). IsReady p kept now.split c.as_slice.result.now item a) (sym same)
-    (subst (λ (q : List ℕ). IsReady now.part kept now.split q item a) (sym spot) here) in
-    let may = c.set.ensures.may told kept now.split ready in
-    subst (λ (p : Layouts). AddsTo (KeyedShape p) (Just place item) a b) same
-    (subst (λ (q : List ℕ). AddsTo (KeyedShape c.self.inside.layout) (Just q item) a b) spot
+    let ready : IsReady c.self.inside.layout kept known c.as_slice.result.now item a =
+    subst (λ (p : Layouts). IsReady p kept known c.as_slice.result.now item a) (sym same)
+    (subst (λ (q : List ℕ). IsReady now.part kept known q item a) (sym spot) here) in
+    let may = c.set.ensures.may told kept known ready in
+    subst (λ (p : Layouts). AddsTo (KeyedShape p) (Just place (option_map Standing item)) a b) same
+    (subst (λ (q : List ℕ). AddsTo (KeyedShape c.self.inside.layout) (Just q (option_map Standing item)) a b) spot
     may.adds)
 
 pub returns-in_err-put-clause-room : goal.returns-in_err-put-clause-room
@@ -47,12 +52,13 @@ returns-in_err-put-clause-room g c told =
     let B = g.B.Blocks in
     let now = c.args.self.now in
     let place = c.args.place.now in
+    let known = known_of now in
     let item = given c.args.bytes in
     let kept : Lengths = g.K.Kept.kept c.args._kept.now (part_no (KeyedShape now.part)) in
     let a = B.seen c.args.blocks.now in
     let b = B.seen c.set.new.blocks in
     let same : c.self.inside.layout ≡ now.part = ap (λ (o : Owned). o.part) c.self.view_is in
-    let here : IsReady now.part kept now.split place item a = record {
+    let here : IsReady now.part kept known place item a = record {
       rests = c.requires.rests told;
       room = c.requires.room told;
       way = (c.requires.knows told).way;
@@ -60,10 +66,10 @@ returns-in_err-put-clause-room g c told =
       valid = c.requires.record;
     } in
     let spot : c.as_slice.result.now ≡ place = c.as_slice.ensures in
-    let ready : IsReady c.self.inside.layout kept now.split c.as_slice.result.now item a =
-    subst (λ (p : Layouts). IsReady p kept now.split c.as_slice.result.now item a) (sym same)
-    (subst (λ (q : List ℕ). IsReady now.part kept now.split q item a) (sym spot) here) in
-    let may = c.set.ensures.may told kept now.split ready in
+    let ready : IsReady c.self.inside.layout kept known c.as_slice.result.now item a =
+    subst (λ (p : Layouts). IsReady p kept known c.as_slice.result.now item a) (sym same)
+    (subst (λ (q : List ℕ). IsReady now.part kept known q item a) (sym spot) here) in
+    let may = c.set.ensures.may told kept known ready in
     subst (λ (p : Layouts). KeepsRoom p kept b) same may.room
 
 pub returns-in_err-put-clause-rooms : goal.returns-in_err-put-clause-rooms
@@ -71,12 +77,13 @@ returns-in_err-put-clause-rooms g c told =
     let B = g.B.Blocks in
     let now = c.args.self.now in
     let place = c.args.place.now in
+    let known = known_of now in
     let item = given c.args.bytes in
     let kept : Lengths = g.K.Kept.kept c.args._kept.now (part_no (KeyedShape now.part)) in
     let a = B.seen c.args.blocks.now in
     let b = B.seen c.set.new.blocks in
     let same : c.self.inside.layout ≡ now.part = ap (λ (o : Owned). o.part) c.self.view_is in
-    let here : IsReady now.part kept now.split place item a = record {
+    let here : IsReady now.part kept known place item a = record {
       rests = c.requires.rests told;
       room = c.requires.room told;
       way = (c.requires.knows told).way;
@@ -84,10 +91,10 @@ returns-in_err-put-clause-rooms g c told =
       valid = c.requires.record;
     } in
     let spot : c.as_slice.result.now ≡ place = c.as_slice.ensures in
-    let ready : IsReady c.self.inside.layout kept now.split c.as_slice.result.now item a =
-    subst (λ (p : Layouts). IsReady p kept now.split c.as_slice.result.now item a) (sym same)
-    (subst (λ (q : List ℕ). IsReady now.part kept now.split q item a) (sym spot) here) in
-    let may = c.set.ensures.may told kept now.split ready in
+    let ready : IsReady c.self.inside.layout kept known c.as_slice.result.now item a =
+    subst (λ (p : Layouts). IsReady p kept known c.as_slice.result.now item a) (sym same)
+    (subst (λ (q : List ℕ). IsReady now.part kept known q item a) (sym spot) here) in
+    let may = c.set.ensures.may told kept known ready in
     subst (λ (p : Layouts). Touches (InPart (KeyedShape p)) (HasRoom (KeyedShape p) kept) a b)
     same may.rooms
 
@@ -96,12 +103,13 @@ returns-clause-adds g c told =
     let B = g.B.Blocks in
     let now = c.args.self.now in
     let place = c.args.place.now in
+    let known = known_of now in
     let item = given c.args.bytes in
     let kept : Lengths = g.K.Kept.kept c.args._kept.now (part_no (KeyedShape now.part)) in
     let a = B.seen c.args.blocks.now in
     let b = B.seen c.set.new.blocks in
     let same : c.self.inside.layout ≡ now.part = ap (λ (o : Owned). o.part) c.self.view_is in
-    let here : IsReady now.part kept now.split place item a = record {
+    let here : IsReady now.part kept known place item a = record {
       rests = c.requires.rests told;
       room = c.requires.room told;
       way = (c.requires.knows told).way;
@@ -109,12 +117,12 @@ returns-clause-adds g c told =
       valid = c.requires.record;
     } in
     let spot : c.as_slice.result.now ≡ place = c.as_slice.ensures in
-    let ready : IsReady c.self.inside.layout kept now.split c.as_slice.result.now item a =
-    subst (λ (p : Layouts). IsReady p kept now.split c.as_slice.result.now item a) (sym same)
-    (subst (λ (q : List ℕ). IsReady now.part kept now.split q item a) (sym spot) here) in
-    let may = c.set.ensures.may told kept now.split ready in
-    subst (λ (p : Layouts). AddsTo (KeyedShape p) (Just place item) a b) same
-    (subst (λ (q : List ℕ). AddsTo (KeyedShape c.self.inside.layout) (Just q item) a b) spot
+    let ready : IsReady c.self.inside.layout kept known c.as_slice.result.now item a =
+    subst (λ (p : Layouts). IsReady p kept known c.as_slice.result.now item a) (sym same)
+    (subst (λ (q : List ℕ). IsReady now.part kept known q item a) (sym spot) here) in
+    let may = c.set.ensures.may told kept known ready in
+    subst (λ (p : Layouts). AddsTo (KeyedShape p) (Just place (option_map Standing item)) a b) same
+    (subst (λ (q : List ℕ). AddsTo (KeyedShape c.self.inside.layout) (Just q (option_map Standing item)) a b) spot
     may.adds)
 
 pub returns-clause-room : goal.returns-clause-room
@@ -122,12 +130,13 @@ returns-clause-room g c told =
     let B = g.B.Blocks in
     let now = c.args.self.now in
     let place = c.args.place.now in
+    let known = known_of now in
     let item = given c.args.bytes in
     let kept : Lengths = g.K.Kept.kept c.args._kept.now (part_no (KeyedShape now.part)) in
     let a = B.seen c.args.blocks.now in
     let b = B.seen c.set.new.blocks in
     let same : c.self.inside.layout ≡ now.part = ap (λ (o : Owned). o.part) c.self.view_is in
-    let here : IsReady now.part kept now.split place item a = record {
+    let here : IsReady now.part kept known place item a = record {
       rests = c.requires.rests told;
       room = c.requires.room told;
       way = (c.requires.knows told).way;
@@ -135,10 +144,10 @@ returns-clause-room g c told =
       valid = c.requires.record;
     } in
     let spot : c.as_slice.result.now ≡ place = c.as_slice.ensures in
-    let ready : IsReady c.self.inside.layout kept now.split c.as_slice.result.now item a =
-    subst (λ (p : Layouts). IsReady p kept now.split c.as_slice.result.now item a) (sym same)
-    (subst (λ (q : List ℕ). IsReady now.part kept now.split q item a) (sym spot) here) in
-    let may = c.set.ensures.may told kept now.split ready in
+    let ready : IsReady c.self.inside.layout kept known c.as_slice.result.now item a =
+    subst (λ (p : Layouts). IsReady p kept known c.as_slice.result.now item a) (sym same)
+    (subst (λ (q : List ℕ). IsReady now.part kept known q item a) (sym spot) here) in
+    let may = c.set.ensures.may told kept known ready in
     subst (λ (p : Layouts). KeepsRoom p kept b) same may.room
 
 pub returns-clause-rooms : goal.returns-clause-rooms
@@ -146,12 +155,13 @@ returns-clause-rooms g c told =
     let B = g.B.Blocks in
     let now = c.args.self.now in
     let place = c.args.place.now in
+    let known = known_of now in
     let item = given c.args.bytes in
     let kept : Lengths = g.K.Kept.kept c.args._kept.now (part_no (KeyedShape now.part)) in
     let a = B.seen c.args.blocks.now in
     let b = B.seen c.set.new.blocks in
     let same : c.self.inside.layout ≡ now.part = ap (λ (o : Owned). o.part) c.self.view_is in
-    let here : IsReady now.part kept now.split place item a = record {
+    let here : IsReady now.part kept known place item a = record {
       rests = c.requires.rests told;
       room = c.requires.room told;
       way = (c.requires.knows told).way;
@@ -159,10 +169,10 @@ returns-clause-rooms g c told =
       valid = c.requires.record;
     } in
     let spot : c.as_slice.result.now ≡ place = c.as_slice.ensures in
-    let ready : IsReady c.self.inside.layout kept now.split c.as_slice.result.now item a =
-    subst (λ (p : Layouts). IsReady p kept now.split c.as_slice.result.now item a) (sym same)
-    (subst (λ (q : List ℕ). IsReady now.part kept now.split q item a) (sym spot) here) in
-    let may = c.set.ensures.may told kept now.split ready in
+    let ready : IsReady c.self.inside.layout kept known c.as_slice.result.now item a =
+    subst (λ (p : Layouts). IsReady p kept known c.as_slice.result.now item a) (sym same)
+    (subst (λ (q : List ℕ). IsReady now.part kept known q item a) (sym spot) here) in
+    let may = c.set.ensures.may told kept known ready in
     subst (λ (p : Layouts). Touches (InPart (KeyedShape p)) (HasRoom (KeyedShape p) kept) a b)
     same may.rooms
 
@@ -171,12 +181,13 @@ returns-clause-set g c told =
     let B = g.B.Blocks in
     let now = c.args.self.now in
     let place = c.args.place.now in
+    let known = known_of now in
     let item = given c.args.bytes in
     let kept : Lengths = g.K.Kept.kept c.args._kept.now (part_no (KeyedShape now.part)) in
     let a = B.seen c.args.blocks.now in
     let b = B.seen c.set.new.blocks in
     let same : c.self.inside.layout ≡ now.part = ap (λ (o : Owned). o.part) c.self.view_is in
-    let here : IsReady now.part kept now.split place item a = record {
+    let here : IsReady now.part kept known place item a = record {
       rests = c.requires.rests told;
       room = c.requires.room told;
       way = (c.requires.knows told).way;
@@ -184,10 +195,10 @@ returns-clause-set g c told =
       valid = c.requires.record;
     } in
     let spot : c.as_slice.result.now ≡ place = c.as_slice.ensures in
-    let ready : IsReady c.self.inside.layout kept now.split c.as_slice.result.now item a =
-    subst (λ (p : Layouts). IsReady p kept now.split c.as_slice.result.now item a) (sym same)
-    (subst (λ (q : List ℕ). IsReady now.part kept now.split q item a) (sym spot) here) in
-    let done = c.in_ok-put.ensures.done told kept now.split ready in
+    let ready : IsReady c.self.inside.layout kept known c.as_slice.result.now item a =
+    subst (λ (p : Layouts). IsReady p kept known c.as_slice.result.now item a) (sym same)
+    (subst (λ (q : List ℕ). IsReady now.part kept known q item a) (sym spot) here) in
+    let done = c.in_ok-put.ensures.done told kept known ready in
     subst (λ (p : Layouts). SetsOne (KeyedShape p) place item a.cur b.cur) same
     (subst (λ (q : List ℕ). SetsOne (KeyedShape c.self.inside.layout) q item a.cur b.cur) spot
     done.set)
@@ -197,12 +208,13 @@ returns-clause-due g c told =
     let B = g.B.Blocks in
     let now = c.args.self.now in
     let place = c.args.place.now in
+    let known = known_of now in
     let item = given c.args.bytes in
     let kept : Lengths = g.K.Kept.kept c.args._kept.now (part_no (KeyedShape now.part)) in
     let a = B.seen c.args.blocks.now in
     let b = B.seen c.set.new.blocks in
     let same : c.self.inside.layout ≡ now.part = ap (λ (o : Owned). o.part) c.self.view_is in
-    let here : IsReady now.part kept now.split place item a = record {
+    let here : IsReady now.part kept known place item a = record {
       rests = c.requires.rests told;
       room = c.requires.room told;
       way = (c.requires.knows told).way;
@@ -210,10 +222,10 @@ returns-clause-due g c told =
       valid = c.requires.record;
     } in
     let spot : c.as_slice.result.now ≡ place = c.as_slice.ensures in
-    let ready : IsReady c.self.inside.layout kept now.split c.as_slice.result.now item a =
-    subst (λ (p : Layouts). IsReady p kept now.split c.as_slice.result.now item a) (sym same)
-    (subst (λ (q : List ℕ). IsReady now.part kept now.split q item a) (sym spot) here) in
-    let done = c.in_ok-put.ensures.done told kept now.split ready in
+    let ready : IsReady c.self.inside.layout kept known c.as_slice.result.now item a =
+    subst (λ (p : Layouts). IsReady p kept known c.as_slice.result.now item a) (sym same)
+    (subst (λ (q : List ℕ). IsReady now.part kept known q item a) (sym spot) here) in
+    let done = c.in_ok-put.ensures.done told kept known ready in
     subst (λ (put : List ℕ). DueMoreAt (KeyedShape now.part) place put a b)
     (sym c.note_put.ensures.put)
     (subst (λ (p : Layouts). DueMoreAt (KeyedShape p) place (put_of c.in_ok-put.put) a b) same
@@ -225,12 +237,13 @@ returns-clause-rests g c told =
     let B = g.B.Blocks in
     let now = c.args.self.now in
     let place = c.args.place.now in
+    let known = known_of now in
     let item = given c.args.bytes in
     let kept : Lengths = g.K.Kept.kept c.args._kept.now (part_no (KeyedShape now.part)) in
     let a = B.seen c.args.blocks.now in
     let b = B.seen c.set.new.blocks in
     let same : c.self.inside.layout ≡ now.part = ap (λ (o : Owned). o.part) c.self.view_is in
-    let here : IsReady now.part kept now.split place item a = record {
+    let here : IsReady now.part kept known place item a = record {
       rests = c.requires.rests told;
       room = c.requires.room told;
       way = (c.requires.knows told).way;
@@ -238,10 +251,10 @@ returns-clause-rests g c told =
       valid = c.requires.record;
     } in
     let spot : c.as_slice.result.now ≡ place = c.as_slice.ensures in
-    let ready : IsReady c.self.inside.layout kept now.split c.as_slice.result.now item a =
-    subst (λ (p : Layouts). IsReady p kept now.split c.as_slice.result.now item a) (sym same)
-    (subst (λ (q : List ℕ). IsReady now.part kept now.split q item a) (sym spot) here) in
-    let done = c.in_ok-put.ensures.done told kept now.split ready in
+    let ready : IsReady c.self.inside.layout kept known c.as_slice.result.now item a =
+    subst (λ (p : Layouts). IsReady p kept known c.as_slice.result.now item a) (sym same)
+    (subst (λ (q : List ℕ). IsReady now.part kept known q item a) (sym spot) here) in
+    let done = c.in_ok-put.ensures.done told kept known ready in
     subst (λ (p : Layouts). IsKeyedAtRest p b) same done.rests
 
 pub returns-clause-knows : goal.returns-clause-knows
@@ -249,12 +262,13 @@ returns-clause-knows g c told =
     let B = g.B.Blocks in
     let now = c.args.self.now in
     let place = c.args.place.now in
+    let known = known_of now in
     let item = given c.args.bytes in
     let kept : Lengths = g.K.Kept.kept c.args._kept.now (part_no (KeyedShape now.part)) in
     let a = B.seen c.args.blocks.now in
     let b = B.seen c.set.new.blocks in
     let same : c.self.inside.layout ≡ now.part = ap (λ (o : Owned). o.part) c.self.view_is in
-    let here : IsReady now.part kept now.split place item a = record {
+    let here : IsReady now.part kept known place item a = record {
       rests = c.requires.rests told;
       room = c.requires.room told;
       way = (c.requires.knows told).way;
@@ -262,14 +276,16 @@ returns-clause-knows g c told =
       valid = c.requires.record;
     } in
     let spot : c.as_slice.result.now ≡ place = c.as_slice.ensures in
-    let ready : IsReady c.self.inside.layout kept now.split c.as_slice.result.now item a =
-    subst (λ (p : Layouts). IsReady p kept now.split c.as_slice.result.now item a) (sym same)
-    (subst (λ (q : List ℕ). IsReady now.part kept now.split q item a) (sym spot) here) in
-    let done = c.in_ok-put.ensures.done told kept now.split ready in
+    let ready : IsReady c.self.inside.layout kept known c.as_slice.result.now item a =
+    subst (λ (p : Layouts). IsReady p kept known c.as_slice.result.now item a) (sym same)
+    (subst (λ (q : List ℕ). IsReady now.part kept known q item a) (sym spot) here) in
+    let done = c.in_ok-put.ensures.done told kept known ready in
     record {
-      way = subst (λ (p : Layouts). KeyedUnderWay p now.split b) same done.way;
+      way = subst (λ (split : Option SplitNow). KeyedUnderWay now.part split b)
+          (sym (ap (λ (o : Owned). o.split) c.self.view_is))
+          (subst (λ (p : Layouts). KeyedUnderWay p now.split b) same done.way);
       blocks = subst (λ (p : Layouts). All (IsMet p b.cur) (mets c.set.new.slots)) same
-          (c.in_ok-put.ensures.met told kept now.split ready);
+          (c.in_ok-put.ensures.met told kept known ready);
     }
 
 pub returns-in_err-put-clause-reads : goal.returns-in_err-put-clause-reads
@@ -278,8 +294,8 @@ returns-in_err-put-clause-reads g c has =
     ap (λ (o : Owned). o.met) c.self.view_is in
     let write : IfErr c.set.result (λ fault. fault ≡ Write) =
     c.set.ensures.reads
-    (subst (λ (met : List Met). HasMet met c.as_slice.result.now) (sym same)
-    (subst (λ (q : List ℕ). HasMet c.args.self.now.met q) (sym c.as_slice.ensures) has)) in
+    (subst (λ (met : List Met). HasMetPlace met c.as_slice.result.now) (sym same)
+    (subst (λ (q : List ℕ). HasMetPlace c.args.self.now.met q) (sym c.as_slice.ensures) has)) in
     search rules
 
 pub returns-in_err-put-clause-unread : goal.returns-in_err-put-clause-unread
@@ -289,16 +305,20 @@ returns-in_err-put-clause-unread g c =
     let b = B.seen c.set.new.blocks in
     let now = c.args.self.now in
     let same : c.self.inside.layout ≡ now.part = ap (λ (o : Owned). o.part) c.self.view_is in
+    let here : Known =
+    record { split = c.self.inside.split.split; met = mets c.set.new.slots } in
     let unread : IfErr c.set.result (λ fault. fault ≡ Read → Keeps B.tells a b
     × (Rattle.std.specs.Prelude.IsTrue B.tells
-    → Knows (KeyedShape now.part) now.split (mets c.set.new.slots) b)) =
+    → Knows (KeyedShape now.part) here b)) =
     IfErr-weaker c.set.result _ _
     (λ fault keeps is. (
       (keeps is).0,
       λ told. record {
-        way = way-keeps B.tells told (KeyedShape now.part) now.split a b (keeps is).0
+        way = subst (λ (split : Option SplitNow). KeyedUnderWay now.part split b)
+            (sym (ap (λ (o : Owned). o.split) c.self.view_is))
+            (way-keeps B.tells told (KeyedShape now.part) (known_of now) a b (keeps is).0
             (c.requires.rests told).sound (g.met.B.Blocks.cur_may c.args.blocks.now told)
-            (c.requires.knows told).way;
+            (c.requires.knows told).way);
         blocks = subst (λ (p : Layouts). All (IsMet p b.cur) (mets c.set.new.slots)) same
             ((keeps is).1 told);
       },
