@@ -1,27 +1,33 @@
 -- What the decks of a step asked, by the volumes that come back.
 use Rattle.std.proofs.Common.{◌≡◌, ◌∙◌, ◌<◌, ◌==◌, ℕ, List, [], ◌∷◌, ◌++◌, All, Result, Ok, Err}
 use Rattle.std.proofs.Common.{ap, arith, false, inl, inr, get_or, length, map, subst, sym, take}
+use Rattle.std.specs.List.{filter}
 use Rattle.std.specs.Prelude.{Contains, OnOk}
 use Rattle.std.proofs.lemmas.Bool.{cases_lt}
 use Rattle.std.proofs.lemmas.List.{get_or-map, get_or_past, length-map}
-use Rattle.std.proofs.lemmas.List.Elements.{All-map, Contains-get_or}
+use Rattle.std.proofs.lemmas.List.Elements.{All-filter, All-map, Contains-get_or, filter-append}
 use Rattle.vr_history.specs.Merged.{IsStamped, Numbered, merged, part_of_deck}
 use Rattle.vr_history.specs.declared.entry.Entry.{Entry}
 use Rattle.vr_ledger.specs.Ledger.{LedgerNow}
 use Rattle.vr_ledger.specs.Turn.{TurnNow}
 use Rattle.vr_trace.proofs.CallerLemmas.{deck_asked}
 use Rattle.vr_trace.proofs.CallerLemmas.{requests_of_deck}
-use Rattle.vr_trace.specs.Laws.{AreRising, deck_entries, entries_on, entry_of, history_at, of_deck}
+use Rattle.vr_trace.specs.Laws.{AreRising, deck_entries, entries_on, entry_of, history_at, is_on}
+use Rattle.vr_trace.specs.Laws.{of_deck}
 use Rattle.vr_worker.specs.Asked.{undoes}
 use Rattle.vr_worker.specs.Deck.{IsRunSeat}
-use Rattle.vr_worker.specs.Decks.{AreNew, HasAsked, numbers_of}
+use Rattle.vr_worker.specs.Decks.{AreAbove, AreNew, AreSince, HasAsked, gained}
+use Rattle.vr_worker.specs.Decks.{numbers_of}
+use Rattle.vr_worker.specs.Latched.{IsSince}
 use Rattle.vr_worker.specs.Ready.{AreTold, IsBegun, IsDone, IsReady, IsToldAt, deck_of, decks_of}
 use Rattle.vr_worker.specs.Ready.{HaveRun, history_of, table_at, turn_at}
 use Rattle.vr_worker.specs.declared.deck.DeckRun.{DeckRun}
 use Rattle.vr_worker.specs.declared.deck.Seat.{Seat}
 use Rattle.vr_worker.specs.declared.no.RunNo.{RunNo}
 use Rattle.vr_worker.specs.declared.no.RunNo.TheVariants.{Memory}
+use Rattle.vr_worker.proofs.Laters.{above-stamped, all-of-decks, gained-is}
 use Rattle.vr_worker.proofs.Places.{all-unmapped}
+use Rattle.vr_worker.proofs.Taken.{stamped-above}
 use Rattle.vr_worker.proofs.Volumes.{as-many, history-there, table-there}
 
 -- where the whole was done, each part of it was
@@ -90,10 +96,10 @@ no-ledger : LedgerNow
 no-ledger = record { table = table_at [] 0; history = []; out = [] }
 
 module _ {V : Type 0} (entries : V → List Entry) (volumes : List V) (ledgers : List LedgerNow)
-    (same : map history_of ledgers ≡ map entries volumes) where
+    (same : map history_of ledgers ≡ map entries volumes) (start : ℕ) where
   -- ---- as a deck begins
 
-  module _ (seat : Seat) (begun : IsBegun ledgers seat) where
+  module _ (seat : Seat) (begun : IsBegun ledgers start seat) where
     pub turns-many : length seat.turns.items ≡ length volumes
     turns-many = ap (λ (turns : List TurnNow). length turns) begun.turns
         ∙ length-map ledgers (turn_at seat.deck) ∙ as-many entries volumes ledgers same
@@ -144,7 +150,7 @@ module _ {V : Type 0} (entries : V → List Entry) (volumes : List V) (ledgers :
 
   -- ---- as it ends
 
-  module _ (old new : Seat) (begun : IsBegun ledgers old) (run : IsRunSeat old new)
+  module _ (old new : Seat) (begun : IsBegun ledgers start old) (run : IsRunSeat old new)
       (fresh : All (λ (volume : V). deck_entries old.deck (entries volume) ≡ []) volumes)
       (result : List V) (count : length result ≡ length volumes)
       (told : AreTold entries result new) where
@@ -165,10 +171,23 @@ module _ {V : Type 0} (entries : V → List Entry) (volumes : List V) (ledgers :
           (omega (arith, length-map result entries, count, far))))
     ]
 
+    made-stamped : IsStamped start (map entry_of run.ran.made)
+    made-stamped = subst (λ (last : ℕ). IsStamped last (map entry_of run.ran.made)) begun.last
+        run.ran.stamped
+
     -- at stamps that rise
     made-rising : AreRising run.ran.made
-    made-rising = subst (λ (last : ℕ). IsStamped last (map entry_of run.ran.made)) begun.last
-        run.ran.stamped
+    made-rising = stamped-above 0 start (map entry_of run.ran.made) (omega arith) made-stamped
+
+    -- from the one on at which the step began
+    pub made-above : (volume : ℕ) → AreAbove start
+        (deck_entries old.deck (history_at (map entries result) volume))
+    made-above volume = subst (AreAbove start) (made-on volume)
+        (All-map (λ (entry : Entry). start < entry.stamp) entry_of
+        (filter (is_on volume) run.ran.made)
+        (All-filter (is_on volume) (λ (this : Numbered). start < this.entry.stamp) run.ran.made
+        (all-unmapped entry_of (λ (entry : Entry). start < entry.stamp) run.ran.made
+        (above-stamped start (map entry_of run.ran.made) made-stamped))))
 
     pub has-asked : (end : Result (Unit {0}) RunNo) → OnOk end (IsDone new)
         → HasAsked end (map entries result) (deck_of old)
@@ -184,8 +203,8 @@ module _ {V : Type 0} (entries : V → List Entry) (volumes : List V) (ledgers :
 -- ---- all decks
 
 module _ {V : Type 0} (entries : V → List Entry) (volumes : List V) (ledgers : List LedgerNow)
-    (same : map history_of ledgers ≡ map entries volumes) (seats : List Seat)
-    (begun : All (IsBegun ledgers) seats) (are-new : AreNew entries (decks_of seats) volumes) where
+    (same : map history_of ledgers ≡ map entries volumes) (start : ℕ) (seats : List Seat)
+    (begun : All (IsBegun ledgers start) seats) (are-new : AreNew entries (decks_of seats) volumes) where
   fresh-seat : All (λ (seat : Seat). All (λ (volume : V).
       deck_entries seat.deck (entries volume) ≡ []) volumes) seats
   fresh-seat = all-unmapped deck_of (λ (deck : DeckRun). All (λ (volume : V).
@@ -204,13 +223,13 @@ module _ {V : Type 0} (entries : V → List Entry) (volumes : List V) (ledgers :
 
   pub all-ready : All (IsReady (table_at ledgers) (numbers_of (decks_of seats)) (length volumes))
       seats
-  all-ready k seat near = first-ready entries volumes ledgers same (get_or seats k seat)
+  all-ready k seat near = first-ready entries volumes ledgers same start (get_or seats k seat)
       (begun k seat near) (numbers_of (decks_of seats)) (fresh-seat k seat near)
       (all-unmapped deck_of (λ (deck : DeckRun). (deck.number == 0) ≡ false) seats are-new.own k
       seat near) (named-seat k seat near)
 
   pub all-told : All (AreTold entries volumes) seats
-  all-told k seat near = first-told entries volumes ledgers same (get_or seats k seat)
+  all-told k seat near = first-told entries volumes ledgers same start (get_or seats k seat)
       (begun k seat near)
 
   pub all-asked : (new : List Seat) (result : List V) (end given : Result (Unit {0}) RunNo)
@@ -220,7 +239,52 @@ module _ {V : Type 0} (entries : V → List Entry) (volumes : List V) (ledgers :
   all-asked new result end given ran count told done ends = All-map
       (HasAsked end (map entries result)) deck_of seats (λ k seat near.
       let inside : k < length new = omega (arith, ran.count, near) in
-      has-asked entries volumes ledgers same (get_or seats k seat) (get_or new k seat)
+      has-asked entries volumes ledgers same start (get_or seats k seat) (get_or new k seat)
       (begun k seat near) (ran.each k seat near) (fresh-seat k seat near) result count
       (told k seat inside) end (ok-map end (All IsDone new) (IsDone (get_or new k seat))
       (λ all. all k seat inside) (ok-through end given (All IsDone new) done ends)))
+
+  -- what a volume gained came after the stamp at which the step began
+  module _ (follows : V → V → Type 0) (new : List Seat) (result : List V)
+      (ran : HaveRun seats new)
+      (since : AreSince entries follows (numbers_of (decks_of seats)) volumes result)
+      (told : All (AreTold entries result) new) where
+    module _ (place : ℕ) (volume : V) (near : place < length volumes) where
+      abbrev was : List Entry
+      was = entries (get_or volumes place volume)
+
+      abbrev now : List Entry
+      now = entries (get_or result place volume)
+
+      it : IsSince entries follows (numbers_of (decks_of seats)) (get_or volumes place volume)
+          (get_or result place volume)
+      it = since.each place volume near
+
+      here : history_at (map entries result) place ≡ now
+      here = get_or-map entries result place volume [] (omega (arith, since.count, near))
+
+      -- what a deck entered there is all that the volume gained of the deck
+      entered-there : (k : ℕ) (seat : Seat) → k < length seats
+          → deck_entries (get_or seats k seat).deck now
+          ≡ deck_entries (get_or seats k seat).deck it.more
+      entered-there k seat inside =
+          let deck : ℕ = (get_or seats k seat).deck in
+          ap (deck_entries deck) it.grew
+          ∙ filter-append (λ (entry : Entry). entry.unit.deck == deck) was it.more
+          ∙ ap (λ (them : List Entry). them ++ deck_entries deck it.more)
+          (fresh-seat k seat inside place volume near)
+
+      each-above : All (λ (seat : Seat). AreAbove start (deck_entries seat.deck it.more)) seats
+      each-above k seat inside = subst (AreAbove start)
+          (ap (deck_entries (get_or seats k seat).deck) here ∙ entered-there k seat inside)
+          (made-above entries volumes ledgers same start (get_or seats k seat) (get_or new k seat)
+          (begun k seat inside) (ran.each k seat inside) (fresh-seat k seat inside) result
+          since.count (told k seat (omega (arith, ran.count, inside))) place)
+
+      pub gain-above : AreAbove start (gained was now)
+      gain-above = subst (AreAbove start) (sym (gained-is was now it.more it.grew))
+          (all-of-decks (λ (entry : Entry). start < entry.stamp) (numbers_of (decks_of seats))
+          it.more it.own (All-map (λ (deck : ℕ). AreAbove start (deck_entries deck it.more))
+          (λ (deck : DeckRun). deck.number) (decks_of seats)
+          (All-map (λ (deck : DeckRun). AreAbove start (deck_entries deck.number it.more)) deck_of
+          seats each-above)))

@@ -40,16 +40,16 @@ some-of : {X : Type 0} (those : List X) (place : ℕ) → place < length those �
 some-of [] place near = absurd (omega (arith, near))
 some-of (one ∷ those) place near = one
 
--- lists that have the same at each place
-pub same-mapped : {V X : Type 0} (f : V → X) (old new : List V) → length new ≡ length old
+-- f has of a list what g has of another, where it is so at each place
+pub same-mapped : {V X : Type 0} (f g : V → X) (old new : List V) → length new ≡ length old
     → ((place : ℕ) (volume : V) → place < length old
-    → f (get_or new place volume) ≡ f (get_or old place volume)) → map f new ≡ map f old
-same-mapped f [] [] count same = refl
-same-mapped f [] (one ∷ new) count same = absurd (omega (arith, count))
-same-mapped f (volume ∷ old) [] count same = absurd (omega (arith, count))
-same-mapped {V} {X} f (volume ∷ old) (one ∷ new) count same =
+    → f (get_or new place volume) ≡ g (get_or old place volume)) → map f new ≡ map g old
+same-mapped f g [] [] count same = refl
+same-mapped f g [] (one ∷ new) count same = absurd (omega (arith, count))
+same-mapped f g (volume ∷ old) [] count same = absurd (omega (arith, count))
+same-mapped {V} {X} f g (volume ∷ old) (one ∷ new) count same =
     ap (λ (x : X). x ∷ map f new) (same 0 volume (omega arith))
-    ∙ ap (λ (them : List X). f volume ∷ them) (same-mapped f old new (omega (arith, count))
+    ∙ ap (λ (them : List X). g volume ∷ them) (same-mapped f g old new (omega (arith, count))
     (λ place other near. same (suc place) other (omega (arith, near))))
 
 module _ {V : Type 0} (entries : V → List Entry) where
@@ -62,7 +62,7 @@ module _ {V : Type 0} (entries : V → List Entry) where
   same-entries number old new count same =
       let of : V → List Entry = λ volume. deck_entries number (entries volume) in
       deck_part number (map entries new)
-      ∙ ap merged (map-map (deck_entries number) entries new ∙ same-mapped of old new count same
+      ∙ ap merged (map-map (deck_entries number) entries new ∙ same-mapped of of old new count same
       ∙ sym (map-map (deck_entries number) entries old))
       ∙ sym (deck_part number (map entries old))
 

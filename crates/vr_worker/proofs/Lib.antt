@@ -14,4 +14,6 @@ pub mod Asks
 pub mod Numbering
 pub mod RunLists
 pub mod Grown
+pub mod Laters
+pub mod Merging
 pub mod Sequences

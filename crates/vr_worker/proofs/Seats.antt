@@ -14,19 +14,20 @@ use Rattle.vr_worker.specs.declared.deck.DeckRun.{DeckRun}
 use Rattle.vr_worker.specs.declared.deck.Seat.{Seat}
 
 -- Some of the decks have their seats, and the rest are to get them.
-pub record HaveSeats (decks rest : List DeckRun) (first now : List LedgerNow) (seats : List Seat)
-    : Type 0 where
+pub record HaveSeats (decks rest : List DeckRun) (first now : List LedgerNow) (start : ℕ)
+    (seats : List Seat) : Type 0 where
   pub out : List ℕ
   pub ledgers : now ≡ map (with_out out) first
   pub times_are : (deck : ℕ) → times deck out + times deck (numbers_of rest)
       ≡ times deck (numbers_of decks)
   pub seated : decks_of seats ++ rest ≡ decks
-  pub begun : All (IsBegun first) seats
+  pub begun : All (IsBegun first start) seats
 
 -- as it begins
-pub no-seats : (decks rest : List DeckRun) (first : List LedgerNow) (seats : List Seat)
-    → rest ≡ decks → seats ≡ [] → HaveSeats decks rest first first seats
-no-seats decks rest first seats all none = record {
+pub no-seats : (decks rest : List DeckRun) (first : List LedgerNow) (start : ℕ)
+    (seats : List Seat) → rest ≡ decks → seats ≡ []
+    → HaveSeats decks rest first first start seats
+no-seats decks rest first start seats all none = record {
   out = [];
   ledgers = sym (map-id first);
   times_are = λ deck. omega (
@@ -34,12 +35,12 @@ no-seats decks rest first seats all none = record {
     ap (λ (them : List DeckRun). times deck (numbers_of them)) all,
   );
   seated = ap (λ (them : List Seat). decks_of them ++ rest) none ∙ all;
-  begun = All-same (IsBegun first) seats [] none (All-nil (IsBegun first));
+  begun = All-same (IsBegun first start) seats [] none (All-nil (IsBegun first start));
 }
 
 module _ (decks : List DeckRun) (deck : DeckRun) (others rest : List DeckRun)
-    (first now : List LedgerNow) (seats : List Seat)
-    (have : HaveSeats decks rest first now seats) (next : rest ≡ deck ∷ others) where
+    (first now : List LedgerNow) (start : ℕ) (seats : List Seat)
+    (have : HaveSeats decks rest first now start seats) (next : rest ≡ deck ∷ others) where
   counted : (it : ℕ) → times it have.out + (one_if it deck.number + times it (numbers_of others))
       ≡ times it (numbers_of decks)
   counted it = omega (
@@ -67,8 +68,8 @@ module _ (decks : List DeckRun) (deck : DeckRun) (others rest : List DeckRun)
   -- it has its seat
   pub next-seated : (then : List LedgerNow) (seat : Seat)
       → then ≡ map (with_out (deck.number ∷ [])) now → deck_of seat ≡ deck
-      → seat.turns.items ≡ map (turn_at deck.number) now → seat.last ≡ 0
-      → IsUnrun seat → HaveSeats decks others first then (seats ++ seat ∷ [])
+      → seat.turns.items ≡ map (turn_at deck.number) now → seat.last ≡ start
+      → IsUnrun seat → HaveSeats decks others first then start (seats ++ seat ∷ [])
   next-seated then seat entered is turns last unrun = record {
     out = deck.number ∷ have.out;
     ledgers = entered ∙ ap (map (with_out (deck.number ∷ []))) have.ledgers
@@ -78,7 +79,7 @@ module _ (decks : List DeckRun) (deck : DeckRun) (others rest : List DeckRun)
         ∙ append_assoc (decks_of seats) (deck_of seat ∷ []) others
         ∙ ap (λ (it : DeckRun). decks_of seats ++ it ∷ others) is
         ∙ ap (λ (them : List DeckRun). decks_of seats ++ them) (sym next) ∙ have.seated;
-    begun = All-push (IsBegun first) seats seat have.begun (record {
+    begun = All-push (IsBegun first start) seats seat have.begun (record {
       turns = turns ∙ ap (map (turn_at deck.number)) have.ledgers
           ∙ map-map (turn_at deck.number) (with_out have.out) first
           ∙ ap (λ (it : ℕ). map (turn_at it) first) (sym (ap (λ (it : DeckRun). it.number) is));
@@ -88,17 +89,19 @@ module _ (decks : List DeckRun) (deck : DeckRun) (others rest : List DeckRun)
   }
 
 -- all have theirs
-pub all-begun : {decks rest : List DeckRun} {first now : List LedgerNow} {seats : List Seat}
-    → HaveSeats decks rest first now seats → All (IsBegun now) seats
-all-begun {first = first} {now = now} {seats = seats} have =
-    All-weaker (IsBegun first) (IsBegun now) (λ seat begun. record {
+pub all-begun : {decks rest : List DeckRun} {first now : List LedgerNow} {start : ℕ}
+    {seats : List Seat} → HaveSeats decks rest first now start seats
+    → All (IsBegun now start) seats
+all-begun {first = first} {now = now} {start = start} {seats = seats} have =
+    All-weaker (IsBegun first start) (IsBegun now start) (λ seat begun. record {
       turns = begun.turns ∙ sym (ap (map (turn_at seat.deck)) have.ledgers
           ∙ map-map (turn_at seat.deck) (with_out have.out) first);
       last = begun.last;
       unrun = begun.unrun;
     }) seats have.begun
 
-pub same-histories : {decks rest : List DeckRun} {first now : List LedgerNow} {seats : List Seat}
-    → HaveSeats decks rest first now seats → map history_of now ≡ map history_of first
+pub same-histories : {decks rest : List DeckRun} {first now : List LedgerNow} {start : ℕ}
+    {seats : List Seat} → HaveSeats decks rest first now start seats
+    → map history_of now ≡ map history_of first
 same-histories {first = first} have = ap (map history_of) have.ledgers
     ∙ map-map history_of (with_out have.out) first

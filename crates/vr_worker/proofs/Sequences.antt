@@ -5,22 +5,24 @@ use Rattle.std.proofs.Common.{take}
 use Rattle.std.specs.Prelude.{OnOk}
 use Rattle.std.specs.Result.{IsErrAnd}
 use Rattle.std.proofs.lemmas.Grind.{flat_map-append}
-use Rattle.std.proofs.lemmas.List.{append-nil, drop_more, take-append-drop, take_more}
-use Rattle.std.proofs.lemmas.List.Elements.{All-nil}
+use Rattle.std.proofs.lemmas.List.{append-nil, drop_more, map-append, take-append-drop, take_more}
+use Rattle.std.proofs.lemmas.List.Elements.{All-map, All-nil}
 use Rattle.vr_types.specs.declared.bound.Bound.{Bound}
 use Rattle.vr_catalog.specs.declared.entry.CatEntry.{CatEntry}
 use Rattle.vr_history.specs.Merged.{merged, part_of_deck}
 use Rattle.vr_history.specs.declared.entry.Entry.{Entry}
 use Rattle.vr_job_text.specs.Numbers.{AreNumbered}
 use Rattle.vr_job_text.specs.declared.text.Step.{Step}
-use Rattle.vr_trace.specs.Laws.{AreRising, deck_entries, of_deck}
+use Rattle.vr_trace.specs.Laws.{AreRising, deck_entries, entry_of, of_deck}
 use Rattle.vr_worker.specs.Decks.{ArePlaced, AreSince}
 use Rattle.vr_worker.specs.Latched.{IsSince}
 use Rattle.vr_worker.specs.declared.no.RunNo.{RunNo}
 use Rattle.vr_worker.specs.Asks.{step_asks, steps_ask}
-use Rattle.vr_worker.specs.Runs.{AreFresh, HaveAsked, StayRising, deck_numbers}
-use Rattle.vr_worker.specs.Steps.{AreOfSteps, AreSinceSteps, HasAsked, IsOfStep, IsSinceSteps}
+use Rattle.vr_worker.specs.Runs.{AreFresh, HaveAsked, StayRising, WentOn, deck_numbers}
+use Rattle.vr_worker.specs.Steps.{AreOfSteps, AreSinceSteps, ComeInSteps, HasAsked, IsOfStep}
+use Rattle.vr_worker.specs.Steps.{IsSinceSteps}
 use Rattle.vr_worker.proofs.Grown.{no-part, none-rising, same-mapped}
+use Rattle.vr_worker.proofs.Merging.{none-merged}
 use Rattle.vr_worker.proofs.Numbering.{step-fresh}
 
 -- what is owed where a call is done, where it isn't
@@ -129,7 +131,7 @@ module _ {V : Type 0} (entries : V → List Entry) (follows : V → V → Type 0
       → ((a b : V) → follows a b → catalog b ≡ catalog a)
       → (steps : List Step) (first now : List V)
       → AreSinceSteps entries follows steps first now → map catalog now ≡ map catalog first
-  since-catalogs catalog same steps first now since = same-mapped catalog first now since.count
+  since-catalogs catalog same steps first now since = same-mapped catalog catalog first now since.count
       (λ place volume near. same (get_or first place volume) (get_or now place volume)
       (since.each place volume near).is_later)
 
@@ -154,6 +156,7 @@ pub record HaveDone {V : Type 0} (number : V → ℕ) (entries : V → List Entr
   pub asked : (deck : ℕ) → part_of_deck deck (merged (map entries now))
       ≡ steps_ask catalogs steps deck
   pub rising : (deck : ℕ) → AreRising (of_deck deck (merged (map entries now)))
+  pub in_steps : ComeInSteps steps (map entries now)
 
 module _ {V : Type 0} (number : V → ℕ) (entries : V → List Entry) (follows : V → V → Type 0)
     (stays : (volume : V) → follows volume volume)
@@ -170,6 +173,7 @@ module _ {V : Type 0} (number : V → ℕ) (entries : V → List Entry) (follows
         (λ place volume near. ap (deck_entries deck) (begins place volume near));
     rising = λ deck. none-rising entries deck first
         (λ place volume near. ap (deck_entries deck) (begins place volume near));
+    in_steps = ap (map entry_of) (none-merged entries first begins);
   }
 
   module _ (steps : List Step) (i : ℕ) (step : Step) (near : i < length steps)
@@ -180,6 +184,25 @@ module _ {V : Type 0} (number : V → ℕ) (entries : V → List Entry) (follows
     since-next = subst (λ (them : List Step). AreSinceSteps entries follows them first now)
         (sym (step-more steps i step near at))
         (since-then entries follows goes_on (take i steps) step first mid now done.since since)
+
+    -- over all volumes its entries come after those of the steps before
+    module _ (later : WentOn (deck_numbers step.decks) (map entries mid) (map entries now)) where
+      steps-next : ComeInSteps (take (i + 1) steps) (map entries now)
+      steps-next = subst (λ (them : List Step). ComeInSteps them (map entries now))
+          (sym (step-more steps i step near at))
+          (subst (AreOfSteps (take i steps ++ step ∷ []))
+          (sym (ap (map entry_of) later.grew
+          ∙ map-append entry_of (merged (map entries mid)) later.more))
+          (of-then (take i steps) step (map entry_of (merged (map entries mid)))
+          (map entry_of later.more) done.in_steps
+          (All-map (IsOfStep step) entry_of later.more later.own)))
+
+      -- and none of a step after it
+      pub failed-steps : ComeInSteps steps (map entries now)
+      failed-steps = subst (λ (them : List Step). ComeInSteps them (map entries now))
+          (take-append-drop (i + 1) steps)
+          (of-more (take (i + 1) steps) (drop (i + 1) steps)
+          (map entry_of (merged (map entries now))) steps-next)
 
     -- what the step's decks asked, by the catalogs that there were at first
     module _ {E : Type 0} (result : Result (Unit {0}) E)
@@ -219,8 +242,9 @@ module _ {V : Type 0} (number : V → ℕ) (entries : V → List Entry) (follows
 
       -- and where it didn't, all
       pub done-next : ((P : Type 0) → OnOk result P → P) → ArePlaced number now
+          → WentOn (deck_numbers step.decks) (map entries mid) (map entries now)
           → HaveDone number entries follows (map catalog first) (take (i + 1) steps) first now
-      done-next ok placed = record {
+      done-next ok placed later = record {
         placed = placed;
         since = since-next;
         asked = λ deck. asked-next deck
@@ -233,6 +257,7 @@ module _ {V : Type 0} (number : V → ℕ) (entries : V → List Entry) (follows
             ∙ ap (λ (them : List Step). steps_ask (map catalog first) them deck)
             (sym (step-more steps i step near at));
         rising = λ deck. stay deck (done.rising deck);
+        in_steps = steps-next later;
       }
 
     pub failed-since : AreSinceSteps entries follows steps first now

@@ -48,10 +48,11 @@ IsUnrun seat = seat.end ≡ Err Memory
 abbrev pub IsDone : Seat → Type 0
 IsDone seat = seat.end ≡ Ok tt
 
--- A deck before its thread begins: it has a turn at each ledger, and no request was answered.
-pub record IsBegun (ledgers : List LedgerNow) (seat : Seat) : Type 0 where
+-- A deck before its thread begins: it has a turn at each ledger, no request was answered, and its
+-- entries are to come after this stamp.
+pub record IsBegun (ledgers : List LedgerNow) (start : ℕ) (seat : Seat) : Type 0 where
   pub turns : seat.turns.items ≡ map (turn_at seat.deck) ledgers
-  pub last : seat.last ≡ 0
+  pub last : seat.last ≡ start
   pub unrun : IsUnrun seat
 
 -- ---- as the threads run

@@ -8,7 +8,7 @@ use Rattle.vr_history.specs.Merged.{merged, part_of_deck}
 use Rattle.vr_history.specs.declared.entry.Entry.{Entry}
 use Rattle.vr_job_text.specs.declared.text.Deck.{Deck}
 use Rattle.vr_job_text.specs.declared.text.Step.{Step}
-use Rattle.vr_trace.specs.Laws.{AreRising, of_deck}
+use Rattle.vr_trace.specs.Laws.{AreRising, entry_of, of_deck}
 use Rattle.vr_worker.specs.Asks.{IsPrefixOf, steps_ask}
 
 -- the numbers of the decks of a step
@@ -52,3 +52,8 @@ pub record HasAsked {E : Type 0} (catalogs : List (List CatEntry)) (steps : List
       → IsPrefixOf (next deck) (steps_ask catalogs (take 1 (drop count steps)) deck)
   pub whole : OnOk result (take count steps ≡ steps)
   pub rising : (deck : ℕ) → AreRising (of_deck deck (merged histories))
+
+-- Over all volumes the steps come one after another: in the merged history no entry of one comes
+-- before an entry of a step before it.
+abbrev pub ComeInSteps : List Step → List (List Entry) → Type 0
+ComeInSteps steps histories = AreOfSteps steps (map entry_of (merged histories))

@@ -1,7 +1,7 @@
 //! The decks of a step, each on a thread of its own.
 ghost use Rattle.std.specs.Prelude.{◌≡◌, ◌^◌, All, IsErrOf, IsTrue, Ok, OnOk, map};
-ghost use Rattle.vr_worker.specs.Decks.{AreNew, ArePlaced, AreSince, HasAsked, HasUsedUp};
-ghost use Rattle.vr_worker.specs.Decks.{numbers_of};
+ghost use Rattle.vr_worker.specs.Decks.{AreNew, ArePlaced, AreSince, AreUpTo, ComeLater, HasAsked};
+ghost use Rattle.vr_worker.specs.Decks.{HasUsedUp, greatest_last, numbers_of};
 ghost use Rattle.vr_worker.specs.Ready.{IsBegun, IsDone, decks_of, history_of};
 ghost use Rattle.vr_worker.specs.declared.no.RunNo.TheVariants.{Stamps};
 
@@ -81,10 +81,13 @@ fn run_ready<R: Threads + Wait + Sync, V: Served + Send, G: Gate + Sync>(
     requires placed { ArePlaced V.number volumes.items }
     requires decks { AreNew V.entries (decks_of seats.old) volumes.items }
     requires histories { map history_of ledgers.items ≡ map V.entries volumes.items }
-    requires begun { All (IsBegun ledgers.items) seats.old }
+    requires begun { All (IsBegun ledgers.items (greatest_last V.entries volumes.items)) seats.old }
+    requires had { All (λ (volume : V). AreUpTo (greatest_last V.entries volumes.items)
+        (V.entries volume)) volumes.items }
     ensures placed { ArePlaced V.number result.volumes.items }
     ensures since { AreSince V.entries V.follows (numbers_of (decks_of seats.old)) volumes.items
         result.volumes.items }
+    ensures later { ComeLater V.entries volumes.items result.volumes.items }
     ensures asked { All (HasAsked result.result (map V.entries result.volumes.items))
         (decks_of seats.old) }
     ensures stamps { IsErrOf result.result Stamps → HasUsedUp V.entries result.volumes.items }
@@ -95,8 +98,8 @@ fn run_ready<R: Threads + Wait + Sync, V: Served + Send, G: Gate + Sync>(
 }
 
 /// Runs the decks of a step, each on a thread of its own where one can be made, over volumes that
-/// they share. Where memory is refused before the first thread starts, the volumes are as they
-/// were.
+/// they share. Their entries come after all that any of the volumes has. Where memory is refused
+/// before the first thread starts, the volumes are as they were.
 pub fn run_decks<R: Threads + Wait + Sync, V: Served + Send, G: Gate + Sync>(
     rt: &R,
     alloc: Global,
@@ -109,6 +112,7 @@ pub fn run_decks<R: Threads + Wait + Sync, V: Served + Send, G: Gate + Sync>(
     ensures placed { ArePlaced V.number result.volumes.items }
     ensures since { AreSince V.entries V.follows (numbers_of decks.items) volumes.items
         result.volumes.items }
+    ensures later { ComeLater V.entries volumes.items result.volumes.items }
     ensures asked { All (HasAsked result.result (map V.entries result.volumes.items)) decks.items }
     ensures stamps { IsErrOf result.result Stamps → HasUsedUp V.entries result.volumes.items }
 {

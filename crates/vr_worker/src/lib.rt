@@ -7,9 +7,9 @@
 //! deck's part of the merged history, and on vr_outside for gates. It promises, for every schedule: each
 //! deck's part of the merged history is its requests in order, each once, or the first of them where
 //! memory or stamps ran out; the stamps of its entries rise over all volumes; no other deck entered
-//! anything; the history of each volume is that of the decks of the steps, step by step; and each volume
-//! that comes back is a later state of the one that was handed in. That threads run at once, and that one
-//! gets in between two events of another, no clause says.
+//! anything; the history of each volume, and the merged one of all, is that of the decks of the steps,
+//! step by step; and each volume that comes back is a later state of the one that was handed in. That
+//! threads run at once, and that one gets in between two events of another, no clause says.
 #![tactic(auto)]
 
 mod asking;

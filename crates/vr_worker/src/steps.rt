@@ -1,8 +1,9 @@
 //! The steps of a job, one after another.
 ghost use Rattle.std.specs.Prelude.{◌≡◌, ◌<◌, ◌^◌, [], All, IfOk, IsErrOf, length, map};
 ghost use Rattle.vr_job_text.specs.Numbers.{AreNumbered};
-ghost use Rattle.vr_worker.specs.Runs.{AreFresh, AreRuns, HaveAsked, StayRising, deck_numbers};
-ghost use Rattle.vr_worker.specs.Steps.{AreSinceSteps, HasAsked};
+ghost use Rattle.vr_worker.specs.Runs.{AreFresh, AreRuns, HaveAsked, StayRising, WentOn};
+ghost use Rattle.vr_worker.specs.Runs.{deck_numbers};
+ghost use Rattle.vr_worker.specs.Steps.{AreSinceSteps, ComeInSteps, HasAsked};
 ghost use Rattle.vr_worker.specs.Decks.{ArePlaced, AreSince, HasUsedUp};
 ghost use Rattle.vr_worker.specs.declared.no.RunNo.TheVariants.{Stamps};
 
@@ -83,6 +84,8 @@ fn run_step<R: Threads + Wait + Sync, V: Cataloged + Send, G: Gate + Sync>(
         (map V.entries volumes.old.items) (map V.entries volumes.new.items) }
     ensures rising { StayRising (map V.entries volumes.old.items)
         (map V.entries volumes.new.items) }
+    ensures later { WentOn (deck_numbers step.now.decks) (map V.entries volumes.old.items)
+        (map V.entries volumes.new.items) }
     ensures stamps { IsErrOf result Stamps → HasUsedUp V.entries volumes.new.items }
 {
     let runs = bind_step(alloc, step, volumes.as_slice())?;
@@ -94,7 +97,8 @@ fn run_step<R: Threads + Wait + Sync, V: Cataloged + Send, G: Gate + Sync>(
 
 /// Runs the decks of the steps over the volumes, which have no history yet, one step after
 /// another, to the end or until stamps or memory run out. Each deck is bound over the catalogs of
-/// all volumes as its step begins, and runs on a thread of its own where one can be made.
+/// all volumes as its step begins, and runs on a thread of its own where one can be made. What a step
+/// enters comes after all that the steps before it entered, on whichever volumes.
 pub fn run_steps<R: Threads + Wait + Sync, V: Cataloged + Send, G: Gate + Sync>(
     rt: &R,
     alloc: Global,
@@ -109,6 +113,7 @@ pub fn run_steps<R: Threads + Wait + Sync, V: Cataloged + Send, G: Gate + Sync>(
     ensures placed { ArePlaced V.number volumes.new.items }
     ensures since { AreSinceSteps V.entries V.follows steps.now volumes.old.items
         volumes.new.items }
+    ensures in_steps { ComeInSteps steps.now (map V.entries volumes.new.items) }
     ensures asked { HasAsked (map V.catalog volumes.old.items) steps.now result
         (map V.entries volumes.new.items) }
     ensures stamps { IsErrOf result Stamps → HasUsedUp V.entries volumes.new.items }

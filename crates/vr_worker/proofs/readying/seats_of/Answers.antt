@@ -6,13 +6,13 @@ use Rattle.vr_worker.proofs.readying.seats_of.Goals as goal
 
 pub loop-deck-init : goal.loop-deck-init
 loop-deck-init c = no-seats c.args.decks.items c.into_iter-deck-iterator.result.rest.items
-    c.args.ledgers.now c.new-seats.result.items
+    c.args.ledgers.now c.args.start c.new-seats.result.items
     c.into_iter-deck-iterator.ensures.into_iter_gives.0 c.new-seats.ensures.items
 
 pub enter_all-requires : goal.enter_all-requires
 enter_all-requires c = record {
   free = next-free c.args.decks.items c.in-Some.deck c.next.new.self.rest.items
-      c.loop-deck.deck-iterator.rest.items c.args.ledgers.now c.loop-deck.ledgers
+      c.loop-deck.deck-iterator.rest.items c.args.ledgers.now c.loop-deck.ledgers c.args.start
       c.loop-deck.seats.items c.loop-deck.invariant c.in-Some.ensures.steps.0 c.requires.once
       c.requires.unused;
 }
@@ -20,9 +20,9 @@ enter_all-requires c = record {
 pub loop-deck-preserved : goal.loop-deck-preserved
 loop-deck-preserved c = subst
     (λ (seats : List Seat). HaveSeats c.args.decks.items c.next.new.self.rest.items
-    c.args.ledgers.now c.enter_all.new.ledgers seats) (sym c.in_ok-push.ensures.items)
+    c.args.ledgers.now c.enter_all.new.ledgers c.args.start seats) (sym c.in_ok-push.ensures.items)
     (next-seated c.args.decks.items c.in-Some.deck c.next.new.self.rest.items
-    c.loop-deck.deck-iterator.rest.items c.args.ledgers.now c.loop-deck.ledgers
+    c.loop-deck.deck-iterator.rest.items c.args.ledgers.now c.loop-deck.ledgers c.args.start
     c.loop-deck.seats.items c.loop-deck.invariant c.in-Some.ensures.steps.0
     c.enter_all.new.ledgers _ c.in_ok-turns.ensures.entered refl c.in_ok-turns.ensures.turns refl
     refl)

@@ -1,8 +1,9 @@
 use Rattle.std.proofs.Common.{List, Vec, map, subst, sym}
 use Rattle.std.specs.Global.{Global}
-use Rattle.vr_worker.specs.Decks.{AreNew, AreSince, numbers_of}
-use Rattle.vr_worker.specs.Runs.{AreRuns}
+use Rattle.vr_worker.specs.Decks.{AreNew, AreSince, ComeLater, numbers_of}
+use Rattle.vr_worker.specs.Runs.{AreRuns, deck_numbers}
 use Rattle.vr_worker.proofs.Grown.{have-asked, since-decks, stay-rising}
+use Rattle.vr_worker.proofs.Merging.{went-on}
 use Rattle.vr_worker.proofs.RunLists.{runs-new}
 use Rattle.vr_worker.proofs.steps.run_step.Goals as goal
 
@@ -39,6 +40,22 @@ returns-clause-asked g c =
     AreSince V.entries V.follows (numbers_of runs) them.items end.volumes.items)
     c.replace-taken.ensures.value c.run_decks-end.ensures.since) end.result
     c.run_decks-end.ensures.asked
+
+pub returns-clause-later : goal.returns-clause-later
+returns-clause-later g c =
+    let V = g.V.Served in
+    let runs = c.in_ok-runs.runs.items in
+    let end = c.run_decks-end.result in
+    went-on V.entries V.follows (deck_numbers c.args.step.now.decks) c.args.volumes.now.items
+    end.volumes.items (since-decks V.entries V.follows
+    (map g.V.Cataloged.catalog c.as_slice.result.now) c.args.step.now.decks runs
+    c.in_ok-runs.ensures c.args.volumes.now.items c.requires.fresh end.volumes.items
+    (subst (λ (them : Vec g.row.V.Denot Global).
+    AreSince V.entries V.follows (numbers_of runs) them.items end.volumes.items)
+    c.replace-taken.ensures.value c.run_decks-end.ensures.since) end.result
+    c.run_decks-end.ensures.asked) (subst (λ (them : Vec g.row.V.Denot Global).
+    ComeLater V.entries them.items end.volumes.items) c.replace-taken.ensures.value
+    c.run_decks-end.ensures.later)
 
 pub returns-clause-rising : goal.returns-clause-rising
 returns-clause-rising g c =

@@ -1,7 +1,7 @@
 use Rattle.std.proofs.Common.{◌≡◌}
 use Rattle.std.proofs.lemmas.List.{take_all}
 use Rattle.vr_worker.proofs.Sequences.{all-asked, done-next, done-none, failed-asked, failed-since}
-use Rattle.vr_worker.proofs.Sequences.{next-fresh}
+use Rattle.vr_worker.proofs.Sequences.{failed-steps, next-fresh}
 use Rattle.vr_worker.proofs.steps.run_steps.Given.{Over}
 use Rattle.vr_worker.proofs.steps.run_steps.Goals as goal
 
@@ -32,6 +32,15 @@ returns-in_err-run_step-clause-since g c =
     c.step-item.result c.loop-step-test.true c.step-item.is c.loop-step.volumes.items
     c.run_step.new.volumes.items c.loop-step.invariant c.in_err-run_step.ensures.since
 
+pub returns-in_err-run_step-clause-in_steps : goal.returns-in_err-run_step-clause-in_steps
+returns-in_err-run_step-clause-in_steps g c =
+    let V = g.V.Served in
+    failed-steps V.number V.entries V.follows V.stays V.goes_on g.V.Cataloged.catalog
+    (same g) c.args.volumes.now.items c.args.steps.now c.loop-step.step-index
+    c.step-item.result c.loop-step-test.true c.step-item.is c.loop-step.volumes.items
+    c.run_step.new.volumes.items c.loop-step.invariant c.in_err-run_step.ensures.since
+    c.in_err-run_step.ensures.later
+
 pub returns-in_err-run_step-clause-asked : goal.returns-in_err-run_step-clause-asked
 returns-in_err-run_step-clause-asked g c =
     let V = g.V.Served in
@@ -50,7 +59,7 @@ loop-step-preserved g c =
     c.step-item.result c.loop-step-test.true c.step-item.is c.loop-step.volumes.items
     c.run_step.new.volumes.items c.loop-step.invariant c.in_ok-run_step.ensures.since
     _ c.in_ok-run_step.ensures.asked c.in_ok-run_step.ensures.rising (λ P has. has)
-    c.in_ok-run_step.ensures.placed
+    c.in_ok-run_step.ensures.placed c.in_ok-run_step.ensures.later
 
 pub returns-clause-asked : goal.returns-clause-asked
 returns-clause-asked g c =
