@@ -12,8 +12,7 @@ use Rattle.vr_types.specs.Geometry.{IsAllowed}
 use Rattle.vr_types.specs.Seen.{Seen}
 use Rattle.vr_types.specs.declared.geometry.Geometry.{Geometry}
 use Rattle.vr_types.specs.declared.unit.PartNo.{PartNo}
-use Rattle.vr_space.specs.Part.{IsOn, Knows, Shape, part_no}
-use Rattle.vr_space.specs.Split.{SplitNow}
+use Rattle.vr_space.specs.Part.{IsOn, Shape, part_no}
 use Rattle.vr_answer.specs.Scope.{AreKeyedClusters}
 use Rattle.vr_catalog.specs.Catalog.{cluster_definition, entries_in, entry_with_part, parts_in}
 use Rattle.vr_catalog.specs.declared.entry.CatEntry.{CatEntry}
@@ -21,7 +20,7 @@ use Rattle.vr_catalog.specs.declared.entry.EntryKind.{EntryKind}
 use Rattle.vr_catalog.specs.declared.entry.EntryKind.TheVariants.{Cluster, Alternate, Path}
 use Rattle.vr_history.specs.Effects.{has_areas, has_part, parts_laid}
 use Rattle.vr_history.specs.State.{Owned as OwnedArea}
-use Rattle.vr_keyed.specs.Owned.{Owned}
+use Rattle.vr_keyed.specs.Owned.{Owned, known_of}
 use Rattle.vr_log.specs.LogNow.{IsOf, LogNow}
 use Rattle.vr_attach.specs.CatalogRules.{IsCatalog}
 use Rattle.vr_attach.specs.Laid.{AreApart, shape_by, shape_from, shape_in, shape_of}
@@ -333,11 +332,11 @@ module _ (geometry : Geometry) (entries : List CatEntry) (owned : List Owned) (l
         (subst (All (λ (shape : Shape). shape_in geometry entries (part_no shape).0 ≡ Some shape))
         (sym handed.shapes) handed.laid.each)
 
-    part-opened : (keyed : Owned) → IsOn (shape_owned keyed) now → keyed.split ≡ None
-        → IsReadyPart (shape_owned keyed) keyed.met [] now
+    part-opened : (keyed : Owned) → IsOn (shape_owned keyed) now
+        → IsReadyPart (shape_owned keyed) (known_of keyed) [] now
         → shape_in geometry entries (part_no (shape_owned keyed)).0 ≡ Some (shape_owned keyed)
         → IsPartOpened log.geometry contents now (opened_now keyed)
-    part-opened keyed on split ready laid =
+    part-opened keyed on ready laid =
         let there : shape_by log.geometry (contents 0) (part_no (shape_owned keyed)).0
         ≡ Some (shape_owned keyed) = by-contents (part_no (shape_owned keyed)).0 ∙ laid in
         record {
@@ -345,16 +344,14 @@ module _ (geometry : Geometry) (entries : List CatEntry) (owned : List Owned) (l
           on = on;
           rests = ready.rests;
           room = ready.room;
-          knows = subst (λ (s : Option SplitNow). Knows (shape_owned keyed) s keyed.met now)
-              (sym split) ready.knows;
+          knows = ready.knows;
           holds = is.undone.all (part_no (shape_owned keyed)).0 (shape_owned keyed) there;
         }
 
     opened-each : All (IsPartOpened log.geometry contents now) parts
     opened-each = All-map (IsPartOpened log.geometry contents now) opened_now owned
         (λ at default within. part-opened (slice_index_or owned at default)
-        (on-each at default within) (handed.split at default within)
-        (is.ready at default within) (laid-each at default within))
+        (on-each at default within) (is.ready at default within) (laid-each at default within))
 
     pub handed-opened : IsOpenedBy number log parts contents now
     handed-opened = record {

@@ -13,10 +13,10 @@ use Rattle.vr_job_text.specs.declared.text.Step.{Step}
 use Rattle.vr_event.specs.Volume.{VolumeNow}
 use Rattle.vr_recover.specs.declared.open_no.OpenNo.{OpenNo}
 use Rattle.vr_recover.specs.declared.open_no.OpenNo.TheVariants as opens
-use Rattle.vr_worker.specs.Steps.{AreOfSteps, AreSinceSteps, HasAsked, IsSinceSteps}
+use Rattle.vr_worker.specs.Steps.{AreOfSteps, AreSinceSteps, ComeInSteps, HasAsked, IsSinceSteps}
 use Rattle.vr_job_ends.specs.declared.job_end.End.{End}
 use Rattle.vr_job_ends.specs.declared.job_end.End.TheVariants.{Line, Ran, Unsynced}
-use Rattle.vr_trace.specs.Laws.{AreRising, of_deck}
+use Rattle.vr_trace.specs.Laws.{AreRising, entry_of, of_deck}
 use Rattle.vr_trace.specs.declared.ending.EndLine.{EndLine}
 use Rattle.vr_trace.specs.declared.ending.EndLine.TheVariants.{DeviceFault, StampsUsedUp}
 use Rattle.vr_worker.specs.declared.no.RunNo.{RunNo}
@@ -545,6 +545,12 @@ module _ {D : Type 0} (tells : Bool) (seen : D → Seen) (faults : D → Faults)
         (sym (none-numbered 0 volumes empty)) tt;
   }
 
+  -- and then nothing comes of any step
+  none-in-steps : (volumes : List (VolumeOf D)) → AreEmpty volumes
+      → ComeInSteps steps (map (λ (one : VolumeOf D). one.entries) volumes)
+  none-in-steps volumes empty = subst (λ them. AreOfSteps steps (map entry_of (in_order them)))
+      (sym (none-numbered 0 volumes empty)) (of-none steps)
+
   -- ---- the whole
 
   module _ (devices unopened shelf : List D) (volumes ran : List (VolumeNow D))
@@ -579,6 +585,10 @@ module _ {D : Type 0} (tells : Bool) (seen : D → Seen) (faults : D → Faults)
           opened.rest_is.1
           ∙ append-nil histories ∙ closed.histories_are ∙ entries-are openings closings since
 
+      ran-entries : map entries_on ran ≡ map (λ (one : VolumeOf D). one.entries) all
+      ran-entries = ap (λ (them : List (VolumeNow D)). map entries_on them) closed.volumes_are
+          ∙ closing-entries closings closed.closing ∙ entries-are openings closings since
+
       -- however the job ended
       with-end : (end : End) → AreOwed end 0 openings closings
           → (end ≡ Line StampsUsedUp → by ≡ Err nos.Stamps)
@@ -601,10 +611,9 @@ module _ {D : Type 0} (tells : Bool) (seen : D → Seen) (faults : D → Faults)
             (map (λ (one : VolumeOf D). one.entries) all))
             (ap (λ (them : List (VolumeNow D)). map catalog_of them) opened.volumes_are
             ∙ catalogs-are openings closings since)
-            (subst (HasAsked (map catalog_of volumes) steps by)
-            (ap (λ (them : List (VolumeNow D)). map entries_on them) closed.volumes_are
-            ∙ closing-entries closings closed.closing ∙ entries-are openings closings since)
-            has_run.asked));
+            (subst (HasAsked (map catalog_of volumes) steps by) ran-entries has_run.asked));
+        in_steps = subst (ComeInSteps steps) (sym kept-are)
+            (subst (ComeInSteps steps) ran-entries has_run.in_steps);
         stamps = λ used.
             let shown = has_run.stamps (stamps used) in
             let there = subst (λ (them : List (VolumeNow D)). Contains them shown.volume)
@@ -685,6 +694,7 @@ module _ {D : Type 0} (tells : Bool) (seen : D → Seen) (faults : D → Faults)
       by = Err nos.Memory;
       asked = subst (HasAsked (map (λ (one : VolumeOf D). one.catalog) all) steps lacks)
           (sym kept-are) (none-asked all all-empty);
+      in_steps = subst (ComeInSteps steps) (sym kept-are) (none-in-steps all all-empty);
       stamps = λ used. absurd (open-line-stamps (length openings) fault.line.0
           (sym fault.line.1 ∙ line-is end StampsUsedUp used));
       ends = ByOpening (length openings) one end

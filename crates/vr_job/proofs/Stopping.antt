@@ -1,6 +1,6 @@
 -- A COMMIT that was answered 0 leaves its volume going, and what a volume that stopped leaves is what
 -- the event leaves in which it did.
-use Rattle.std.proofs.Common.{◌≡◌, ◌≢◌, ◌⊎◌, inl, inr, ⊎_elim, ◌∙◌, ℕ, Bool, List, [], ◌∷◌, ◌++◌}
+use Rattle.std.proofs.Common.{◌≡◌, ◌⊎◌, inl, inr, ⊎_elim, ◌∙◌, ℕ, List, [], ◌∷◌, ◌++◌}
 use Rattle.std.proofs.Common.{Option, Some, None, refl, sym, ap, subst, append_assoc}
 use Rattle.std.specs.Prelude.{option_map}
 use Rattle.std.proofs.lemmas.List.Elements.{All-cons, All-head, All-nil, All-tail}
@@ -29,7 +29,7 @@ use Rattle.vr_event.specs.Made.{HasStopped as HasStoppedWith, IsStepFor, MadeBy}
 use Rattle.vr_event.specs.declared.act.Act.{Act}
 use Rattle.vr_event.specs.declared.act.Act.TheVariants.{Again, Done}
 use Rattle.vr_job.specs.Crash.{HaveDoneCommit, IsDoneCommit}
-use Rattle.vr_job.specs.Events.{FaultsFollow, HasStopped, IsLeftWhile, IsStop}
+use Rattle.vr_job.specs.Events.{FaultsFollow, HasStopped, IsStop}
 use Rattle.vr_job.specs.Faultless.{AreFaultless, IsFaulted}
 
 -- ---- a COMMIT that is answered 0 comes where its volume goes on

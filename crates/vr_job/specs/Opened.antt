@@ -11,7 +11,7 @@ use Rattle.vr_catalog.specs.Catalog.{entries_in}
 use Rattle.vr_catalog.specs.declared.entry.CatEntry.{CatEntry}
 use Rattle.vr_history.specs.Effects.{has_part, parts_laid}
 use Rattle.vr_history.specs.State.{Owned as OwnedArea, opening_state}
-use Rattle.vr_keyed.specs.Owned.{Owned}
+use Rattle.vr_keyed.specs.Owned.{Owned, known_of}
 use Rattle.vr_log.specs.LogNow.{LogNow}
 use Rattle.vr_mount.specs.Areas.{AreOwners}
 use Rattle.vr_space.specs.Part.{part_no}
@@ -28,8 +28,7 @@ abbrev pub laid_now : Laid Owned → PartNow
 laid_now laid = record {
   number = laid.number;
   shape = shape_owned laid.part;
-  split = laid.part.split;
-  met = laid.part.met;
+  known = known_of laid.part;
 }
 
 -- a part that was opened, with the number that is its own
@@ -37,8 +36,7 @@ abbrev pub opened_now : Owned → PartNow
 opened_now keyed = record {
   number = part_no (shape_owned keyed);
   shape = shape_owned keyed;
-  split = keyed.split;
-  met = keyed.met;
+  known = known_of keyed;
 }
 
 -- Whatever the blocks have: what was opened is that of a set volume, and its catalog has
