@@ -97,17 +97,20 @@ roster_back cis size r rest rules =
     (part_field r rest rules.part) (ap area_of
     (next_field r rest (area_field-below r.next rules.next)) ∙ area_of-area_field r.next)
 
+-- the roster in a roster's block is the one that it spells
 pub roster_is : (cis : ℕ) (block : List ℕ) (r : Roster) → IsRoster cis block r → roster_in block ≡ r
 roster_is cis block r is = ap roster_in is.spelled
     ∙ roster_back cis (length block) r (replicate (length block - length (roster_bytes r)) 0)
     is.rules
 
+-- the block of a roster has the size that is asked for
 pub length-block_of_roster : (cis size : ℕ) (r : Roster) → KeepsRosterRules cis size r
     → length (block_of_roster size r) ≡ size
 length-block_of_roster cis size r rules =
     length-padded size (roster_bytes r) (omega
     (arith, length-roster_bytes r, block_size_least size rules.block))
 
+-- the block of a roster that keeps the rules is that roster's
 pub block_of_roster_is : (cis size : ℕ) (r : Roster) → KeepsRosterRules cis size r
     → IsRoster cis (block_of_roster size r) r
 block_of_roster_is cis size r rules =
