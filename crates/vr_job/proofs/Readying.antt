@@ -12,7 +12,8 @@ use Rattle.vr_types.specs.Geometry.{IsAllowed}
 use Rattle.vr_types.specs.Seen.{Seen}
 use Rattle.vr_types.specs.declared.geometry.Geometry.{Geometry}
 use Rattle.vr_types.specs.declared.unit.PartNo.{PartNo}
-use Rattle.vr_space.specs.Part.{IsOn, Shape, part_no}
+use Rattle.vr_space.specs.Owners.{Owners}
+use Rattle.vr_space.specs.Part.{IsAtRest, IsOn, Shape, part_no}
 use Rattle.vr_answer.specs.Scope.{AreKeyedClusters}
 use Rattle.vr_catalog.specs.Catalog.{cluster_definition, entries_in, entry_with_part, parts_in}
 use Rattle.vr_catalog.specs.declared.entry.CatEntry.{CatEntry}
@@ -23,12 +24,13 @@ use Rattle.vr_history.specs.State.{Owned as OwnedArea}
 use Rattle.vr_keyed.specs.Owned.{Owned, known_of}
 use Rattle.vr_log.specs.LogNow.{IsOf, LogNow}
 use Rattle.vr_attach.specs.CatalogRules.{IsCatalog}
-use Rattle.vr_attach.specs.Laid.{AreApart, shape_by, shape_from, shape_in, shape_of}
+use Rattle.vr_attach.specs.Laid.{shape_by, shape_from, shape_in, shape_of}
+use Rattle.vr_attach.specs.Owning.{owner_of}
 use Rattle.vr_event.specs.Opening.{IsOpened as IsOpenedBy, IsPartOpened, opened_store, owned_from}
 use Rattle.vr_event.specs.Opening.{owned_in}
 use Rattle.vr_event.specs.Store.{ChangedBy, IsFitImage, IsPartSet, IsSet, PartNow, shape_among}
 use Rattle.vr_recover.specs.Opening.{IsHandedOut, IsOpenedBy as IsOpenedWith, shape_owned, shapes_laid}
-use Rattle.vr_recover.specs.Undone.{IsPastLog, IsReady as IsReadyPart}
+use Rattle.vr_recover.specs.Undone.{IsReady as IsReadyPart, alike}
 use Rattle.vr_recover.proofs.CallerLemmas.{laid-cases, shape-number}
 use Rattle.vr_recover.specs.Opening.{IsRefused}
 use Rattle.vr_recover.specs.OpenNo.{IsToldNo}
@@ -46,6 +48,7 @@ use Rattle.vr_types.proofs.CallerLemmas.{guards-weaken}
 use Rattle.vr_history.specs.State.{State}
 use Rattle.vr_record_file.specs.Now.{state_now}
 use Rattle.vr_volume.specs.Crashes.{RecoversTo}
+use Rattle.vr_volume.specs.Safe.{IsSafe}
 use Rattle.vr_event.specs.Volume.{IsHeld, IsWhole, VolumeNow}
 use Rattle.vr_event.proofs.CallerLemmas.{idle-guards}
 use Rattle.vr_job.specs.Going.{HasRun}
@@ -253,16 +256,9 @@ module _ (geometry : Geometry) (entries : List CatEntry) (owned : List Owned) (l
   on-each : All (λ (keyed : Owned). IsOn (shape_owned keyed) now) owned
   on-each = each-owned (λ (shape : Shape). IsOn shape now) owned handed.on
 
-  past-each : All (λ (keyed : Owned). IsPastLog geometry (shape_owned keyed)) owned
-  past-each = each-owned (IsPastLog geometry) owned handed.past
-
-  part-set : All (IsPartSet log now) parts
-  part-set = All-map (IsPartSet log now) opened_now owned (λ at default within. record {
-    number = refl;
-    on = on-each at default within;
-    apart = λ n inside. subst (λ (g : Geometry). g.log < n) (sym handed.log_is)
-        (past-each at default within n inside);
-  })
+  part-set : All (IsPartSet now) parts
+  part-set = All-map (IsPartSet now) opened_now owned
+      (λ at default within. record { number = refl; on = on-each at default within })
 
   apart-set : IsDistinct nat_eq (map (λ (part : PartNow). part.number.0) parts)
   apart-set = subst (IsDistinct nat_eq)
@@ -319,7 +315,13 @@ module _ (geometry : Geometry) (entries : List CatEntry) (owned : List Owned) (l
   -- ---- where the device reports its contents
 
   module _ (number : ℕ) (contents : ℕ → Content) (old : Seen)
-      (is : IsOpenedWith number geometry entries owned log contents old now) where
+      (is : IsOpenedWith number geometry entries owned log space contents old now) where
+    abbrev owners : Owners
+    owners = owner_of log.geometry space
+
+    by-owners : (P : Owners → Type 0) → P (owner_of geometry space) → P owners
+    by-owners P = subst (λ (g : Geometry). P (owner_of g space)) (sym handed.log_is)
+
     by-contents : (part : ℕ)
         → shape_in log.geometry (entries_in (contents 0)) part ≡ shape_in geometry entries part
     by-contents part = ap (λ (g : Geometry). shape_in g (entries_in (contents 0)) part) handed.log_is
@@ -333,42 +335,41 @@ module _ (geometry : Geometry) (entries : List CatEntry) (owned : List Owned) (l
         (sym handed.shapes) handed.laid.each)
 
     part-opened : (keyed : Owned) → IsOn (shape_owned keyed) now
-        → IsReadyPart (shape_owned keyed) (known_of keyed) [] now
+        → IsReadyPart (shape_owned keyed) (owner_of geometry space) (known_of keyed) [] now
         → shape_in geometry entries (part_no (shape_owned keyed)).0 ≡ Some (shape_owned keyed)
-        → IsPartOpened log.geometry contents now (opened_now keyed)
+        → IsPartOpened log.geometry owners contents now (opened_now keyed)
     part-opened keyed on ready laid =
         let there : shape_by log.geometry (contents 0) (part_no (shape_owned keyed)).0
         ≡ Some (shape_owned keyed) = by-contents (part_no (shape_owned keyed)).0 ∙ laid in
         record {
           laid = there;
           on = on;
-          rests = ready.rests;
+          rests = by-owners (λ (o : Owners). IsAtRest (shape_owned keyed) o now) ready.rests;
           room = ready.room;
           knows = ready.knows;
           holds = is.undone.all (part_no (shape_owned keyed)).0 (shape_owned keyed) there;
         }
 
-    opened-each : All (IsPartOpened log.geometry contents now) parts
-    opened-each = All-map (IsPartOpened log.geometry contents now) opened_now owned
+    opened-each : All (IsPartOpened log.geometry owners contents now) parts
+    opened-each = All-map (IsPartOpened log.geometry owners contents now) opened_now owned
         (λ at default within. part-opened (slice_index_or owned at default)
         (on-each at default within) (is.ready at default within) (laid-each at default within))
 
-    pub handed-opened : IsOpenedBy number log parts contents now
+    pub handed-opened : IsOpenedBy number owners log parts contents now
     handed-opened = record {
-      safe = is.undone.safe;
+      safe = by-owners (λ (o : Owners). IsSafe log.geometry number o log (alike contents) now)
+          is.undone.safe;
       stands = is.stands;
       forced = handed.forced;
       each = is.ascends;
       catalog = subst (λ (g : Geometry). IsCatalog g (contents 0)) (sym handed.log_is) is.rules;
-      apart = subst (λ (g : Geometry). AreApart (shape_by g (contents 0))) (sym handed.log_is)
-          is.apart;
       others = λ part none. is.others part
           (ap (λ (g : Geometry). shape_by g (contents 0) part) (sym handed.log_is) ∙ none);
       opened = opened-each;
       whole = λ part shape laid. handed-laid part ∙ sym (by-contents part) ∙ laid;
     }
 
-    pub handed-from : IsReadyFrom number geometry entries parts log contents old now
+    pub handed-from : IsReadyFrom number geometry entries parts log space contents old now
     handed-from = record { volume = is.volume; catalog_is = is.catalog; opened = handed-opened }
 
 -- ---- what is equal to it
@@ -384,13 +385,16 @@ module _ (g h : Geometry) (c d : List CatEntry) (p q : List PartNow) (l m : LogN
       (subst (λ (x : LogNow). IsReady h d q x s now) (sym log)
       (subst (λ (x : List (Option PartNo)). IsReady h d q m x now) (sym space) is))))
 
-  pub from-same : (number : ℕ) (contents : ℕ → Content) (old now : Seen)
-      → IsReadyFrom number h d q m contents old now → IsReadyFrom number g c p l contents old now
-  from-same number contents old now is =
-      subst (λ (x : Geometry). IsReadyFrom number x c p l contents old now) (sym geometry)
-      (subst (λ (x : List CatEntry). IsReadyFrom number h x p l contents old now) (sym catalog)
-      (subst (λ (x : List PartNow). IsReadyFrom number h d x l contents old now) (sym parts)
-      (subst (λ (x : LogNow). IsReadyFrom number h d q x contents old now) (sym log) is)))
+  pub from-same : (s t : List (Option PartNo)) (number : ℕ) (contents : ℕ → Content)
+      (old now : Seen) → s ≡ t → IsReadyFrom number h d q m t contents old now
+      → IsReadyFrom number g c p l s contents old now
+  from-same s t number contents old now space is =
+      subst (λ (x : Geometry). IsReadyFrom number x c p l s contents old now) (sym geometry)
+      (subst (λ (x : List CatEntry). IsReadyFrom number h x p l s contents old now) (sym catalog)
+      (subst (λ (x : List PartNow). IsReadyFrom number h d x l s contents old now) (sym parts)
+      (subst (λ (x : LogNow). IsReadyFrom number h d q x s contents old now) (sym log)
+      (subst (λ (x : List (Option PartNo)). IsReadyFrom number h d q m x contents old now)
+      (sym space) is))))
 
 -- ---- why it isn't opened
 

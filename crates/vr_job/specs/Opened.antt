@@ -7,6 +7,7 @@ use Rattle.vr_types.specs.Seen.{Seen}
 use Rattle.vr_types.specs.declared.geometry.Geometry.{Geometry}
 use Rattle.vr_types.specs.declared.unit.PartNo.{PartNo}
 use Rattle.vr_answer.specs.Scope.{AreKeyedClusters}
+use Rattle.vr_attach.specs.Owning.{owner_of}
 use Rattle.vr_catalog.specs.Catalog.{entries_in}
 use Rattle.vr_catalog.specs.declared.entry.CatEntry.{CatEntry}
 use Rattle.vr_history.specs.Effects.{has_part, parts_laid}
@@ -55,12 +56,13 @@ pub record IsReady (geometry : Geometry) (catalog : List CatEntry) (parts : List
       (owned_in space)
 
 -- And by what the blocks had and have: they were a volume's, which recovered to these contents, and
--- are one's that was opened with them.
+-- are one's that was opened with them, by who owns the areas.
 pub record IsReadyFrom (number : ℕ) (geometry : Geometry) (catalog : List CatEntry)
-    (parts : List PartNow) (log : LogNow) (contents : ℕ → Content) (old new : Seen) : Type 0 where
+    (parts : List PartNow) (log : LogNow) (space : List (Option PartNo)) (contents : ℕ → Content)
+    (old new : Seen) : Type 0 where
   pub volume : IsVolume number geometry contents old
   pub catalog_is : catalog ≡ entries_in (contents 0)
-  pub opened : IsOpened number log parts contents new
+  pub opened : IsOpened number (owner_of log.geometry space) log parts contents new
 
 -- It is held from its opening, with contents to which the blocks recovered before, and each image
 -- that a crash may leave of it now recovers to them. An area is owned by the part that its catalog

@@ -5,6 +5,7 @@ ghost use Rattle.vr_types.specs.Content.{Content};
 ghost use Rattle.vr_types.specs.Moments.{Guards};
 ghost use Rattle.vr_types.specs.Seen.{Left};
 ghost use Rattle.vr_types.specs.declared.geometry.Geometry.{Geometry as VolumeShape};
+ghost use Rattle.vr_attach.specs.Owning.{owner_of};
 ghost use Rattle.vr_catalog.specs.Catalog.{entries_in};
 ghost use Rattle.vr_event.specs.Opening.{IsOpened as IsOpenedWith, owned_in};
 ghost use Rattle.vr_event.specs.Volume.{IsWhole};
@@ -73,7 +74,7 @@ fn open_whole<B: Blocks>(
     ensures handed { IfOk result (λ opened. IsHandedOut opened.geometry opened.catalog.value
         opened.parts.items opened.log opened.space (B.seen blocks.new)) }
     ensures opened { IsTrue B.tells → IfOk result (λ opened. IsOpened number opened.geometry
-        opened.catalog.value opened.parts.items opened.log (B.seen blocks.old)
+        opened.catalog.value opened.parts.items opened.log opened.space (B.seen blocks.old)
         (B.seen blocks.new)) }
     ensures any_moment { IsTrue B.tells → (geometry : VolumeShape) (contents : ℕ → Content)
         → IsVolume number geometry contents (B.seen blocks.old)
@@ -108,8 +109,8 @@ fn open_parts<B: Blocks>(
         (B.seen blocks.new)) }
     ensures from { IsTrue B.tells → IfOk result (λ made. (contents : ℕ → Content)
         × IsReadyFrom number made.value.geometry made.value.catalog.value
-        (map laid_now made.value.parts.items) made.value.log contents (B.seen blocks.old)
-        (B.seen blocks.new)) }
+        (map laid_now made.value.parts.items) made.value.log made.value.space contents
+        (B.seen blocks.old) (B.seen blocks.new)) }
     ensures any_moment { IsTrue B.tells → (geometry : VolumeShape) (contents : ℕ → Content)
         → IsVolume number geometry contents (B.seen blocks.old)
         → Guards (B.seen blocks.old) (B.seen blocks.new) (λ image.
@@ -136,8 +137,8 @@ fn made<B: Blocks>(alloc: Global, blocks: B, number: u32, found: Box<Ready>) -> 
     ensures whole { IsWhole B.seen result }
     ensures run { IsTrue B.tells → (contents : ℕ → Content)
         → found.value.catalog.value ≡ entries_in (contents 0)
-        → IsOpenedWith number found.value.log (map laid_now found.value.parts.items) contents
-        (B.seen blocks)
+        → IsOpenedWith number (owner_of found.value.log.geometry found.value.space)
+        found.value.log (map laid_now found.value.parts.items) contents (B.seen blocks)
         → HasRun B.seen (opening_state contents (owned_in found.value.space)) blocks result }
     ensures blocks { result.blocks ≡ blocks }
     ensures number { result.number ≡ number }

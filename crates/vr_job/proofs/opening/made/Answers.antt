@@ -1,8 +1,7 @@
-use Rattle.std.proofs.Common.{◌≡◌, ◌∙◌, List, ap, map, subst, sym}
+use Rattle.std.proofs.Common.{◌≡◌, ◌∙◌, ap, map, subst, sym}
+use Rattle.vr_attach.specs.Owning.{owner_of}
 use Rattle.vr_event.specs.Opening.{IsOpened, owned_in}
-use Rattle.vr_event.specs.Store.{PartNow}
 use Rattle.vr_history.specs.State.{opening_state}
-use Rattle.vr_log.specs.LogNow.{LogNow}
 use Rattle.vr_job.specs.Going.{HasRun}
 use Rattle.vr_job.specs.Opened.{IsReady, laid_now}
 use Rattle.vr_job.specs.declared.numbering.Ready.{Ready}
@@ -42,12 +41,10 @@ returns-clause-run g c told contents catalog opened =
     let t = taken g c in
     let b = boxed g c in
     let now = g.B.Blocks.seen c.args.blocks in
-    let of-log = subst (λ (l : LogNow). IsOpened c.args.number l (map laid_now b.parts.items)
-    contents now) (sym (ap (λ (r : Ready). r.log) (same g c))) opened in
-    let of-parts = subst (λ (p : List PartNow). IsOpened c.args.number t.log p contents now)
-    (sym (ap (λ (r : Ready). map laid_now r.parts.items) (same g c))) of-log in
+    let of-taken = subst (λ (r : Ready). IsOpened c.args.number (owner_of r.log.geometry r.space)
+    r.log (map laid_now r.parts.items) contents now) (sym (same g c)) opened in
     let held = c.new.ensures.held told contents (same-catalog g c ∙ catalog) is.clusters
-    is.geometry_is is.records is.sound is.owners.count is.owned of-parts in
+    is.geometry_is is.records is.sound is.owners.count is.owned of-taken in
     let whole = c.new.ensures.whole is.set is.geometry_is is.laid in
     let run = opening-run g.B.Blocks.seen (opening_state contents (owned_in t.space)) c.new.result
     c.new.ensures.entries c.new.ensures.stopped whole held

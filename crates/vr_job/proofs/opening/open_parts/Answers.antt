@@ -28,7 +28,8 @@ returns-clause-from g c told =
       is.0,
       from-same f.geometry o.geometry f.catalog.value o.catalog.value _ (map opened_now o.parts.items)
           f.log o.log c.in_ok-found.ensures.geometry c.in_ok-found.ensures.catalog
-          c.in_ok-found.ensures.parts c.in_ok-found.ensures.log c.args.number is.0 old now
+          c.in_ok-found.ensures.parts c.in_ok-found.ensures.log f.space o.space c.args.number is.0
+          old now c.in_ok-found.ensures.space
           (handed-from o.geometry o.catalog.value o.parts.items o.log o.space now
           c.in_ok-opened.ensures.handed c.args.number is.0 old is.1),
     )
