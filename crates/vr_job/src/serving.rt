@@ -1,7 +1,6 @@
 //! A volume that the threads of decks share: one event of a request, under the volume's latch.
 ghost use Rattle.std.specs.Prelude.{◌≡◌, ◌<◌, ◌≤◌, ◌==◌, ◌+◌, ◌-◌, ◌^◌, [], IsTrue, OnErr, OnOk};
 ghost use Rattle.std.specs.Prelude.{false, true};
-ghost use Rattle.vr_answer.specs.Scope.{IsDirect};
 ghost use Rattle.vr_event.specs.Volume.{Holds, IsWhole};
 ghost use Rattle.vr_history.specs.Merged.{last_stamp};
 ghost use Rattle.vr_record_file.specs.Now.{has_deck, number_of};
@@ -13,7 +12,6 @@ ghost use Rattle.vr_job.specs.Serving.{IsServing, StaysServing, is_done, unit_of
 
 use std::alloc::Global;
 use std::marker::Model;
-use vr_answer::is_direct;
 use vr_catalog::Catalog;
 use vr_device::{BlockDevice, Direct};
 use vr_event::{Act, Volume};
@@ -100,7 +98,6 @@ fn event<B: Blocks, P: Part>(
     requires after { after < 2 ^ 62 }
     requires generation { volume.old.store.log.generation + 1 < 2 ^ 64 }
     requires number { number_of volume.old.file.numbers unit.deck < 2 ^ 32 - 1 }
-    requires direct { IsDirect request }
     requires deck { has_deck unit.deck volume.old.file.numbers ≡ true }
     requires own { (unit.deck == 0) ≡ false }
     requires current { unit ≡ unit_of unit.deck volume.old.file }
@@ -133,9 +130,6 @@ fn serve<B: Blocks, P: Part>(
     ensures failed { OnErr result (volume.new.file.entries ≡ volume.old.file.entries) }
     ensures number { volume.new.number ≡ volume.old.number }
 {
-    if !is_direct(request.get()) {
-        return Err(RunNo::Memory);
-    }
     make_ready(volume, deck, after)?;
     let shared = request.share()?;
     let number = volume.unit_number(deck);
@@ -143,8 +137,7 @@ fn serve<B: Blocks, P: Part>(
     Ok(done)
 }
 
-/// A volume that serves the decks of a job. A request that isn't direct isn't answered here yet, and
-/// ends the job as out of memory does.
+/// A volume that serves the decks of a job.
 #[derive(Drop)]
 pub(crate) struct Serving<D: BlockDevice> {
     alloc: Global,
