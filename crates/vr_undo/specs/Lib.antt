@@ -3,3 +3,4 @@ pub mod Records
 pub mod Found
 pub mod Lengths
 pub mod Ascending
+pub mod Others

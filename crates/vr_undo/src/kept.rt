@@ -101,7 +101,11 @@ fn next_in<'a>(records: &'a [KeptRecord], part: PartNo, from: Whence<'_>) -> Opt
 
 /// The place of a before-image, where it is of the part, there was a record, and a search may find
 /// it.
-fn place_allowed<'a>(image: &'a Option<Before>, part: PartNo, from: Whence<'_>) -> Option<&'a Place>
+pub(crate) fn place_allowed<'a>(
+    image: &'a Option<Before>,
+    part: PartNo,
+    from: Whence<'_>,
+) -> Option<&'a Place>
     ensures { option_copied result ≡ place_allowed part.0 from.entry image.now }
 {
     let before = image.as_ref()?;
@@ -113,7 +117,7 @@ fn place_allowed<'a>(image: &'a Option<Before>, part: PartNo, from: Whence<'_>) 
 }
 
 /// The lesser of two places.
-fn lesser<'a>(one: Option<&'a Place>, other: Option<&'a Place>) -> Option<&'a Place>
+pub(crate) fn lesser<'a>(one: Option<&'a Place>, other: Option<&'a Place>) -> Option<&'a Place>
     ensures { option_copied result ≡ lesser (option_copied one.entry) (option_copied other.entry) }
 {
     match (one, other) {
