@@ -9,12 +9,12 @@ use Rattle.std.proofs.lemmas.List.{length-append, take-append-le, take_all}
 use Rattle.std.proofs.lemmas.Slice.Eq.{bytes_eq-Decides}
 use Rattle.std.proofs.lemmas.Bool.Decides.{Decides-eqb}
 use Rattle.std.proofs.lemmas.List.Elements.{All-append, All-cons, All-nil}
-use Rattle.vr_types.specs.Content.{Content, Standing, item_at, record_at, record_of}
+use Rattle.vr_types.specs.Content.{Content, Standing, item_at, record_of}
 use Rattle.vr_types.specs.Seen.{Left, Seen}
 use Rattle.vr_types.specs.declared.geometry.Geometry.{Geometry}
 use Rattle.vr_types.specs.declared.unit.PartNo.{PartNo}
 use Rattle.vr_types.specs.declared.unit.Unit.{Unit as UnitOfRecovery}
-use Rattle.vr_space.specs.Part.{HasKeptRoom, HasOnly, IsPlaceOf, IsRecordOf, KeyedShape, MayHold}
+use Rattle.vr_space.specs.Part.{HasKeptRoom, HasOnly, IsPlaceOf, IsRecordOf, MayHold}
 use Rattle.vr_space.specs.Part.{Shape}
 use Rattle.vr_space.specs.Room.{Lengths, with_length}
 use Rattle.vr_space.proofs.CallerLemmas.{keep-room, sound-image}
@@ -30,7 +30,6 @@ use Rattle.vr_volume.specs.PutBack.{AreAlone, images_of, is_image_of, length_of,
 use Rattle.vr_volume.specs.PutBack.{oldest}
 use Rattle.vr_log.proofs.Growing.{has_more}
 use Rattle.vr_volume.specs.Safe.{IsPartSafe, IsSafe, IsSafeBy}
-use Rattle.vr_volume.specs.Safe.{item_held}
 use Rattle.vr_volume.specs.Volume.{CanPutBack}
 use Rattle.vr_volume.proofs.Images.{image_of, images-append, kept_more, kept-append}
 use Rattle.vr_volume.proofs.Alone.{alone-append}
@@ -77,17 +76,8 @@ option-first : {X : Type 0} (one other : Option X) → option_or one other ≡ N
 option-first None other none = refl
 option-first (Some x) other none = absurd (cc)
 
-found-record : (found : Option (List ℕ)) (bytes : List ℕ)
-    → option_map Standing found ≡ Some (Standing bytes) → found ≡ Some bytes
-found-record None bytes is = absurd (cc)
-found-record (Some other) bytes is = cc
-
 shape-is : (one other : Shape) → Some one ≡ Some other → one ≡ other
 shape-is one other same = cc
-
-record-held : (shape : Shape) (found : Option (List ℕ)) (bytes : List ℕ)
-    → item_held shape found ≡ Some (Standing bytes) → found ≡ Some bytes
-record-held (KeyedShape part) found bytes is = found-record found bytes is
 
 module _ (geometry : Geometry) (number : ℕ) (log : LogNow)
     (committed : List LogRecord → ℕ → Content) (a : Seen) (unit : UnitOfRecovery) (part : PartNo)
@@ -172,11 +162,10 @@ module _ (geometry : Geometry) (number : ℕ) (log : LogNow)
         mine.sound mine.room
         (λ item held. (
           bytes,
-          record-held shape item bytes
-              (mine.items place item held
+          mine.items place item held
               (sym (ap (λ (p : ℕ). oldest (images_of log.records) p place) here) ∙ next.first)
               ∙ sym (ap (λ (p : ℕ). item_at (committed log.records p) place) here)
-              ∙ sym next.item ∙ ap (option_map Standing) is),
+              ∙ sym next.item ∙ ap (option_map Standing) is,
           omega arith,
         ))
 
@@ -215,9 +204,8 @@ module _ (geometry : Geometry) (number : ℕ) (log : LogNow)
   -- what stands at its place is the record that it has
   record-old : (bytes : List ℕ) → old ≡ Some bytes → IsRecordOf next.shape place bytes
   record-old bytes is = record-read next.shape a.cur stands.content stands.stands place bytes
-      (record-held next.shape (record_at stands.content place) bytes
-      (safe-here.items place (record_at stands.content place) (stands.each place) next.first
-      ∙ sym next.item ∙ ap (option_map Standing) is))
+      (safe-here.items place (item_at stands.content place) (stands.each place) next.first
+      ∙ sym next.item ∙ ap (option_map Standing) is)
 
   can-put-back : CanPutBack (shape_by geometry (committed log.records 0)) image
   can-put-back = record {

@@ -3,7 +3,7 @@ use Rattle.std.proofs.Common.{◌≡◌, ◌≢◌, ◌⊎◌, inl, inr, ⊎_eli
 use Rattle.std.proofs.Common.{Option, Some, None, sym, subst, ◌∙◌, arith}
 use Rattle.std.proofs.lemmas.Bool.{cases_lt}
 use Rattle.vr_types.specs.Blocks.{Keeps}
-use Rattle.vr_types.specs.Content.{Content}
+use Rattle.vr_types.specs.Content.{Content, Item}
 use Rattle.vr_types.specs.Image.{Block, Image, block_at}
 use Rattle.vr_types.specs.Moments.{Guards}
 use Rattle.vr_types.specs.Regions.{IsImageOn, Outside, Touches}
@@ -105,14 +105,14 @@ module _ (tells : Bool) (told : IsTrue tells) (geometry : Geometry) (number : �
 -- What a call adds to what places of the part may hold is the committed item, or at a place that
 -- each log has free.
 abbrev pub AddsSafe : Geometry → LogNow → (List LogRecord → ℕ → Content) → ℕ → Shape
-    → (List ℕ → Option (List ℕ) → Type 0) → Type 0
+    → (List ℕ → Option Item → Type 0) → Type 0
 AddsSafe geometry log committed part shape A = (content : LogContent) → IsLogOf log content
-    → (place : List ℕ) (found : Option (List ℕ)) → A place found
-    → IsItemOf shape part (images_of content.records) (committed content.records part) place found
+    → (place : List ℕ) (found : Option Item) → A place found
+    → IsItemOf part (images_of content.records) (committed content.records part) place found
 
 module _ (geometry : Geometry) (number : ℕ) (log : LogNow)
     (committed : List LogRecord → ℕ → Content) (part : ℕ) (shape : Shape) (kept : Lengths)
-    (A : List ℕ → Option (List ℕ) → Type 0) (a b : Seen)
+    (A : List ℕ → Option Item → Type 0) (a b : Seen)
     (safe : IsSafe geometry number log committed a)
     (laid : IsLaidSo geometry log committed part shape kept)
     (added : AddsSafe geometry log committed part shape A) (adds : AddsTo shape A a b)
@@ -311,7 +311,7 @@ nothing-safe geometry log committed part shape content is place found none = abs
 -- one that adds an item at a free place
 pub free-safe : (geometry : Geometry) (log : LogNow)
     (committed : List LogRecord → ℕ → Content) (part : ℕ) (shape : Shape) (at : List ℕ)
-    (new : Option (List ℕ)) → IsFreeIn log part at
+    (new : Option Item) → IsFreeIn log part at
     → AddsSafe geometry log committed part shape (Just at new)
 free-safe geometry log committed part shape at new free content is place found here none =
     absurd (free content is (subst (λ (p : List ℕ). oldest (images_of content.records) part p

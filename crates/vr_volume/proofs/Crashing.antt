@@ -2,9 +2,8 @@
 use Rattle.std.proofs.Common.{◌≡◌, ◌⊎◌, inl, inr, ⊎_elim, ℕ, Bool, true, false, cond, not, ◌||◌}
 use Rattle.std.proofs.Common.{◌&&◌, List, [], ◌∷◌, ◌++◌, Option, None, refl, sym, ap, ◌∙◌}
 use Rattle.std.specs.Prelude.{All}
-use Rattle.std.specs.List.{list_any}
 use Rattle.std.proofs.lemmas.List.Elements.{All-head, All-tail}
-use Rattle.vr_types.specs.Content.{Ascends, Content, item_at}
+use Rattle.vr_types.specs.Content.{Content, item_at}
 use Rattle.vr_types.specs.Image.{Image}
 use Rattle.vr_types.specs.Locks.{same_unit}
 use Rattle.vr_types.specs.Seen.{Seen}
@@ -25,7 +24,7 @@ use Rattle.vr_volume.specs.PutBack.{images_of, is_image_of, oldest, put_back}
 use Rattle.vr_volume.specs.Rests.{IsVolumeAtRest}
 use Rattle.vr_volume.specs.Safe.{IsSafeImage}
 use Rattle.vr_volume.specs.Volume.{Recovers}
-use Rattle.vr_volume.proofs.Befores.{log-cases, with_all}
+use Rattle.vr_volume.proofs.Befores.{log-cases}
 use Rattle.vr_volume.proofs.Committing.{before-same, commit-append, committed-ascends, item-now}
 use Rattle.vr_volume.proofs.Committing.{none-ended}
 use Rattle.vr_volume.proofs.Meeting.{find-none, none-kept}

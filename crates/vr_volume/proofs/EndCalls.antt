@@ -1,6 +1,6 @@
 -- What the calls that end a unit leave of a volume at rest.
 use Rattle.std.proofs.Common.{◌≡◌, ◌≢◌, ◌⊎◌, inl, inr, ⊎_elim, ◌<◌, ◌+◌, ◌^◌, ℕ, Bool, true, false}
-use Rattle.std.proofs.Common.{cond, List, [], ◌∷◌, Option, None, refl, sym, ap, subst}
+use Rattle.std.proofs.Common.{cond, List, [], ◌∷◌, None, refl, sym, ap, subst}
 use Rattle.std.proofs.Common.{◌∙◌, arith, length, filter, map}
 use Rattle.std.specs.Prelude.{nat_eq}
 use Rattle.vr_types.specs.Content.{Content, item_at}
@@ -10,9 +10,8 @@ use Rattle.vr_types.specs.Regions.{Touches}
 use Rattle.vr_types.specs.Seen.{Left, Seen}
 use Rattle.vr_types.specs.declared.geometry.Geometry.{Geometry}
 use Rattle.vr_types.specs.declared.unit.Unit.{Unit as UnitOfRecovery}
-use Rattle.vr_space.specs.Met.{Met}
+use Rattle.vr_space.specs.Known.{Known}
 use Rattle.vr_space.specs.Part.{IsSound, Shape, part_no}
-use Rattle.vr_space.specs.Split.{SplitNow}
 use Rattle.vr_space.proofs.CallerLemmas.{StaysPart, fewer-room, knows-stays, rest-sound, rest-stays}
 use Rattle.vr_space.proofs.CallerLemmas.{on-still, room-stays, same-stays}
 use Rattle.vr_log.specs.Live.{is_in, live_in}
@@ -32,7 +31,7 @@ use Rattle.vr_volume.specs.Laid.{shape_by}
 use Rattle.vr_volume.specs.Laying.{IsLogged}
 use Rattle.vr_volume.specs.PutBack.{images_of, lengths_kept, put_back}
 use Rattle.vr_volume.specs.Rests.{IsPartAtRest, IsVolumeAtRest}
-use Rattle.vr_volume.specs.Safe.{IsSafe, IsSafeImage, item_held}
+use Rattle.vr_volume.specs.Safe.{IsSafe, IsSafeImage}
 use Rattle.vr_volume.specs.Steps.{IsEndedIn}
 use Rattle.vr_volume.proofs.Apart.{part-past}
 use Rattle.vr_volume.proofs.Calls.{stays-part}
@@ -272,11 +271,11 @@ some-filter keeps (image ∷ images) = by_keep (keeps image) (some-filter keeps 
 -- A part stays at rest, by the new state.
 pub part-after : (geometry : Geometry) (log : LogNow) (Q : Image → Type 0)
     (images : List BeforeImage) (old new : State) (unit : UnitOfRecovery) (shape : Shape)
-    (split : Option SplitNow) (met : List Met) (a b : Seen) → log.geometry ≡ geometry
+    (known : Known) (a b : Seen) → log.geometry ≡ geometry
     → Left a a.cur → Touches (InLog log.geometry) Q a b → IsEndedIn unit old new
-    → IsPartAtRest geometry images old shape split met a
-    → IsPartAtRest geometry (others_of unit images) new shape split met b
-part-after geometry log Q images old new unit shape split met a b is left call made part = record {
+    → IsPartAtRest geometry images old shape known a
+    → IsPartAtRest geometry (others_of unit images) new shape known b
+part-after geometry log Q images old new unit shape known a b is left call made part = record {
   laid = ap (λ (catalog : Content). shape_by geometry catalog (part_no shape).0) (made.contents 0)
       ∙ part.laid;
   on = on-still shape a b part.on stays.count stays.size;
@@ -287,9 +286,8 @@ part-after geometry log Q images old new unit shape split met a b is left call m
       (some-filter (λ (image : BeforeImage). is_other unit image.unit) images))
       (rest-sound shape b (rest-stays a b shape stays part.rests))
       (room-stays a b shape (lengths_kept images (part_no shape).0) stays sound part.room);
-  knows = knows-stays a b shape split met stays sound left part.knows;
-  reads = λ place. ap (item_held shape) (same-stays a b shape stays sound left place)
-      ∙ part.reads place
+  knows = knows-stays a b shape known stays sound left part.knows;
+  reads = λ place. same-stays a b shape stays sound left place ∙ part.reads place
       ∙ sym (ap (λ (content : Content). item_at content place) (made.contents (part_no shape).0));
 }
   where

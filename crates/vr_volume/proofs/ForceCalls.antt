@@ -1,6 +1,6 @@
 -- What forcing blocks that were changed leaves of a volume at rest.
 use Rattle.std.proofs.Common.{◌≡◌, ⊎_elim, ◌<◌, ℕ, Bool, IsTrue, List, []}
-use Rattle.std.proofs.Common.{Option, refl, sym, ap, subst, ◌∙◌, arith, take}
+use Rattle.std.proofs.Common.{refl, sym, ap, subst, ◌∙◌, arith, take}
 use Rattle.std.proofs.Common.{drop}
 use Rattle.std.specs.List.{Contains}
 use Rattle.std.proofs.lemmas.List.{take-append-drop}
@@ -10,9 +10,8 @@ use Rattle.vr_types.specs.Image.{Block, Image, block_at}
 use Rattle.vr_types.specs.Seen.{Left, Seen}
 use Rattle.vr_types.specs.declared.geometry.Geometry.{Geometry}
 use Rattle.vr_types.specs.declared.unit.Unit.{Unit as UnitOfRecovery}
-use Rattle.vr_space.specs.Met.{Met}
+use Rattle.vr_space.specs.Known.{Known}
 use Rattle.vr_space.specs.Part.{IsDueTo, IsFirm, IsSound, KeyedShape, Shape, item_of}
-use Rattle.vr_space.specs.Split.{SplitNow}
 use Rattle.vr_space.specs.Way.{MayOnceForced}
 use Rattle.vr_space.specs.Keyed.{keyed_way}
 use Rattle.vr_space.proofs.CallerLemmas.{IsBlock, find-more, keyed-within, within-less}
@@ -21,7 +20,7 @@ use Rattle.vr_history.specs.State.{BeforeImage, State}
 use Rattle.vr_volume.specs.Committed.{IsFirmFor, committed_by}
 use Rattle.vr_volume.specs.Due.{AreRead, IsDueFor}
 use Rattle.vr_volume.specs.Rests.{IsPartAtRest, IsVolumeAtRest}
-use Rattle.vr_volume.specs.Safe.{IsSafe, item_held}
+use Rattle.vr_volume.specs.Safe.{IsSafe}
 use Rattle.vr_volume.proofs.Rested.{part-stays, stands-still}
 
 -- ---- what is due
@@ -53,8 +52,7 @@ pub firm-for : (geometry : Geometry) (log : LogNow) (state : State) (unit : Unit
     → IsFirmFor geometry log state unit now
 firm-for geometry log state unit now due read part place image shape found is mine laid may =
     let reads = read part shape laid in
-    ap (item_held shape)
-    (due-none shape place now reads.0 (due part place image shape is mine laid) found may)
+    due-none shape place now reads.0 (due part place image shape is mine laid) found may
     ∙ reads.1 place
 
 -- ---- a call that forces some
@@ -105,11 +103,11 @@ module _ (tells : Bool) (told : IsTrue tells) (a b : Seen) (call : Keeps tells a
   }
 
   pub part-kept : (geometry : Geometry) (images : List BeforeImage) (state : State) (shape : Shape)
-      (split : Option SplitNow) (met : List Met) → Left a a.cur
-      → IsPartAtRest geometry images state shape split met a
-      → IsPartAtRest geometry images state shape split met b
-  part-kept geometry images state shape split met left part =
-      part-stays geometry images images state state shape split met a b
+      (known : Known) → Left a a.cur
+      → IsPartAtRest geometry images state shape known a
+      → IsPartAtRest geometry images state shape known b
+  part-kept geometry images state shape known left part =
+      part-stays geometry images images state state shape known a b
       (record {
         count = call.count_same;
         size = call.size_same;

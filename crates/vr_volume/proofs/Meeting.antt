@@ -10,7 +10,7 @@ use Rattle.std.proofs.lemmas.Bool.Decides.{Decides-eqb}
 use Rattle.std.proofs.lemmas.List.{take_all}
 use Rattle.std.proofs.lemmas.List.Elements.{All-filter, All-head, All-tail}
 use Rattle.std.proofs.lemmas.Slice.Eq.{bytes_eq-Decides}
-use Rattle.vr_types.specs.Content.{Content, Standing, item_at}
+use Rattle.vr_types.specs.Content.{Content, Item, Standing, item_at}
 use Rattle.vr_types.specs.Locks.{same_unit}
 use Rattle.vr_types.specs.Seen.{Seen}
 use Rattle.vr_types.specs.declared.geometry.Geometry.{Geometry}
@@ -32,7 +32,7 @@ use Rattle.vr_volume.specs.Ended.{IsEndOf, ended}
 use Rattle.vr_volume.specs.Laid.{shape_by}
 use Rattle.vr_volume.specs.Logged.{IsFirstBefore}
 use Rattle.vr_volume.specs.PutBack.{AreAlone, images_of, is_image_of, oldest}
-use Rattle.vr_volume.specs.Safe.{IsSafe, IsSafeBy, item_held}
+use Rattle.vr_volume.specs.Safe.{IsSafe, IsSafeBy}
 use Rattle.vr_volume.specs.Volume.{CanPutBack, IsInside}
 use Rattle.vr_volume.proofs.Committing.{are-committed, catalog-same, commit-append}
 use Rattle.vr_volume.proofs.Committing.{before-same, item-now, none-ended}
@@ -402,11 +402,10 @@ module _ (geometry : Geometry) (state : State) (laid : IsLaidState geometry stat
         where
           at-place : (part : ℕ) (shape : Shape)
               → shape_by geometry (state.contents 0) part ≡ Some shape → (place : List ℕ)
-              (found : Option (List ℕ)) → MayHold shape now.may place found
+              (found : Option Item) → MayHold shape now.may place found
               → oldest (images_of (ended log unit kind)) part place ≡ None
               → (image : Option BeforeImage) → oldest (images_of log.records) part place ≡ image
-              → item_held shape found
-              ≡ item_at (committed_by state (ended log unit kind) part) place
+              → found ≡ item_at (committed_by state (ended log unit kind) part) place
           at-place part shape is place found may gone None free =
               (by-all.parts part shape
               (ap (λ (catalog : Content). shape_by geometry catalog part)

@@ -22,7 +22,6 @@ use Rattle.vr_volume.specs.PutBack.{images_of, oldest, put_back, lengths_kept}
 use Rattle.vr_volume.specs.Safe.{IsImageSafe, IsItemOf, IsPartIn, IsPartSafe, IsSafe, IsSafeImage}
 use Rattle.vr_volume.specs.Volume.{AreApart, CanPutBack, Recovers, shapes_by}
 use Rattle.vr_volume.proofs.PuttingBack.{back-ascends, back-item}
-use Rattle.vr_volume.proofs.Standings.{item-read}
 
 some-same : (one other : Shape) → Some one ≡ Some other → one ≡ other
 some-same one other same = cc
@@ -38,7 +37,7 @@ module _ (geometry : Geometry) (number : ℕ) (image : Image) (log : LogContent)
 
   -- what the image has of a part
   abbrev has : (part : ℕ) (shape : Shape) → shape_by geometry (committed 0) part ≡ Some shape
-      → HasOnly shape (IsItemOf shape part images (committed part)) image
+      → HasOnly shape (IsItemOf part images (committed part)) image
   has part shape is = (safe.parts part shape is).has
 
   abbrev held : (part : ℕ) (shape : Option Shape) → shape_by geometry (committed 0) part ≡ shape
@@ -70,9 +69,7 @@ module _ (geometry : Geometry) (number : ℕ) (image : Image) (log : LogContent)
   item-back part found is place (Some old) here = safe.committed.olds part place old here
   item-back part None is place None here =
       sym (ap (λ (c : Content). item_at c place) (safe.committed.others part is))
-  item-back part (Some shape) is place None here =
-      sym (item-read shape image (has part shape is).content (has part shape is).stands place)
-      ∙ (has part shape is).each place here
+  item-back part (Some shape) is place None here = (has part shape is).each place here
 
   held-ascends : (part : ℕ) (found : Option Shape)
       (is : shape_by geometry (committed 0) part ≡ found) → Ascends (held part found is)

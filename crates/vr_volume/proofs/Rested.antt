@@ -3,13 +3,13 @@ use Rattle.std.proofs.Common.{◌≡◌, ◌≢◌, inl, inr, ⊎_elim, ◌<◌,
 use Rattle.std.proofs.Common.{false, cond, List, [], ◌∷◌, ◌++◌, Option, Some, None, refl, sym, ap}
 use Rattle.std.proofs.Common.{subst, ◌∙◌, arith, length, ◌==◌, IsTrue}
 use Rattle.std.specs.List.{filter_map}
-use Rattle.std.specs.Option.{option_and_then}
+use Rattle.std.specs.Option.{option_and_then, option_map}
 use Rattle.std.proofs.lemmas.Bool.{true≢false}
 use Rattle.std.proofs.lemmas.List.{take_all}
 use Rattle.std.proofs.lemmas.Bool.Decides.{Decides-eqb}
 use Rattle.std.proofs.lemmas.Slice.Eq.{bytes_eq-Decides}
 use Rattle.std.specs.Prelude.{bytes_eq}
-use Rattle.vr_types.specs.Content.{Content, item_at, record_of}
+use Rattle.vr_types.specs.Content.{Content, Standing, item_at, record_of}
 use Rattle.vr_types.specs.Image.{Block, Image, block_at}
 use Rattle.vr_types.specs.Regions.{Touches}
 use Rattle.vr_types.specs.Seen.{Left, Seen}
@@ -17,15 +17,14 @@ use Rattle.vr_types.specs.declared.geometry.Geometry.{Geometry}
 use Rattle.vr_types.specs.Blocks.{Keeps}
 use Rattle.vr_types.specs.declared.unit.PartNo.{PartNo}
 use Rattle.vr_types.specs.declared.unit.Unit.{Unit as UnitOfRecovery}
-use Rattle.vr_space.specs.Met.{Met}
+use Rattle.vr_space.specs.Known.{Known}
 use Rattle.vr_space.specs.Part.{DueMore, HasKeptRoom, InPart, IsAtRest, KeyedShape}
 use Rattle.vr_space.specs.Part.{Knows, SameRecords}
 use Rattle.vr_space.specs.Part.{IsPlaceOf, IsSound, SetsOne, Shape, item_of, part_no}
 use Rattle.vr_space.specs.Room.{Lengths}
-use Rattle.vr_space.specs.Split.{SplitNow}
 use Rattle.vr_space.proofs.CallerLemmas.{StaysPart, knows-stays, rest-sound, rest-stays, room-stays}
 use Rattle.vr_space.proofs.CallerLemmas.{IsBlock, find-more, keyed-within, on-still, same-stays}
-use Rattle.vr_space.proofs.CallerLemmas.{within-less}
+use Rattle.vr_space.proofs.CallerLemmas.{left-is, within-less}
 use Rattle.vr_space.specs.Keyed.{keyed_way}
 use Rattle.vr_space.specs.Way.{MayOnceForced}
 use Rattle.vr_log.specs.Content.{Content as LogContent}
@@ -42,7 +41,7 @@ use Rattle.vr_volume.specs.Logged.{IsFirstBefore}
 use Rattle.vr_volume.specs.PutBack.{image_in, images_of, length_of, lengths_kept}
 use Rattle.vr_volume.specs.PutBack.{oldest}
 use Rattle.vr_volume.specs.Rests.{IsGivenFor, IsPartAtRest, IsVolumeAtRest}
-use Rattle.vr_volume.specs.Safe.{IsSafe, item_held}
+use Rattle.vr_volume.specs.Safe.{IsSafe}
 use Rattle.vr_volume.specs.Steps.{Changing, IsChangeOf, IsFirstChange, IsNextChange, IsPutBack}
 use Rattle.vr_volume.specs.Steps.{IsPutIn, image_by}
 use Rattle.vr_volume.proofs.Calls.{safe-keeps}
@@ -152,23 +151,22 @@ due-stays (KeyedShape part) a b stays sound left listed place due within item ho
     ∙ sym (same-stays a b (KeyedShape part) stays sound left place)
 
 pub part-stays : (geometry : Geometry) (images more : List BeforeImage) (old new : State)
-    (shape : Shape) (split : Option SplitNow) (met : List Met) (a b : Seen)
-    → StaysPart shape a b → Left a a.cur → IsPartAtRest geometry images old shape split met a
+    (shape : Shape) (known : Known) (a b : Seen) → StaysPart shape a b → Left a a.cur
+    → IsPartAtRest geometry images old shape known a
     → new.contents 0 ≡ old.contents 0
     → new.contents (part_no shape).0 ≡ old.contents (part_no shape).0
     → lengths_kept more (part_no shape).0 ≡ lengths_kept images (part_no shape).0
-    → IsPartAtRest geometry more new shape split met b
-part-stays geometry images more old new shape split met a b stays left part catalog content kept =
+    → IsPartAtRest geometry more new shape known b
+part-stays geometry images more old new shape known a b stays left part catalog content kept =
     record {
       laid = ap (λ (c : Content). shape_by geometry c (part_no shape).0) catalog ∙ part.laid;
       on = on-still shape a b part.on stays.count stays.size;
       rests = rest-stays a b shape stays part.rests;
       room = subst (λ (lengths : Lengths). HasKeptRoom shape lengths b) (sym kept)
           (room-stays a b shape (lengths_kept images (part_no shape).0) stays sound part.room);
-      knows = knows-stays a b shape split met stays sound left part.knows;
+      knows = knows-stays a b shape known stays sound left part.knows;
       reads = λ place.
-          ap (item_held shape) (same-stays a b shape stays sound left place)
-          ∙ part.reads place
+          same-stays a b shape stays sound left place ∙ part.reads place
           ∙ sym (ap (λ (c : Content). item_at c place) content);
     }
   where
@@ -194,16 +192,15 @@ other-kept images image part apart = kept-append images image part
 module _ (geometry : Geometry) (old new : State) (change : Changing) (a d : Seen)
     (laid : IsLaidState geometry old) (of : IsChangeOf geometry old change)
     (put : IsPutIn change old new) where
-  pub part-set : (shape : Shape) (split after-split : Option SplitNow)
-      (met now : List Met)
-      (found : Option (List ℕ)) (images after : List BeforeImage)
-      → IsPartAtRest geometry images old shape split met a
+  pub part-set : (shape : Shape) (known later : Known) (found : Option (List ℕ))
+      (images after : List BeforeImage)
+      → IsPartAtRest geometry images old shape known a
       → part_no shape ≡ change.part → d.count ≡ a.count → d.size ≡ a.size
       → IsAtRest shape d → HasKeptRoom shape (lengths_kept after (part_no shape).0) d
-      → Knows shape after-split now d → SetsOne shape change.place found a.cur d.cur
-      → change.new ≡ item_held shape found
-      → IsPartAtRest geometry after new shape after-split now d
-  part-set shape split after-split met now found images after part at count size rests room knows set given =
+      → Knows shape later d → SetsOne shape change.place found a.cur d.cur
+      → change.new ≡ option_map Standing found
+      → IsPartAtRest geometry after new shape later d
+  part-set shape known later found images after part at count size rests room knows set given =
       record {
         laid = ap (λ (c : Content). shape_by geometry c (part_no shape).0)
             (catalog-stays geometry old new change laid of put) ∙ part.laid;
@@ -218,19 +215,18 @@ module _ (geometry : Geometry) (old new : State) (change : Changing) (a d : Seen
       same-part = ap (λ (p : PartNo). p.0) at
 
       by_place : (place : List ℕ) (here : Bool) → bytes_eq place change.place ≡ here
-          → item_held shape (item_of shape d.cur place)
-          ≡ item_at (new.contents (part_no shape).0) place
+          → item_of shape d.cur place ≡ item_at (new.contents (part_no shape).0) place
       by_place place true is =
           let there : place ≡ change.place = (bytes_eq-Decides place change.place).0 is in
-          ap (λ (q : List ℕ). item_held shape (item_of shape d.cur q)) there
-          ∙ ap (item_held shape) set.here ∙ sym given
+          ap (item_of shape d.cur) there ∙ set.here
+          ∙ left-is shape (item_of shape a.cur change.place) found ∙ sym given
           ∙ sym (item-here geometry old new change laid of put)
           ∙ sym (ap (λ (p : ℕ). item_at (new.contents p) place) same-part
           ∙ ap (item_at (new.contents change.part.0)) there)
       by_place place false is =
           let apart : place ≡ change.place → ⊥ =
           λ same. true≢false (sym ((bytes_eq-Decides place change.place).1 same) ∙ is) in
-          ap (item_held shape) (set.others place apart) ∙ part.reads place
+          set.others place apart ∙ part.reads place
           ∙ sym (item-else geometry old new change laid of put (part_no shape).0
           place (λ same there. apart there))
 
@@ -240,12 +236,12 @@ module _ (geometry : Geometry) (number : ℕ) (log : LogNow) (images after : Lis
     (rest : IsVolumeAtRest geometry number log images old a)
     (of : IsChangeOf geometry old change) (put : IsPutIn change old new)
     (kept : after ≡ images ++ image_by change ∷ []) where
-  pub other-first-change : (shape : Shape) (split : Option SplitNow) (met : List Met)
-      → IsPartAtRest geometry images old shape split met a
+  pub other-first-change : (shape : Shape) (known : Known)
+      → IsPartAtRest geometry images old shape known a
       → ((part_no shape).0 ≡ change.part.0 → ⊥) → StaysPart shape a d → Left a a.cur
-      → IsPartAtRest geometry after new shape split met d
-  other-first-change shape split met part apart stays left =
-      part-stays geometry images after old new shape split met a d stays left part
+      → IsPartAtRest geometry after new shape known d
+  other-first-change shape known part apart stays left =
+      part-stays geometry images after old new shape known a d stays left part
       (catalog-stays geometry old new change rest.laid of put)
       (other-part geometry old new change rest.laid of put (part_no shape).0 apart)
       (ap (λ (found : List BeforeImage). lengths_kept found (part_no shape).0) kept
@@ -276,25 +272,24 @@ module _ (geometry : Geometry) (number : ℕ) (log more : LogNow) (images after 
   }
 
   -- and so is the part that is changed.
-  pub part-first-change : (shape : Shape) (split after-split : Option SplitNow)
-      (met now : List Met) (found : Option (List ℕ))
-      → IsPartAtRest geometry images old shape split met a
+  pub part-first-change : (shape : Shape) (known later : Known) (found : Option (List ℕ))
+      → IsPartAtRest geometry images old shape known a
       → part_no shape ≡ change.part → d.count ≡ a.count → d.size ≡ a.size
       → IsAtRest shape d → HasKeptRoom shape (lengths_kept after (part_no shape).0) d
-      → Knows shape after-split now d → SetsOne shape change.place found a.cur d.cur
-      → change.new ≡ item_held shape found
-      → IsPartAtRest geometry after new shape after-split now d
-  part-first-change shape split after-split met now found part at count size rests room knows set
-      given = part-set geometry old new change a d rest.laid of made.contents shape split
-      after-split met now found images after part at count size rests room knows set given
+      → Knows shape later d → SetsOne shape change.place found a.cur d.cur
+      → change.new ≡ option_map Standing found
+      → IsPartAtRest geometry after new shape later d
+  part-first-change shape known later found part at count size rests room knows set
+      given = part-set geometry old new change a d rest.laid of made.contents shape known later
+      found images after part at count size rests room knows set given
 
 -- ---- what a first change asks for
 
 module _ (geometry : Geometry) (number : ℕ) (log : LogNow) (images after : List BeforeImage)
-    (old new : State) (change : Changing) (a : Seen) (shape : Shape) (split : Option SplitNow)
-    (met : List Met) (place : List ℕ) (found : Option (List ℕ))
+    (old new : State) (change : Changing) (a : Seen) (shape : Shape) (known : Known)
+    (place : List ℕ) (found : Option (List ℕ))
     (rest : IsVolumeAtRest geometry number log images old a)
-    (part : IsPartAtRest geometry images old shape split met a)
+    (part : IsPartAtRest geometry images old shape known a)
     (of : IsChangeOf geometry old change) (made : IsFirstChange log change old new)
     (given : IsGivenFor change shape place found)
     (kept : after ≡ images ++ image_by change ∷ []) where
@@ -363,12 +358,12 @@ module _ (geometry : Geometry) (number : ℕ) (log : LogNow) (images : List Befo
       (rest.kept ∙ ap images_of (sym (all-records part place some content is))) ∙ none)
 
   -- and the part is laid by each.
-  pub laid-again : (shape : Shape) (split : Option SplitNow) (met : List Met) (place : List ℕ)
-      → IsPartAtRest geometry images old shape split met a
+  pub laid-again : (shape : Shape) (known : Known) (place : List ℕ)
+      → IsPartAtRest geometry images old shape known a
       → oldest images (part_no shape).0 place ≢ None
       → (kept : Lengths) → kept ≡ lengths_kept images (part_no shape).0
       → IsLaidSo geometry log (committed_by old) (part_no shape).0 shape kept
-  laid-again shape split met place part some kept room content is = record {
+  laid-again shape known place part some kept room content is = record {
     laid = ap (λ (c : Content). shape_by geometry c (part_no shape).0)
         (catalog-same geometry old rest.laid content.records) ∙ part.laid;
     kept_is = room ∙ ap (λ (found : List BeforeImage). lengths_kept found (part_no shape).0)
@@ -400,14 +395,14 @@ module _ (geometry : Geometry) (number : ℕ) (log : LogNow) (images : List Befo
   module _ (new : State) (change : Changing) (d : Seen) (of : IsChangeOf geometry old change)
     where
       -- each other part stays at rest
-      pub other-stays : (shape other : Shape) (Q : Image → Type 0) (split : Option SplitNow)
-          (met : List Met) (after : Option SplitNow) (now : List Met) → IsPutIn change old new
-          → IsPartAtRest geometry images old shape split met a → part_no shape ≡ change.part
+      pub other-stays : (shape other : Shape) (Q : Image → Type 0) (known later : Known)
+          → IsPutIn change old new
+          → IsPartAtRest geometry images old shape known a → part_no shape ≡ change.part
           → ((part_no other).0 ≡ change.part.0 → ⊥) → Touches (InPart shape) Q a d → Left a a.cur
-          → IsPartAtRest geometry images old other after now a
-          → IsPartAtRest geometry images new other after now d
-      other-stays shape other Q split met after now put part at apart call left others =
-          part-stays geometry images images old new other after now a d
+          → IsPartAtRest geometry images old other later a
+          → IsPartAtRest geometry images new other later d
+      other-stays shape other Q known later put part at apart call left others =
+          part-stays geometry images images old new other later a d
           (stays-apart shape other Q a d
           (rest.laid.apart (part_no other).0 (part_no shape).0 other shape others.laid part.laid
           (λ same. apart (same ∙ ap (λ (p : PartNo). p.0) at))) call)
@@ -446,16 +441,16 @@ module _ (geometry : Geometry) (number : ℕ) (log : LogNow) (images : List Befo
     }
 
     -- and so is the part that is changed.
-    pub part-put : (shape : Shape) (split after-split : Option SplitNow) (met now : List Met)
-        (place : List ℕ) (found : Option (List ℕ)) → IsPutIn change old new
-        → IsPartAtRest geometry images old shape split met a
+    pub part-put : (shape : Shape) (known later : Known) (place : List ℕ)
+        (found : Option (List ℕ)) → IsPutIn change old new
+        → IsPartAtRest geometry images old shape known a
         → IsGivenFor change shape place found → d.count ≡ a.count → d.size ≡ a.size
         → IsAtRest shape d → HasKeptRoom shape (lengths_kept images (part_no shape).0) d
-        → Knows shape after-split now d → SetsOne shape place found a.cur d.cur
-        → IsPartAtRest geometry images new shape after-split now d
-    part-put shape split after-split met now place found put part given count size rests room knows
-        set = part-set geometry old new change a d rest.laid of put shape split after-split met now
-        found images images part given.part count size rests room knows
+        → Knows shape later d → SetsOne shape place found a.cur d.cur
+        → IsPartAtRest geometry images new shape later d
+    part-put shape known later place found put part given count size rests room knows
+        set = part-set geometry old new change a d rest.laid of put shape known later found images
+        images part given.part count size rests room knows
         (subst (λ (q : List ℕ). SetsOne shape q found a.cur d.cur) given.place_is set) given.item
 
 -- ---- calls that leave the records as they are
@@ -493,11 +488,11 @@ module _ (geometry : Geometry) (number : ℕ) (log : LogNow) (images : List Befo
       no-length (rec ∷ records) none = absurd (omega (arith, none))
 
   -- the part is laid by each log
-  pub laid-rest : (shape : Shape) (split : Option SplitNow) (met : List Met)
-      → IsPartAtRest geometry images state shape split met a → (kept : Lengths)
+  pub laid-rest : (shape : Shape) (known : Known)
+      → IsPartAtRest geometry images state shape known a → (kept : Lengths)
       → kept ≡ lengths_kept images (part_no shape).0
       → IsLaidSo geometry log (committed_by state) (part_no shape).0 shape kept
-  laid-rest shape split met part kept room content is = record {
+  laid-rest shape known part kept room content is = record {
     laid = ap (λ (c : Content). shape_by geometry c (part_no shape).0)
         (catalog-same geometry state rest.laid content.records) ∙ part.laid;
     kept_is = room ∙ ap (λ (found : List BeforeImage). lengths_kept found (part_no shape).0)
@@ -519,19 +514,19 @@ module _ (geometry : Geometry) (number : ℕ) (log : LogNow) (images : List Befo
 
 -- The part stays at rest where each place has the record that it had.
 pub part-same-records : (geometry : Geometry) (images : List BeforeImage) (state : State)
-    (shape : Shape) (split after : Option SplitNow) (met now : List Met) (a d : Seen)
-    → IsPartAtRest geometry images state shape split met a → d.count ≡ a.count → d.size ≡ a.size
+    (shape : Shape) (known later : Known) (a d : Seen)
+    → IsPartAtRest geometry images state shape known a → d.count ≡ a.count → d.size ≡ a.size
     → IsAtRest shape d → HasKeptRoom shape (lengths_kept images (part_no shape).0) d
-    → Knows shape after now d → SameRecords shape a.cur d.cur
-    → IsPartAtRest geometry images state shape after now d
-part-same-records geometry images state shape split after met now a d part count size rests room
+    → Knows shape later d → SameRecords shape a.cur d.cur
+    → IsPartAtRest geometry images state shape later d
+part-same-records geometry images state shape known later a d part count size rests room
     knows same = record {
       laid = part.laid;
       on = on-still shape a d part.on count size;
       rests = rests;
       room = room;
       knows = knows;
-      reads = λ place. ap (item_held shape) (same place) ∙ part.reads place;
+      reads = λ place. same place ∙ part.reads place;
     }
 
 -- ---- calls that put nothing
@@ -561,9 +556,9 @@ module _ (tells : Bool) (told : IsTrue tells) (a b : Seen) (call : Keeps tells a
       (stands-keeps log rest.forced rest.stands)
 
   pub part-keeps : (geometry : Geometry) (images : List BeforeImage) (state : State)
-      (shape : Shape) (split : Option SplitNow) (met : List Met) → Left a a.cur
-      → IsPartAtRest geometry images state shape split met a
-      → IsPartAtRest geometry images state shape split met b
-  part-keeps geometry images state shape split met left part =
-      part-stays geometry images images state state shape split met a b (stays-keeps shape) left part
+      (shape : Shape) (known : Known) → Left a a.cur
+      → IsPartAtRest geometry images state shape known a
+      → IsPartAtRest geometry images state shape known b
+  part-keeps geometry images state shape known left part =
+      part-stays geometry images images state state shape known a b (stays-keeps shape) left part
       refl refl refl

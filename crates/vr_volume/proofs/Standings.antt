@@ -2,12 +2,10 @@
 use Rattle.std.proofs.Common.{◌≡◌, ℕ, List, [], ◌∷◌, ◌++◌, Option, Some, None, refl, ap, ◌∙◌, map}
 use Rattle.std.proofs.Common.{subst, sym}
 use Rattle.std.specs.Prelude.{filter, cond, All, Bool, true, false}
-use Rattle.std.specs.Option.{option_map}
 use Rattle.std.specs.declared.cmp.Ordering.{Ordering}
 use Rattle.std.specs.declared.cmp.Ordering.TheVariants.{Less, Equal, Greater}
 use Rattle.std.proofs.lemmas.List.Elements.{All-head, All-tail}
-use Rattle.vr_types.specs.Content.{Content, Item, Placed, Standing, place_cmp, found_by, record_of}
-use Rattle.vr_types.specs.Content.{item_at, record_at}
+use Rattle.vr_types.specs.Content.{Content, Placed, Standing, place_cmp, found_by, item_at}
 use Rattle.vr_types.specs.Image.{Image, block_at}
 use Rattle.vr_types.proofs.CallerLemmas.{same_place}
 use Rattle.vr_ci.specs.Interval as ci
@@ -16,7 +14,6 @@ use Rattle.vr_space.specs.Room.{Range, is_in}
 use Rattle.vr_space.specs.Keyed.{HoldRanges, IsKept, Keyed, content_from, entries_of, entry_block}
 use Rattle.vr_space.specs.Keyed.{items_of, placed, range_of, records_in}
 use Rattle.vr_space.specs.Part.{IsRecordOf, Shape, KeyedShape, StandsFor}
-use Rattle.vr_volume.specs.Safe.{item_held}
 
 -- a record that may stand at this place
 abbrev IsRecordAt : Keyed → Placed → Type 0
@@ -70,51 +67,30 @@ content-records : (part : Keyed) (image : Image) (content : Content)
 content-records part image content stands = subst (AreRecords part) (sym stands.records)
     (from-records part image None (entries_of (block_at image part.head)) stands.intervals)
 
-read-item : (part : Keyed) (content : Content) (place : List ℕ) → AreRecords part content
-    → option_map Standing (record_at content place) ≡ item_at content place
-read-item part [] place all = refl
-read-item part (entry ∷ content) place all =
-    by_order (place_cmp place entry.0) (read-item part content place all.1)
-  where
-    by_order : (order : Ordering)
-        → option_map Standing (record_at content place) ≡ item_at content place
-        → option_map Standing (found_by order (record_of entry.1) (record_at content place))
-        ≡ found_by order (Some entry.1) (item_at content place)
-    by_order Less further = further
-    by_order Equal further = ap (λ (item : Item). option_map Standing (record_of item)) all.0.1
-        ∙ sym (ap Some all.0.1)
-    by_order Greater further = further
-
--- what is read of a content that blocks stand for is its item
-pub item-read : (shape : Shape) (image : Image) (content : Content)
-    → StandsFor shape image content → (place : List ℕ)
-    → item_held shape (record_at content place) ≡ item_at content place
-item-read (KeyedShape part) image content stands place =
-    read-item part content place (content-records part image content stands)
-
 read-record : (part : Keyed) (content : Content) (place bytes : List ℕ) → AreRecords part content
-    → record_at content place ≡ Some bytes → IsRecordOf (KeyedShape part) place bytes
+    → item_at content place ≡ Some (Standing bytes) → IsRecordOf (KeyedShape part) place bytes
 read-record part [] place bytes all is = absurd (cc)
 read-record part (entry ∷ content) place bytes all is =
     by_order (place_cmp place entry.0) refl is
     (λ found. read-record part content place bytes all.1 found)
   where
     by_order : (order : Ordering) → place_cmp place entry.0 ≡ order
-        → found_by order (record_of entry.1) (record_at content place) ≡ Some bytes
-        → (record_at content place ≡ Some bytes → IsRecordOf (KeyedShape part) place bytes)
+        → found_by order (Some entry.1) (item_at content place) ≡ Some (Standing bytes)
+        → (item_at content place ≡ Some (Standing bytes) → IsRecordOf (KeyedShape part) place bytes)
         → IsRecordOf (KeyedShape part) place bytes
     by_order Less same found further = further found
     by_order Equal same found further =
-        let there : Some all.0.0 ≡ Some bytes = sym (ap record_of all.0.1) ∙ found in
+        let there : Some (Standing all.0.0) ≡ Some (Standing bytes) =
+        sym (ap Some all.0.1) ∙ found in
         let one : all.0.0 ≡ bytes = cc in
         subst (λ (q : List ℕ). IsRecordOf (KeyedShape part) q bytes)
         (sym (same_place place entry.0 same))
         (subst (IsRecordOf (KeyedShape part) entry.0) one all.0.2)
     by_order Greater same found further = further found
 
--- and it may stand there
+-- a record that is at a place of a content that blocks stand for may stand there
 pub record-read : (shape : Shape) (image : Image) (content : Content)
     → StandsFor shape image content → (place bytes : List ℕ)
-    → record_at content place ≡ Some bytes → IsRecordOf shape place bytes
+    → item_at content place ≡ Some (Standing bytes) → IsRecordOf shape place bytes
 record-read (KeyedShape part) image content stands place bytes is =
     read-record part content place bytes (content-records part image content stands) is

@@ -5,7 +5,7 @@
 use Rattle.std.specs.Prelude.{◌≡◌, ◌≢◌, ◌<◌, ℕ, Bool, true, false, not, List, [], Option, Some}
 use Rattle.std.specs.Prelude.{None, ◌&&◌, filter, map, All}
 use Rattle.std.specs.List.{list_any}
-use Rattle.vr_types.specs.Content.{Content, Ascends, item_at}
+use Rattle.vr_types.specs.Content.{Content, Item, Ascends, item_at}
 use Rattle.vr_types.specs.Locks.{same_unit}
 use Rattle.vr_types.specs.Seen.{Seen}
 use Rattle.vr_types.specs.declared.geometry.Geometry.{Geometry}
@@ -23,7 +23,6 @@ use Rattle.vr_history.specs.State.{BeforeImage, Logged, State, is_live}
 use Rattle.vr_volume.specs.CatalogRules.{IsCatalog}
 use Rattle.vr_volume.specs.Laid.{shape_by}
 use Rattle.vr_volume.specs.PutBack.{AreAlone, images_of, oldest, put_back}
-use Rattle.vr_volume.specs.Safe.{item_held}
 use Rattle.vr_volume.specs.Volume.{AreApart}
 
 abbrev pub is_committing : EndKind → Bool
@@ -101,10 +100,10 @@ pub record HasLogged (log : LogNow) (state : State) : Type 0 where
 -- that the unit changed were forced.
 abbrev pub IsFirmFor : Geometry → LogNow → State → UnitOfRecovery → Seen → Type 0
 IsFirmFor geometry log state unit now = (part : ℕ) (place : List ℕ) (image : BeforeImage)
-    (shape : Shape) (found : Option (List ℕ))
+    (shape : Shape) (found : Option Item)
     → oldest (images_of log.records) part place ≡ Some image
     → same_unit unit image.unit ≡ true → shape_by geometry (state.contents 0) part ≡ Some shape
-    → MayHold shape now.may place found → item_held shape found ≡ item_at (state.contents part) place
+    → MayHold shape now.may place found → found ≡ item_at (state.contents part) place
 
 -- a unit that is backed out keeps no before-image any more
 abbrev pub KeepsNoneIf : EndKind → State → UnitOfRecovery → Type 0

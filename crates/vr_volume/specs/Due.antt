@@ -10,7 +10,6 @@ use Rattle.vr_log.specs.LogNow.{LogNow}
 use Rattle.vr_history.specs.State.{BeforeImage, State}
 use Rattle.vr_volume.specs.Laid.{shape_by}
 use Rattle.vr_volume.specs.PutBack.{images_of, oldest}
-use Rattle.vr_volume.specs.Safe.{item_held}
 
 -- Once the listed blocks are forced, a crash leaves what stands there at each place that the unit
 -- changed.
@@ -25,4 +24,4 @@ abbrev pub AreRead : Geometry → State → Seen → Type 0
 AreRead geometry state now = (part : ℕ) (shape : Shape)
     → shape_by geometry (state.contents 0) part ≡ Some shape
     → IsSound shape now × ((place : List ℕ)
-    → item_held shape (item_of shape now.cur place) ≡ item_at (state.contents part) place)
+    → item_of shape now.cur place ≡ item_at (state.contents part) place)

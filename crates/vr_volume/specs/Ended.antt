@@ -2,7 +2,7 @@
 -- what has to hold of the blocks before it is written (DFSMStvs Planning and Operating Guide,
 -- commit and backout). The rules are this project's own.
 use Rattle.std.specs.Prelude.{◌≡◌, ◌≤◌, ℕ, List, [], ◌∷◌, ◌++◌, length, Option, Some}
-use Rattle.vr_types.specs.Content.{Content}
+use Rattle.vr_types.specs.Content.{Content, Item}
 use Rattle.vr_types.specs.Seen.{Seen}
 use Rattle.vr_types.specs.declared.geometry.Geometry.{Geometry}
 use Rattle.vr_types.specs.declared.unit.Unit.{Unit as UnitOfRecovery}
@@ -31,6 +31,6 @@ pub record IsEndOf (geometry : Geometry) (log : LogNow) (committed : List LogRec
       → shape_by geometry (committed log.records 0) part ≡ Some shape
   pub items : (part : ℕ) (shape : Shape)
       → shape_by geometry (committed (ended log unit kind) 0) part ≡ Some shape
-      → (place : List ℕ) (found : Option (List ℕ)) → MayHold shape now.may place found
-      → IsItemOf shape part (images_of (ended log unit kind))
+      → (place : List ℕ) (found : Option Item) → MayHold shape now.may place found
+      → IsItemOf part (images_of (ended log unit kind))
       (committed (ended log unit kind) part) place found

@@ -1,19 +1,19 @@
 -- A volume between two events: its blocks are safe by its log, and the log, the before-images and
 -- the parts are those of the state of its record file. The rules are this project's own.
 use Rattle.std.specs.Prelude.{◌≡◌, ℕ, false, List, Option, Some}
-use Rattle.vr_types.specs.Content.{item_at}
+use Rattle.std.specs.Option.{option_map}
+use Rattle.vr_types.specs.Content.{Standing, item_at}
 use Rattle.vr_types.specs.Seen.{Seen}
 use Rattle.vr_types.specs.declared.geometry.Geometry.{Geometry}
-use Rattle.vr_space.specs.Met.{Met}
+use Rattle.vr_space.specs.Known.{Known}
 use Rattle.vr_space.specs.Part.{HasKeptRoom, IsAtRest, IsOn, Knows, Shape, item_of, part_no}
-use Rattle.vr_space.specs.Split.{SplitNow}
 use Rattle.vr_log.specs.LogNow.{IsForced, LogNow}
 use Rattle.vr_log.specs.Standing.{LogStands}
 use Rattle.vr_history.specs.State.{BeforeImage, State}
 use Rattle.vr_volume.specs.Committed.{HasLogged, IsLaidState, committed_by}
 use Rattle.vr_volume.specs.Laid.{shape_by}
 use Rattle.vr_volume.specs.PutBack.{images_of, lengths_kept}
-use Rattle.vr_volume.specs.Safe.{IsSafe, item_held}
+use Rattle.vr_volume.specs.Safe.{IsSafe}
 use Rattle.vr_volume.specs.Steps.{Changing}
 
 -- The volume, its log and what is kept of units. Every record of the log is forced.
@@ -29,18 +29,19 @@ pub record IsVolumeAtRest (geometry : Geometry) (number : ℕ) (log : LogNow)
 
 -- One part of it: it is laid so, reads as the state has it, and has room for what is kept.
 pub record IsPartAtRest (geometry : Geometry) (images : List BeforeImage) (state : State)
-    (shape : Shape) (split : Option SplitNow) (met : List Met) (now : Seen) : Type 0 where
+    (shape : Shape) (known : Known) (now : Seen) : Type 0 where
   pub laid : shape_by geometry (state.contents 0) (part_no shape).0 ≡ Some shape
   pub on : IsOn shape now
   pub rests : IsAtRest shape now
   pub room : HasKeptRoom shape (lengths_kept images (part_no shape).0) now
-  pub knows : Knows shape split met now
-  pub reads : (place : List ℕ) → item_held shape (item_of shape now.cur place)
+  pub knows : Knows shape known now
+  pub reads : (place : List ℕ) → item_of shape now.cur place
       ≡ item_at (state.contents (part_no shape).0) place
 
--- What a call that changes a place is given is what the change makes of it.
+-- What a call that changes a place is given is what the change makes of it: a record that stands
+-- there, or none.
 pub record IsGivenFor (change : Changing) (shape : Shape) (place : List ℕ)
     (found : Option (List ℕ)) : Type 0 where
   pub part : part_no shape ≡ change.part
   pub place_is : place ≡ change.place
-  pub item : change.new ≡ item_held shape found
+  pub item : change.new ≡ option_map Standing found

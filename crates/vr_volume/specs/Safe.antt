@@ -2,14 +2,13 @@
 -- has free, each block that a crash may leave has the committed item, and each before-image of a
 -- unit without an end is the committed item of its place. The rules are this project's own.
 use Rattle.std.specs.Prelude.{◌≡◌, ℕ, List, [], All, Option, Some, None}
-use Rattle.std.specs.Option.{option_map}
-use Rattle.vr_types.specs.Content.{Content as ContentOf, Item, Standing, Ascends, item_at}
+use Rattle.vr_types.specs.Content.{Content as ContentOf, Item, Ascends, item_at}
 use Rattle.vr_types.specs.Geometry.{IsAllowed}
 use Rattle.vr_types.specs.Image.{Image, block_at}
 use Rattle.vr_types.specs.Regions.{IsImageOn}
 use Rattle.vr_types.specs.Seen.{Seen, Only}
 use Rattle.vr_types.specs.declared.geometry.Geometry.{Geometry}
-use Rattle.vr_space.specs.Part.{Shape, KeyedShape, IsSound, HasKeptRoom, HasOnly, HasRoom, MayHold}
+use Rattle.vr_space.specs.Part.{Shape, IsSound, HasKeptRoom, HasOnly, HasRoom, MayHold}
 use Rattle.vr_log.specs.Content.{Content as LogContent}
 use Rattle.vr_log.specs.LogNow.{LogNow, HasLog, IsLogOf, IsOf}
 use Rattle.vr_log.specs.Spells.{Spells}
@@ -22,14 +21,10 @@ use Rattle.vr_volume.specs.Laid.{shape_by}
 use Rattle.vr_volume.specs.PutBack.{AreAlone, images_of, oldest, lengths_kept}
 use Rattle.vr_volume.specs.Volume.{AreApart, CanPutBack, IsInside}
 
--- what is read in a keyed part is a record, or nothing
-abbrev pub item_held : Shape → Option (List ℕ) → Option Item
-item_held (KeyedShape part) found = option_map Standing found
-
 -- off the places of before-images, what is found is the item of the content
-abbrev pub IsItemOf : Shape → ℕ → List BeforeImage → ContentOf → List ℕ → Option (List ℕ) → Type 0
-IsItemOf shape part images content place found = oldest images part place ≡ None
-    → item_held shape found ≡ item_at content place
+abbrev pub IsItemOf : ℕ → List BeforeImage → ContentOf → List ℕ → Option Item → Type 0
+IsItemOf part images content place found =
+    oldest images part place ≡ None → found ≡ item_at content place
 
 -- ---- the contents
 
@@ -56,7 +51,7 @@ pub record AreCommitted (geometry : Geometry) (records : List LogRecord)
 -- room for what is put back.
 pub record IsPartIn (shape : Shape) (part : ℕ) (images : List BeforeImage) (content : ContentOf)
     (image : Image) : Type 0 where
-  pub has : HasOnly shape (IsItemOf shape part images content) image
+  pub has : HasOnly shape (IsItemOf part images content) image
   pub room : HasRoom shape (lengths_kept images part) image
 
 -- The image has this log, and each part.
@@ -79,8 +74,8 @@ IsSafeImage geometry number log committed image = (content : LogContent) × IsLo
 pub record IsPartSafe (shape : Shape) (part : ℕ) (images : List BeforeImage) (content : ContentOf)
     (now : Seen) : Type 0 where
   pub sound : IsSound shape now
-  pub items : (place : List ℕ) (found : Option (List ℕ)) → MayHold shape now.may place found
-      → IsItemOf shape part images content place found
+  pub items : (place : List ℕ) (found : Option Item) → MayHold shape now.may place found
+      → IsItemOf part images content place found
   pub room : HasKeptRoom shape (lengths_kept images part) now
 
 -- Whichever log an image has: the contents that are committed by it, and each part.

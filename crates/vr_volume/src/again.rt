@@ -1,11 +1,11 @@
 //! A record set at a place that a unit has logged before.
-ghost use Rattle.std.specs.Prelude.{◌≡◌, ◌≢◌, ◌<◌, ℕ, List, [], Option, None, IsTrue, OnOk, IfErr};
+ghost use Rattle.std.specs.Prelude.{◌≡◌, ◌≢◌, ◌<◌, ℕ, List, [], None, IsTrue, OnOk, IfErr};
 ghost use Rattle.std.specs.Prelude.{All};
 ghost use Rattle.vr_types.specs.Faults.{HasCause};
 ghost use Rattle.vr_types.specs.Moments.{Guards};
 ghost use Rattle.vr_types.specs.declared.fault.DeviceFault.TheVariants.{Read, Write};
 ghost use Rattle.vr_types.specs.Blocks.{Keeps};
-ghost use Rattle.vr_space.specs.Met.{HasMet, Met};
+ghost use Rattle.vr_space.specs.Known.{HasMet, Known};
 ghost use Rattle.vr_space.specs.Part.{
   CanSet,
   DueMore,
@@ -22,7 +22,6 @@ ghost use Rattle.vr_space.specs.Part.{
   given,
   part_no,
 };
-ghost use Rattle.vr_space.specs.Split.{SplitNow};
 ghost use Rattle.vr_log.specs.LogNow.{LogNow};
 ghost use Rattle.vr_history.specs.State.{BeforeImage, State};
 ghost use Rattle.vr_volume.specs.Committed.{committed_by};
@@ -38,9 +37,9 @@ use vr_space::{Kept, Part};
 use vr_types::{Blocks, DeviceFault, Place};
 
 /// Makes these bytes the record at a place that a unit has logged, or takes the record there away:
-/// a further change of the unit, its before-image that is put back, or a change after that. At each moment of it, whether
-/// it fails or not, each image recovers to what was committed. Once it is done the volume is at rest
-/// by the state after it.
+/// a further change of the unit, its before-image that is put back, or a change after that. At each
+/// moment of it, whether it fails or not, each image recovers to what was committed. Once it is done
+/// the volume is at rest by the state after it.
 pub fn set_again<B: Blocks, P: Part, K: Kept>(
     blocks: &mut B,
     log: &UndoLog,
@@ -56,15 +55,15 @@ pub fn set_again<B: Blocks, P: Part, K: Kept>(
     requires rests { IsTrue B.tells → IsAtRest (P.shape part.old) (B.seen blocks.old) }
     requires room { IsTrue B.tells → HasKeptRoom (P.shape part.old)
         (K.kept kept.now (part_no (P.shape part.old))) (B.seen blocks.old) }
-    requires knows { IsTrue B.tells → Knows (P.shape part.old) (P.split part.old)
-        (P.met part.old) (B.seen blocks.old) }
-    requires can { IsTrue B.tells → CanSet (P.shape part.old) (P.split part.old)
+    requires knows { IsTrue B.tells → Knows (P.shape part.old) (P.known part.old)
+        (B.seen blocks.old) }
+    requires can { IsTrue B.tells → CanSet (P.shape part.old) (P.known part.old)
         (B.seen blocks.old).cur (K.kept kept.now (part_no (P.shape part.old))) place.now
         (given bytes) }
     ensures any_moment { IsTrue B.tells → (number : ℕ) (old : State) (images : List BeforeImage)
         → IsVolumeAtRest log.now.geometry number log.now images old (B.seen blocks.old)
-        → IsPartAtRest log.now.geometry images old (P.shape part.old) (P.split part.old)
-        (P.met part.old) (B.seen blocks.old)
+        → IsPartAtRest log.now.geometry images old (P.shape part.old) (P.known part.old)
+        (B.seen blocks.old)
         → oldest images (part_no (P.shape part.old)).0 place.now ≢ None
         → K.kept kept.now (part_no (P.shape part.old))
         ≡ lengths_kept images (part_no (P.shape part.old)).0
@@ -74,60 +73,59 @@ pub fn set_again<B: Blocks, P: Part, K: Kept>(
     ensures next { IsTrue B.tells → OnOk result ((number : ℕ) (old new : State)
         (change : Changing) (images : List BeforeImage)
         → IsVolumeAtRest log.now.geometry number log.now images old (B.seen blocks.old)
-        → IsPartAtRest log.now.geometry images old (P.shape part.old) (P.split part.old)
-        (P.met part.old) (B.seen blocks.old)
+        → IsPartAtRest log.now.geometry images old (P.shape part.old) (P.known part.old)
+        (B.seen blocks.old)
         → IsChangeOf log.now.geometry old change → IsNextChange change old new
         → IsGivenFor change (P.shape part.old) place.now (given bytes.entry)
         → K.kept kept.now (part_no (P.shape part.old))
         ≡ lengths_kept images (part_no (P.shape part.old)).0
         → IsVolumeAtRest log.now.geometry number log.now images new (B.seen blocks.new)
-        × IsPartAtRest log.now.geometry images new (P.shape part.old) (P.split part.new)
-        (P.met part.new) (B.seen blocks.new)) }
+        × IsPartAtRest log.now.geometry images new (P.shape part.old) (P.known part.new)
+        (B.seen blocks.new)) }
     // A change of a place whose before-image was put back, which is kept again.
     ensures again { IsTrue B.tells → OnOk result ((number : ℕ) (old new : State)
         (change : Changing) (images : List BeforeImage)
         → IsVolumeAtRest log.now.geometry number log.now images old (B.seen blocks.old)
-        → IsPartAtRest log.now.geometry images old (P.shape part.old) (P.split part.old)
-        (P.met part.old) (B.seen blocks.old)
+        → IsPartAtRest log.now.geometry images old (P.shape part.old) (P.known part.old)
+        (B.seen blocks.old)
         → IsChangeOf log.now.geometry old change → IsKeptAgain log.now change old new
         → IsGivenFor change (P.shape part.old) place.now (given bytes.entry)
         → K.kept kept.now (part_no (P.shape part.old))
         ≡ lengths_kept images (part_no (P.shape part.old)).0
         → IsVolumeAtRest log.now.geometry number log.now images new (B.seen blocks.new)
-        × IsPartAtRest log.now.geometry images new (P.shape part.old) (P.split part.new)
-        (P.met part.new) (B.seen blocks.new)) }
+        × IsPartAtRest log.now.geometry images new (P.shape part.old) (P.known part.new)
+        (B.seen blocks.new)) }
     // A before-image that is put back.
     ensures back { IsTrue B.tells → OnOk result ((number : ℕ) (old new : State)
         (change : Changing) (images : List BeforeImage)
         → IsVolumeAtRest log.now.geometry number log.now images old (B.seen blocks.old)
-        → IsPartAtRest log.now.geometry images old (P.shape part.old) (P.split part.old)
-        (P.met part.old) (B.seen blocks.old)
+        → IsPartAtRest log.now.geometry images old (P.shape part.old) (P.known part.old)
+        (B.seen blocks.old)
         → IsChangeOf log.now.geometry old change → IsPutBack change old new
         → IsGivenFor change (P.shape part.old) place.now (given bytes.entry)
         → K.kept kept.now (part_no (P.shape part.old))
         ≡ lengths_kept images (part_no (P.shape part.old)).0
         → IsVolumeAtRest log.now.geometry number log.now images new (B.seen blocks.new)
-        × IsPartAtRest log.now.geometry images new (P.shape part.old) (P.split part.new)
-        (P.met part.new) (B.seen blocks.new)) }
+        × IsPartAtRest log.now.geometry images new (P.shape part.old) (P.known part.new)
+        (B.seen blocks.new)) }
     // Each other part is at rest too, in each of these ways.
     ensures others { IsTrue B.tells → OnOk result ((number : ℕ) (old new : State)
-        (change : Changing) (images : List BeforeImage) (other : Shape) (split : Option SplitNow)
-        (met : List Met)
+        (change : Changing) (images : List BeforeImage) (other : Shape) (known : Known)
         → IsVolumeAtRest log.now.geometry number log.now images old (B.seen blocks.old)
-        → IsPartAtRest log.now.geometry images old (P.shape part.old) (P.split part.old)
-        (P.met part.old) (B.seen blocks.old)
+        → IsPartAtRest log.now.geometry images old (P.shape part.old) (P.known part.old)
+        (B.seen blocks.old)
         → IsChangeOf log.now.geometry old change → IsPutIn change old new
         → part_no (P.shape part.old) ≡ change.part → (part_no other).0 ≢ change.part.0
-        → IsPartAtRest log.now.geometry images old other split met (B.seen blocks.old)
-        → IsPartAtRest log.now.geometry images new other split met (B.seen blocks.new)) }
+        → IsPartAtRest log.now.geometry images old other known (B.seen blocks.old)
+        → IsPartAtRest log.now.geometry images new other known (B.seen blocks.new)) }
     // What has to be forced for the places of another part stays.
     ensures others_due { IsTrue B.tells → OnOk result ((number : ℕ) (images : List BeforeImage)
-        (state : State) (other : Shape) (split : Option SplitNow) (met : List Met)
+        (state : State) (other : Shape) (known : Known)
         → IsVolumeAtRest log.now.geometry number log.now images state (B.seen blocks.old)
-        → IsPartAtRest log.now.geometry images state (P.shape part.old) (P.split part.old)
-        (P.met part.old) (B.seen blocks.old)
+        → IsPartAtRest log.now.geometry images state (P.shape part.old) (P.known part.old)
+        (B.seen blocks.old)
         → (part_no other).0 ≢ (part_no (P.shape part.old)).0
-        → IsPartAtRest log.now.geometry images state other split met (B.seen blocks.old)
+        → IsPartAtRest log.now.geometry images state other known (B.seen blocks.old)
         → DueMore other [] (B.seen blocks.old) (B.seen blocks.new)) }
     ensures set { IsTrue B.tells → OnOk result (SetsOne (P.shape part.old) place.now
         (given bytes.entry) (B.seen blocks.old).cur (B.seen blocks.new).cur) }
@@ -139,12 +137,12 @@ pub fn set_again<B: Blocks, P: Part, K: Kept>(
     ensures size { (B.seen blocks.new).size ≡ (B.seen blocks.old).size }
     ensures unread { IfErr result (λ fault. fault ≡ Read
         → Keeps B.tells (B.seen blocks.old) (B.seen blocks.new)
-        × (IsTrue B.tells → Knows (P.shape part.old) (P.split part.old) (P.met part.new)
-        (B.seen blocks.new))) }
-    ensures reads { HasMet (P.met part.old) place.now → IfErr result (λ fault. fault ≡ Write) }
+        × (IsTrue B.tells
+        → Knows (P.shape part.old) (P.known part.new) (B.seen blocks.new))) }
+    ensures reads { HasMet (P.known part.old) place.now → IfErr result (λ fault. fault ≡ Write) }
     ensures cause { HasCause (B.faults blocks.old) (B.faults blocks.new) result }
     ensures shape { P.shape part.new ≡ P.shape part.old }
-    ensures split { P.split part.new ≡ P.split part.old }
+    ensures split { (P.known part.new).split ≡ (P.known part.old).split }
 {
     let _ = log;
     set_free(blocks, part, kept, place, bytes)?;

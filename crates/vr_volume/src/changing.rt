@@ -1,5 +1,5 @@
 //! Calls of a part on a volume: what each leaves of it in the image of each moment.
-ghost use Rattle.std.specs.Prelude.{◌≡◌, ◌≢◌, ◌<◌, [], ℕ, List, Option, IsTrue, IfOk, OnOk, IfErr};
+ghost use Rattle.std.specs.Prelude.{◌≡◌, ◌≢◌, ◌<◌, [], ℕ, List, IsTrue, IfOk, OnOk, IfErr};
 ghost use Rattle.std.specs.Prelude.{OnErr, All};
 ghost use Rattle.vr_types.specs.Blocks.{Forced, Keeps};
 ghost use Rattle.vr_types.specs.Content.{Content};
@@ -10,8 +10,7 @@ ghost use Rattle.vr_types.specs.Space.{free_count};
 ghost use Rattle.vr_types.specs.declared.fault.DeviceFault.TheVariants.{Read, Write};
 ghost use Rattle.vr_types.specs.declared.geometry.Geometry.{Geometry};
 ghost use Rattle.vr_space.specs.declared.room.Room.TheVariants as answers;
-ghost use Rattle.vr_space.specs.Met.{HasMet, Met, places_met};
-ghost use Rattle.vr_space.specs.Split.{SplitNow};
+ghost use Rattle.vr_space.specs.Known.{HasMet, Known, places_met};
 ghost use Rattle.vr_space.specs.Part.{
   CanSet,
   DueMore,
@@ -61,9 +60,9 @@ pub fn set_free<B: Blocks, P: Part, K: Kept>(
     requires rests { IsTrue B.tells → IsAtRest (P.shape part.old) (B.seen blocks.old) }
     requires room { IsTrue B.tells → HasKeptRoom (P.shape part.old)
         (K.kept kept.now (part_no (P.shape part.old))) (B.seen blocks.old) }
-    requires knows { IsTrue B.tells → Knows (P.shape part.old) (P.split part.old)
-        (P.met part.old) (B.seen blocks.old) }
-    requires can { IsTrue B.tells → CanSet (P.shape part.old) (P.split part.old)
+    requires knows { IsTrue B.tells → Knows (P.shape part.old) (P.known part.old)
+        (B.seen blocks.old) }
+    requires can { IsTrue B.tells → CanSet (P.shape part.old) (P.known part.old)
         (B.seen blocks.old).cur (K.kept kept.now (part_no (P.shape part.old))) place.now
         (given bytes) }
     ensures safe { IsTrue B.tells → (geometry : Geometry) (number : ℕ) (log : LogNow)
@@ -85,15 +84,15 @@ pub fn set_free<B: Blocks, P: Part, K: Kept>(
         (IsAtRest (P.shape part.old) (B.seen blocks.new)) }
     ensures room { IsTrue B.tells → HasKeptRoom (P.shape part.old)
         (K.kept kept.now (part_no (P.shape part.old))) (B.seen blocks.new) }
-    ensures knows { IsTrue B.tells → OnOk result (Knows (P.shape part.old) (P.split part.old)
-        (P.met part.new) (B.seen blocks.new)) }
-    ensures met { HasMet (P.met part.old) place.now → OnOk result
-        (places_met (P.met part.new) ≡ places_met (P.met part.old)) }
+    ensures knows { IsTrue B.tells → OnOk result
+        (Knows (P.shape part.old) (P.known part.new) (B.seen blocks.new)) }
+    ensures met { HasMet (P.known part.old) place.now → OnOk result
+        (places_met (P.known part.new) ≡ places_met (P.known part.old)) }
     ensures unread { IfErr result (λ fault. fault ≡ Read
         → Keeps B.tells (B.seen blocks.old) (B.seen blocks.new)
-        × (IsTrue B.tells → Knows (P.shape part.old) (P.split part.old) (P.met part.new)
-        (B.seen blocks.new))) }
-    ensures reads { HasMet (P.met part.old) place.now → IfErr result (λ fault. fault ≡ Write) }
+        × (IsTrue B.tells
+        → Knows (P.shape part.old) (P.known part.new) (B.seen blocks.new))) }
+    ensures reads { HasMet (P.known part.old) place.now → IfErr result (λ fault. fault ≡ Write) }
     ensures touches { IsTrue B.tells → Touches (InPart (P.shape part.old))
         (HasRoom (P.shape part.old) (K.kept kept.now (part_no (P.shape part.old))))
         (B.seen blocks.old) (B.seen blocks.new) }
@@ -101,7 +100,7 @@ pub fn set_free<B: Blocks, P: Part, K: Kept>(
     ensures size { (B.seen blocks.new).size ≡ (B.seen blocks.old).size }
     ensures cause { HasCause (B.faults blocks.old) (B.faults blocks.new) result }
     ensures shape { P.shape part.new ≡ P.shape part.old }
-    ensures split { P.split part.new ≡ P.split part.old }
+    ensures split { (P.known part.new).split ≡ (P.known part.old).split }
 {
     part.set(blocks, kept, place, bytes)
 }
@@ -122,9 +121,9 @@ pub fn do_stage<B: Blocks, P: Part, K: Kept>(
     requires rests { IsTrue B.tells → IsAtRest (P.shape part.old) (B.seen blocks.old) }
     requires room { IsTrue B.tells → HasKeptRoom (P.shape part.old)
         (K.kept kept.now (part_no (P.shape part.old))) (B.seen blocks.old) }
-    requires knows { IsTrue B.tells → Knows (P.shape part.old) (P.split part.old)
-        (P.met part.old) (B.seen blocks.old) }
-    requires due { IsTrue B.tells → IsStageDue (P.shape part.old) (P.split part.old)
+    requires knows { IsTrue B.tells → Knows (P.shape part.old) (P.known part.old)
+        (B.seen blocks.old) }
+    requires due { IsTrue B.tells → IsStageDue (P.shape part.old) (P.known part.old)
         (B.seen blocks.old).cur (free_count space.old)
         (K.kept kept.now (part_no (P.shape part.old))) place.now length }
     ensures safe { IsTrue B.tells → (geometry : Geometry) (number : ℕ) (log : LogNow)
@@ -136,7 +135,7 @@ pub fn do_stage<B: Blocks, P: Part, K: Kept>(
         (IsSafeImage geometry number log committed)
         × IsSafe geometry number log committed (B.seen blocks.new) }
     ensures stage { IsTrue B.tells → IfOk result (λ kind. answers.Stage kind
-        ≡ room_of (P.shape part.old) (P.split part.old) (B.seen blocks.old).cur
+        ≡ room_of (P.shape part.old) (P.known part.old) (B.seen blocks.old).cur
         (free_count space.old) (K.kept kept.now (part_no (P.shape part.old))) place.now length) }
     ensures owners { IfOk result (λ kind.
         OwnersAfter (part_no (P.shape part.old)) kind space.old space.new) }
@@ -149,13 +148,13 @@ pub fn do_stage<B: Blocks, P: Part, K: Kept>(
         (IsAtRest (P.shape part.old) (B.seen blocks.new)) }
     ensures room { IsTrue B.tells → HasKeptRoom (P.shape part.old)
         (K.kept kept.now (part_no (P.shape part.old))) (B.seen blocks.new) }
-    ensures knows { IsTrue B.tells → OnOk result (Knows (P.shape part.old) (P.split part.new)
-        (P.met part.new) (B.seen blocks.new)) }
-    ensures split { OnErr result (P.split part.new ≡ P.split part.old) }
+    ensures knows { IsTrue B.tells → OnOk result
+        (Knows (P.shape part.old) (P.known part.new) (B.seen blocks.new)) }
+    ensures split { OnErr result ((P.known part.new).split ≡ (P.known part.old).split) }
     ensures unread { IfErr result (λ fault. fault ≡ Read
         → Keeps B.tells (B.seen blocks.old) (B.seen blocks.new)
-        × (IsTrue B.tells → Knows (P.shape part.old) (P.split part.old) (P.met part.new)
-        (B.seen blocks.new))) }
+        × (IsTrue B.tells
+        → Knows (P.shape part.old) (P.known part.new) (B.seen blocks.new))) }
     ensures count { (B.seen blocks.new).count ≡ (B.seen blocks.old).count }
     ensures size { (B.seen blocks.new).size ≡ (B.seen blocks.old).size }
     ensures cause { HasCause (B.faults blocks.old) (B.faults blocks.new) result }
@@ -164,29 +163,29 @@ pub fn do_stage<B: Blocks, P: Part, K: Kept>(
     ensures at_rest { IsTrue B.tells → OnOk result ((number : ℕ) (log : LogNow)
         (images : List BeforeImage) (state : State)
         → IsVolumeAtRest log.geometry number log images state (B.seen blocks.old)
-        → IsPartAtRest log.geometry images state (P.shape part.old) (P.split part.old)
-        (P.met part.old) (B.seen blocks.old)
+        → IsPartAtRest log.geometry images state (P.shape part.old) (P.known part.old)
+        (B.seen blocks.old)
         → K.kept kept.now (part_no (P.shape part.old))
         ≡ lengths_kept images (part_no (P.shape part.old)).0
         → IsVolumeAtRest log.geometry number log images state (B.seen blocks.new)
-        × IsPartAtRest log.geometry images state (P.shape part.old) (P.split part.new)
-        (P.met part.new) (B.seen blocks.new)) }
+        × IsPartAtRest log.geometry images state (P.shape part.old) (P.known part.new)
+        (B.seen blocks.new)) }
     ensures others { IsTrue B.tells → OnOk result ((number : ℕ) (log : LogNow)
-        (images : List BeforeImage) (state : State) (other : Shape) (split : Option SplitNow)
-        (met : List Met) → IsVolumeAtRest log.geometry number log images state (B.seen blocks.old)
-        → IsPartAtRest log.geometry images state (P.shape part.old) (P.split part.old)
-        (P.met part.old) (B.seen blocks.old)
+        (images : List BeforeImage) (state : State) (other : Shape) (known : Known)
+        → IsVolumeAtRest log.geometry number log images state (B.seen blocks.old)
+        → IsPartAtRest log.geometry images state (P.shape part.old) (P.known part.old)
+        (B.seen blocks.old)
         → (part_no other).0 ≢ (part_no (P.shape part.old)).0
-        → IsPartAtRest log.geometry images state other split met (B.seen blocks.old)
-        → IsPartAtRest log.geometry images state other split met (B.seen blocks.new)) }
+        → IsPartAtRest log.geometry images state other known (B.seen blocks.old)
+        → IsPartAtRest log.geometry images state other known (B.seen blocks.new)) }
     // What has to be forced for the places of another part stays.
     ensures others_due { IsTrue B.tells → OnOk result ((number : ℕ) (log : LogNow)
-        (images : List BeforeImage) (state : State) (other : Shape) (split : Option SplitNow)
-        (met : List Met) → IsVolumeAtRest log.geometry number log images state (B.seen blocks.old)
-        → IsPartAtRest log.geometry images state (P.shape part.old) (P.split part.old)
-        (P.met part.old) (B.seen blocks.old)
+        (images : List BeforeImage) (state : State) (other : Shape) (known : Known)
+        → IsVolumeAtRest log.geometry number log images state (B.seen blocks.old)
+        → IsPartAtRest log.geometry images state (P.shape part.old) (P.known part.old)
+        (B.seen blocks.old)
         → (part_no other).0 ≢ (part_no (P.shape part.old)).0
-        → IsPartAtRest log.geometry images state other split met (B.seen blocks.old)
+        → IsPartAtRest log.geometry images state other known (B.seen blocks.old)
         → DueMore other [] (B.seen blocks.old) (B.seen blocks.new)) }
 {
     let kind = part.advance(blocks, space, kept, place, length)?;
@@ -212,9 +211,9 @@ pub fn force_blocks<B: Blocks>(blocks: &mut B, list: &[u32]) -> Result<(), Devic
         → IsVolumeAtRest geometry number log images state (B.seen blocks.old)
         → IsVolumeAtRest geometry number log images state (B.seen blocks.new) }
     ensures parts { IsTrue B.tells → (geometry : Geometry) (images : List BeforeImage)
-        (state : State) (shape : Shape) (split : Option SplitNow) (met : List Met)
-        → IsPartAtRest geometry images state shape split met (B.seen blocks.old)
-        → IsPartAtRest geometry images state shape split met (B.seen blocks.new) }
+        (state : State) (shape : Shape) (known : Known)
+        → IsPartAtRest geometry images state shape known (B.seen blocks.old)
+        → IsPartAtRest geometry images state shape known (B.seen blocks.new) }
     ensures cause { HasWriteCause (B.faults blocks.old) (B.faults blocks.new) result }
 {
     blocks.force(list)

@@ -1,14 +1,13 @@
 //! The blocks that units of recovery changed are forced, a few at a time, before a unit ends.
-ghost use Rattle.std.specs.Prelude.{◌≡◌, ◌<◌, ◌-◌, [], ℕ, List, Option, IsTrue, OnOk, OnErr, All};
+ghost use Rattle.std.specs.Prelude.{◌≡◌, ◌<◌, ◌-◌, [], ℕ, List, IsTrue, OnOk, OnErr, All};
 ghost use Rattle.std.specs.Prelude.{IfOk, length, min, take};
 ghost use Rattle.vr_types.specs.Blocks.{Keeps};
 ghost use Rattle.vr_types.specs.Faults.{HasWriteCause};
 ghost use Rattle.vr_types.specs.Moments.{Guards};
 ghost use Rattle.vr_types.specs.declared.geometry.Geometry.{Geometry};
 ghost use Rattle.vr_types.specs.declared.unit.Unit.{Unit as UnitOfRecovery};
-ghost use Rattle.vr_space.specs.Met.{Met};
+ghost use Rattle.vr_space.specs.Known.{Known};
 ghost use Rattle.vr_space.specs.Part.{IsDueTo, IsSound, Shape};
-ghost use Rattle.vr_space.specs.Split.{SplitNow};
 ghost use Rattle.vr_log.specs.LogNow.{LogNow};
 ghost use Rattle.vr_history.specs.State.{BeforeImage, State};
 ghost use Rattle.vr_volume.specs.Committed.{IsFirmFor, committed_by};
@@ -36,9 +35,9 @@ pub fn force_changed<B: Blocks>(blocks: &mut B, changed: &mut Vec<u32>) -> Resul
         (IsSafeImage geometry number log (committed_by state))
         × IsVolumeAtRest geometry number log images state (B.seen blocks.new) }
     ensures others { IsTrue B.tells → (geometry : Geometry) (images : List BeforeImage)
-        (state : State) (shape : Shape) (split : Option SplitNow) (met : List Met)
-        → IsPartAtRest geometry images state shape split met (B.seen blocks.old)
-        → IsPartAtRest geometry images state shape split met (B.seen blocks.new) }
+        (state : State) (shape : Shape) (known : Known)
+        → IsPartAtRest geometry images state shape known (B.seen blocks.old)
+        → IsPartAtRest geometry images state shape known (B.seen blocks.new) }
     // Nothing is put, so that what is due to other blocks stays due to them.
     ensures keeps { Keeps B.tells (B.seen blocks.old) (B.seen blocks.new) }
     ensures taken { OnOk result

@@ -1,14 +1,13 @@
 //! The end of a unit of recovery on a volume: its end record is logged and forced, and what was kept
 //! of it is forgotten. Once no unit is live, the log begins its next generation.
-ghost use Rattle.std.specs.Prelude.{◌≡◌, ◌≢◌, ◌<◌, ◌≤◌, ◌+◌, ◌^◌, ◌∷◌, ◌++◌, [], ℕ, List, Option};
+ghost use Rattle.std.specs.Prelude.{◌≡◌, ◌≢◌, ◌<◌, ◌≤◌, ◌+◌, ◌^◌, ◌∷◌, ◌++◌, [], ℕ, List};
 ghost use Rattle.std.specs.Prelude.{IsTrue, OnErr, OnOk, false, filter};
 ghost use Rattle.vr_types.specs.Faults.{HasWriteCause};
 ghost use Rattle.vr_types.specs.Moments.{Guards};
 ghost use Rattle.vr_types.specs.Regions.{Touches};
 ghost use Rattle.vr_types.specs.declared.geometry.Geometry.{Geometry};
-ghost use Rattle.vr_space.specs.Met.{Met};
+ghost use Rattle.vr_space.specs.Known.{Known};
 ghost use Rattle.vr_space.specs.Part.{Shape};
-ghost use Rattle.vr_space.specs.Split.{SplitNow};
 ghost use Rattle.vr_log.specs.Live.{is_in, live_in};
 ghost use Rattle.vr_log.specs.LogNow.{HasLog, IsForced, IsOf, restarted, with_record};
 ghost use Rattle.vr_log.specs.Standing.{InLog, LogStands};
@@ -95,10 +94,10 @@ pub fn end_unit<B: Blocks>(
         → log.old.generation + 1 < 2 ^ 64
         → IsVolumeAtRest geometry number log.new (images_in undo.new) new (B.seen blocks.new)) }
     ensures others { IsTrue B.tells → OnOk result ((geometry : Geometry) (old new : State)
-        (shape : Shape) (split : Option SplitNow) (met : List Met)
+        (shape : Shape) (known : Known)
         → log.old.geometry ≡ geometry → IsEndedIn unit old new
-        → IsPartAtRest geometry (images_in undo.old) old shape split met (B.seen blocks.old)
-        → IsPartAtRest geometry (images_in undo.new) new shape split met (B.seen blocks.new)) }
+        → IsPartAtRest geometry (images_in undo.old) old shape known (B.seen blocks.old)
+        → IsPartAtRest geometry (images_in undo.new) new shape known (B.seen blocks.new)) }
     ensures log { OnOk result (IsEndedLog log.old unit kind log.new) }
     ensures stands { IsTrue B.tells → log.old.generation + 1 < 2 ^ 64
         → OnOk result (LogStands log.new (B.seen blocks.new)) }

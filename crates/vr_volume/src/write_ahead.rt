@@ -7,8 +7,7 @@ ghost use Rattle.vr_types.specs.Content.{Content};
 ghost use Rattle.vr_types.specs.Moments.{Guards};
 ghost use Rattle.vr_types.specs.Regions.{Touches};
 ghost use Rattle.vr_types.specs.declared.unit.Unit.{Unit as UnitOfRecovery};
-ghost use Rattle.vr_space.specs.Met.{HasMet, Met};
-ghost use Rattle.vr_space.specs.Split.{SplitNow};
+ghost use Rattle.vr_space.specs.Known.{HasMet, Known};
 ghost use Rattle.vr_space.specs.Part.{
   CanSet,
   DueMore,
@@ -99,9 +98,9 @@ pub fn change<B: Blocks, P: Part, K: Kept>(
     requires rests { IsTrue B.tells → IsAtRest (P.shape part.old) (B.seen blocks.old) }
     requires room { IsTrue B.tells → HasKeptRoom (P.shape part.old)
         (K.kept kept.now (part_no (P.shape part.old))) (B.seen blocks.old) }
-    requires knows { IsTrue B.tells → Knows (P.shape part.old) (P.split part.old)
-        (P.met part.old) (B.seen blocks.old) }
-    requires can { IsTrue B.tells → CanSet (P.shape part.old) (P.split part.old)
+    requires knows { IsTrue B.tells → Knows (P.shape part.old) (P.known part.old)
+        (B.seen blocks.old) }
+    requires can { IsTrue B.tells → CanSet (P.shape part.old) (P.known part.old)
         (B.seen blocks.old).cur (K.kept kept.now (part_no (P.shape part.old))) place.now
         (given bytes) }
     ensures any_moment { IsTrue B.tells → (number : ℕ) (committed : List Rec → ℕ → Content)
@@ -130,8 +129,8 @@ pub fn change<B: Blocks, P: Part, K: Kept>(
         (IsAtRest (P.shape part.old) (B.seen blocks.new)) }
     ensures room { IsTrue B.tells → OnOk result (HasKeptRoom (P.shape part.old)
         (K.kept kept.now (part_no (P.shape part.old))) (B.seen blocks.new)) }
-    ensures knows { IsTrue B.tells → OnOk result (Knows (P.shape part.old) (P.split part.old)
-        (P.met part.new) (B.seen blocks.new)) }
+    ensures knows { IsTrue B.tells → OnOk result
+        (Knows (P.shape part.old) (P.known part.new) (B.seen blocks.new)) }
     ensures put { OnOk result (All (InPart (P.shape part.old)) (P.put part.new)) }
     ensures due { IsTrue B.tells → OnOk result
         (DueMoreAt (P.shape part.old) place.now (P.put part.new)
@@ -143,14 +142,14 @@ pub fn change<B: Blocks, P: Part, K: Kept>(
     ensures count { OnOk result ((B.seen blocks.new).count ≡ (B.seen blocks.old).count) }
     ensures size { OnOk result ((B.seen blocks.new).size ≡ (B.seen blocks.old).size) }
     ensures part { OnOk result (P.shape part.new ≡ P.shape part.old) }
-    ensures split { OnOk result (P.split part.new ≡ P.split part.old) }
+    ensures split { OnOk result ((P.known part.new).split ≡ (P.known part.old).split) }
     ensures stands { IsTrue B.tells → OnOk result (LogStands log.new (B.seen blocks.new)) }
     // A volume that was at rest is so by the state after the change, and so is the part.
     ensures at_rest { IsTrue B.tells → OnOk result ((number : ℕ) (old new : State)
         (change : Changing) (images after : List BeforeImage)
         → IsVolumeAtRest log.old.geometry number log.old images old (B.seen blocks.old)
-        → IsPartAtRest log.old.geometry images old (P.shape part.old) (P.split part.old)
-        (P.met part.old) (B.seen blocks.old)
+        → IsPartAtRest log.old.geometry images old (P.shape part.old) (P.known part.old)
+        (B.seen blocks.old)
         → IsChangeOf log.old.geometry old change → IsFirstChange log.old change old new
         → rec.now ≡ Before change.unit change.part change.place change.old
         → IsGivenFor change (P.shape part.old) place.now (given bytes.entry)
@@ -158,8 +157,8 @@ pub fn change<B: Blocks, P: Part, K: Kept>(
         → K.kept kept.now (part_no (P.shape part.old))
         ≡ lengths_kept after (part_no (P.shape part.old)).0
         → IsVolumeAtRest log.old.geometry number log.new after new (B.seen blocks.new)
-        × IsPartAtRest log.old.geometry after new (P.shape part.old) (P.split part.new)
-        (P.met part.new) (B.seen blocks.new)) }
+        × IsPartAtRest log.old.geometry after new (P.shape part.old) (P.known part.new)
+        (B.seen blocks.new)) }
     // What it may answer: that the log is full exactly where it is, and then nothing is done; a fault
     // of the device only where there was one.
     ensures full { IsFullWhere log.old (need_of (live_in log.old.records) rec.now) result }
@@ -167,27 +166,26 @@ pub fn change<B: Blocks, P: Part, K: Kept>(
         → (log.new ≡ log.old) × (blocks.new ≡ blocks.old) × (part.new ≡ part.old)) }
     ensures cause { HasChangeCause (B.faults blocks.old) (B.faults blocks.new) result }
     // Where the place is met, no read is made of it.
-    ensures reads { HasMet (P.met part.old) place.now → IfErr result (λ no. no ≢ Read) }
+    ensures reads { HasMet (P.known part.old) place.now → IfErr result (λ no. no ≢ Read) }
     // Each other part is at rest, too.
     ensures others { IsTrue B.tells → OnOk result ((number : ℕ) (old new : State)
-        (change : Changing) (images after : List BeforeImage) (other : Shape)
-        (split : Option SplitNow) (met : List Met)
+        (change : Changing) (images after : List BeforeImage) (other : Shape) (known : Known)
         → IsVolumeAtRest log.old.geometry number log.old images old (B.seen blocks.old)
-        → IsPartAtRest log.old.geometry images old (P.shape part.old) (P.split part.old)
-        (P.met part.old) (B.seen blocks.old)
+        → IsPartAtRest log.old.geometry images old (P.shape part.old) (P.known part.old)
+        (B.seen blocks.old)
         → IsChangeOf log.old.geometry old change → IsFirstChange log.old change old new
         → part_no (P.shape part.old) ≡ change.part
         → after ≡ images ++ image_by change ∷ [] → (part_no other).0 ≢ change.part.0
-        → IsPartAtRest log.old.geometry images old other split met (B.seen blocks.old)
-        → IsPartAtRest log.old.geometry after new other split met (B.seen blocks.new)) }
+        → IsPartAtRest log.old.geometry images old other known (B.seen blocks.old)
+        → IsPartAtRest log.old.geometry after new other known (B.seen blocks.new)) }
     // What has to be forced for the places of another part stays.
     ensures others_due { IsTrue B.tells → OnOk result ((number : ℕ) (images : List BeforeImage)
-        (state : State) (other : Shape) (split : Option SplitNow) (met : List Met)
+        (state : State) (other : Shape) (known : Known)
         → IsVolumeAtRest log.old.geometry number log.old images state (B.seen blocks.old)
-        → IsPartAtRest log.old.geometry images state (P.shape part.old) (P.split part.old)
-        (P.met part.old) (B.seen blocks.old)
+        → IsPartAtRest log.old.geometry images state (P.shape part.old) (P.known part.old)
+        (B.seen blocks.old)
         → (part_no other).0 ≢ (part_no (P.shape part.old)).0
-        → IsPartAtRest log.old.geometry images state other split met (B.seen blocks.old)
+        → IsPartAtRest log.old.geometry images state other known (B.seen blocks.old)
         → DueMore other [] (B.seen blocks.old) (B.seen blocks.new)) }
     ensures set { IsTrue B.tells → OnOk result (SetsOne (P.shape part.old) place.now
         (given bytes.entry) (B.seen blocks.old).cur (B.seen blocks.new).cur) }

@@ -1,7 +1,6 @@
-use Rattle.std.proofs.Common.{sym, subst, Option}
-use Rattle.vr_space.specs.Part.{HasKeptRoom, HasRoom, Knows, given, part_no}
+use Rattle.std.proofs.Common.{subst}
+use Rattle.vr_space.specs.Part.{HasKeptRoom, HasRoom, given, part_no}
 use Rattle.vr_space.specs.Room.{Lengths}
-use Rattle.vr_space.specs.Split.{SplitNow}
 use Rattle.vr_volume.specs.Committed.{committed_by}
 use Rattle.vr_space.proofs.CallerLemmas.{rest-sound}
 use Rattle.vr_volume.proofs.KeptAgain.{place-again, volume-kept-again}
@@ -18,7 +17,7 @@ returns-clause-any_moment g c told number old images rest part some room =
     let a = g.B.Blocks.seen c.args.blocks.now in
     (c.set_free.ensures.safe told log.geometry number log (committed_by old) rest.safe
     (laid-again log.geometry number log images old a rest shape
-    (g.P.Part.split c.args.part.now) (g.P.Part.met c.args.part.now) c.args.place.now part some
+    (g.P.Part.known c.args.part.now) c.args.place.now part some
     (g.K.Kept.kept c.args.kept.now (part_no shape)) room)
     (free-again log.geometry number log images old a rest (part_no shape).0 c.args.place.now some)).0
 
@@ -29,7 +28,7 @@ returns-in_err-set_free-clause-any_moment g c told number old images rest part s
     let a = g.B.Blocks.seen c.args.blocks.now in
     (c.set_free.ensures.safe told log.geometry number log (committed_by old) rest.safe
     (laid-again log.geometry number log images old a rest shape
-    (g.P.Part.split c.args.part.now) (g.P.Part.met c.args.part.now) c.args.place.now part some
+    (g.P.Part.known c.args.part.now) c.args.place.now part some
     (g.K.Kept.kept c.args.kept.now (part_no shape)) room)
     (free-again log.geometry number log images old a rest (part_no shape).0 c.args.place.now some)).0
 
@@ -37,9 +36,7 @@ pub returns-clause-next : goal.returns-clause-next
 returns-clause-next g c told number old new change images rest part of made given-for room =
     let log = c.args.log.now in
     let shape = g.P.Part.shape c.args.part.now in
-    let split = g.P.Part.split c.args.part.now in
-    let met = g.P.Part.met c.args.part.now in
-    let now = g.P.Part.met c.set_free.new.part in
+    let known = g.P.Part.known c.args.part.now in
     let place = c.args.place.now in
     let found = given c.args.bytes in
     let a = g.B.Blocks.seen c.args.blocks.now in
@@ -50,17 +47,16 @@ returns-clause-next g c told number old new change images rest part of made give
     (HasRoom shape (g.K.Kept.kept c.args.kept.now (part_no shape))) a d rest.forced rest.stands
     c.requires.apart (c.set_free.ensures.touches told) in
     let safe = (c.set_free.ensures.safe told log.geometry number log (committed_by old) rest.safe
-    (laid-again log.geometry number log images old a rest shape split met place part some
+    (laid-again log.geometry number log images old a rest shape known place part some
     (g.K.Kept.kept c.args.kept.now (part_no shape)) room)
     (free-again log.geometry number log images old a rest (part_no shape).0 place some)).1 in (
       volume-next-change log.geometry number log images old a rest new change d of stands safe made,
-      part-put log.geometry number log images old a rest new change d of stands safe shape split
-          (g.P.Part.split c.set_free.new.part) met now place found made.contents part given-for
+      part-put log.geometry number log images old a rest new change d of stands safe shape known
+          (g.P.Part.known c.set_free.new.part) place found made.contents part given-for
           c.set_free.ensures.count c.set_free.ensures.size (c.in_ok-set_free.ensures.rests told)
           (subst (λ (lengths : Lengths). HasKeptRoom shape lengths d) room
           (c.set_free.ensures.room told))
-          (subst (λ (s : Option SplitNow). Knows shape s now d) (sym c.set_free.ensures.split)
-          (c.in_ok-set_free.ensures.knows told))
+          (c.in_ok-set_free.ensures.knows told)
           (c.in_ok-set_free.ensures.set told),
     )
 
@@ -68,9 +64,7 @@ pub returns-clause-back : goal.returns-clause-back
 returns-clause-back g c told number old new change images rest part of made given-for room =
     let log = c.args.log.now in
     let shape = g.P.Part.shape c.args.part.now in
-    let split = g.P.Part.split c.args.part.now in
-    let met = g.P.Part.met c.args.part.now in
-    let now = g.P.Part.met c.set_free.new.part in
+    let known = g.P.Part.known c.args.part.now in
     let place = c.args.place.now in
     let found = given c.args.bytes in
     let a = g.B.Blocks.seen c.args.blocks.now in
@@ -81,39 +75,36 @@ returns-clause-back g c told number old new change images rest part of made give
     (HasRoom shape (g.K.Kept.kept c.args.kept.now (part_no shape))) a d rest.forced rest.stands
     c.requires.apart (c.set_free.ensures.touches told) in
     let safe = (c.set_free.ensures.safe told log.geometry number log (committed_by old) rest.safe
-    (laid-again log.geometry number log images old a rest shape split met place part some
+    (laid-again log.geometry number log images old a rest shape known place part some
     (g.K.Kept.kept c.args.kept.now (part_no shape)) room)
     (free-again log.geometry number log images old a rest (part_no shape).0 place some)).1 in (
       volume-put-back log.geometry number log images old a rest new change d of stands safe made,
-      part-put log.geometry number log images old a rest new change d of stands safe shape split
-          (g.P.Part.split c.set_free.new.part) met now place found made.contents part given-for
+      part-put log.geometry number log images old a rest new change d of stands safe shape known
+          (g.P.Part.known c.set_free.new.part) place found made.contents part given-for
           c.set_free.ensures.count c.set_free.ensures.size (c.in_ok-set_free.ensures.rests told)
           (subst (λ (lengths : Lengths). HasKeptRoom shape lengths d) room
           (c.set_free.ensures.room told))
-          (subst (λ (s : Option SplitNow). Knows shape s now d) (sym c.set_free.ensures.split)
-          (c.in_ok-set_free.ensures.knows told))
+          (c.in_ok-set_free.ensures.knows told)
           (c.in_ok-set_free.ensures.set told),
     )
 
 pub returns-clause-others : goal.returns-clause-others
-returns-clause-others g c told number old new change images other split met rest part of put at apart
+returns-clause-others g c told number old new change images other known rest part of put at apart
     others =
     let log = c.args.log.now in
     let shape = g.P.Part.shape c.args.part.now in
     let a = g.B.Blocks.seen c.args.blocks.now in
     let d = g.B.Blocks.seen c.set_free.new.blocks in
     other-stays log.geometry number log images old a rest new change d of shape other
-    (HasRoom shape (g.K.Kept.kept c.args.kept.now (part_no shape))) (g.P.Part.split c.args.part.now)
-    (g.P.Part.met c.args.part.now) split met put part at apart (c.set_free.ensures.touches told)
+    (HasRoom shape (g.K.Kept.kept c.args.kept.now (part_no shape))) (g.P.Part.known c.args.part.now)
+    known put part at apart (c.set_free.ensures.touches told)
     (g.met.B.Blocks.cur_may c.args.blocks.now told) others
 
 pub returns-clause-again : goal.returns-clause-again
 returns-clause-again g c told number old new change images rest part of made given-for room =
     let log = c.args.log.now in
     let shape = g.P.Part.shape c.args.part.now in
-    let split = g.P.Part.split c.args.part.now in
-    let met = g.P.Part.met c.args.part.now in
-    let now = g.P.Part.met c.set_free.new.part in
+    let known = g.P.Part.known c.args.part.now in
     let place = c.args.place.now in
     let found = given c.args.bytes in
     let a = g.B.Blocks.seen c.args.blocks.now in
@@ -124,22 +115,21 @@ returns-clause-again g c told number old new change images rest part of made giv
     (HasRoom shape (g.K.Kept.kept c.args.kept.now (part_no shape))) a d rest.forced rest.stands
     c.requires.apart (c.set_free.ensures.touches told) in
     let safe = (c.set_free.ensures.safe told log.geometry number log (committed_by old) rest.safe
-    (laid-again log.geometry number log images old a rest shape split met place part some
+    (laid-again log.geometry number log images old a rest shape known place part some
     (g.K.Kept.kept c.args.kept.now (part_no shape)) room)
     (free-again log.geometry number log images old a rest (part_no shape).0 place some)).1 in (
       volume-kept-again log.geometry number log images old a rest new change made d of stands safe,
-      part-put log.geometry number log images old a rest new change d of stands safe shape split
-          (g.P.Part.split c.set_free.new.part) met now place found made.contents part given-for
+      part-put log.geometry number log images old a rest new change d of stands safe shape known
+          (g.P.Part.known c.set_free.new.part) place found made.contents part given-for
           c.set_free.ensures.count c.set_free.ensures.size (c.in_ok-set_free.ensures.rests told)
           (subst (λ (lengths : Lengths). HasKeptRoom shape lengths d) room
           (c.set_free.ensures.room told))
-          (subst (λ (s : Option SplitNow). Knows shape s now d) (sym c.set_free.ensures.split)
-          (c.in_ok-set_free.ensures.knows told))
+          (c.in_ok-set_free.ensures.knows told)
           (c.in_ok-set_free.ensures.set told),
     )
 
 pub returns-clause-others_due : goal.returns-clause-others_due
-returns-clause-others_due g c told number images state other split met rest part apart others =
+returns-clause-others_due g c told number images state other known rest part apart others =
     let B = g.B.Blocks in
     let shape = g.P.Part.shape c.args.part.now in
     let kept = g.K.Kept.kept c.args.kept.now (part_no shape) in

@@ -50,14 +50,13 @@ pub returns-clause-at_rest : goal.returns-clause-at_rest
 returns-clause-at_rest g c told number log images state rest part room =
     let B = g.B.Blocks in
     let shape = g.P.Part.shape c.args.part.now in
-    let split = g.P.Part.split c.args.part.now in
-    let met = g.P.Part.met c.args.part.now in
+    let known = g.P.Part.known c.args.part.now in
     let kept = g.K.Kept.kept c.args.kept.now (part_no shape) in
     let a = B.seen c.args.blocks.now in
     let d = B.seen c.advance.new.blocks in
     let adds = c.advance.ensures.adds told in
     let left = g.met.B.Blocks.cur_may c.args.blocks.now told in
-    let laid = laid-rest log.geometry number log images state a rest shape split met part kept room in
+    let laid = laid-rest log.geometry number log images state a rest shape known part kept room in
     let past = part-past log.geometry (state.contents 0) (part_no shape).0 shape part.laid in (
       volume-same log.geometry number log images state a rest d
           (part-after log.geometry number log (committed_by state) (part_no shape).0 shape kept
@@ -66,8 +65,8 @@ returns-clause-at_rest g c told number log images state rest part room =
           (c.advance.ensures.rooms told) left (c.advance.ensures.room told))
           (stands-part log shape (HasRoom shape kept) a d rest.forced rest.stands
           (λ n inside. omega (arith, past n inside)) (c.advance.ensures.rooms told)),
-      part-same-records log.geometry images state shape split (g.P.Part.split c.advance.new.self) met
-          (g.P.Part.met c.advance.new.self) a d part adds.touches.count_same adds.touches.size_same
+      part-same-records log.geometry images state shape known (g.P.Part.known c.advance.new.self) a
+          d part adds.touches.count_same adds.touches.size_same
           (c.in_ok-kind.ensures.rests told)
           (subst (λ (lengths : Lengths). HasKeptRoom shape lengths d) room
           (c.advance.ensures.room told))
@@ -75,20 +74,20 @@ returns-clause-at_rest g c told number log images state rest part room =
     )
 
 pub returns-clause-others : goal.returns-clause-others
-returns-clause-others g c told number log images state other split met rest part apart others =
+returns-clause-others g c told number log images state other known rest part apart others =
     let B = g.B.Blocks in
     let shape = g.P.Part.shape c.args.part.now in
     let kept = g.K.Kept.kept c.args.kept.now (part_no shape) in
     let a = B.seen c.args.blocks.now in
     let d = B.seen c.advance.new.blocks in
-    part-stays log.geometry images images state state other split met a d
+    part-stays log.geometry images images state state other known a d
     (stays-apart shape other (HasRoom shape kept) a d
     (rest.laid.apart (part_no other).0 (part_no shape).0 other shape others.laid part.laid apart)
     (c.advance.ensures.rooms told))
     (g.met.B.Blocks.cur_may c.args.blocks.now told) others refl refl refl
 
 pub returns-clause-others_due : goal.returns-clause-others_due
-returns-clause-others_due g c told number log images state other split met rest part apart others =
+returns-clause-others_due g c told number log images state other known rest part apart others =
     let B = g.B.Blocks in
     let shape = g.P.Part.shape c.args.part.now in
     let kept = g.K.Kept.kept c.args.kept.now (part_no shape) in

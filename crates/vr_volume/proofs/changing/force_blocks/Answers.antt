@@ -18,8 +18,8 @@ returns-clause-at_rest g c told geometry number log images state rest =
     c.force.ensures.after geometry number log images state rest
 
 pub returns-clause-parts : goal.returns-clause-parts
-returns-clause-parts g c told geometry images state shape split met part =
+returns-clause-parts g c told geometry images state shape known part =
     let B = g.B.Blocks in
     part-keeps B.tells told (B.seen c.args.blocks.now) (B.seen c.force.new.self)
-    c.force.ensures.after geometry images state shape split met
+    c.force.ensures.after geometry images state shape known
     (g.met.B.Blocks.cur_may c.args.blocks.now told) part

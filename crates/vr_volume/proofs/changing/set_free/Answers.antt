@@ -1,6 +1,6 @@
 use Rattle.vr_volume.proofs.Calls.{free-safe, part-after, part-guards}
 use Rattle.vr_volume.proofs.changing.set_free.Goals as goal
-use Rattle.vr_space.specs.Part.{given, part_no, Just}
+use Rattle.vr_space.specs.Part.{Just, given, item_of, left_by, part_no}
 
 pub returns-clause-safe : goal.returns-clause-safe
 returns-clause-safe g c told geometry number log committed safe laid free =
@@ -10,7 +10,7 @@ returns-clause-safe g c told geometry number log committed safe laid free =
     let kept = g.K.Kept.kept c.args.kept.now (part_no shape) in
     let a = B.seen c.args.blocks.now in
     let b = B.seen c.set.new.blocks in
-    let new = given c.args.bytes in
+    let new = left_by shape (item_of shape a.cur c.args.place.now) (given c.args.bytes) in
     let A = Just c.args.place.now new in
     let added = free-safe geometry log committed part shape c.args.place.now new free in
     let left = g.met.B.Blocks.cur_may c.args.blocks.now told in (

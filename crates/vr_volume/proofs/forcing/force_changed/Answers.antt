@@ -23,10 +23,10 @@ returns-in_err-force_blocks-clause-rests g c told geometry number log images sta
     )
 
 pub returns-in_err-force_blocks-clause-others : goal.returns-in_err-force_blocks-clause-others
-returns-in_err-force_blocks-clause-others g c told geometry images state shape split met part =
+returns-in_err-force_blocks-clause-others g c told geometry images state shape known part =
     let B = g.B.Blocks in
     part-kept B.tells told (B.seen c.args.blocks.now) (B.seen c.force_blocks.new.blocks)
-    c.force_blocks.ensures.after geometry images state shape split met
+    c.force_blocks.ensures.after geometry images state shape known
     (g.met.B.Blocks.cur_may c.args.blocks.now told) part
 
 pub returns-clause-due : goal.returns-clause-due
@@ -54,8 +54,8 @@ returns-clause-rests g c told geometry number log images state rest =
     )
 
 pub returns-clause-others : goal.returns-clause-others
-returns-clause-others g c told geometry images state shape split met part =
+returns-clause-others g c told geometry images state shape known part =
     let B = g.B.Blocks in
     part-kept B.tells told (B.seen c.args.blocks.now) (B.seen c.force_blocks.new.blocks)
-    c.force_blocks.ensures.after geometry images state shape split met
+    c.force_blocks.ensures.after geometry images state shape known
     (g.met.B.Blocks.cur_may c.args.blocks.now told) part

@@ -36,15 +36,15 @@ returns-clause-rests g c told geometry number old new rest current firm none mad
     c.restart_idle.ensures.live)
 
 pub returns-clause-others : goal.returns-clause-others
-returns-clause-others g c told geometry old new shape split met is made part =
+returns-clause-others g c told geometry old new shape known is made part =
     let B = g.B.Blocks in
     let log = c.args.log.now in
     let a = B.seen c.args.blocks.now in
     let b = B.seen c.log_end.new.blocks in
-    subst (λ (images : List BeforeImage). IsPartAtRest geometry images new shape split met b)
+    subst (λ (images : List BeforeImage). IsPartAtRest geometry images new shape known b)
     (sym c.forget.ensures.images)
     (part-after geometry log (HasLog (with_record log (End c.args.unit c.args.kind)))
-    (images_in c.args.undo.now) old new c.args.unit shape split met a b is
+    (images_in c.args.undo.now) old new c.args.unit shape known a b is
     (g.met.B.Blocks.cur_may c.args.blocks.now told) (c.log_end.ensures.touches told) made part)
 
 pub returns-clause-log : goal.returns-clause-log

@@ -12,10 +12,9 @@ use Rattle.vr_volume.proofs.Calls.{stays-part}
 use Rattle.vr_volume.proofs.LogCalls.{change-then, first-there, image-less, log-guards}
 use Rattle.std.proofs.Common.{◌∙◌, ◌<◌}
 use Rattle.vr_types.specs.declared.geometry.Geometry.{Geometry}
-use Rattle.std.proofs.Common.{ℕ, List, Option}
-use Rattle.vr_space.specs.Part.{HasKeptRoom, HasRoom, Knows, SetsOne}
+use Rattle.std.proofs.Common.{ℕ, List}
+use Rattle.vr_space.specs.Part.{HasKeptRoom, HasRoom, SetsOne}
 use Rattle.vr_space.specs.Room.{Lengths}
-use Rattle.vr_space.specs.Split.{SplitNow}
 use Rattle.vr_volume.specs.Committed.{committed_by}
 use Rattle.vr_volume.specs.Laying.{IsLaidBy, IsLogged}
 use Rattle.vr_volume.proofs.Rested.{first-of, laid-by-more, part-first-change, rec-is, stands-part}
@@ -59,7 +58,7 @@ set_free-requires-clause-knows g c told =
     let shape = g.P.Part.shape part in
     let a = B.seen c.args.blocks.now in
     let b = B.seen c.log_forced.new.blocks in
-    knows-stays a b shape (g.P.Part.split part) (g.P.Part.met part)
+    knows-stays a b shape (g.P.Part.known part)
     (stays-part log.geometry shape (HasLog (with_record log c.args.rec.now)) a b c.requires.apart
     (c.log_forced.ensures.touches told))
     (rest-sound shape a (c.requires.rests told)) (g.met.B.Blocks.cur_may c.args.blocks.now told)
@@ -73,7 +72,7 @@ set_free-requires-clause-can g c told =
     let shape = g.P.Part.shape part in
     let a = B.seen c.args.blocks.now in
     let b = B.seen c.log_forced.new.blocks in
-    can-stays a b shape (g.P.Part.split part) (g.K.Kept.kept c.args.kept.now (part_no shape))
+    can-stays a b shape (g.P.Part.known part) (g.K.Kept.kept c.args.kept.now (part_no shape))
     c.args.place.now (given c.args.bytes)
     (stays-part log.geometry shape (HasLog (with_record log c.args.rec.now)) a b c.requires.apart
     (c.log_forced.ensures.touches told))
@@ -216,15 +215,14 @@ returns-clause-at_rest g c told number old new change images after rest part of 
     let b = B.seen c.log_forced.new.blocks in
     let d = B.seen c.set_free.new.blocks in
     let more = c.log_forced.new.log in
-    let split = g.P.Part.split c.args.part.now in
-    let met = g.P.Part.met c.args.part.now in
+    let known = g.P.Part.known c.args.part.now in
     let place = c.args.place.now in
     let found = given c.args.bytes in
-    let it = is ∙ rec-is log.geometry number log images after old new change a shape split met place
+    let it = is ∙ rec-is log.geometry number log images after old new change a shape known place
     found rest part of made given-for kept in
-    let next = first-of log.geometry number log images after old new change a shape split met place
+    let next = first-of log.geometry number log images after old new change a shape known place
     found rest part of made given-for kept c.requires.place in
-    let laid = laid-by-more log.geometry number log images after old new change a shape split met
+    let laid = laid-by-more log.geometry number log images after old new change a shape known
     place found rest part of made given-for kept in
     let logged = subst (λ (r : LogRecord). IsLogged log r more) is
     (c.in_ok-log_forced.ensures.logged told) in
@@ -237,15 +235,13 @@ returns-clause-at_rest g c told number old new change images after rest part of 
       volume-first-change log.geometry number log more images after old new change a d rest of made
           logged kept stands safe,
       part-first-change log.geometry number log more images after old new change a d rest of made
-          logged kept shape split (g.P.Part.split c.set_free.new.part) met
-          (g.P.Part.met c.set_free.new.part) found part given-for.part
+          logged kept shape known (g.P.Part.known c.set_free.new.part) found part given-for.part
           (c.set_free.ensures.count ∙ c.in_ok-log_forced.ensures.count)
           (c.set_free.ensures.size ∙ c.in_ok-log_forced.ensures.size)
           (c.in_ok-set_free.ensures.rests told)
           (subst (λ (lengths : Lengths). HasKeptRoom shape lengths d) room
           (c.set_free.ensures.room told))
-          (subst (λ (s : Option SplitNow). Knows shape s (g.P.Part.met c.set_free.new.part) d)
-          (sym c.set_free.ensures.split) (c.in_ok-set_free.ensures.knows told))
+          (c.in_ok-set_free.ensures.knows told)
           (subst (λ (q : List ℕ). SetsOne shape q found a.cur d.cur) given-for.place_is
           (returns-clause-set g c told))
           given-for.item,
@@ -267,7 +263,7 @@ returns-clause-due g c told =
     (c.in_ok-set_free.ensures.due told)
 
 pub returns-clause-others : goal.returns-clause-others
-returns-clause-others g c told number old new change images after other split met rest part of made at
+returns-clause-others g c told number old new change images after other known rest part of made at
     kept apart others =
     let B = g.B.Blocks in
     let log = c.args.log.now in
@@ -277,7 +273,7 @@ returns-clause-others g c told number old new change images after other split me
     let d = B.seen c.set_free.new.blocks in
     let here : (part_no shape).0 ≡ change.part.0 = ap (λ (p : PartNo). p.0) at in
     other-first-change log.geometry number log images after old new change a d rest of made.contents
-    kept other split met others apart
+    kept other known others apart
     (stays-then other a b d
     (stays-part log.geometry other (HasLog (with_record log c.args.rec.now)) a b
     (λ n inside. omega (
@@ -292,7 +288,7 @@ returns-clause-others g c told number old new change images after other split me
     (g.met.B.Blocks.cur_may c.args.blocks.now told)
 
 pub returns-clause-others_due : goal.returns-clause-others_due
-returns-clause-others_due g c told number images state other split met rest part apart others =
+returns-clause-others_due g c told number images state other known rest part apart others =
     let B = g.B.Blocks in
     let log = c.args.log.now in
     let shape = g.P.Part.shape c.args.part.now in
