@@ -34,3 +34,4 @@ pub use Rattle.vr_space.proofs.Fewer.{Rise, Under, fewer-room, rise-with, under-
 pub use Rattle.vr_space.proofs.Fewer.{under-self}
 pub use Rattle.vr_space.proofs.Intervals.{interval-owners, interval-stage}
 pub use Rattle.vr_space.proofs.Standing.{item-read, left-is}
+pub use Rattle.vr_space.proofs.PlacesHeld.{read-place}

@@ -13,4 +13,5 @@ pub mod Counting
 pub mod Framing
 pub mod Fewer
 pub mod Standing
+pub mod PlacesHeld
 pub mod CallerLemmas
