@@ -1,6 +1,7 @@
 pub mod Changes
 pub mod Ends
 pub mod Legal
+pub mod Moved
 pub mod Placed
 pub mod Resting
 pub mod Standing

@@ -2,13 +2,16 @@
 use Rattle.std.proofs.Common.{◌≡◌, ℕ, ◌==◌, ◌&&◌, ◌||◌, Bool, true, false, not, List, [], ◌∷◌, ◌++◌}
 use Rattle.std.proofs.Common.{Option, Some, None, refl, sym, ap, ◌∙◌, subst, find, cond}
 use Rattle.std.specs.List.{AllByRecursion, list_any}
-use Rattle.std.specs.Option.{is_none, option_and_then, option_copied, option_map_or}
-use Rattle.vr_browse.specs.Positions.{position_of}
+use Rattle.std.specs.Option.{is_none, option_and_then, option_copied, option_map, option_map_or}
+use Rattle.std.specs.Option.{unwrap_or}
+use Rattle.vr_browse.specs.Positions.{position_at, position_of}
 use Rattle.vr_browse.specs.declared.positions.FilePosition.{FilePosition}
 use Rattle.vr_catalog.specs.Catalog.{entries_in}
 use Rattle.vr_types.specs.Content.{Content}
 use Rattle.vr_types.specs.Locks.{Lock}
+use Rattle.vr_types.specs.Position.{first_position}
 use Rattle.vr_types.specs.declared.position.Position.{Position}
+use Rattle.vr_types.specs.declared.position.Stand.{Stand}
 use Rattle.vr_types.specs.declared.request.FileRef.{FileRef}
 use Rattle.vr_history.specs.declared.entry.Entry.{Entry}
 use Rattle.vr_history.specs.Case.{file_of}
@@ -18,11 +21,12 @@ use Rattle.vr_history.specs.RefusedFile.{changed_catalog}
 use Rattle.vr_history.specs.RefusedRoom.{free_areas}
 use Rattle.vr_history.specs.State.{Logged, Owned, State, opening_state}
 use Rattle.vr_history.specs.Step.{case_of}
+use Rattle.vr_answer.specs.Here.{or_start}
 use Rattle.vr_answer.specs.InHand.{IsCaseOf}
-use Rattle.vr_answer.specs.Scope.{AreKeyedClusters, IsDirect}
+use Rattle.vr_answer.specs.Scope.{AreKeyedClusters}
 use Rattle.vr_answer.specs.declared.case.Case.{Case as CaseInHand}
 use Rattle.vr_record_file.specs.Now.{FileNow, IsOf, IsOfDeck, IsStateOf, has_deck, held_in}
-use Rattle.vr_record_file.specs.Now.{is_of_deck, number_of, state_now}
+use Rattle.vr_record_file.specs.Now.{is_of_deck, number_of, stand_in, state_now}
 use Rattle.vr_record_file.specs.declared.numbers.DeckNumber.{DeckNumber}
 
 -- the opening
@@ -145,12 +149,20 @@ and_false true true = refl
 and_false true false = refl
 and_false false b = refl
 
+-- a file that was never set stands at its start
+start_unset : (o : Option Position)
+    → or_start (option_map (λ position. position.stand) o) ≡ (unwrap_or o first_position).stand
+start_unset None = refl
+start_unset (Some position) = refl
+
 -- a request with what is in memory
 module _ (opening : State) (file : FileNow) (is : IsStateOf opening file) (case : CaseInHand)
     (catalog : case.catalog.now ≡ file.catalog) (locks : case.locks.now ≡ file.locks)
     (held : option_copied case.held ≡ held_in file.files case.unit.deck (file_of case.request.now))
+    (stand : option_copied case.stand
+    ≡ stand_in file.files case.unit.deck (file_of case.request.now))
     (stopped : case.stopped ≡ file.stopped) (geometry : case.geometry ≡ file.geometry)
-    (changing : case.catalog_changing ≡ false) (direct : IsDirect case.request.now)
+    (changing : case.catalog_changing ≡ false)
     (used : case.used ≡ (state_now opening file).used)
     (free : case.free ≡ free_areas (case_of file.geometry (state_now opening file) case.unit
     case.request.now)) where
@@ -163,18 +175,28 @@ module _ (opening : State) (file : FileNow) (is : IsStateOf opening file) (case 
   held_is deck None = refl
   held_is deck (Some on) = ap (λ (p : Position). p.held) (is.now.positions deck on.slot)
 
+  stand_is : (deck : ℕ) (o : Option FileRef) (given : Option Stand)
+      → given ≡ stand_in file.files deck o
+      → option_map (λ (on : FileRef). or_start given) o
+      ≡ option_map (λ (on : FileRef). (state.positions deck on.slot).stand) o
+  stand_is deck None given is_given = refl
+  stand_is deck (Some on) given is_given =
+      ap (λ (s : Stand). Some s) (ap or_start is_given
+      ∙ start_unset (position_at file.files deck on.slot)
+      ∙ ap (λ (p : Position). p.stand) (is.now.positions deck on.slot))
+
   pub case_is : IsCaseOf case (record state { locks = file.locks })
   case_is = record {
     catalog = catalog ∙ is.now.catalog;
     locks = locks;
     held = held ∙ held_is case.unit.deck (file_of case.request.now);
+    stand = stand_is case.unit.deck (file_of case.request.now) (option_copied case.stand) stand;
     stopped = stopped ∙ is.now.stopped;
     free = free ∙ sym (ap (λ g. free_areas (case_of g state case.unit case.request.now)) geometry);
     used = used;
     changing = changing ∙ sym (ap (λ (b : Bool). not (case.unit.deck == 0)
         && (is_none state.stopped && b)) (none_changes state.logged is.now.of_decks)
         ∙ and_false (not (case.unit.deck == 0)) (is_none state.stopped));
-    direct = direct;
     alone = is.now.alone;
   }
 

@@ -1,5 +1,5 @@
 -- What an event leaves of what is in memory.
-use Rattle.std.proofs.Common.{◌≡◌, ℕ, ◌==◌, ◌&&◌, if◌then◌else◌, true, false, not, List, [], ◌∷◌}
+use Rattle.std.proofs.Common.{◌≡◌, ℕ, ◌==◌, ◌&&◌, if◌then◌else◌, true, List, [], ◌∷◌}
 use Rattle.std.proofs.Common.{◌+◌, max, append_assoc, ◌++◌, Option, Some, None, refl, sym, ap}
 use Rattle.std.proofs.Common.{◌∙◌, subst, arith}
 use Rattle.std.proofs.lemmas.Bool.Decides.{nat_tests}
@@ -10,7 +10,6 @@ use Rattle.vr_types.specs.declared.position.Position.{Position}
 use Rattle.std.proofs.lemmas.Option.{none-some}
 use Rattle.vr_types.specs.Locks.{Lock, same_unit}
 use Rattle.vr_types.specs.declared.fault.DeviceFault.TheVariants.{Write}
-use Rattle.vr_types.specs.declared.reply.Refusal.{Refusal}
 use Rattle.vr_types.specs.declared.reply.Refusal.TheVariants.{WriteFault}
 use Rattle.vr_types.specs.declared.reply.Reply.TheVariants.{Refused}
 use Rattle.vr_types.specs.declared.request.FileRef.{FileRef}
@@ -22,14 +21,14 @@ use Rattle.vr_history.specs.declared.entry.What.TheVariants.{Asked, Faulted}
 use Rattle.vr_history.specs.Case.{file_of}
 use Rattle.vr_history.specs.Effects.{drops_held, stops}
 use Rattle.vr_history.specs.Legal.{BackOutOnceBegun, IsLegal, StopAtWriteFaults}
-use Rattle.vr_history.specs.Legal.{is_write_fault, state_of}
+use Rattle.vr_history.specs.Legal.{state_of}
 use Rattle.vr_history.specs.Merged.{last_stamp}
 use Rattle.vr_history.specs.State.{State}
-use Rattle.vr_history.specs.Step.{MayEnter, Step, after_what, case_of, stand_refused}
+use Rattle.vr_history.specs.Step.{MayEnter, Step, after_what, case_of}
 use Rattle.vr_history.proofs.CallerLemmas.{last_stamp-append, state_of-append, steps-append}
 use Rattle.vr_answer.proofs.CallerLemmas.{after_refused}
 use Rattle.vr_record_file.specs.Now.{FileNow, IsOf, IsStateOf, MayBeAsked, entry_next, files_let_go}
-use Rattle.vr_record_file.specs.Now.{failed, lets_go, next_stamp, state_now, with_event}
+use Rattle.vr_record_file.specs.Now.{failed, next_stamp, state_now, with_event}
 use Rattle.vr_record_file.specs.Now.{with_memory}
 use Rattle.vr_record_file.proofs.Legal.{MayCome, begun_more, if_true, is_no_fault, legal-append}
 use Rattle.vr_record_file.proofs.Legal.{stops-append}
@@ -94,23 +93,6 @@ entered opening file to after line unit what is enters may none now =
       now = subst (λ (s : State). IsOf (with_event after unit line what (with_memory file to)) s)
           (sym (state_of-append file.geometry opening file.entries entry)) whole;
     }
-
--- a refusal
-pub refused_state : (opening : State) (file : FileNow) (after line : ℕ) (unit : UnitOfRecovery)
-    (request : Request) (refusal : Refusal) → IsStateOf opening file
-    → MayBeAsked opening file unit request (Refused refusal)
-    → stand_refused request refusal ≡ None → is_write_fault (Refused refusal) ≡ false
-    → IsStateOf opening (with_event after unit line (Asked request (Refused refusal))
-    (lets_go unit.deck request file))
-refused_state opening file after line unit request refusal is may stays none =
-    let state = state_now opening file in
-    let to = lets_go unit.deck request file in
-    entered opening file to after line unit (Asked request (Refused refusal)) is (
-      may.current,
-      may.reply_is,
-    ) may.goes_on (ap not none) (subst (λ (s : State). IsOf to s)
-    (sym (after_refused (case_of file.geometry state unit request) refusal stays))
-    (let_go_is file state unit.deck (file_of request) is.now))
 
 max_zero : (n : ℕ) → max n 0 ≡ n
 max_zero n = omega arith

@@ -5,7 +5,7 @@ use Rattle.std.specs.Prelude.{◌≡◌, ◌⊎◌, ◌+◌, ◌-◌, ◌^◌, �
 use Rattle.std.specs.Prelude.{false, not, ◌==◌, ◌&&◌, ◌||◌, List, []}
 use Rattle.std.specs.Prelude.{◌∷◌, ◌++◌, Option, Some, None, filter, find, map, if◌then◌else◌}
 use Rattle.std.specs.List.{AllByRecursion, list_any}
-use Rattle.std.specs.Option.{option_and_then, option_map_or}
+use Rattle.std.specs.Option.{option_and_then, option_map, option_map_or, unwrap_or}
 use Rattle.vr_browse.specs.Positions.{position_at, position_of, without_deck, without_held}
 use Rattle.vr_browse.specs.declared.positions.FilePosition.{FilePosition}
 use Rattle.vr_catalog.specs.declared.entry.CatEntry.{CatEntry}
@@ -13,8 +13,8 @@ use Rattle.vr_types.specs.Locks.{Lock, conflict_on, same_unit}
 use Rattle.vr_types.specs.declared.geometry.Geometry.{Geometry}
 use Rattle.vr_types.specs.declared.lock_name.LockName.{LockName}
 use Rattle.vr_types.specs.declared.lock_name.LockName.TheVariants.{Record}
-use Rattle.vr_types.specs.declared.position.Position.{Position}
 use Rattle.vr_types.specs.declared.position.Stand.{Stand}
+use Rattle.vr_types.specs.declared.position.Stand.TheVariants.{After, Start}
 use Rattle.vr_types.specs.declared.unit.Integrity.{Integrity}
 use Rattle.vr_types.specs.declared.unit.Integrity.TheVariants.{Nri, Cr, Cre}
 use Rattle.vr_types.specs.declared.unit.Mode.{Mode}
@@ -24,23 +24,27 @@ use Rattle.vr_types.specs.declared.reply.Refusal.TheVariants.{WriteFault}
 use Rattle.vr_types.specs.declared.reply.Reply.{Reply}
 use Rattle.vr_types.specs.declared.reply.Reply.TheVariants.{Refused}
 use Rattle.vr_types.specs.declared.request.FileRef.{FileRef}
+use Rattle.vr_types.specs.declared.request.Find.{Find}
+use Rattle.vr_types.specs.declared.request.Find.TheVariants.{Next, Equal, AtLeast}
 use Rattle.vr_types.specs.declared.request.Request.{Request}
 use Rattle.vr_types.specs.declared.request.Request.TheVariants.{Get, Point, Add, Update, Erase}
 use Rattle.vr_types.specs.declared.request.Request.TheVariants.{EndReq, Commit, Backout}
-use Rattle.vr_history.specs.Case.{file_of}
+use Rattle.vr_history.specs.Case.{Case, file_of, find_of}
 use Rattle.vr_types.specs.declared.unit.Unit.{Unit as UnitOfRecovery}
 use Rattle.vr_history.specs.declared.entry.Entry.{Entry}
 use Rattle.vr_history.specs.declared.entry.What.{What}
 use Rattle.vr_history.specs.declared.entry.What.TheVariants.{Asked, Undone, Claimed, Split, Faulted}
 use Rattle.vr_history.specs.Effects.{has_part, is_other, parts_laid}
+use Rattle.vr_history.specs.Found.{stand_of}
 use Rattle.vr_history.specs.Legal.{IsLegal, is_backout, state_of}
 use Rattle.vr_history.specs.Merged.{last_stamp}
 use Rattle.vr_history.specs.Names.{with_locks}
 use Rattle.vr_history.specs.Opened.{catalog_of}
 use Rattle.vr_history.specs.Replies.{MayReply}
 use Rattle.vr_history.specs.State.{BeforeImage, Logged, State}
-use Rattle.vr_history.specs.Step.{IsOfUnit, case_of}
+use Rattle.vr_history.specs.Step.{IsOfUnit, case_of, read_on}
 use Rattle.vr_answer.specs.Kept.{is_under}
+use Rattle.vr_answer.specs.Least.{found_at}
 use Rattle.vr_answer.specs.Scope.{HasClustersAlone}
 use Rattle.vr_record_file.specs.declared.numbers.DeckNumber.{DeckNumber}
 
@@ -239,6 +243,33 @@ abbrev pub conflict_kept : UnitOfRecovery → Option Mode → List LockName → 
 conflict_kept unit None names locks = None
 conflict_kept unit (Some mode) names locks = conflict_on locks unit mode names
 
--- where a file stands, and holds this place for update
-abbrev pub holds_at : Stand → List ℕ → Position
-holds_at stand place = record { stand = stand; held = Some place }
+-- ---- where files stand
+
+-- where a request's file stands, where its deck has used it
+abbrev pub stand_in : List FilePosition → ℕ → Option FileRef → Option Stand
+stand_in files deck on = option_and_then
+    (λ (file : FileRef). option_map (λ position. position.stand)
+    (position_at files deck file.slot)) on
+
+-- Where the file of a GET that is done stands afterwards: a sequential one goes on after the record
+-- that it found, and any other leaves it where it stood.
+abbrev pub stand_done : Case → Stand
+stand_done case =
+    unwrap_or (option_and_then (λ find. option_and_then (read_on find) (found_at case))
+    (find_of case.request)) (unwrap_or (stand_of case) Start)
+
+-- the same, by where the record that it found is, and by where its file stood
+abbrev pub stand_by : Find → List ℕ → Option Stand → Stand
+stand_by Next at stood = After at
+stand_by (Equal place) at stood = unwrap_or stood Start
+stand_by (AtLeast place) at stood = unwrap_or stood Start
+
+abbrev pub stand_read : Request → List ℕ → Option Stand → Stand
+stand_read (Get on find update integrity) at stood = stand_by find at stood
+stand_read (Point on find) at stood = unwrap_or stood Start
+stand_read (Add on place bytes) at stood = unwrap_or stood Start
+stand_read (Update on bytes) at stood = unwrap_or stood Start
+stand_read (Erase on) at stood = unwrap_or stood Start
+stand_read (EndReq on) at stood = unwrap_or stood Start
+stand_read Commit at stood = unwrap_or stood Start
+stand_read Backout at stood = unwrap_or stood Start

@@ -7,7 +7,6 @@ ghost use Rattle.vr_history.specs.RefusedRoom.{free_areas};
 ghost use Rattle.vr_history.specs.State.{State};
 ghost use Rattle.vr_history.specs.Step.{case_of};
 ghost use Rattle.vr_answer.specs.InHand.{IsCaseOf};
-ghost use Rattle.vr_answer.specs.Scope.{IsDirect};
 ghost use Rattle.vr_record_file.specs.Now.{IsStateOf, held_in, state_now};
 
 use crate::file::RecordFile;
@@ -35,19 +34,19 @@ impl RecordFile {
         }
     }
 
-    /// A direct request of a deck, with what is in memory, the number of free areas and the bytes
-    /// of the log in use. It agrees with the state that the history gives (`going`); once the
-    /// volume has stopped, with the state that has the locks that are in memory (`always`), which
-    /// no answer looks at then.
+    /// A request of a deck, with what is in memory, the number of free areas and the bytes of the
+    /// log in use. It agrees with the state that the history gives (`going`); once the volume has
+    /// stopped, with the state that has the locks that are in memory (`always`), which no answer
+    /// looks at then.
     pub fn case<'a>(&'a self, unit: Unit, request: &'a Request, free: u32, used: u64) -> Case<'a>
         ensures going { (opening : State) → IsStateOf opening self.now → self.now.stopped ≡ None
-            → (unit.deck == 0) ≡ false → IsDirect request.now
+            → (unit.deck == 0) ≡ false
             → used ≡ (state_now opening self.now).used
             → free ≡ free_areas (case_of self.now.geometry (state_now opening self.now) unit
             request.now)
             → IsCaseOf result (state_now opening self.now) }
         ensures always { (opening : State) → IsStateOf opening self.now
-            → (unit.deck == 0) ≡ false → IsDirect request.now
+            → (unit.deck == 0) ≡ false
             → used ≡ (state_now opening self.now).used
             → free ≡ free_areas (case_of self.now.geometry (state_now opening self.now) unit
             request.now)
@@ -61,6 +60,7 @@ impl RecordFile {
             catalog: self.catalog(),
             locks: self.locks(),
             held: self.held(unit.deck, request),
+            stand: self.stand(unit.deck, request),
             stopped: self.stopped(),
             free,
             used,

@@ -10,6 +10,7 @@ mod ending;
 mod file;
 mod laws;
 mod numbers;
+mod positioning;
 mod reading;
 mod refusing;
 

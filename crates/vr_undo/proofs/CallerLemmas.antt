@@ -4,3 +4,5 @@
 pub use Rattle.vr_undo.proofs.Images.{kept-append, kept_more, oldest-append}
 -- what is logged at a place, by images and by places
 pub use Rattle.vr_undo.proofs.Recording.{logged-at}
+-- what other units may bring back at a place, by a test of the list
+pub use Rattle.vr_undo.proofs.NextOther.{any-stands, stands-any}

@@ -1,14 +1,18 @@
 -- The least place that other units keep, with one record more.
 use Rattle.std.proofs.Common.{◌≡◌, ℕ, Bool, true, false, cond, List, [], ◌∷◌, ◌++◌, Option, Some}
-use Rattle.std.proofs.Common.{None, refl, sym, ap, subst, ◌∙◌, ◌==◌, ◌⊎◌, inl, inr}
-use Rattle.std.specs.Prelude.{filter, not, option_map, ◌&&◌, MatchOption, if◌then◌else◌}
-use Rattle.std.specs.List.{Contains, cons_option, filter_map}
+use Rattle.std.proofs.Common.{None, refl, sym, ap, subst, ◌∙◌, ◌==◌, ◌⊎◌, inl, inr, arith}
+use Rattle.std.specs.Prelude.{filter, not, option_map, ◌&&◌, ◌||◌, bytes_eq, MatchOption}
+use Rattle.std.specs.Prelude.{if◌then◌else◌}
+use Rattle.std.specs.List.{Contains, cons_option, filter_map, list_any}
 use Rattle.std.specs.Ordering.{is_lt, ordering_reverse}
 use Rattle.std.specs.declared.cmp.Ordering.{Ordering}
 use Rattle.std.specs.declared.cmp.Ordering.TheVariants.{Less, Equal, Greater}
 use Rattle.std.proofs.lemmas.Cmp.{nat_list_cmp_total}
 use Rattle.std.proofs.lemmas.List.{append-nil}
-use Rattle.std.proofs.lemmas.List.Elements.{Contains-append_left, Contains-push}
+use Rattle.std.proofs.lemmas.List.Folds.{list_any_at}
+use Rattle.std.proofs.lemmas.Slice.Eq.{bytes_eq-Decides}
+use Rattle.std.proofs.lemmas.List.Elements.{Contains-append_left, Contains-append_right}
+use Rattle.std.proofs.lemmas.List.Elements.{Contains-push}
 use Rattle.std.proofs.lemmas.List.Elements.{Contains-push_cases, filter-append, filter_map-append}
 use Rattle.vr_types.specs.Content.{Standing, place_cmp}
 use Rattle.vr_types.specs.Locks.{same_unit}
@@ -241,3 +245,34 @@ next-other from unit part records kept found next =
         by_before from unit part (others_in unit part records) found next
         (same_unit unit kept.unit) (before.part.0 == part) kept.unit before.part.0 before.place
         before.old
+
+-- a record is listed at a place exactly where a test of the list finds it there
+listed-same : (place : List ℕ) → bytes_eq place place ≡ true
+listed-same place = (bytes_eq-Decides place place).1 refl
+
+pub stands-any : (standing : List Standing_at) (place : List ℕ) → StandsAt standing place
+    → list_any (λ (one : Standing_at). bytes_eq place one.0) standing ≡ true
+stands-any standing place stands =
+    let index = stands.1.0 in
+    let one : Standing_at = (place, stands.0) in
+    list_any_at (λ (other : Standing_at). bytes_eq place other.0) standing index one stands.1.1
+    (ap (λ (other : Standing_at). bytes_eq place other.0) stands.1.2 ∙ listed-same place)
+
+pub any-stands : (standing : List Standing_at) (place : List ℕ)
+    → list_any (λ (one : Standing_at). bytes_eq place one.0) standing ≡ true
+    → StandsAt standing place
+any-stands [] place none = absurd (cc)
+any-stands (one ∷ standing) place any =
+    by_test (any-stands standing place) (bytes_eq place one.0) refl any
+  where
+    by_test : (list_any (λ (other : Standing_at). bytes_eq place other.0) standing ≡ true
+        → StandsAt standing place)
+        → (test : Bool) → bytes_eq place one.0 ≡ test
+        → (test || list_any (λ (other : Standing_at). bytes_eq place other.0) standing) ≡ true
+        → StandsAt (one ∷ standing) place
+    by_test further true here found =
+        subst (StandsAt (one ∷ standing)) (sym ((bytes_eq-Decides place one.0).0 here))
+        (one.1, Contains-append_left (one ∷ []) standing one (0, omega arith, refl))
+    by_test further false not_here found =
+        let later = further found in
+        (later.0, Contains-append_right (one ∷ []) standing (place, later.0) later.1)

@@ -3,11 +3,11 @@ use Rattle.vr_record_file.proofs.Resting.{case_is, case_is_going}
 use Rattle.vr_record_file.proofs.file.RecordFile.case.Goals as goal
 
 pub returns-clause-going : goal.returns-clause-going
-returns-clause-going c = λ opening is going deck direct used free.
+returns-clause-going c = λ opening is going deck used free.
     case_is_going opening c.args.self.now is _ c.catalog.ensures c.locks.ensures c.held.ensures
-    c.stopped.ensures c.geometry.ensures refl direct used free going
+    c.stand.ensures c.stopped.ensures c.geometry.ensures refl used free going
 
 pub returns-clause-always : goal.returns-clause-always
-returns-clause-always c = λ opening is deck direct used free.
+returns-clause-always c = λ opening is deck used free.
     case_is opening c.args.self.now is _ c.catalog.ensures c.locks.ensures c.held.ensures
-    c.stopped.ensures c.geometry.ensures refl direct used free
+    c.stand.ensures c.stopped.ensures c.geometry.ensures refl used free
