@@ -23,6 +23,8 @@ pub mod Readings
 pub mod Early
 pub mod Ended
 pub mod Known
+pub mod Sought
+pub mod Staying
 pub mod Entries
 pub mod Faults
 pub mod Held

@@ -1,19 +1,21 @@
 -- How a change is refused.
 use Rattle.std.proofs.Common.{◌≡◌, ◌≢◌, ◌⊎◌, ◌<◌, ◌+◌, ◌||◌, ℕ, Bool, true, false, List, ◌∷◌, Option}
 use Rattle.std.proofs.Common.{Some, None, refl, sym, ap, subst, ◌∙◌, inl, inr, IsTrue, arith}
-use Rattle.std.specs.Option.{option_and_then}
+use Rattle.std.specs.Option.{option_and_then, option_or}
 use Rattle.vr_catalog.specs.declared.definition.Definition.{Definition}
 use Rattle.vr_types.specs.declared.fault.DeviceFault.TheVariants.{Read, Write}
 use Rattle.vr_types.specs.declared.reply.Refusal.{Refusal}
 use Rattle.vr_types.specs.declared.reply.Refusal.TheVariants.{Memory as NoMemory, NoFile, NoSpace}
 use Rattle.vr_types.specs.declared.reply.Reply.TheVariants.{Refused}
 use Rattle.vr_types.specs.declared.request.FileRef.{FileRef}
+use Rattle.vr_types.specs.declared.request.Find.{Find}
 use Rattle.vr_types.specs.declared.request.Request.{Request}
 use Rattle.vr_types.specs.declared.request.Request.TheVariants.{Get, Point, Add, Update, Erase}
 use Rattle.vr_types.specs.declared.request.Request.TheVariants.{EndReq, Commit, Backout}
 use Rattle.vr_types.specs.declared.unit.Kind.TheVariants.{Keyed}
-use Rattle.vr_history.specs.Case.{Case, file_of, new_record}
-use Rattle.vr_history.specs.Change.{place_asked}
+use Rattle.vr_history.specs.Case.{Case, file_of, find_of, new_record}
+use Rattle.vr_history.specs.Change.{place_asked, place_changed}
+use Rattle.vr_history.specs.Found.{found, place_in}
 use Rattle.vr_history.specs.Opened.{Cluster, opened}
 use Rattle.vr_history.specs.RefusedFile.{is_catalog_changing, is_unknown, no_file, refused_if}
 use Rattle.vr_history.specs.RefusedRoom.{free_areas, log_full}
@@ -22,6 +24,7 @@ use Rattle.vr_history.specs.Replies.{may_want}
 use Rattle.vr_history.specs.State.{State}
 use Rattle.vr_history.specs.Step.{stand_refused}
 use Rattle.vr_answer.specs.InHand.{IsCaseOf, whole}
+use Rattle.vr_answer.specs.Looked.{place_looked_at}
 use Rattle.vr_answer.specs.Opening.{as_opened, definition_here}
 use Rattle.vr_answer.specs.Scope.{IsDirect}
 use Rattle.vr_answer.specs.Tried.{file_refusals, record_refusals}
@@ -87,6 +90,7 @@ change-reads (EndReq on) is = refl
 change-reads Commit is = absurd is
 change-reads Backout is = absurd is
 
+-- a change is direct,
 pub change-direct : (request : Request) → IsChange request → IsDirect request
 change-direct (Add on named bytes) is = tt
 change-direct (Update on bytes) is = tt
@@ -96,6 +100,26 @@ change-direct (Point on find) is = absurd is
 change-direct (EndReq on) is = absurd is
 change-direct Commit is = absurd is
 change-direct Backout is = absurd is
+
+-- changes a place, and reads none
+pub change-looks : (case : Case) → IsChange case.request → place_looked_at case ≡ place_changed case
+change-looks case is = by_request case.request is refl
+  where
+    unread : find_of case.request ≡ None → place_looked_at case ≡ place_changed case
+    unread none = ap (λ (o : Option Find). option_or
+        (option_and_then (λ (find : Find). place_in (opened case) find (found case)) o)
+        (place_changed case)) none
+
+    by_request : (request : Request) → IsChange request → case.request ≡ request
+        → place_looked_at case ≡ place_changed case
+    by_request (Add on named bytes) is same = unread (ap find_of same)
+    by_request (Update on bytes) is same = unread (ap find_of same)
+    by_request (Erase on) is same = unread (ap find_of same)
+    by_request (Get on find update integrity) is same = absurd is
+    by_request (Point on find) is same = absurd is
+    by_request (EndReq on) is same = absurd is
+    by_request Commit is same = absurd is
+    by_request Backout is same = absurd is
 
 module _ (case : Case) (change : IsChange case.request) where
   pub refuse-memory : MayRefuse case NoMemory
@@ -113,6 +137,15 @@ module _ (case : Case) (change : IsChange case.request) where
       → MayRefuse case result
   refuse-unless refusal result (inl is) may = subst (MayRefuse case) (sym is) may
   refuse-unless refusal result (inr is) may = subst (MayRefuse case) (sym is) refuse-memory
+
+-- nor does one that is answered in its place move a file
+pub stays-unless : (request : Request) (refusal result : Refusal)
+    → (result ≡ refusal) ⊎ (result ≡ NoMemory) → stand_refused request refusal ≡ None
+    → stand_refused request result ≡ None
+stays-unless request refusal result (inl is) stays =
+    subst (λ (r : Refusal). stand_refused request r ≡ None) (sym is) stays
+stays-unless request refusal result (inr is) stays =
+    subst (λ (r : Refusal). stand_refused request r ≡ None) (sym is) refl
 
 first-none : (a : Option Refusal) (rest : List (Option Refusal)) → first_of (a ∷ rest) ≡ None
     → a ≡ None

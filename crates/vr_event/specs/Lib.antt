@@ -8,6 +8,8 @@ pub mod Alike
 pub mod Ends
 pub mod Backing
 pub mod Getting
+pub mod Looking
+pub mod Searching
 pub mod EndedFile
 pub mod Acting
 pub mod Putting

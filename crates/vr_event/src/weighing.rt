@@ -1,6 +1,6 @@
 //! What a PUT or an ERASE comes to before it is made.
 ghost use Rattle.std.specs.Prelude.{◌≡◌, ◌⊎◌, ◌==◌, ◌<◌, ◌^◌, ℕ, IfOk, IfSome, IsTrue, List};
-ghost use Rattle.std.specs.Prelude.{None, Some, false, length, length as count};
+ghost use Rattle.std.specs.Prelude.{None, Some, false, length, length as count, option_and_then};
 ghost use Rattle.std.specs.Option.{ForSome, option_copied};
 ghost use Rattle.vr_types.specs.Blocks.{Keeps};
 ghost use Rattle.vr_types.specs.Space.{free_count};
@@ -12,12 +12,13 @@ ghost use Rattle.vr_history.specs.Opened as files;
 ghost use Rattle.vr_history.specs.Replies as replies;
 ghost use Rattle.vr_history.specs.RefusedRoom.{free_areas};
 ghost use Rattle.vr_history.specs.State.{State};
-ghost use Rattle.vr_history.specs.Step.{IsOfUnit, case_of};
+ghost use Rattle.vr_history.specs.Step.{IsOfUnit, case_of, stand_refused};
 ghost use Rattle.vr_answer.specs.Here.{base_here};
-ghost use Rattle.vr_answer.specs.InHand.{InEach, InEachLogged, InEachWith};
+ghost use Rattle.vr_answer.specs.InHand.{InEach, IsLookedAt};
 ghost use Rattle.vr_record_file.specs.Now.{IsStateOf, state_now};
 ghost use Rattle.vr_volume.specs.Laid.{shape_in};
 ghost use Rattle.vr_event.specs.Cause.{HasReplyCause, is_fault as faults, is_faulted};
+ghost use Rattle.vr_event.specs.Looking.{InEachLogged, InEachWith};
 ghost use Rattle.vr_event.specs.Parts.{OnlyMet};
 ghost use Rattle.vr_event.specs.Putting as putting;
 ghost use Rattle.vr_types.specs.Image.{Image};
@@ -28,7 +29,9 @@ use crate::getting::{fits, is_fault, refusal_of};
 use crate::no::LookNo;
 use crate::store::Store;
 use std::alloc::Global;
-use vr_answer::{Case, done, file_of, lock_names, log_full, place_changed, refused_by_record};
+use vr_answer::{
+    Case, Looked, done, file_of, lock_names, log_full, place_changed, refused_by_record,
+};
 use vr_catalog::Catalog;
 use vr_record_file::RecordFile;
 use vr_space::{Part, Room};
@@ -124,6 +127,18 @@ fn place_asked(alloc: Global, case: &Case) -> Option<Place>
     }
 }
 
+/// What a change comes to: the place that it names, and the record that stands there.
+fn changed_at<'a>(case: &Case<'a>, present: Option<&'a [u8]>) -> Looked<'a>
+    ensures looked { InEachWith case.now (option_copied present.entry) (λ whole.
+        putting.IsChange whole.request → IsLookedAt result whole) }
+    ensures present { option_copied result.present ≡ option_copied present.entry }
+{
+    Looked {
+        place: place_changed(case),
+        present,
+    }
+}
+
 /// How a change is refused by the record that stands at its place and by the locks of others, and
 /// then by the log. It fails only if memory runs out.
 fn refused_in_memory(
@@ -134,12 +149,17 @@ fn refused_in_memory(
     live: bool,
 ) -> Result<Option<Refusal>, OutOfMemory>
     requires { ForSome (option_copied present) (λ bytes. length bytes < 2 ^ 32) }
-    ensures { IfOk result (λ refused. InEachLogged case.now (option_copied present.entry) logged
-        live (λ whole. putting.IsRefusedBy whole refused)) }
+    ensures value { IfOk result (λ refused. InEachLogged case.now (option_copied present.entry)
+        logged live (λ whole. putting.IsChange whole.request
+        → putting.IsRefusedBy whole refused)) }
+    // and the refusal moves no file
+    ensures stays { IfOk result (λ refused. putting.IsChange case.now.request.now
+        → option_and_then (stand_refused case.now.request.now) refused ≡ None) }
 {
-    match refused_by_record(alloc, case, present)? {
+    let looked = changed_at(case, present);
+    match refused_by_record(alloc, case, looked)? {
         Some(refusal) => Ok(Some(refusal)),
-        None => Ok(log_full(case, present, logged, live)),
+        None => Ok(log_full(case, looked, logged, live)),
     }
 }
 
@@ -150,11 +170,12 @@ fn reply_and_names(
     present: Option<&[u8]>,
 ) -> Result<(Reply, LockNames), OutOfMemory>
     ensures { IfOk result (λ both. InEachWith case.now (option_copied present.entry) (λ whole.
-        (both.0 ≡ replies.done_by whole whole.request)
+        putting.IsChange whole.request → (both.0 ≡ replies.done_by whole whole.request)
         × (both.1 ≡ locks.lock_names whole whole.request))) }
 {
-    let reply = done(alloc, case, present)?;
-    let names = lock_names(alloc, case)?;
+    let looked = changed_at(case, present);
+    let reply = done(alloc, case, looked)?;
+    let names = lock_names(alloc, case, looked)?;
     Ok((reply, names))
 }
 
@@ -268,6 +289,7 @@ fn weigh_record<B: Blocks, P: Part>(
     requires set { IsSet store.old (B.seen blocks.old) }
     requires stands { IsTrue B.tells → Stands store.old (B.seen blocks.old) }
     requires at { putting.HasPlace store.old.parts part.0 place }
+    requires change { putting.IsChange case.now.request.now }
     requires size { IfSome length (λ n. putting.FitsLength store.old.parts part.0 n) }
     requires new_fits { IfSome length (λ n. putting.FitsItem store.old.parts part.0 place
         (cases.new_record case.now.request.now)) }

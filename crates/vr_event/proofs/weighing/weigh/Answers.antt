@@ -11,7 +11,7 @@ use Rattle.vr_answer.specs.InHand.{IsCaseOf}
 use Rattle.vr_record_file.specs.Now.{state_now}
 use Rattle.vr_event.specs.Putting.{AreLaidBy, IsAskedAt, MayWeigh}
 use Rattle.vr_event.proofs.Known.{whole-is}
-use Rattle.vr_event.proofs.Weighs.{change-direct, refuse-memory}
+use Rattle.vr_event.proofs.Weighs.{refuse-memory}
 use Rattle.vr_event.proofs.weighing.weigh.Goals as goal
 
 pub weigh_at-requires-clause-laid : goal.weigh_at-requires-clause-laid
@@ -48,7 +48,6 @@ returns-then-may_change-clause-may g c told volume opening is going stored free 
     let case = c.case-case.result in
     let deck = c.may_change.ensures.deck c.if-may_change.true in
     let agrees : IsCaseOf case state = c.case-case.ensures.going opening is going deck
-    (change-direct c.args.request.now c.requires.change)
     (c.used.ensures ∙ stored.volume.logged.used) (c.free_areas.ensures ∙ free) in
     let same = whole-is case state file.geometry c.args.unit c.args.request.now
     c.case-case.ensures.geometry c.case-case.ensures.unit c.case-case.ensures.asked in

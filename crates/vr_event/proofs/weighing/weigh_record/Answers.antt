@@ -1,10 +1,13 @@
-use Rattle.std.proofs.Common.{List, ap, subst, ◌∙◌}
+use Rattle.std.proofs.Common.{List, Option, ap, subst, sym, ◌∙◌}
+use Rattle.std.specs.Option.{option_and_then}
+use Rattle.vr_types.specs.declared.reply.Refusal.{Refusal}
+use Rattle.vr_history.specs.Step.{stand_refused}
 use Rattle.vr_types.proofs.CallerLemmas.{keeps-none}
 use Rattle.vr_history.specs.State.{Logged}
 use Rattle.vr_undo.specs.Records.{is_logged_in}
 use Rattle.vr_answer.specs.InHand.{whole}
 use Rattle.vr_event.specs.Putting.{IsRefusedBy}
-use Rattle.vr_event.proofs.Weighs.{asks-change, refuse-memory, refuse-unless}
+use Rattle.vr_event.proofs.Weighs.{asks-change, refuse-memory, refuse-unless, stays-unless}
 use Rattle.vr_event.proofs.WeighsAt.{logs-here, ready-at}
 use Rattle.vr_event.proofs.weighing.weigh_record.Goals as goal
 
@@ -24,11 +27,20 @@ returns-in-Ok-Some-clause-may g c told volume state is at stored free asked =
     refuse-unless w (asks-change w w.request c.args.place asked.place_is) c.in-Ok-Some.refusal
     c.unless_fault.result c.unless_fault.ensures.is
     (subst (IsRefusedBy w) c.in-Ok-Some.field-0-is
-    (c.in-Ok-Some.ensures state is (c.slice_of.ensures ∙ at)
+    (c.in-Ok-Some.ensures.value state is (c.slice_of.ensures ∙ at)
     (c.has_logged-logged.ensures
     ∙ ap (λ (l : List Logged). is_logged_in c.args.case.now.unit c.args.part.0 c.args.place l)
     stored.logged ∙ logs-here w c.args.part.0 c.args.place asked)
-    (c.has_live-live.ensures ∙ stored.volume.logged.live c.args.case.now.unit)))
+    (c.has_live-live.ensures ∙ stored.volume.logged.live c.args.case.now.unit)
+    (asks-change w w.request c.args.place asked.place_is)))
+
+pub returns-in-Ok-Some-clause-fits : goal.returns-in-Ok-Some-clause-fits
+returns-in-Ok-Some-clause-fits g c =
+    stays-unless c.args.case.now.request.now c.in-Ok-Some.refusal c.unless_fault.result
+    c.unless_fault.ensures.is
+    (ap (λ (o : Option Refusal). option_and_then (stand_refused c.args.case.now.request.now) o)
+    (sym c.in-Ok-Some.field-0-is)
+    ∙ c.in-Ok-Some.ensures.stays c.requires.change)
 
 pub returns-in-Ok-Some-clause-keeps : goal.returns-in-Ok-Some-clause-keeps
 returns-in-Ok-Some-clause-keeps g c =
@@ -41,11 +53,12 @@ returns-in-Some-clause-may g c told volume state is at stored free asked =
     c.weigh_room.ensures.may state is at free
     (ready-at w c.args.part.0 c.args.place asked c.args.old at
     (subst (IsRefusedBy w) c.in-Ok-None.field-0-is
-    (c.in-Ok-None.ensures state is (c.slice_of.ensures ∙ at)
+    (c.in-Ok-None.ensures.value state is (c.slice_of.ensures ∙ at)
     (c.has_logged-logged.ensures
     ∙ ap (λ (l : List Logged). is_logged_in c.args.case.now.unit c.args.part.0 c.args.place l)
     stored.logged ∙ logs-here w c.args.part.0 c.args.place asked)
-    (c.has_live-live.ensures ∙ stored.volume.logged.live c.args.case.now.unit))))
+    (c.has_live-live.ensures ∙ stored.volume.logged.live c.args.case.now.unit)
+    (asks-change w w.request c.args.place asked.place_is))))
 
 pub returns-in-None-clause-may : goal.returns-in-None-clause-may
 returns-in-None-clause-may g c told volume state is at stored free asked =

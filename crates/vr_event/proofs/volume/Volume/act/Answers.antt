@@ -2,7 +2,6 @@ use Rattle.std.proofs.Common.{◌≡◌, ◌∙◌, subst, sym}
 use Rattle.vr_types.specs.Moments.{Guards}
 use Rattle.vr_types.specs.declared.request.Request.{Request}
 use Rattle.vr_types.proofs.CallerLemmas.{keeps-none}
-use Rattle.vr_answer.specs.Scope.{IsDirect}
 use Rattle.vr_answer.specs.Tried.{file_refusals}
 use Rattle.vr_history.specs.Replies.{first_of}
 use Rattle.vr_history.specs.Step.{case_of}
@@ -30,8 +29,7 @@ pub returns-in-None-clause-held : goal.returns-in-None-clause-held
 returns-in-None-clause-held g c told opening held may =
     let old = c.args.self.now in
     let state = state_now opening old.file in
-    let value = c.refused_early.ensures.value told opening held may.of_deck
-    (subst IsDirect (sym c.get.ensures) c.requires.direct) in
+    let value = c.refused_early.ensures.value told opening held may.of_deck in
     c.serve.ensures.held told opening held may
     (sym (subst (λ (r : Request). c.refused_early.result
     ≡ first_of (file_refusals (case_of old.file.geometry state c.args.unit r))) c.get.ensures value)

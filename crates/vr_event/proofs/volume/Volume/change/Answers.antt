@@ -36,7 +36,7 @@ returns-in-Refused-clause-held g c told opening held asked =
     c.enter_refused.ensures.held told opening (c.weigh_change.ensures.held told opening held)
     (subst (λ (f : FileNow). MayBeAsked opening f unit request (Refused c.in-Refused.refusal))
     (sym c.weigh_change.ensures.file)
-    (may-changing opening old unit request (Refused c.in-Refused.refusal) asked both.0)) both.1
+    (may-changing opening old unit request (Refused c.in-Refused.refusal) asked both.0))
 
 pub returns-in-Refused-clause-moments : goal.returns-in-Refused-clause-moments
 returns-in-Refused-clause-moments g c told opening held =

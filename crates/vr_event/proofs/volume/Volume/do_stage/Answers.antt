@@ -154,7 +154,7 @@ returns-in-Err-Read-clause-whole g c =
     ap (λ (v : VolumeNow g.row.B.Denot). v.file.stopped) c.self.view_is ∙ c.requires.going in
     let whole : IsWhole seen before = subst (IsWhole seen) (sym c.self.view_is) c.requires.whole in
     whole-of seen before c.advance.new.self c.advance.new.blocks c.refuse.new.self whole (λ going. goes)
-    (ap (λ (f : FileNow). f.geometry) c.refuse.ensures.leaves) (ap (λ (f : FileNow). f.catalog) c.refuse.ensures.leaves)
+    (ap (λ (f : FileNow). f.geometry) c.refuse.ensures.same) (ap (λ (f : FileNow). f.catalog) c.refuse.ensures.same)
     (λ going. ap (λ (s : StoreNow). s.log.geometry) c.advance.ensures.rest)
     (λ going. shapes-same c.advance.new.self.parts before.store.parts
     c.advance.ensures.parts.parts)
@@ -267,7 +267,7 @@ returns-in-Err-Read-clause-held g c told opening held asked =
       blocks = c.advance.new.blocks;
       store = c.advance.new.self;
     }) c.refuse.new.self c.args.after c.args.unit c.args.line c.args.request ReadFault
-    c.refuse.ensures.leaves refl moved (c.refuse.ensures.state opening was.file may refl refl)
+    c.refuse.ensures.same moved (c.refuse.ensures.state opening was.file may refl)
 
 pub returns-in-Err-Read-clause-acted : goal.returns-in-Err-Read-clause-acted
 returns-in-Err-Read-clause-acted g c =
@@ -278,7 +278,7 @@ returns-in-Err-Read-clause-acted g c =
     v.file c.refuse.new.self) c.self.view_is (record {
       reads = cause.reads;
       writes = cause.writes;
-      by = inl (entered-refused ReadFault c.refuse.ensures.leaves (record {
+      by = inl (entered-refused ReadFault c.refuse.ensures.same (record {
         reads = cause.reads;
         writes = cause.writes;
         read = λ is. cause.read (ap (λ (f : DeviceFault). Err f) c.in-Err-Read.field-0-is);

@@ -8,15 +8,15 @@ use Rattle.vr_event.proofs.Causes.{cause-entered, cause-failed, entered-refused}
 use Rattle.vr_event.proofs.volume.Volume.enter_refused.Goals as goal
 
 pub returns-then-is_write_fault-clause-held : goal.returns-then-is_write_fault-clause-held
-returns-then-is_write_fault-clause-held g c told opening held asked stays =
+returns-then-is_write_fault-clause-held g c told opening held asked =
     c.fail_write.ensures.held told opening held
     (subst (λ (r : Refusal). MayBeAsked opening c.args.self.now.file c.args.unit c.args.request
     (Refused r)) (write-is c.args.refusal (sym c.is_write_fault.ensures
     ∙ c.if-is_write_fault.true)) asked)
 
 pub returns-else-is_write_fault-clause-held : goal.returns-else-is_write_fault-clause-held
-returns-else-is_write_fault-clause-held g c told opening held asked stays =
-    c.refuse.ensures.held told opening held asked stays
+returns-else-is_write_fault-clause-held g c told opening held asked =
+    c.refuse.ensures.held told opening held asked
     (sym c.is_write_fault.ensures ∙ c.if-is_write_fault.false)
 
 pub returns-then-is_write_fault-clause-cause : goal.returns-then-is_write_fault-clause-cause
@@ -28,4 +28,4 @@ returns-then-is_write_fault-clause-cause g c before now cause =
 
 pub returns-else-is_write_fault-clause-cause : goal.returns-else-is_write_fault-clause-cause
 returns-else-is_write_fault-clause-cause g c before now cause =
-    cause-entered (entered-refused c.args.refusal c.refuse.ensures.leaves cause)
+    cause-entered (entered-refused c.args.refusal c.refuse.ensures.same cause)

@@ -14,7 +14,7 @@ use Rattle.vr_history.specs.Change.{place_changed}
 use Rattle.vr_history.specs.Names.{lock_names, with_locks}
 use Rattle.vr_history.specs.State.{State}
 use Rattle.vr_history.specs.Step.{case_of}
-use Rattle.vr_record_file.specs.Now.{FileNow, IsStateOf, MayBeAsked, failed, lets_go, state_now}
+use Rattle.vr_record_file.specs.Now.{FileNow, IsStateOf, MayBeAsked, failed, state_now}
 use Rattle.vr_record_file.specs.Now.{with_event}
 use Rattle.vr_volume.specs.Crashes.{RecoversTo}
 use Rattle.vr_event.specs.Acting.{IsActed}
@@ -294,12 +294,13 @@ returns-in-Err-Memory-clause-held g c told opening held ready asked =
       blocks = c.put_at_place.new.blocks;
       store = c.put_at_place.new.store;
     }) c.refuse.new.self c.args.after unit c.args.line request NoMemory
-    (c.refuse.ensures.leaves
+    (c.refuse.ensures.same
     ∙ ap (λ (f : FileNow). with_event c.args.after unit c.args.line (Asked request (Refused NoMemory))
-    (lets_go unit.deck request f)) same) refl moved
+    (record f { files = c.refuse.new.self.files; files_room = c.refuse.new.self.files_room })) same)
+    moved
     (c.refuse.ensures.state opening (subst (IsStateOf opening) (sym same) was.file)
     (subst (λ (f : FileNow). MayBeAsked opening f unit request (Refused NoMemory)) (sym same) may)
-    refl refl)
+    refl)
 
 pub returns-clause-held : goal.returns-clause-held
 returns-clause-held g c told opening held ready asked =
@@ -393,9 +394,9 @@ returns-in-Err-Memory-clause-whole g c =
     let left = c.in-Err-Memory.ensures.unchanged c.in-Err-Memory.field-0-is in
     whole-of seen before c.put_at_place.new.store c.put_at_place.new.blocks c.refuse.new.self whole
     (λ going. goes)
-    (ap (λ (f : FileNow). f.geometry) c.refuse.ensures.leaves
+    (ap (λ (f : FileNow). f.geometry) c.refuse.ensures.same
     ∙ ap (λ (f : FileNow). f.geometry) c.put_at_place.ensures.file)
-    (ap (λ (f : FileNow). f.catalog) c.refuse.ensures.leaves
+    (ap (λ (f : FileNow). f.catalog) c.refuse.ensures.same
     ∙ ap (λ (f : FileNow). f.catalog) c.put_at_place.ensures.file)
     (λ going. ap (λ (s : StoreNow). s.log.geometry) left.1)
     (λ going n. ap (λ (s : StoreNow). Rattle.vr_event.specs.Store.shape_among s.parts n) left.1)
@@ -424,7 +425,7 @@ returns-in-Err-Memory-clause-acted g c =
       reads = c.put_at_place.ensures.reads_rise;
       writes = c.put_at_place.ensures.writes_rise;
       by = inl (entered-change (Refused NoMemory) c.self.inside.file c.put_at_place.new.file
-          c.refuse.new.self c.put_at_place.ensures.file c.refuse.ensures.leaves
+          c.refuse.new.self c.put_at_place.ensures.file (c.refuse.ensures.leaves refl)
           (cause-calm _ _ (Refused NoMemory) c.put_at_place.ensures.reads_rise
           c.put_at_place.ensures.writes_rise refl));
     })

@@ -10,7 +10,7 @@ pub returns-clause-held : goal.returns-clause-held
 returns-clause-held g c told opening held may some =
     c.refuse.ensures.held told opening held
     (refused-asked opening c.args.self.now.file c.args.unit c.args.request may c.args.refusal some)
-    c.requires.stays (calm-refusal c.args.refusal c.requires.calm)
+    (calm-refusal c.args.refusal c.requires.calm)
 
 pub returns-clause-acted : goal.returns-clause-acted
 returns-clause-acted g c =
@@ -19,5 +19,5 @@ returns-clause-acted g c =
     subst (λ (b : g.row.B.Denot). IsActed (faults old.blocks) (faults b) acts.Done c.args.after
     c.args.unit c.args.line c.args.request old.file c.refuse.new.self.file)
     (sym c.refuse.ensures.blocks)
-    (acted-entered (entered-refused c.args.refusal c.refuse.ensures.leaves
+    (acted-entered (entered-refused c.args.refusal c.refuse.ensures.same
     (calm-cause (faults old.blocks) c.args.refusal c.requires.calm)))

@@ -8,20 +8,20 @@ use Rattle.vr_event.proofs.Recovers.{recovers-keeps, recovers-with}
 use Rattle.vr_event.proofs.Serves.{ended-of, ending-of, event-at}
 use Rattle.vr_event.proofs.volume.Volume.serve.Goals as goal
 
-pub returns-in-Get-clause-moments : goal.returns-in-Get-clause-moments
-returns-in-Get-clause-moments g c told opening held may none =
+pub returns-in-Read-clause-moments : goal.returns-in-Read-clause-moments
+returns-in-Read-clause-moments g c told opening held may none =
     let old = c.args.self.now in
     let state = state_now opening old.file in
     let a = g.B.Blocks.seen old.blocks in
-    recovers-with old.number old.store state a (g.B.Blocks.seen c.get-in-Get.new.self.blocks)
+    recovers-with old.number old.store state a (g.B.Blocks.seen c.read.new.self.blocks)
     (held.stored c.requires.going) c.args.after c.args.unit c.args.line c.args.request old.file
-    c.get-in-Get.new.self.file (c.get-in-Get.ensures.moments told opening held)
+    c.read.new.self.file (c.read.ensures.moments told opening held)
 
 pub returns-in-EndRequest-clause-held : goal.returns-in-EndRequest-clause-held
 returns-in-EndRequest-clause-held g c told opening held may none =
     let request = c.args.request in
     let ends = event-at EndRequest c.event_of.result c.get.result.now request c.in-EndRequest.is
-    c.get.ensures c.requires.direct c.event_of.ensures in
+    c.get.ensures c.event_of.ensures in
     c.end_request.ensures.held told opening ends.0 held
     (ended-of opening c.args.self.now.file c.args.unit request may ends.0 ends.1 none) ends.1
 
