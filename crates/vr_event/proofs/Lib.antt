@@ -38,6 +38,8 @@ pub mod Stepped
 pub mod Serves
 pub mod LaidParts
 pub mod Weighs
+pub mod Lacks
+pub mod Replied
 pub mod MetParts
 pub mod RecordShapes
 pub mod WeighsAt

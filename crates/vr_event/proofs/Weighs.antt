@@ -1,11 +1,11 @@
 -- How a change is refused.
-use Rattle.std.proofs.Common.{◌≡◌, ◌≢◌, ◌⊎◌, ◌<◌, ◌+◌, ◌||◌, ℕ, Bool, true, false, List, ◌∷◌, Option}
-use Rattle.std.proofs.Common.{Some, None, refl, sym, ap, subst, ◌∙◌, inl, inr, IsTrue, arith}
+use Rattle.std.proofs.Common.{◌≡◌, ◌≢◌, ◌⊎◌, ◌||◌, ℕ, Bool, true, false, List, ◌∷◌, Option}
+use Rattle.std.proofs.Common.{Some, None, refl, sym, ap, subst, ◌∙◌, inl, inr, IsTrue}
 use Rattle.std.specs.Option.{option_and_then, option_or}
 use Rattle.vr_catalog.specs.declared.definition.Definition.{Definition}
 use Rattle.vr_types.specs.declared.fault.DeviceFault.TheVariants.{Read, Write}
 use Rattle.vr_types.specs.declared.reply.Refusal.{Refusal}
-use Rattle.vr_types.specs.declared.reply.Refusal.TheVariants.{Memory as NoMemory, NoFile, NoSpace}
+use Rattle.vr_types.specs.declared.reply.Refusal.TheVariants.{Memory as NoMemory, NoFile}
 use Rattle.vr_types.specs.declared.reply.Reply.TheVariants.{Refused}
 use Rattle.vr_types.specs.declared.request.FileRef.{FileRef}
 use Rattle.vr_types.specs.declared.request.Find.{Find}
@@ -18,9 +18,9 @@ use Rattle.vr_history.specs.Change.{place_asked, place_changed}
 use Rattle.vr_history.specs.Found.{found, place_in}
 use Rattle.vr_history.specs.Opened.{Cluster, opened}
 use Rattle.vr_history.specs.RefusedFile.{is_catalog_changing, is_unknown, no_file, refused_if}
-use Rattle.vr_history.specs.RefusedRoom.{free_areas, log_full}
+use Rattle.vr_history.specs.RefusedRoom.{log_full}
 use Rattle.vr_history.specs.Replies.{FillsKeyed, LacksRoom, before_room, first_of, may_read}
-use Rattle.vr_history.specs.Replies.{may_want}
+use Rattle.vr_history.specs.Replies.{lacks_area, may_want}
 use Rattle.vr_history.specs.State.{State}
 use Rattle.vr_history.specs.Step.{stand_refused}
 use Rattle.vr_answer.specs.InHand.{IsCaseOf, whole}
@@ -203,20 +203,16 @@ module _ (case : CaseInHand) (state : State) (is : IsCaseOf case state)
   w = whole case state
 
   lacks : first_of (file_refusals w) ≡ None → (bytes : List ℕ)
-      → new_record case.request.now ≡ Some bytes → (need : ℕ) → free_areas w < need
-      → LacksRoom w (Refused (NoSpace need (free_areas w)))
-  lacks none bytes new need less =
+      → new_record case.request.now ≡ Some bytes → LacksRoom w (Refused lacks_area)
+  lacks none bytes new =
       let on = on-keyed case state is change none in
-      lacks_room w on.definition bytes need none no-record on.on on.keyed new less
+      lacks_room w on.definition bytes none no-record on.on on.keyed new
 
-  -- more areas are needed than are free
-  pub refuse-space : (bytes : List ℕ) → new_record case.request.now ≡ Some bytes → (free : ℕ)
-      → free ≡ free_areas w → MayRefuse w (NoSpace (free + 1) free)
-  refuse-space bytes new free is-free none = (
-    inr (inl (subst (λ (n : ℕ). LacksRoom w (Refused (NoSpace (free + 1) n))) (sym is-free)
-        (lacks none bytes new (free + 1) (omega (arith, is-free))))),
-    refl,
-  )
+  -- its part lacks an area
+  pub refuse-space : (bytes : List ℕ) → new_record case.request.now ≡ Some bytes
+      → (refusal : Refusal) → refusal ≡ lacks_area → MayRefuse w refusal
+  refuse-space bytes new refusal is-lack = subst (λ (r : Refusal). MayRefuse w r) (sym is-lack)
+      (λ none. (inr (inl (lacks none bytes new)), refl))
 
   -- nothing refuses it before its room, and it fills a part
   pub fills : first_of (file_refusals w) ≡ None → new_record case.request.now ≢ None
@@ -227,5 +223,5 @@ module _ (case : CaseInHand) (state : State) (is : IsCaseOf case state)
           → (first_of (before_room w) ≡ None) × FillsKeyed w
       by_new None is = absurd (some is)
       by_new (Some bytes) is =
-          let all = lacks none bytes is (free_areas w + 1) (omega arith) in
+          let all = lacks none bytes is in
           (all.0, all.1)

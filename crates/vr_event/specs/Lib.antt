@@ -13,6 +13,7 @@ pub mod Searching
 pub mod EndedFile
 pub mod Acting
 pub mod Putting
+pub mod Lacking
 pub mod Opening
 pub mod Made
 pub mod Serving

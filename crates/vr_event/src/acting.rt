@@ -1,15 +1,20 @@
 //! One event of a request: it is refused by what is in memory, or served.
 ghost use Rattle.std.specs.Prelude.{◌≡◌, ◌≢◌, ◌==◌, ◌<◌, ◌≤◌, ◌-◌, ◌+◌, ◌^◌, IsTrue, None, Some};
-ghost use Rattle.std.specs.Prelude.{false, true};
+ghost use Rattle.std.specs.Prelude.{List, false, true, ℕ};
 ghost use Rattle.vr_types.specs.Moments.{Guards};
+ghost use Rattle.vr_types.specs.declared.reply.Refusal.TheVariants.{NoSpace};
+ghost use Rattle.vr_types.specs.declared.reply.Reply.TheVariants.{Refused};
 ghost use Rattle.vr_answer.specs.Tried.{IsCalm, file_refusals};
 ghost use Rattle.vr_history.specs.Case as cases;
+ghost use Rattle.vr_history.specs.Change.{place_changed};
 ghost use Rattle.vr_history.specs.Merged.{last_stamp};
 ghost use Rattle.vr_history.specs.Replies.{first_of};
 ghost use Rattle.vr_history.specs.State.{State};
 ghost use Rattle.vr_history.specs.Step.{case_of};
 ghost use Rattle.vr_record_file.specs.Now.{CanSet, has_deck, number_of, state_now};
 ghost use Rattle.vr_event.specs.Acting.{IsActed, IsLeftIn, MayAct};
+ghost use Rattle.vr_event.specs.Getting.{IsEntered};
+ghost use Rattle.vr_event.specs.Lacking.{IsLacking};
 ghost use Rattle.vr_event.specs.Putting as putting;
 ghost use Rattle.vr_event.specs.Serving.{IsEventOf};
 ghost use Rattle.vr_event.specs.Volume.{Holds, IsHeld, IsWhole};
@@ -69,6 +74,8 @@ impl<B: Blocks, P: Part> Volume<B, P> {
         ensures whole { IsWhole B.seen self.old → IsWhole B.seen self.new }
         ensures acted { IsActed (B.faults self.old.blocks) (B.faults self.new.blocks) acts.Done
             after unit line request self.old.file self.new.file }
+        ensures replied { (entered : IsEntered after unit line request self.old.file self.new.file)
+            → entered.reply ≡ Refused refusal }
         ensures blocks { self.new.blocks ≡ self.old.blocks }
         ensures store { self.new.store ≡ self.old.store }
         ensures volume { self.new.number ≡ self.old.number }
@@ -115,6 +122,15 @@ impl<B: Blocks, P: Part> Volume<B, P> {
             → first_of (file_refusals (case_of self.old.file.geometry
             (state_now opening self.old.file) unit request)) ≡ None → putting.IsChange request
             → putting.IfAgain result (putting.MayLackRoom opening self.new.file unit request) }
+        ensures lacks { IsTrue B.tells → (opening : State) → IsHeld B.seen opening self.old
+            → MayAct opening self.old.file unit request
+            → first_of (file_refusals (case_of self.old.file.geometry
+            (state_now opening self.old.file) unit request)) ≡ None
+            → (entered : IsEntered after unit line request self.old.file self.new.file)
+            → (need free : ℕ) → entered.reply ≡ Refused (NoSpace need free) → (place : List ℕ)
+            → place_changed (case_of self.old.file.geometry (state_now opening self.old.file) unit
+            request) ≡ Some place
+            → IsLacking self.old.store (B.seen self.old.blocks).cur place request need free }
         ensures number { self.new.number ≡ self.old.number }
         ensures generation { self.new.file.stopped ≡ None
             → self.new.store.log.generation ≤ self.old.store.log.generation + 1 }
@@ -170,6 +186,15 @@ impl<B: Blocks, P: Part> Volume<B, P> {
         ensures again { IsTrue B.tells → (opening : State) → IsHeld B.seen opening self.old
             → MayAct opening self.old.file unit request → putting.IsChange request
             → putting.IfAgain result (putting.MayLackRoom opening self.new.file unit request) }
+        // A change is refused with NoSpace only where its part lacks room, as the event found its
+        // blocks, and with the part's numbers.
+        ensures lacks { IsTrue B.tells → (opening : State) → IsHeld B.seen opening self.old
+            → MayAct opening self.old.file unit request
+            → (entered : IsEntered after unit line request self.old.file self.new.file)
+            → (need free : ℕ) → entered.reply ≡ Refused (NoSpace need free) → (place : List ℕ)
+            → place_changed (case_of self.old.file.geometry (state_now opening self.old.file) unit
+            request) ≡ Some place
+            → IsLacking self.old.store (B.seen self.old.blocks).cur place request need free }
         // A volume that stopped touches no block.
         ensures stopped { self.old.file.stopped ≢ None → self.new.blocks ≡ self.old.blocks }
         ensures number { self.new.number ≡ self.old.number }

@@ -69,6 +69,8 @@ impl<B: Blocks, P: Part> Volume<B, P> {
             → IsHeld B.seen opening self.new }
         ensures whole { IsWhole B.seen self.old → IsWhole B.seen self.new }
         ensures entered { HasEntered after unit line request self.old.file self.new.file }
+        ensures replied { (entered : IsEntered after unit line request self.old.file self.new.file)
+            → entered.reply ≡ replies.Refused refusal }
         ensures cause { (before now : Faults) → HasReplyCause before now (replies.Refused refusal)
             → HasGetCause before now after unit line request self.old.file self.new.file }
         ensures blocks { self.new.blocks ≡ self.old.blocks }

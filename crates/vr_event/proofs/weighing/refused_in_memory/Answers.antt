@@ -1,8 +1,10 @@
-use Rattle.std.proofs.Common.{Option, ap, sym, ◌∙◌}
+use Rattle.std.proofs.Common.{Option, ap, subst, sym, ◌∙◌}
 use Rattle.std.specs.Option.{option_and_then}
 use Rattle.vr_types.specs.declared.reply.Refusal.{Refusal}
 use Rattle.vr_history.specs.Step.{stand_refused}
 use Rattle.vr_answer.specs.InHand.{whole}
+use Rattle.vr_event.specs.Lacking.{AreElse}
+use Rattle.vr_event.proofs.Lacks.{log-else, refused-else}
 use Rattle.vr_event.proofs.Weighs.{change-direct, refuse-log, refuse-record}
 use Rattle.vr_event.proofs.weighing.refused_in_memory.Goals as goal
 
@@ -32,3 +34,15 @@ returns-in-None-clause-value c = λ state is at logs lives change.
 pub returns-in-None-clause-stays : goal.returns-in-None-clause-stays
 returns-in-None-clause-stays c = λ change.
     c.log_full.ensures.stays (change-direct c.args.case.now.request.now change)
+
+pub returns-in-Some-clause-lacks : goal.returns-in-Some-clause-lacks
+returns-in-Some-clause-lacks c = λ state is at logs lives change none.
+    subst AreElse
+    (sym (c.in_ok-refusal.ensures.value state is
+    (c.changed_at-looked.ensures.looked state is at change)) ∙ c.in-Some.is) (refused-else c.args.case.now state is change none)
+
+pub returns-in-None-clause-lacks : goal.returns-in-None-clause-lacks
+returns-in-None-clause-lacks c = λ state is at logs lives change none.
+    subst AreElse (sym (c.log_full.ensures.value state is
+    (c.changed_at-looked.ensures.looked state is at change) logs lives))
+    (log-else (whole c.args.case.now state))

@@ -4,6 +4,7 @@ use Rattle.vr_types.specs.Content.{Standing}
 use Rattle.vr_types.specs.Moments.{Guards}
 use Rattle.vr_types.specs.declared.lock_name.LockName.{LockName}
 use Rattle.vr_types.specs.declared.reply.Refusal.TheVariants.{Memory as NoMemory, WriteFault}
+use Rattle.vr_types.specs.declared.reply.Refusal.TheVariants.{NoSpace}
 use Rattle.vr_types.specs.declared.reply.Reply.TheVariants.{Refused}
 use Rattle.vr_types.specs.declared.request.Request.{Request}
 use Rattle.vr_types.specs.declared.unit.Mode.TheVariants.{Exclusive}
@@ -29,6 +30,7 @@ use Rattle.vr_event.proofs.Entering.{held-refused}
 use Rattle.vr_event.proofs.Makes.{entered-change, has-room, held-put, may-reply, replied}
 use Rattle.vr_event.proofs.Makes.{to-make-laid}
 use Rattle.vr_event.proofs.MetParts.{met-shapes}
+use Rattle.vr_event.proofs.Replied.{not-failed, replied-over}
 use Rattle.vr_event.proofs.Weighs.{asks-change, refuse-look, refuse-memory}
 use Rattle.vr_event.proofs.Wholes.{held-moved, held-stopped-locked, may-changing, whole-of}
 use Rattle.vr_event.proofs.volume.Volume.put.Goals as goal
@@ -429,3 +431,30 @@ returns-in-Err-Memory-clause-acted g c =
           (cause-calm _ _ (Refused NoMemory) c.put_at_place.ensures.reads_rise
           c.put_at_place.ensures.writes_rise refl));
     })
+
+pub returns-in-Ok-clause-lacks : goal.returns-in-Ok-clause-lacks
+returns-in-Ok-clause-lacks g c entered need free is =
+    sym (replied-over c.args.after c.args.unit c.args.line c.args.request c.args.self.now.file
+    c.change.new.self entered c.put_at_place.new.file.entries
+    (ap (λ (f : FileNow). f.entries) c.put_at_place.ensures.file
+    ∙ ap (λ (v : VolumeNow g.row.B.Denot). v.file.entries) c.self.view_is) c.args.reply
+    (ap (λ (f : FileNow). f.entries) c.change.ensures.leaves)) ∙ is
+
+pub returns-in-Err-Memory-clause-lacks : goal.returns-in-Err-Memory-clause-lacks
+returns-in-Err-Memory-clause-lacks g c entered need free is =
+    let reply : entered.reply ≡ Refused NoMemory =
+    replied-over c.args.after c.args.unit c.args.line c.args.request c.args.self.now.file
+    c.refuse.new.self entered c.put_at_place.new.file.entries
+    (ap (λ (f : FileNow). f.entries) c.put_at_place.ensures.file
+    ∙ ap (λ (v : VolumeNow g.row.B.Denot). v.file.entries) c.self.view_is) (Refused NoMemory)
+    (ap (λ (f : FileNow). f.entries) c.refuse.ensures.same) in
+    let both : Refused NoMemory ≡ Refused (NoSpace need free) = sym reply ∙ is in
+    absurd cc
+
+pub returns-clause-lacks : goal.returns-clause-lacks
+returns-clause-lacks g c entered need free is =
+    absurd (not-failed c.args.after c.args.unit c.args.line c.args.request c.args.self.now.file
+    c.fail_write.new.self entered c.put_at_place.new.file
+    (ap (λ (f : FileNow). f.entries) c.put_at_place.ensures.file
+    ∙ ap (λ (v : VolumeNow g.row.B.Denot). v.file.entries) c.self.view_is)
+    c.fail_write.ensures.leaves)

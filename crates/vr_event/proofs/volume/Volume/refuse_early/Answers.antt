@@ -1,8 +1,11 @@
-use Rattle.std.proofs.Common.{subst, sym}
+use Rattle.std.proofs.Common.{ap, subst, sym}
+use Rattle.vr_types.specs.declared.reply.Reply.TheVariants.{Refused}
+use Rattle.vr_record_file.specs.Now.{FileNow}
 use Rattle.vr_event.specs.Acting.{IsActed}
 use Rattle.vr_event.specs.declared.act.Act.TheVariants as acts
 use Rattle.vr_event.proofs.Acts.{acted-entered}
 use Rattle.vr_event.proofs.Causes.{entered-refused}
+use Rattle.vr_event.proofs.Replied.{replied-as}
 use Rattle.vr_event.proofs.Serves.{calm-cause, calm-refusal, refused-asked}
 use Rattle.vr_event.proofs.volume.Volume.refuse_early.Goals as goal
 
@@ -21,3 +24,9 @@ returns-clause-acted g c =
     (sym c.refuse.ensures.blocks)
     (acted-entered (entered-refused c.args.refusal c.refuse.ensures.same
     (calm-cause (faults old.blocks) c.args.refusal c.requires.calm)))
+
+pub returns-clause-replied : goal.returns-clause-replied
+returns-clause-replied g c entered =
+    replied-as c.args.after c.args.unit c.args.line c.args.request c.args.self.now.file
+    c.refuse.new.self.file entered (Refused c.args.refusal)
+    (ap (λ (f : FileNow). f.entries) c.refuse.ensures.same)
