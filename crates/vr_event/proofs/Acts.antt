@@ -12,13 +12,13 @@ use Rattle.vr_types.specs.Locks.{Lock}
 use Rattle.vr_types.specs.declared.request.Request.{Request}
 use Rattle.vr_types.specs.declared.unit.Unit.{Unit as UnitOfRecovery}
 use Rattle.vr_history.specs.declared.entry.What.TheVariants.{Asked}
-use Rattle.vr_record_file.specs.Now.{EndsUnit, FileNow, failed, lets_go, with_event}
+use Rattle.vr_record_file.specs.Now.{EndsUnit, FileNow, failed, with_event}
 use Rattle.vr_event.specs.Acting.{ByAct, HasStepped, IsActed, IsAnsweredFor}
 use Rattle.vr_event.specs.declared.act.Act.{Act}
 use Rattle.vr_event.specs.Cause.{HasGetCause, IsEnteredFor}
 use Rattle.vr_event.specs.EndedFile.{IsEnded}
 use Rattle.vr_event.specs.declared.act.Act.TheVariants.{Again, Done}
-use Rattle.vr_event.proofs.Causes.{cause-still, entered-refused}
+use Rattle.vr_event.proofs.Causes.{cause-still, entered-refused, entered-with}
 
 -- a write fails after locks were taken, or before
 failed-locks : (after : ℕ) (unit : UnitOfRecovery) (line : ℕ) (request : Request)
@@ -63,7 +63,7 @@ module _ {before now : Faults} {after : ℕ} {unit : UnitOfRecovery} {line : ℕ
   -- refused for a read that failed,
   pub acted-read : before.reads < now.reads → before.writes ≤ now.writes
       → new ≡ with_event after unit line (Asked request (Refused ReadFault))
-      (lets_go unit.deck request old)
+      (record old { files = new.files; files_room = new.files_room })
       → IsActed before now Done after unit line request old new
   acted-read reads writes leaves = acted-entered (entered-refused ReadFault leaves (record {
     reads = omega arith;
@@ -92,16 +92,9 @@ pub entered-done : (after : ℕ) (unit : UnitOfRecovery) (line : ℕ) (request :
     → new ≡ with_event after unit line (Asked request (replies.Done 0 None None))
     (record old { files = new.files; files_room = new.files_room })
     → IsEnteredFor faults faults after unit line request old new
-entered-done after unit line request old new faults leaves = record {
-  entered = record {
-    reply = replies.Done 0 None None;
-    leaves = subst (λ (l : List Lock). new ≡ with_event after unit line
-        (Asked request (replies.Done 0 None None))
-        (record old { locks = l; files = new.files; files_room = new.files_room }))
-        (sym (ap (λ (f : FileNow). f.locks) leaves)) leaves;
-  };
-  cause = cause-still faults (replies.Done 0 None None) refl;
-}
+entered-done after unit line request old new faults leaves =
+    entered-with (replies.Done 0 None None) leaves
+    (cause-still faults (replies.Done 0 None None) refl)
 
 -- ---- faults
 

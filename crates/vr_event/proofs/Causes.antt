@@ -15,23 +15,23 @@ use Rattle.vr_history.specs.declared.entry.What.TheVariants.{Asked}
 use Rattle.vr_history.specs.Case.{Case}
 use Rattle.vr_history.specs.Replies.{first_of}
 use Rattle.vr_answer.specs.Tried.{file_refusals}
-use Rattle.vr_record_file.specs.Now.{FileNow, failed, lets_go, with_event}
+use Rattle.vr_record_file.specs.Now.{FileNow, failed, with_event}
 use Rattle.vr_event.specs.Cause.{HasGetCause, HasLookCause, HasReplyCause, IsEnteredFor, is_faulted}
-use Rattle.vr_event.specs.Getting.{IsGetOf, MayEnd, refusal_of}
+use Rattle.vr_event.specs.Getting.{IsRead, MayEnd, refusal_of}
 use Rattle.vr_event.specs.declared.getting.Outcome.{Outcome}
 use Rattle.vr_event.specs.declared.getting.Outcome.TheVariants as outcomes
 use Rattle.vr_event.specs.declared.no.LookNo.{LookNo}
 use Rattle.vr_event.specs.declared.no.LookNo.TheVariants.{Fault, Memory}
 use Rattle.vr_event.proofs.Ended.{may-fail}
 
--- what a GET comes to, or that memory ran out
-pub may-unless : (case : Case) (get : IsGetOf case.request)
+-- what a read comes to, or that memory ran out
+pub may-unless : (case : Case) → IsRead case.request
     → first_of (file_refusals case) ≡ None → (outcome result : Outcome)
     → (result ≡ outcome) ⊎ (result ≡ outcomes.Refused NoMemory) → MayEnd case outcome
     → MayEnd case result
-may-unless case get none outcome result (inl is) may = subst (MayEnd case) (sym is) may
-may-unless case get none outcome result (inr is) may =
-    subst (MayEnd case) (sym is) (may-fail case get none Memory)
+may-unless case read none outcome result (inl is) may = subst (MayEnd case) (sym is) may
+may-unless case read none outcome result (inr is) may =
+    subst (MayEnd case) (sym is) (may-fail case read none Memory)
 
 -- a reply that is no fault of the device needs no count that rose,
 pub cause-calm : (before now : Faults) (reply : Reply) → before.reads ≤ now.reads
@@ -88,21 +88,28 @@ module _ {before now : Faults} {after : ℕ} {unit : UnitOfRecovery} {line : ℕ
     entered = inr (leaves, cause.write refl);
   }
 
-  pub entered-refused : {request : Request} {old new : FileNow} (refusal : Refusal)
-      → new ≡ with_event after unit line (Asked request (replies.Refused refusal))
-      (lets_go unit.deck request old)
-      → HasReplyCause before now (replies.Refused refusal)
-      → IsEnteredFor before now after unit line request old new
-  entered-refused {request} {old} {new} refusal leaves cause = record {
+  -- with a reply, whatever it is
+  pub entered-with : {request : Request} {old new : FileNow} (reply : Reply)
+      → new ≡ with_event after unit line (Asked request reply)
+      (record old { files = new.files; files_room = new.files_room })
+      → HasReplyCause before now reply → IsEnteredFor before now after unit line request old new
+  entered-with {request} {old} {new} reply leaves cause = record {
     entered = record {
-      reply = replies.Refused refusal;
-      leaves = subst (λ (f : FileNow). f ≡ with_event after unit line
-          (Asked request (replies.Refused refusal))
-          (record old { locks = f.locks; files = f.files; files_room = f.files_room }))
-          (sym leaves) refl;
+      reply = reply;
+      leaves = subst (λ (l : List Lock). new ≡ with_event after unit line (Asked request reply)
+          (record old { locks = l; files = new.files; files_room = new.files_room }))
+          (sym (ap (λ (f : FileNow). f.locks) leaves)) leaves;
     };
     cause = cause;
   }
+
+  pub entered-refused : {request : Request} {old new : FileNow} (refusal : Refusal)
+      → new ≡ with_event after unit line (Asked request (replies.Refused refusal))
+      (record old { files = new.files; files_room = new.files_room })
+      → HasReplyCause before now (replies.Refused refusal)
+      → IsEnteredFor before now after unit line request old new
+  entered-refused {request} {old} {new} refusal leaves cause =
+      entered-with (replies.Refused refusal) leaves cause
 
   pub entered-read : (shared request : Request) (reply : Reply) (inside old new : FileNow)
       (locks : List Lock) → shared ≡ request → inside ≡ old

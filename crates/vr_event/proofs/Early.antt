@@ -7,9 +7,8 @@ use Rattle.vr_history.specs.RefusedRoom.{free_areas}
 use Rattle.vr_history.specs.State.{State}
 use Rattle.vr_history.specs.Step.{case_of}
 use Rattle.vr_answer.specs.InHand.{IsCaseOf}
-use Rattle.vr_answer.specs.Scope.{IsDirect}
 use Rattle.vr_answer.specs.declared.case.Case.{Case as CaseInHand}
-use Rattle.vr_record_file.specs.Now.{FileNow, IsStateOf, held_in, state_now}
+use Rattle.vr_record_file.specs.Now.{FileNow, IsStateOf, held_in, stand_in, state_now}
 use Rattle.vr_record_file.proofs.Resting.{case_is}
 
 -- the state with no lock, and a log that nothing is told of
@@ -19,24 +18,25 @@ early state = record state { locks = []; used = 0 }
 pub early-is : (opening : State) (file : FileNow) → IsStateOf opening file → (case : CaseInHand)
     → case.catalog.now ≡ file.catalog → case.locks.now ≡ []
     → option_copied case.held ≡ held_in file.files case.unit.deck (file_of case.request.now)
+    → option_copied case.stand ≡ stand_in file.files case.unit.deck (file_of case.request.now)
     → case.stopped ≡ file.stopped → case.geometry ≡ file.geometry
-    → case.catalog_changing ≡ false → IsDirect case.request.now → case.used ≡ 0
+    → case.catalog_changing ≡ false → case.used ≡ 0
     → case.free ≡ free_areas (case_of file.geometry (state_now opening file) case.unit
     case.request.now)
     → IsCaseOf case (early (state_now opening file))
-early-is opening file is case catalog locks held stopped geometry changing direct used free =
+early-is opening file is case catalog locks held stand stopped geometry changing used free =
     let like = case_is opening file is (record case {
       locks = record case.locks { now = file.locks };
       used = (state_now opening file).used;
-    }) catalog refl held stopped geometry changing direct refl free in
+    }) catalog refl held stand stopped geometry changing refl free in
     record {
       catalog = like.catalog;
       locks = locks;
       held = like.held;
+      stand = like.stand;
       stopped = like.stopped;
       free = like.free;
       used = used;
       changing = like.changing;
-      direct = direct;
       alone = like.alone;
     }

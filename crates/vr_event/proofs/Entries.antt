@@ -44,7 +44,7 @@ failed-owned opening file after unit line request =
     (entry_next asked.entries 0 unit line (Faulted Write)))
     ∙ (alike_refused file.geometry opening file.entries
     (entry_next file.entries after unit line (Asked request (Refused WriteFault))) request WriteFault
-    refl refl).owned
+    refl).owned
 
 -- so a volume is held, of which nothing is said any more but its history,
 pub held-known : {B : Type 0} (seen : B → Seen) (opening : State) (volume : VolumeNow B)

@@ -23,6 +23,8 @@ pub mod Readings
 pub mod Early
 pub mod Ended
 pub mod Known
+pub mod Sought
+pub mod Staying
 pub mod Entries
 pub mod Faults
 pub mod Held
@@ -36,6 +38,8 @@ pub mod Stepped
 pub mod Serves
 pub mod LaidParts
 pub mod Weighs
+pub mod Lacks
+pub mod Replied
 pub mod MetParts
 pub mod RecordShapes
 pub mod WeighsAt

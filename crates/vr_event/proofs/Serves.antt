@@ -1,4 +1,4 @@
--- Which event a direct request is, and when it may be entered.
+-- Which event a request is, and when it may be entered.
 use Rattle.std.proofs.Common.{◌≡◌, ◌⊎◌, ⊎_elim, inl, Bool, true, false, IsTrue, Option, Some, None, refl}
 use Rattle.std.proofs.Common.{ap, arith, sym, subst, ◌∙◌, ℕ, [], ◌∷◌}
 use Rattle.std.specs.Option.{option_and_then}
@@ -21,31 +21,31 @@ use Rattle.vr_history.specs.RefusedRoom.{free_areas, lacks, no_space}
 use Rattle.vr_history.specs.Replies.{MayReply, first_of}
 use Rattle.vr_history.specs.State.{State}
 use Rattle.vr_history.specs.Step.{case_of}
-use Rattle.vr_answer.specs.Scope.{IsDirect}
 use Rattle.vr_answer.specs.Tried.{IsCalm, file_refusals, record_refusals}
 use Rattle.vr_answer.proofs.CallerLemmas.{answered_by_file, answered_done}
 use Rattle.vr_record_file.specs.Now.{FileNow, MayBeAsked, is_undoing, state_now}
 use Rattle.vr_event.specs.Acting.{MayAct}
 use Rattle.vr_event.specs.Cause.{HasReplyCause}
 use Rattle.vr_event.specs.EndedFile.{IsEnding}
-use Rattle.vr_event.specs.Getting.{IsAsked, IsGetOf}
+use Rattle.vr_event.specs.Getting.{IsAsked, IsRead}
 use Rattle.vr_event.specs.Putting.{IsChange, IsChanging}
 use Rattle.vr_event.specs.Serving.{IsEventOf}
 use Rattle.vr_event.specs.declared.acting.Event.{Event}
+use Rattle.vr_event.proofs.Ended.{read-elim}
 use Rattle.vr_event.proofs.Faults.{write-is}
 
 -- the event that is found is the request's
 pub event-at : (event found : Event) (shown request : Request) → found ≡ event → shown ≡ request
-    → IsDirect request → (IsDirect shown → IsEventOf found shown) → IsEventOf event request
-event-at event found shown request is same direct says =
+    → IsEventOf found shown → IsEventOf event request
+event-at event found shown request is same says =
     subst (λ (e : Event). IsEventOf e request) is
-    (subst (λ (r : Request). IsEventOf found r) same
-    (says (subst IsDirect (sym same) direct)))
+    (subst (λ (r : Request). IsEventOf found r) same says)
 
 -- ---- what is no BACKOUT
 
-get-goes : (request : Request) → IsGetOf request → is_backout request ≡ false
-get-goes request get = subst (λ (r : Request). is_backout r ≡ false) (sym get.is) refl
+read-goes : (request : Request) → IsRead request → is_backout request ≡ false
+read-goes request read = read-elim (λ (r : Request). is_backout r ≡ false)
+    (λ on find update integrity. refl) (λ on find. refl) request read
 
 change-goes : (request : Request) → IsChange request → is_backout request ≡ false
 change-goes (Add on place bytes) change = refl
@@ -58,8 +58,9 @@ change-goes Commit change = absurd change
 change-goes Backout change = absurd change
 
 -- nor is it a PUT or an ERASE
-pub no-change-get : (request : Request) → IsGetOf request → IsChange request → ⊥
-no-change-get request get change = subst IsChange get.is change
+pub no-change-read : (request : Request) → IsRead request → IsChange request → ⊥
+no-change-read request read change = read-elim (λ (r : Request). IsChange r → ⊥)
+    (λ on find update integrity change. change) (λ on find change. change) request read change
 
 pub no-change : (request other : Request) → request ≡ other → IsChange request → IsChange other
 no-change request other is change = subst IsChange is change
@@ -132,13 +133,13 @@ module _ (opening : State) (file : FileNow) (unit : UnitOfRecovery) (request : R
       unrefused = none;
     }
 
-    pub get-of : IsGetOf request → IsAsked opening file unit request
-    get-of get = record {
+    pub read-of : IsRead request → IsAsked opening file unit request
+    read-of read = record {
       current = may.current;
       of_deck = may.of_deck;
       goes_on = goes-on (is_undoing unit file.entries) (is_backout request) may.goes_on
-          (get-goes request get);
-      get = get;
+          (read-goes request read);
+      read = read;
       unrefused = none;
     }
 

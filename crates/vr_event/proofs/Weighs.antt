@@ -1,27 +1,30 @@
 -- How a change is refused.
-use Rattle.std.proofs.Common.{◌≡◌, ◌≢◌, ◌⊎◌, ◌<◌, ◌+◌, ◌||◌, ℕ, Bool, true, false, List, ◌∷◌, Option}
-use Rattle.std.proofs.Common.{Some, None, refl, sym, ap, subst, ◌∙◌, inl, inr, IsTrue, arith}
-use Rattle.std.specs.Option.{option_and_then}
+use Rattle.std.proofs.Common.{◌≡◌, ◌≢◌, ◌⊎◌, ◌||◌, ℕ, Bool, true, false, List, ◌∷◌, Option}
+use Rattle.std.proofs.Common.{Some, None, refl, sym, ap, subst, ◌∙◌, inl, inr, IsTrue}
+use Rattle.std.specs.Option.{option_and_then, option_or}
 use Rattle.vr_catalog.specs.declared.definition.Definition.{Definition}
 use Rattle.vr_types.specs.declared.fault.DeviceFault.TheVariants.{Read, Write}
 use Rattle.vr_types.specs.declared.reply.Refusal.{Refusal}
-use Rattle.vr_types.specs.declared.reply.Refusal.TheVariants.{Memory as NoMemory, NoFile, NoSpace}
+use Rattle.vr_types.specs.declared.reply.Refusal.TheVariants.{Memory as NoMemory, NoFile}
 use Rattle.vr_types.specs.declared.reply.Reply.TheVariants.{Refused}
 use Rattle.vr_types.specs.declared.request.FileRef.{FileRef}
+use Rattle.vr_types.specs.declared.request.Find.{Find}
 use Rattle.vr_types.specs.declared.request.Request.{Request}
 use Rattle.vr_types.specs.declared.request.Request.TheVariants.{Get, Point, Add, Update, Erase}
 use Rattle.vr_types.specs.declared.request.Request.TheVariants.{EndReq, Commit, Backout}
 use Rattle.vr_types.specs.declared.unit.Kind.TheVariants.{Keyed}
-use Rattle.vr_history.specs.Case.{Case, file_of, new_record}
-use Rattle.vr_history.specs.Change.{place_asked}
+use Rattle.vr_history.specs.Case.{Case, file_of, find_of, new_record}
+use Rattle.vr_history.specs.Change.{place_asked, place_changed}
+use Rattle.vr_history.specs.Found.{found, place_in}
 use Rattle.vr_history.specs.Opened.{Cluster, opened}
 use Rattle.vr_history.specs.RefusedFile.{is_catalog_changing, is_unknown, no_file, refused_if}
-use Rattle.vr_history.specs.RefusedRoom.{free_areas, log_full}
+use Rattle.vr_history.specs.RefusedRoom.{log_full}
 use Rattle.vr_history.specs.Replies.{FillsKeyed, LacksRoom, before_room, first_of, may_read}
-use Rattle.vr_history.specs.Replies.{may_want}
+use Rattle.vr_history.specs.Replies.{lacks_area, may_want}
 use Rattle.vr_history.specs.State.{State}
 use Rattle.vr_history.specs.Step.{stand_refused}
 use Rattle.vr_answer.specs.InHand.{IsCaseOf, whole}
+use Rattle.vr_answer.specs.Looked.{place_looked_at}
 use Rattle.vr_answer.specs.Opening.{as_opened, definition_here}
 use Rattle.vr_answer.specs.Scope.{IsDirect}
 use Rattle.vr_answer.specs.Tried.{file_refusals, record_refusals}
@@ -87,6 +90,7 @@ change-reads (EndReq on) is = refl
 change-reads Commit is = absurd is
 change-reads Backout is = absurd is
 
+-- a change is direct,
 pub change-direct : (request : Request) → IsChange request → IsDirect request
 change-direct (Add on named bytes) is = tt
 change-direct (Update on bytes) is = tt
@@ -96,6 +100,26 @@ change-direct (Point on find) is = absurd is
 change-direct (EndReq on) is = absurd is
 change-direct Commit is = absurd is
 change-direct Backout is = absurd is
+
+-- changes a place, and reads none
+pub change-looks : (case : Case) → IsChange case.request → place_looked_at case ≡ place_changed case
+change-looks case is = by_request case.request is refl
+  where
+    unread : find_of case.request ≡ None → place_looked_at case ≡ place_changed case
+    unread none = ap (λ (o : Option Find). option_or
+        (option_and_then (λ (find : Find). place_in (opened case) find (found case)) o)
+        (place_changed case)) none
+
+    by_request : (request : Request) → IsChange request → case.request ≡ request
+        → place_looked_at case ≡ place_changed case
+    by_request (Add on named bytes) is same = unread (ap find_of same)
+    by_request (Update on bytes) is same = unread (ap find_of same)
+    by_request (Erase on) is same = unread (ap find_of same)
+    by_request (Get on find update integrity) is same = absurd is
+    by_request (Point on find) is same = absurd is
+    by_request (EndReq on) is same = absurd is
+    by_request Commit is same = absurd is
+    by_request Backout is same = absurd is
 
 module _ (case : Case) (change : IsChange case.request) where
   pub refuse-memory : MayRefuse case NoMemory
@@ -113,6 +137,15 @@ module _ (case : Case) (change : IsChange case.request) where
       → MayRefuse case result
   refuse-unless refusal result (inl is) may = subst (MayRefuse case) (sym is) may
   refuse-unless refusal result (inr is) may = subst (MayRefuse case) (sym is) refuse-memory
+
+-- nor does one that is answered in its place move a file
+pub stays-unless : (request : Request) (refusal result : Refusal)
+    → (result ≡ refusal) ⊎ (result ≡ NoMemory) → stand_refused request refusal ≡ None
+    → stand_refused request result ≡ None
+stays-unless request refusal result (inl is) stays =
+    subst (λ (r : Refusal). stand_refused request r ≡ None) (sym is) stays
+stays-unless request refusal result (inr is) stays =
+    subst (λ (r : Refusal). stand_refused request r ≡ None) (sym is) refl
 
 first-none : (a : Option Refusal) (rest : List (Option Refusal)) → first_of (a ∷ rest) ≡ None
     → a ≡ None
@@ -170,20 +203,16 @@ module _ (case : CaseInHand) (state : State) (is : IsCaseOf case state)
   w = whole case state
 
   lacks : first_of (file_refusals w) ≡ None → (bytes : List ℕ)
-      → new_record case.request.now ≡ Some bytes → (need : ℕ) → free_areas w < need
-      → LacksRoom w (Refused (NoSpace need (free_areas w)))
-  lacks none bytes new need less =
+      → new_record case.request.now ≡ Some bytes → LacksRoom w (Refused lacks_area)
+  lacks none bytes new =
       let on = on-keyed case state is change none in
-      lacks_room w on.definition bytes need none no-record on.on on.keyed new less
+      lacks_room w on.definition bytes none no-record on.on on.keyed new
 
-  -- more areas are needed than are free
-  pub refuse-space : (bytes : List ℕ) → new_record case.request.now ≡ Some bytes → (free : ℕ)
-      → free ≡ free_areas w → MayRefuse w (NoSpace (free + 1) free)
-  refuse-space bytes new free is-free none = (
-    inr (inl (subst (λ (n : ℕ). LacksRoom w (Refused (NoSpace (free + 1) n))) (sym is-free)
-        (lacks none bytes new (free + 1) (omega (arith, is-free))))),
-    refl,
-  )
+  -- its part lacks an area
+  pub refuse-space : (bytes : List ℕ) → new_record case.request.now ≡ Some bytes
+      → (refusal : Refusal) → refusal ≡ lacks_area → MayRefuse w refusal
+  refuse-space bytes new refusal is-lack = subst (λ (r : Refusal). MayRefuse w r) (sym is-lack)
+      (λ none. (inr (inl (lacks none bytes new)), refl))
 
   -- nothing refuses it before its room, and it fills a part
   pub fills : first_of (file_refusals w) ≡ None → new_record case.request.now ≢ None
@@ -194,5 +223,5 @@ module _ (case : CaseInHand) (state : State) (is : IsCaseOf case state)
           → (first_of (before_room w) ≡ None) × FillsKeyed w
       by_new None is = absurd (some is)
       by_new (Some bytes) is =
-          let all = lacks none bytes is (free_areas w + 1) (omega arith) in
+          let all = lacks none bytes is in
           (all.0, all.1)

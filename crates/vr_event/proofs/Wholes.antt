@@ -101,7 +101,7 @@ failed-owned opening file after unit line request =
     (entry_next asked.entries 0 unit line (Faulted Write)))
     ∙ (alike_refused file.geometry opening file.entries
     (entry_next file.entries after unit line (Asked request (Refused WriteFault))) request WriteFault
-    refl refl).owned
+    refl).owned
 
 -- once locks were taken
 pub held-stopped-locked : {B : Type 0} (seen : B → Seen) (opening : State) (volume : VolumeNow B)

@@ -1,4 +1,4 @@
--- When a call that copies a record may answer what it answers, and when a GET may be refused for a
+-- When a call that copies a record may answer what it answers, and when a read may be refused for a
 -- fault of the device.
 use Rattle.std.specs.Prelude.{◌≡◌, ◌<◌, ◌≤◌, ◌⊎◌, ℕ, Bool, true, false, Result, IsErrOf, OnOk}
 use Rattle.vr_types.specs.Faults.{Faults}
@@ -80,7 +80,8 @@ is_fault NoFile = false
 -- the reply that an outcome is entered with
 abbrev pub reply_of : Outcome → Reply
 reply_of (outcomes.Refused refusal) = Refused refusal
-reply_of (outcomes.Done reply names held) = reply
+reply_of (outcomes.Done reply names at held) = reply
+reply_of (outcomes.Pointed reply at) = reply
 
 -- it is a fault of the device
 abbrev pub is_faulted : Reply → Bool

@@ -1,5 +1,5 @@
--- What a direct GET comes to before it is entered, and which of it may be entered. The rules are those
--- of the record file.
+-- What a read, a GET or a POINT, comes to before it is entered, and which of it may be entered. The
+-- rules are those of the record file.
 use Rattle.std.specs.Prelude.{◌≡◌, ◌⊎◌, ℕ, Bool, false, cond, List, Option, Some, None, length, ◌==◌}
 use Rattle.std.specs.Prelude.{nat_eq}
 use Rattle.std.specs.Option.{option_map_or}
@@ -11,7 +11,7 @@ use Rattle.vr_types.specs.declared.reply.Reply.{Reply}
 use Rattle.vr_types.specs.declared.reply.Reply.TheVariants as replies
 use Rattle.vr_types.specs.declared.request.Request.{Request}
 use Rattle.vr_types.specs.declared.request.FileRef.{FileRef}
-use Rattle.vr_types.specs.declared.request.Find.TheVariants.{Equal}
+use Rattle.vr_types.specs.declared.request.Find.{Find}
 use Rattle.vr_types.specs.declared.request.Request.TheVariants.{Get, Point, Add, Update, Erase}
 use Rattle.vr_types.specs.declared.request.Request.TheVariants.{EndReq, Commit, Backout}
 use Rattle.vr_types.specs.declared.unit.Integrity.{Integrity}
@@ -22,7 +22,8 @@ use Rattle.vr_history.specs.Found.{place_read}
 use Rattle.vr_history.specs.Names.{lock_names}
 use Rattle.vr_history.specs.Replies.{MayReply, done_by, first_of}
 use Rattle.vr_history.specs.State.{State}
-use Rattle.vr_history.specs.Step.{IsOfUnit, case_of, stand_refused}
+use Rattle.vr_history.specs.Step.{IsOfUnit, case_of}
+use Rattle.vr_answer.specs.Least.{found_at}
 use Rattle.vr_answer.specs.Tried.{file_refusals}
 use Rattle.vr_record_file.specs.Now.{FileNow, failed, is_undoing, state_now, with_event}
 use Rattle.vr_types.specs.declared.fault.DeviceFault.TheVariants.{Read, Write}
@@ -32,23 +33,28 @@ use Rattle.vr_types.specs.declared.reply.Refusal.TheVariants.{WriteFault}
 use Rattle.vr_event.specs.declared.no.LookNo.{LookNo}
 use Rattle.vr_event.specs.declared.no.LookNo.TheVariants.{Fault, Memory}
 use Rattle.vr_event.specs.declared.getting.Outcome.{Outcome}
-use Rattle.vr_event.specs.declared.getting.Outcome.TheVariants.{Refused, Done}
+use Rattle.vr_event.specs.declared.getting.Outcome.TheVariants.{Refused, Done, Pointed}
 
--- a GET of the record at a place
-pub record IsGetOf (request : Request) : Type 0 where
-  pub on : FileRef
-  pub place : List ℕ
-  pub update : Bool
-  pub integrity : Integrity
-  pub is : request ≡ Get on (Equal place) update integrity
+-- a GET or a POINT
+abbrev pub IsRead : Request → Type 0
+IsRead (Get on find update integrity) = Unit {0}
+IsRead (Point on find) = Unit {0}
+IsRead (Add on place bytes) = ⊥
+IsRead (Update on bytes) = ⊥
+IsRead (Erase on) = ⊥
+IsRead (EndReq on) = ⊥
+IsRead Commit = ⊥
+IsRead Backout = ⊥
 
--- it names this place of this part
-pub record NamesAt (request : Request) (part : ℕ) (place : List ℕ) : Type 0 where
-  pub on : FileRef
-  pub update : Bool
-  pub integrity : Integrity
-  pub is : request ≡ Get on (Equal place) update integrity
-  pub base : on.base.0 ≡ part
+abbrev pub IsGet : Request → Type 0
+IsGet (Get on find update integrity) = Unit {0}
+IsGet (Point on find) = ⊥
+IsGet (Add on place bytes) = ⊥
+IsGet (Update on bytes) = ⊥
+IsGet (Erase on) = ⊥
+IsGet (EndReq on) = ⊥
+IsGet Commit = ⊥
+IsGet Backout = ⊥
 
 -- how a read that failed is refused
 abbrev pub refusal_of : LookNo → Refusal
@@ -67,20 +73,34 @@ is_for_update (EndReq on) = false
 is_for_update Commit = false
 is_for_update Backout = false
 
--- What the entry of a GET that is done takes: its reply, the names that it locks, and the place that
--- its file holds for update.
-pub record IsDoneAs (case : Case) (reply : Reply) (names : List LockName)
+-- What the entry of a GET that is done takes: its reply, the names that it locks, the place of the
+-- record that it found, and the place that its file holds for update.
+pub record IsDoneAs (case : Case) (reply : Reply) (names : List LockName) (at : List ℕ)
     (held : Option (List ℕ)) : Type 0 where
+  pub on : FileRef
+  pub find : Find
+  pub update : Bool
+  pub integrity : Integrity
+  pub is : case.request ≡ Get on find update integrity
   pub reply_is : reply ≡ done_by case case.request
   pub names_are : names ≡ lock_names case case.request
-  pub held_is : held ≡ cond (is_for_update case.request) (place_read case) None
-  pub at : (get : IsGetOf case.request) → place_read case ≡ Some get.place
+  pub read_at : place_read case ≡ Some at
+  pub found_is : found_at case ≡ Some at
+  pub held_is : held ≡ cond update (Some at) None
+
+-- What that of a POINT takes: its reply, and the place at which its file stands.
+pub record IsPointedAs (case : Case) (reply : Reply) (at : List ℕ) : Type 0 where
+  pub on : FileRef
+  pub find : Find
+  pub is : case.request ≡ Point on find
+  pub reply_is : reply ≡ done_by case case.request
+  pub found_is : found_at case ≡ Some at
 
 -- what may be entered of it
 abbrev pub MayEnd : Case → Outcome → Type 0
 MayEnd case (Refused refusal) = MayReply case (replies.Refused refusal)
-    × (stand_refused case.request refusal ≡ None)
-MayEnd case (Done reply names held) = MayReply case reply × IsDoneAs case reply names held
+MayEnd case (Done reply names at held) = MayReply case reply × IsDoneAs case reply names at held
+MayEnd case (Pointed reply at) = MayReply case reply × IsPointedAs case reply at
 
 -- a place is as long as the keys of a part
 abbrev pub is_long_as : List ℕ → Definition → Bool
@@ -89,14 +109,14 @@ is_long_as place definition = nat_eq (length place) definition.key_length
 abbrev pub fits_in : List CatEntry → ℕ → List ℕ → Bool
 fits_in entries part place = option_map_or (is_long_as place) (definition_of entries part) false
 
--- A GET may be entered: it is of its deck's current unit, which has not begun to undo, and nothing in
+-- A read may be entered: it is of its deck's current unit, which has not begun to undo, and nothing in
 -- memory refuses it.
 pub record IsAsked (opening : State) (file : FileNow) (unit : UnitOfRecovery) (request : Request)
     : Type 0 where
   pub current : IsOfUnit (state_now opening file) unit
   pub of_deck : (unit.deck == 0) ≡ false
   pub goes_on : is_undoing unit file.entries ≡ false
-  pub get : IsGetOf request
+  pub read : IsRead request
   pub unrefused : first_of (file_refusals (case_of file.geometry (state_now opening file) unit
       request)) ≡ None
 

@@ -8,9 +8,12 @@ pub mod Alike
 pub mod Ends
 pub mod Backing
 pub mod Getting
+pub mod Looking
+pub mod Searching
 pub mod EndedFile
 pub mod Acting
 pub mod Putting
+pub mod Lacking
 pub mod Opening
 pub mod Made
 pub mod Serving

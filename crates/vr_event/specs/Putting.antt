@@ -180,9 +180,9 @@ pub record IsReadyIn (parts : List PartNow) (part : ℕ) (request : Request) (pl
   pub old_fits : FitsItem parts part place old
   pub met : HasMetAt parts part place
 
--- whether or not the device reports its contents
+-- whether or not the device reports its contents; a refusal moves no file
 abbrev pub FitsIn : List PartNow → ℕ → Request → Weighed → Type 0
-FitsIn parts part request (Refused refusal) = Unit {0}
+FitsIn parts part request (Refused refusal) = stand_refused request refusal ≡ None
 FitsIn parts part request (Stage place n) = HasPlace parts part place × FitsLength parts part n
 FitsIn parts part request (Ready place old reply names) =
     IsReadyIn parts part request place old × (is_faulted reply ≡ false)

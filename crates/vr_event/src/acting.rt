@@ -1,16 +1,20 @@
-//! One event of a direct request: it is refused by what is in memory, or served.
+//! One event of a request: it is refused by what is in memory, or served.
 ghost use Rattle.std.specs.Prelude.{◌≡◌, ◌≢◌, ◌==◌, ◌<◌, ◌≤◌, ◌-◌, ◌+◌, ◌^◌, IsTrue, None, Some};
-ghost use Rattle.std.specs.Prelude.{false, true};
+ghost use Rattle.std.specs.Prelude.{List, false, true, ℕ};
 ghost use Rattle.vr_types.specs.Moments.{Guards};
-ghost use Rattle.vr_answer.specs.Scope.{IsDirect};
+ghost use Rattle.vr_types.specs.declared.reply.Refusal.TheVariants.{NoSpace};
+ghost use Rattle.vr_types.specs.declared.reply.Reply.TheVariants.{Refused};
 ghost use Rattle.vr_answer.specs.Tried.{IsCalm, file_refusals};
 ghost use Rattle.vr_history.specs.Case as cases;
+ghost use Rattle.vr_history.specs.Change.{place_changed};
 ghost use Rattle.vr_history.specs.Merged.{last_stamp};
 ghost use Rattle.vr_history.specs.Replies.{first_of};
 ghost use Rattle.vr_history.specs.State.{State};
-ghost use Rattle.vr_history.specs.Step.{case_of, stand_refused};
+ghost use Rattle.vr_history.specs.Step.{case_of};
 ghost use Rattle.vr_record_file.specs.Now.{CanSet, has_deck, number_of, state_now};
 ghost use Rattle.vr_event.specs.Acting.{IsActed, IsLeftIn, MayAct};
+ghost use Rattle.vr_event.specs.Getting.{IsEntered};
+ghost use Rattle.vr_event.specs.Lacking.{IsLacking};
 ghost use Rattle.vr_event.specs.Putting as putting;
 ghost use Rattle.vr_event.specs.Serving.{IsEventOf};
 ghost use Rattle.vr_event.specs.Volume.{Holds, IsHeld, IsWhole};
@@ -20,36 +24,30 @@ use crate::act::Act;
 use crate::volume::Volume;
 use std::alloc::Global;
 use vr_space::Part;
-use vr_types::{Blocks, Find, Refusal, Request, SharedRequest, Unit};
+use vr_types::{Blocks, Refusal, Request, SharedRequest, Unit};
 
 /// Which event a request is.
 #[derive(Clone, Copy)]
 enum Event {
-    /// A GET of the record at a place.
-    Get,
+    /// A GET or a POINT.
+    Read,
     /// A PUT or an ERASE.
     Change,
     EndRequest,
     Commit,
     BackOut,
-    /// A request that isn't direct.
-    Other,
 }
 
 /// Which event a request is.
 fn event_of(request: &Request) -> Event
-    ensures { IsDirect request.now → IsEventOf result request.now }
+    ensures { IsEventOf result request.now }
 {
     match request {
-        Request::Get {
-            find: Find::Equal(_),
-            ..
-        } => Event::Get,
+        Request::Get { .. } | Request::Point { .. } => Event::Read,
         Request::Add { .. } | Request::Update { .. } | Request::Erase { .. } => Event::Change,
         Request::EndReq { .. } => Event::EndRequest,
         Request::Commit => Event::Commit,
         Request::Backout => Event::BackOut,
-        Request::Get { .. } | Request::Point { .. } => Event::Other,
     }
 }
 
@@ -66,8 +64,8 @@ impl<B: Blocks, P: Part> Volume<B, P> {
         requires room { 0 < self.old.file.room }
         requires last { last_stamp 0 self.old.file.entries < 2 ^ 64 - 2 }
         requires after { after < 2 ^ 64 - 2 }
+        requires files { CanSet self.old.file unit.deck (cases.file_of request) }
         requires calm { IsCalm (Some refusal) }
-        requires stays { stand_refused request refusal ≡ None }
         ensures held { IsTrue B.tells → (opening : State) → IsHeld B.seen opening self.old
             → MayAct opening self.old.file unit request
             → first_of (file_refusals (case_of self.old.file.geometry
@@ -76,6 +74,8 @@ impl<B: Blocks, P: Part> Volume<B, P> {
         ensures whole { IsWhole B.seen self.old → IsWhole B.seen self.new }
         ensures acted { IsActed (B.faults self.old.blocks) (B.faults self.new.blocks) acts.Done
             after unit line request self.old.file self.new.file }
+        ensures replied { (entered : IsEntered after unit line request self.old.file self.new.file)
+            → entered.reply ≡ Refused refusal }
         ensures blocks { self.new.blocks ≡ self.old.blocks }
         ensures store { self.new.store ≡ self.old.store }
         ensures volume { self.new.number ≡ self.old.number }
@@ -83,7 +83,7 @@ impl<B: Blocks, P: Part> Volume<B, P> {
         self.refuse(unit, line, request, refusal, after);
     }
 
-    /// Serves a direct request that nothing in memory refuses, on a volume that has not stopped.
+    /// Serves a request that nothing in memory refuses, on a volume that has not stopped.
     fn serve(
         &mut self,
         alloc: Global,
@@ -101,7 +101,6 @@ impl<B: Blocks, P: Part> Volume<B, P> {
         requires deck { has_deck unit.deck self.old.file.numbers ≡ true }
         requires number { number_of self.old.file.numbers unit.deck < 2 ^ 32 - 1 }
         requires generation { self.old.store.log.generation + 1 < 2 ^ 64 }
-        requires direct { IsDirect request }
         requires holds { IsTrue B.tells → Holds B.seen self.old }
         ensures held { IsTrue B.tells → (opening : State) → IsHeld B.seen opening self.old
             → MayAct opening self.old.file unit request
@@ -123,13 +122,22 @@ impl<B: Blocks, P: Part> Volume<B, P> {
             → first_of (file_refusals (case_of self.old.file.geometry
             (state_now opening self.old.file) unit request)) ≡ None → putting.IsChange request
             → putting.IfAgain result (putting.MayLackRoom opening self.new.file unit request) }
+        ensures lacks { IsTrue B.tells → (opening : State) → IsHeld B.seen opening self.old
+            → MayAct opening self.old.file unit request
+            → first_of (file_refusals (case_of self.old.file.geometry
+            (state_now opening self.old.file) unit request)) ≡ None
+            → (entered : IsEntered after unit line request self.old.file self.new.file)
+            → (need free : ℕ) → entered.reply ≡ Refused (NoSpace need free) → (place : List ℕ)
+            → place_changed (case_of self.old.file.geometry (state_now opening self.old.file) unit
+            request) ≡ Some place
+            → IsLacking self.old.store (B.seen self.old.blocks).cur place request need free }
         ensures number { self.new.number ≡ self.old.number }
         ensures generation { self.new.file.stopped ≡ None
             → self.new.store.log.generation ≤ self.old.store.log.generation + 1 }
     {
         match event_of(request.get()) {
-            Event::Get => {
-                self.get(alloc, unit, line, request, after);
+            Event::Read => {
+                self.read(alloc, unit, line, request, after);
                 Act::Done
             }
             Event::EndRequest => {
@@ -139,11 +147,10 @@ impl<B: Blocks, P: Part> Volume<B, P> {
             Event::Change => self.change(alloc, unit, line, request, after),
             Event::Commit => self.commit_step(unit, line, request, after),
             Event::BackOut => self.back_out(unit, line, request, after),
-            Event::Other => unreachable!("a direct request"),
         }
     }
 
-    /// One event of a direct request of a deck: it is refused by what is in memory, and so is each
+    /// One event of a request of a deck: it is refused by what is in memory, and so is each
     /// request once a fault of a write has stopped the volume; or it is served. `Again` hands it
     /// back where a step of it was done: the caller asks it again. There is room for three events,
     /// and for one more file, or the file was set before; and the deck was entered.
@@ -163,7 +170,6 @@ impl<B: Blocks, P: Part> Volume<B, P> {
         requires deck { has_deck unit.deck self.old.file.numbers ≡ true }
         requires number { number_of self.old.file.numbers unit.deck < 2 ^ 32 - 1 }
         requires generation { self.old.store.log.generation + 1 < 2 ^ 64 }
-        requires direct { IsDirect request }
         requires holds { IsTrue B.tells → Holds B.seen self.old }
         ensures held { IsTrue B.tells → (opening : State) → IsHeld B.seen opening self.old
             → MayAct opening self.old.file unit request → IsHeld B.seen opening self.new }
@@ -180,6 +186,15 @@ impl<B: Blocks, P: Part> Volume<B, P> {
         ensures again { IsTrue B.tells → (opening : State) → IsHeld B.seen opening self.old
             → MayAct opening self.old.file unit request → putting.IsChange request
             → putting.IfAgain result (putting.MayLackRoom opening self.new.file unit request) }
+        // A change is refused with NoSpace only where its part lacks room, as the event found its
+        // blocks, and with the part's numbers.
+        ensures lacks { IsTrue B.tells → (opening : State) → IsHeld B.seen opening self.old
+            → MayAct opening self.old.file unit request
+            → (entered : IsEntered after unit line request self.old.file self.new.file)
+            → (need free : ℕ) → entered.reply ≡ Refused (NoSpace need free) → (place : List ℕ)
+            → place_changed (case_of self.old.file.geometry (state_now opening self.old.file) unit
+            request) ≡ Some place
+            → IsLacking self.old.store (B.seen self.old.blocks).cur place request need free }
         // A volume that stopped touches no block.
         ensures stopped { self.old.file.stopped ≢ None → self.new.blocks ≡ self.old.blocks }
         ensures number { self.new.number ≡ self.old.number }

@@ -36,16 +36,19 @@ impl<P: Part> Store<P> {
 }
 
 impl<B: Blocks, P: Part> Volume<B, P> {
-    /// The first refusal of a direct request of a deck by what is in memory: `NoFile`, `Stopped`,
-    /// `NotAllowed`, `BadLength`, and `NoGet` where an update or an erase finds nothing held. None
-    /// of them looks at locks or at the log, so neither is a parameter. It takes no memory, and the
-    /// refusal moves no file.
+    /// The first refusal of a request of a deck by what is in memory: `NoFile`, `Stopped`,
+    /// `NotAllowed`, `BadLength`, `NoPosition` where a sequential GET finds its file nowhere, and
+    /// `NoGet` where an update or an erase finds nothing held. None of them looks at locks or at the
+    /// log, so neither is a parameter. It takes no memory, and the refusal moves no file.
     pub fn refused_early(&self, alloc: Global, unit: Unit, request: &Request) -> Option<Refusal>
         ensures value { IsTrue B.tells → (opening : State) → IsHeld B.seen opening self.now
-            → (unit.deck == 0) ≡ false → IsDirect request.now
+            → (unit.deck == 0) ≡ false
             → result ≡ first_of (file_refusals (case_of self.now.file.geometry
             (state_now opening self.now.file) unit request.now)) }
         ensures stays { IsDirect request.now
+            → option_and_then (stand_refused request.now) result ≡ None }
+        ensures stays_any { IsTrue B.tells → (opening : State) → IsHeld B.seen opening self.now
+            → (unit.deck == 0) ≡ false
             → option_and_then (stand_refused request.now) result ≡ None }
         // A volume that stopped refuses each request.
         ensures stops { self.now.file.stopped ≢ None → result ≢ None }
@@ -58,6 +61,7 @@ impl<B: Blocks, P: Part> Volume<B, P> {
             catalog: self.file.catalog(),
             locks: &locks,
             held: self.file.held(unit.deck, request),
+            stand: self.file.stand(unit.deck, request),
             stopped: self.file.stopped(),
             free: self.store.free_areas(),
             used: 0,

@@ -1,5 +1,5 @@
 //! What is decided of a request, entered.
-ghost use Rattle.std.specs.Prelude.{◌≡◌, ◌<◌, ◌-◌, ◌^◌, ℕ, IsTrue, List, None, OnErr, OnOk};
+ghost use Rattle.std.specs.Prelude.{◌≡◌, ◌<◌, ◌-◌, ◌^◌, ℕ, IsSome, IsTrue, List, None, OnErr, OnOk};
 ghost use Rattle.vr_types.specs.declared.reply.Refusal.TheVariants.{WriteFault};
 ghost use Rattle.vr_types.specs.declared.reply.Reply.TheVariants as replies;
 ghost use Rattle.vr_types.specs.declared.request.FileRef as files;
@@ -48,8 +48,8 @@ impl<B: Blocks, P: Part> Volume<B, P> {
         self.file.fail_write(unit, line, request, after);
     }
 
-    /// Enters a request that is refused; a fault of a write stops the volume. No block is touched,
-    /// and what the blocks hold stays what the history gives.
+    /// Enters a request that is refused, which may move its file; a fault of a write stops the
+    /// volume. No block is touched, and what the blocks hold stays what the history gives.
     pub(crate) fn enter_refused(
         &mut self,
         unit: Unit,
@@ -59,14 +59,18 @@ impl<B: Blocks, P: Part> Volume<B, P> {
         after: u64,
     )
         requires room { 1 < self.old.file.room }
+        requires files { IsSome (stand_refused request refusal)
+            → CanSet self.old.file unit.deck (cases.file_of request) }
         requires last { last_stamp 0 self.old.file.entries < 2 ^ 64 - 2 }
         requires after { after < 2 ^ 64 - 2 }
         requires going { self.old.file.stopped ≡ None }
         ensures held { IsTrue B.tells → (opening : State) → IsHeld B.seen opening self.old
             → MayBeAsked opening self.old.file unit request (replies.Refused refusal)
-            → stand_refused request refusal ≡ None → IsHeld B.seen opening self.new }
+            → IsHeld B.seen opening self.new }
         ensures whole { IsWhole B.seen self.old → IsWhole B.seen self.new }
         ensures entered { HasEntered after unit line request self.old.file self.new.file }
+        ensures replied { (entered : IsEntered after unit line request self.old.file self.new.file)
+            → entered.reply ≡ replies.Refused refusal }
         ensures cause { (before now : Faults) → HasReplyCause before now (replies.Refused refusal)
             → HasGetCause before now after unit line request self.old.file self.new.file }
         ensures blocks { self.new.blocks ≡ self.old.blocks }
@@ -90,6 +94,7 @@ impl<B: Blocks, P: Part> Volume<B, P> {
         request: &SharedRequest,
         reply: Reply,
         names: &LockNames,
+        at: &Place,
         held: Option<Place>,
         after: u64,
     ) -> Result<(), LockNo>
@@ -100,7 +105,8 @@ impl<B: Blocks, P: Part> Volume<B, P> {
         ensures held { OnOk result (IsTrue B.tells → (opening : State)
             → IsHeld B.seen opening self.old → IsAsked opening self.old.file unit request.now
             → MayEnd (case_of self.old.file.geometry (state_now opening self.old.file) unit
-            request.now) (outcomes.Done reply names.now held) → IsHeld B.seen opening self.new) }
+            request.now) (outcomes.Done reply names.now at.now held)
+            → IsHeld B.seen opening self.new) }
         ensures whole { IsWhole B.seen self.old → IsWhole B.seen self.new }
         ensures entered { OnOk result
             (IsEntered after unit line request.now self.old.file self.new.file) }
@@ -111,9 +117,10 @@ impl<B: Blocks, P: Part> Volume<B, P> {
         ensures store { self.new.store ≡ self.old.store }
         ensures volume { self.new.number ≡ self.old.number }
     {
+        let stand = self.file.stand_read(alloc, unit, request.get(), at)?;
         let shared = request.share()?;
         self.file
-            .read(alloc, unit, line, shared, reply, names, held, after)
+            .read(unit, line, shared, reply, names, stand, held, after)
     }
 
     /// Enters a GET that is done, and takes its locks, in memory that may run out: then it is
@@ -126,6 +133,7 @@ impl<B: Blocks, P: Part> Volume<B, P> {
         request: SharedRequest,
         reply: Reply,
         names: LockNames,
+        at: Place,
         held: Option<Place>,
         after: u64,
     )
@@ -136,7 +144,7 @@ impl<B: Blocks, P: Part> Volume<B, P> {
         ensures held { IsTrue B.tells → (opening : State) → IsHeld B.seen opening self.old
             → IsAsked opening self.old.file unit request
             → MayEnd (case_of self.old.file.geometry (state_now opening self.old.file) unit request)
-            (outcomes.Done reply names held) → IsHeld B.seen opening self.new }
+            (outcomes.Done reply names at held) → IsHeld B.seen opening self.new }
         ensures whole { IsWhole B.seen self.old → IsWhole B.seen self.new }
         ensures entered { HasEntered after unit line request self.old.file self.new.file }
         ensures cause { (before now : Faults) → HasReplyCause before now reply
@@ -145,14 +153,43 @@ impl<B: Blocks, P: Part> Volume<B, P> {
         ensures store { self.new.store ≡ self.old.store }
         ensures volume { self.new.number ≡ self.old.number }
     {
-        match self.try_read(alloc, unit, line, &request, reply, &names, held, after) {
+        match self.try_read(alloc, unit, line, &request, reply, &names, &at, held, after) {
             Ok(()) => {}
             Err(_) => self.refuse(unit, line, request, Refusal::Memory, after),
         }
     }
 
-    /// Enters a GET.
-    pub(crate) fn enter_get(
+    /// Enters a POINT that is done. No block is touched.
+    fn enter_point(
+        &mut self,
+        unit: Unit,
+        line: u32,
+        request: SharedRequest,
+        reply: Reply,
+        at: Place,
+        after: u64,
+    )
+        requires room { 0 < self.old.file.room }
+        requires files { CanSet self.old.file unit.deck (cases.file_of request) }
+        requires last { last_stamp 0 self.old.file.entries < 2 ^ 64 - 2 }
+        requires after { after < 2 ^ 64 - 2 }
+        ensures held { IsTrue B.tells → (opening : State) → IsHeld B.seen opening self.old
+            → IsAsked opening self.old.file unit request
+            → MayEnd (case_of self.old.file.geometry (state_now opening self.old.file) unit request)
+            (outcomes.Pointed reply at) → IsHeld B.seen opening self.new }
+        ensures whole { IsWhole B.seen self.old → IsWhole B.seen self.new }
+        ensures entered { IsEntered after unit line request self.old.file self.new.file }
+        ensures replied { (before now : Faults) → HasReplyCause before now reply
+            → IsEnteredFor before now after unit line request self.old.file self.new.file }
+        ensures blocks { self.new.blocks ≡ self.old.blocks }
+        ensures store { self.new.store ≡ self.old.store }
+        ensures volume { self.new.number ≡ self.old.number }
+    {
+        self.file.point(unit, line, request, reply, at, after);
+    }
+
+    /// Enters a read.
+    pub(crate) fn enter_outcome(
         &mut self,
         alloc: Global,
         unit: Unit,
@@ -180,8 +217,16 @@ impl<B: Blocks, P: Part> Volume<B, P> {
     {
         match outcome {
             Outcome::Refused(refusal) => self.enter_refused(unit, line, request, refusal, after),
-            Outcome::Done { reply, names, held } => {
-                self.enter_read(alloc, unit, line, request, reply, names, held, after)
+            Outcome::Done {
+                reply,
+                names,
+                at,
+                held,
+            } => {
+                self.enter_read(alloc, unit, line, request, reply, names, at, held, after);
+            }
+            Outcome::Pointed { reply, at } => {
+                self.enter_point(unit, line, request, reply, at, after);
             }
         }
     }

@@ -1,6 +1,6 @@
-//! Direct GETs, and ENDREQ.
+//! Reads, which are GETs and POINTs, and ENDREQ.
 ghost use Rattle.std.specs.Prelude.{◌≡◌, ◌⊎◌, ◌==◌, ◌<◌, ◌≤◌, ◌-◌, ◌^◌, ℕ, IfOk, IfSome, IsTrue, List};
-ghost use Rattle.std.specs.Prelude.{None, [], cond, false, true};
+ghost use Rattle.std.specs.Prelude.{None, Some, [], cond, false, true};
 ghost use Rattle.std.specs.Option.{option_copied};
 ghost use Rattle.vr_types.specs.Blocks.{Keeps};
 ghost use Rattle.vr_types.specs.Moments.{Guards};
@@ -11,62 +11,72 @@ ghost use Rattle.vr_types.specs.declared.request.FileRef as files;
 ghost use Rattle.vr_types.specs.declared.request.Request.TheVariants as requests;
 ghost use Rattle.vr_types.specs.declared.reply.Reply.TheVariants as replies;
 ghost use Rattle.vr_history.specs.Case as cases;
-ghost use Rattle.vr_history.specs.Found.{place_read as read_at};
-ghost use Rattle.vr_history.specs.Legal.{is_write_fault};
 ghost use Rattle.vr_history.specs.Merged.{last_stamp};
 ghost use Rattle.vr_history.specs.RefusedRoom.{free_areas};
 ghost use Rattle.vr_history.specs.Replies.{first_of};
+ghost use Rattle.vr_history.specs.Replies as replied;
 ghost use Rattle.vr_history.specs.State.{State};
-ghost use Rattle.vr_history.specs.Step.{IsOfUnit, case_of, stand_refused};
-ghost use Rattle.vr_answer.specs.InHand.{InEach, InEachWith};
+ghost use Rattle.vr_history.specs.Step.{case_of};
+ghost use Rattle.vr_answer.specs.Here.{base_here};
+ghost use Rattle.vr_answer.specs.InHand.{InEach};
 ghost use Rattle.vr_answer.specs.Tried.{file_refusals, record_refusals};
 ghost use Rattle.vr_history.specs.declared.entry.What.TheVariants as whats;
-ghost use Rattle.vr_record_file.specs.Now.{CanSet, IsStateOf, MayBeAsked, is_undoing, state_now};
+ghost use Rattle.vr_record_file.specs.Now.{CanSet, IsStateOf, MayBeAsked, state_now};
 ghost use Rattle.vr_record_file.specs.Now.{with_event};
 ghost use Rattle.vr_volume.specs.Crashes.{RecoversTo};
-ghost use Rattle.vr_volume.specs.Laid.{shape_in};
 ghost use Rattle.vr_event.specs.Acting.{IsActed};
 ghost use Rattle.vr_event.specs.Cause.{HasGetCause, HasReplyCause, is_fault as faults, is_faulted};
 ghost use Rattle.vr_event.specs.Cause.{reply_of};
 ghost use Rattle.vr_event.specs.Getting as getting;
 ghost use Rattle.vr_event.specs.declared.act.Act.TheVariants as acts;
 ghost use Rattle.vr_event.specs.declared.getting.Outcome.TheVariants as outcomes;
+ghost use Rattle.vr_event.specs.Putting.{AreLaidBy};
+ghost use Rattle.vr_event.specs.Searching.{InEachFound, IsSought};
 ghost use Rattle.vr_event.specs.Store.{IsSet, IsStored, Stands, shape_among};
 ghost use Rattle.vr_event.specs.Volume.{Holds, IsHeld, IsWhole};
 
 use crate::no::LookNo;
+use crate::searching::place_sought;
 use crate::store::Store;
 use crate::volume::Volume;
+use crate::weighing::{base_of, slice_of};
 use std::alloc::Global;
-use vr_answer::{Case, done, lock_names, place_read, refused_by_record};
+use vr_answer::{Case, Looked, done, lock_names, refused_by_record};
 use vr_catalog::Catalog;
 use vr_record_file::RecordFile;
 use vr_space::Part;
 use vr_types::{
-    Blocks, Bytes, DeviceFault, Find, LockNames, OutOfMemory, PartNo, Place, Refusal, Reply,
-    Request, SharedRequest, Unit, place,
+    Blocks, Bytes, DeviceFault, LockNames, OutOfMemory, PartNo, Place, Refusal, Reply, Request,
+    SharedRequest, Unit,
 };
 
-/// What a GET comes to before it is entered.
+/// What a read comes to before it is entered.
 #[derive(Drop)]
 pub(crate) enum Outcome {
     /// It is refused.
     Refused(Refusal),
-    /// It is done: its reply, the names that it locks, and the place that its file holds for update.
+    /// A GET is done: its reply, the names that it locks, the place of the record that it found, and
+    /// the place that its file holds for update.
     Done {
         reply: Reply,
         names: LockNames,
+        at: Place,
         held: Option<Place>,
+    },
+    /// A POINT is done: its reply, and the place at which its file stands.
+    Pointed {
+        reply: Reply,
+        at: Place,
     },
 }
 
-/// A copy of a place, where there is one.
-fn copied(alloc: Global, at: Option<&[u8]>) -> Result<Option<Place>, OutOfMemory>
-    ensures { IfOk result (λ held. held ≡ option_copied at.entry) }
+/// The bytes of a place, where there is one.
+fn place_slice(at: &Option<Place>) -> Option<&[u8]>
+    ensures { option_copied result ≡ at.now }
 {
     match at {
-        None => Ok(None),
-        Some(at) => Ok(Some(place(alloc, at)?)),
+        None => None,
+        Some(at) => Some(at.as_slice()),
     }
 }
 
@@ -83,39 +93,90 @@ fn is_for_update(request: &Request) -> bool
 }
 
 /// The place that the file of a GET holds once it is done.
-fn held_for(alloc: Global, case: &Case) -> Result<Option<Place>, OutOfMemory>
-    ensures { IfOk result (λ held. InEach case.now (λ whole.
-        held ≡ cond (getting.is_for_update whole.request) (read_at whole) None)) }
+fn held_for(alloc: Global, request: &Request, at: &Place) -> Result<Option<Place>, OutOfMemory>
+    ensures { IfOk result (λ held.
+        held ≡ cond (getting.is_for_update request.now) (Some at.now) None) }
 {
-    if is_for_update(case.request) {
-        copied(alloc, place_read(case))
+    if is_for_update(request) {
+        Ok(Some(at.copy(alloc)?))
     } else {
         Ok(None)
     }
 }
 
 /// What a GET that is done comes to.
-fn done_outcome(alloc: Global, case: &Case, present: Option<&[u8]>) -> Result<Outcome, OutOfMemory>
-    ensures { IfOk result (λ outcome. InEachWith case.now (option_copied present.entry)
+fn got(
+    alloc: Global,
+    case: &Case,
+    reply: Reply,
+    at: Place,
+    present: Option<&[u8]>,
+) -> Result<Outcome, OutOfMemory>
+    ensures { IfOk result (λ outcome. InEachFound case.now (Some at) (option_copied present.entry)
         (λ whole. first_of (file_refusals whole) ≡ None → first_of (record_refusals whole) ≡ None
-        → getting.IsGetOf whole.request → getting.MayEnd whole outcome)) }
-{
-    let reply = done(alloc, case, present)?;
-    let names = lock_names(alloc, case)?;
-    let held = held_for(alloc, case)?;
-    Ok(Outcome::Done { reply, names, held })
-}
-
-/// What a GET that nothing in memory refuses comes to, by the record that is there.
-fn outcome_of(alloc: Global, case: &Case, present: Option<&[u8]>) -> Result<Outcome, OutOfMemory>
-    ensures { IfOk result (λ outcome. InEachWith case.now (option_copied present.entry)
-        (λ whole. first_of (file_refusals whole) ≡ None → getting.IsGetOf whole.request
+        → getting.IsGet whole.request → reply ≡ replied.done_by whole whole.request
         → getting.MayEnd whole outcome)) }
 {
-    let refused = refused_by_record(alloc, case, present)?;
+    let looked = Looked {
+        place: Some(at.as_slice()),
+        present,
+    };
+    let names = lock_names(alloc, case, looked)?;
+    let held = held_for(alloc, case.request, &at)?;
+    Ok(Outcome::Done {
+        reply,
+        names,
+        at,
+        held,
+    })
+}
+
+/// What a read that is done comes to.
+fn done_outcome(
+    alloc: Global,
+    case: &Case,
+    at: Place,
+    present: Option<&[u8]>,
+) -> Result<Outcome, OutOfMemory>
+    ensures { IfOk result (λ outcome. InEachFound case.now (Some at) (option_copied present.entry)
+        (λ whole. first_of (file_refusals whole) ≡ None → first_of (record_refusals whole) ≡ None
+        → getting.IsRead whole.request → getting.MayEnd whole outcome)) }
+{
+    let looked = Looked {
+        place: Some(at.as_slice()),
+        present,
+    };
+    let reply = done(alloc, case, looked)?;
+    match case.request {
+        Request::Get { .. } => got(alloc, case, reply, at, present),
+        Request::Point { .. } => Ok(Outcome::Pointed { reply, at }),
+        _ => Ok(Outcome::Refused(Refusal::Memory)),
+    }
+}
+
+/// What a read that nothing in memory refuses comes to, by the place that it comes to and the record
+/// that is there.
+fn outcome_of(
+    alloc: Global,
+    case: &Case,
+    at: Option<Place>,
+    present: Option<&[u8]>,
+) -> Result<Outcome, OutOfMemory>
+    ensures { IfOk result (λ outcome. InEachFound case.now at (option_copied present.entry)
+        (λ whole. first_of (file_refusals whole) ≡ None → getting.IsRead whole.request
+        → getting.MayEnd whole outcome)) }
+{
+    let looked = Looked {
+        place: place_slice(&at),
+        present,
+    };
+    let refused = refused_by_record(alloc, case, looked)?;
     match refused {
         Some(refusal) => Ok(Outcome::Refused(refusal)),
-        None => done_outcome(alloc, case, present),
+        None => match at {
+            None => Ok(Outcome::Refused(Refusal::Memory)),
+            Some(at) => done_outcome(alloc, case, at, present),
+        },
     }
 }
 
@@ -137,13 +198,13 @@ pub(crate) fn is_fault(refusal: &Refusal) -> bool
     matches!(refusal, Refusal::ReadFault | Refusal::WriteFault)
 }
 
-/// Whether what a GET comes to is entered as a fault of the device.
+/// Whether what a read comes to is entered as a fault of the device.
 fn is_fault_outcome(outcome: &Outcome) -> bool
     ensures { result ≡ is_faulted (reply_of outcome.now) }
 {
     match outcome {
         Outcome::Refused(refusal) => is_fault(refusal),
-        Outcome::Done { reply, .. } => match reply {
+        Outcome::Done { reply, .. } | Outcome::Pointed { reply, .. } => match reply {
             Reply::Refused(refusal) => is_fault(refusal),
             Reply::Done { .. } => false,
         },
@@ -162,16 +223,13 @@ fn unless_fault(outcome: Outcome) -> Outcome
     }
 }
 
-/// What a GET that nothing in memory refuses comes to, by the record that was copied.
-fn answered(alloc: Global, case: &Case, present: Option<Bytes>) -> Outcome
-    ensures { InEachWith case.now present (λ whole. first_of (file_refusals whole) ≡ None
-        → getting.IsGetOf whole.request → getting.MayEnd whole result) }
+/// What a read that nothing in memory refuses comes to, by the place that it comes to and the record
+/// that was copied.
+fn answered(alloc: Global, case: &Case, at: Option<Place>, present: Option<Bytes>) -> Outcome
+    ensures { InEachFound case.now at present (λ whole. first_of (file_refusals whole) ≡ None
+        → getting.IsRead whole.request → getting.MayEnd whole result) }
 {
-    let outcome = match &present {
-        None => outcome_of(alloc, case, None),
-        Some(bytes) => outcome_of(alloc, case, Some(bytes.as_slice())),
-    };
-    match outcome {
+    match outcome_of(alloc, case, at, slice_of(&present)) {
         Ok(outcome) => outcome,
         Err(_) => Outcome::Refused(Refusal::Memory),
     }
@@ -187,35 +245,101 @@ pub(crate) fn fits(catalog: &Catalog, part: PartNo, place: &Place) -> bool
     }
 }
 
-/// Reads the record that a GET names, and decides what the GET comes to. Nothing is put.
-fn looked<B: Blocks, P: Part>(
+/// Reads the record at the place that a read comes to, and decides what the read comes to. Nothing
+/// is put.
+fn looked_at<B: Blocks, P: Part>(
     alloc: Global,
     blocks: &mut B,
     store: &mut Store<P>,
     case: &Case,
     part: PartNo,
-    place: &Place,
+    place: Place,
 ) -> Outcome
     requires set { IsSet store.old (B.seen blocks.old) }
     requires place { IfSome (shape_among store.old.parts part.0)
-        (λ shape. IsPlaceOf shape place.now) }
+        (λ shape. IsPlaceOf shape place) }
+    requires base { part.0 ≡ base_here case.now.request.now }
     requires stands { IsTrue B.tells → Stands store.old (B.seen blocks.old) }
     ensures ends { IsTrue B.tells → (volume : ℕ) → InEach case.now (λ whole.
         IsStored volume store.old whole.state (B.seen blocks.old)
-        → getting.NamesAt whole.request part.0 place.now → first_of (file_refusals whole) ≡ None
+        → getting.IsRead whole.request → first_of (file_refusals whole) ≡ None
+        → IsSought whole (Some place) → getting.MayEnd whole result) }
+    ensures same { store.new ≡ store.old }
+    ensures keeps { Keeps B.tells (B.seen blocks.old) (B.seen blocks.new) }
+    ensures cause { HasReplyCause (B.faults blocks.old) (B.faults blocks.new) (reply_of result) }
+{
+    match store.look(alloc, blocks, part, &place) {
+        Err(no) => Outcome::Refused(refusal_of(no)),
+        Ok(present) => unless_fault(answered(alloc, case, Some(place), present)),
+    }
+}
+
+/// Decides what a read comes to by the place that it comes to. Nothing is put.
+fn looked<B: Blocks, P: Part>(
+    alloc: Global,
+    blocks: &mut B,
+    store: &mut Store<P>,
+    catalog: &Catalog,
+    case: &Case,
+    part: PartNo,
+    at: Option<Place>,
+) -> Outcome
+    requires set { IsSet store.old (B.seen blocks.old) }
+    requires laid { AreLaidBy case.now.geometry catalog.now store.old.parts }
+    requires base { part.0 ≡ base_here case.now.request.now }
+    requires stands { IsTrue B.tells → Stands store.old (B.seen blocks.old) }
+    ensures ends { IsTrue B.tells → (volume : ℕ) → InEach case.now (λ whole.
+        IsStored volume store.old whole.state (B.seen blocks.old)
+        → getting.IsRead whole.request → first_of (file_refusals whole) ≡ None
+        → IsSought whole at → getting.MayEnd whole result) }
+    ensures same { store.new ≡ store.old }
+    ensures keeps { Keeps B.tells (B.seen blocks.old) (B.seen blocks.new) }
+    ensures cause { HasReplyCause (B.faults blocks.old) (B.faults blocks.new) (reply_of result) }
+{
+    match at {
+        None => unless_fault(answered(alloc, case, None, None)),
+        Some(place) => {
+            // A place that a read comes to is one of its part. That is asked here, since of a device
+            // that doesn't report its contents nobody knows it.
+            if fits(catalog, part, &place) {
+                looked_at(alloc, blocks, store, case, part, place)
+            } else {
+                Outcome::Refused(Refusal::Memory)
+            }
+        }
+    }
+}
+
+/// Decides what a read comes to that nothing in memory refuses, with what is in memory. Nothing is
+/// put.
+fn sought<B: Blocks, P: Part>(
+    alloc: Global,
+    blocks: &mut B,
+    store: &mut Store<P>,
+    catalog: &Catalog,
+    case: &Case,
+    part: PartNo,
+) -> Outcome
+    requires set { IsSet store.old (B.seen blocks.old) }
+    requires laid { AreLaidBy case.now.geometry catalog.now store.old.parts }
+    requires base { part.0 ≡ base_here case.now.request.now }
+    requires stands { IsTrue B.tells → Stands store.old (B.seen blocks.old) }
+    ensures ends { IsTrue B.tells → (volume : ℕ) → InEach case.now (λ whole.
+        IsStored volume store.old whole.state (B.seen blocks.old)
+        → getting.IsRead whole.request → first_of (file_refusals whole) ≡ None
         → getting.MayEnd whole result) }
     ensures same { store.new ≡ store.old }
     ensures keeps { Keeps B.tells (B.seen blocks.old) (B.seen blocks.new) }
     ensures cause { HasReplyCause (B.faults blocks.old) (B.faults blocks.new) (reply_of result) }
 {
-    match store.look(alloc, blocks, part, place) {
+    match place_sought(alloc, blocks, store, catalog, case, part) {
         Err(no) => Outcome::Refused(refusal_of(no)),
-        Ok(present) => unless_fault(answered(alloc, case, present)),
+        Ok(at) => looked(alloc, blocks, store, catalog, case, part, at),
     }
 }
 
-/// Decides what a GET comes to that nothing in memory refuses, so that its place has the length of
-/// its part's keys, on a volume that has not stopped. Nothing is put.
+/// Decides what a read comes to that nothing in memory refuses, on a volume that has not stopped.
+/// Nothing is put.
 fn decide<B: Blocks, P: Part>(
     alloc: Global,
     blocks: &mut B,
@@ -223,17 +347,14 @@ fn decide<B: Blocks, P: Part>(
     file: &RecordFile,
     unit: Unit,
     request: &Request,
-    part: PartNo,
-    place: &Place,
 ) -> Outcome
     requires set { IsSet store.old (B.seen blocks.old) }
-    requires laid { (number : ℕ) → shape_among store.old.parts number
-        ≡ shape_in file.now.geometry file.now.catalog number }
+    requires laid { AreLaidBy file.now.geometry file.now.catalog store.old.parts }
     requires stands { IsTrue B.tells → Stands store.old (B.seen blocks.old) }
     ensures ends { IsTrue B.tells → (volume : ℕ) (opening : State) → IsStateOf opening file.now
         → file.now.stopped ≡ None
         → IsStored volume store.old (state_now opening file.now) (B.seen blocks.old)
-        → (unit.deck == 0) ≡ false → getting.NamesAt request.now part.0 place.now
+        → (unit.deck == 0) ≡ false → getting.IsRead request.now
         → let case = case_of file.now.geometry (state_now opening file.now) unit request.now in
         free_count store.old.space ≡ free_areas case → first_of (file_refusals case) ≡ None
         → getting.MayEnd case result }
@@ -242,12 +363,14 @@ fn decide<B: Blocks, P: Part>(
     ensures cause { HasReplyCause (B.faults blocks.old) (B.faults blocks.new) (reply_of result) }
 {
     let case = file.case(unit, request, store.free_areas(), store.used());
-    if fits(file.catalog(), part, place) {
-        looked(alloc, blocks, store, &case, part, place)
-    } else {
-        let length = place.as_slice().len().min(u32::MAX as usize) as u32;
-        Outcome::Refused(Refusal::BadLength { length })
-    }
+    sought(
+        alloc,
+        blocks,
+        store,
+        file.catalog(),
+        &case,
+        base_of(request),
+    )
 }
 
 impl<B: Blocks, P: Part> Volume<B, P> {
@@ -278,12 +401,12 @@ impl<B: Blocks, P: Part> Volume<B, P> {
         self.file.end_request(unit, line, request, after);
     }
 
-    /// Decides what a GET comes to that nothing in memory refuses, on a volume that has not stopped:
+    /// Decides what a read comes to that nothing in memory refuses, on a volume that has not stopped:
     /// its record is looked at, and nothing is put.
-    fn decide_get(&mut self, alloc: Global, unit: Unit, request: &Request) -> Outcome
+    fn decide_read(&mut self, alloc: Global, unit: Unit, request: &Request) -> Outcome
         requires whole { IsWhole B.seen self.old }
         requires going { self.old.file.stopped ≡ None }
-        requires get { getting.IsGetOf request.now }
+        requires read { getting.IsRead request.now }
         requires holds { IsTrue B.tells → Holds B.seen self.old }
         ensures ends { IsTrue B.tells → (opening : State) → IsHeld B.seen opening self.old
             → getting.IsAsked opening self.old.file unit request.now
@@ -299,44 +422,34 @@ impl<B: Blocks, P: Part> Volume<B, P> {
         ensures cause { HasReplyCause (B.faults self.old.blocks) (B.faults self.new.blocks)
             (reply_of result) }
     {
-        match request {
-            Request::Get {
-                file,
-                find,
-                update,
-                integrity,
-            } => match find {
-                Find::Equal(place) => decide(
-                    alloc,
-                    &mut self.blocks,
-                    &mut self.store,
-                    &self.file,
-                    unit,
-                    request,
-                    file.base,
-                    place,
-                ),
-                _ => unreachable!("a GET of a place"),
-            },
-            _ => unreachable!("a GET of a place"),
-        }
+        decide(
+            alloc,
+            &mut self.blocks,
+            &mut self.store,
+            &self.file,
+            unit,
+            request,
+        )
     }
 
-    /// Answers a direct GET of a deck that [`Volume::refused_early`] doesn't refuse, on a volume that
-    /// has not stopped, and enters it at a stamp above `after`: the record at its place is
-    /// looked at, and a GET that is done takes its locks and, for update, holds its place. It is
-    /// refused by what the record is, for a read that fails (`ReadFault`; a device that answers a
-    /// fault of a write stops the volume, as `WriteFault`), and where memory runs out (`Memory`).
-    /// Nothing is put, and what the blocks hold stays what the history gives. There is room for two
-    /// events, and for one more file, or the file was set before.
-    pub fn get(&mut self, alloc: Global, unit: Unit, line: u32, request: SharedRequest, after: u64)
+    /// Answers a read, a GET or a POINT, of a deck that [`Volume::refused_early`] doesn't refuse, on a
+    /// volume that has not stopped, and enters it at a stamp above `after`. A read that names no
+    /// place finds the first record that it asks for, by where its file stands; with consistency,
+    /// also what another unit may bring back. The record at its place is looked at. A GET that is
+    /// done takes its locks and, for update, holds its place; a sequential one stands after its
+    /// record then, and a POINT at it. It is refused by what the record is, for a read that fails
+    /// (`ReadFault`; a device that answers a fault of a write stops the volume, as `WriteFault`),
+    /// and where memory runs out (`Memory`). Nothing is put, and what the blocks hold stays what the
+    /// history gives. There is room for two events, and for one more file, or the file was set
+    /// before.
+    pub fn read(&mut self, alloc: Global, unit: Unit, line: u32, request: SharedRequest, after: u64)
         requires whole { IsWhole B.seen self.old }
         requires going { self.old.file.stopped ≡ None }
         requires room { 1 < self.old.file.room }
         requires files { CanSet self.old.file unit.deck (cases.file_of request) }
         requires last { last_stamp 0 self.old.file.entries < 2 ^ 64 - 2 }
         requires after { after < 2 ^ 64 - 2 }
-        requires get { getting.IsGetOf request }
+        requires read { getting.IsRead request }
         requires holds { IsTrue B.tells → Holds B.seen self.old }
         ensures held { IsTrue B.tells → (opening : State) → IsHeld B.seen opening self.old
             → getting.IsAsked opening self.old.file unit request → IsHeld B.seen opening self.new }
@@ -353,7 +466,7 @@ impl<B: Blocks, P: Part> Volume<B, P> {
         ensures store { self.new.store ≡ self.old.store }
         ensures number { self.new.number ≡ self.old.number }
     {
-        let outcome = self.decide_get(alloc, unit, request.get());
-        self.enter_get(alloc, unit, line, request, outcome, after);
+        let outcome = self.decide_read(alloc, unit, request.get());
+        self.enter_outcome(alloc, unit, line, request, outcome, after);
     }
 }

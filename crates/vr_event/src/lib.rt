@@ -25,6 +25,7 @@ mod putting;
 mod putting_events;
 mod reading;
 mod refusing;
+mod searching;
 mod staging;
 mod standing;
 mod store;

@@ -1,18 +1,25 @@
 //! PUT and ERASE as events of a volume.
 ghost use Rattle.std.specs.Prelude.{◌≡◌, ◌≢◌, ◌<◌, ◌-◌, ◌^◌, ℕ, IsTrue, List, None, Option, []};
 ghost use Rattle.std.specs.Option.{option_copied};
-ghost use Rattle.std.specs.Prelude.{false};
+ghost use Rattle.std.specs.Prelude.{Some, false};
 ghost use Rattle.vr_types.specs.Blocks.{Keeps};
 ghost use Rattle.vr_types.specs.Moments.{Guards};
+ghost use Rattle.vr_types.specs.declared.reply.Refusal.TheVariants.{NoSpace};
+ghost use Rattle.vr_types.specs.declared.reply.Reply.TheVariants.{Refused};
 ghost use Rattle.vr_answer.specs.Here.{base_here};
+ghost use Rattle.vr_answer.specs.Tried.{file_refusals};
 ghost use Rattle.vr_history.specs.Case as cases;
+ghost use Rattle.vr_history.specs.Change.{place_changed};
 ghost use Rattle.vr_history.specs.Merged.{last_stamp};
+ghost use Rattle.vr_history.specs.Replies.{first_of};
 ghost use Rattle.vr_history.specs.State.{State};
 ghost use Rattle.vr_history.specs.Step.{case_of};
 ghost use Rattle.vr_record_file.specs.Now.{state_now};
 ghost use Rattle.vr_volume.specs.Crashes.{RecoversTo};
 ghost use Rattle.vr_event.specs.Acting.{IsActed};
 ghost use Rattle.vr_event.specs.Cause.{HasReplyCause, is_faulted};
+ghost use Rattle.vr_event.specs.Getting.{IsEntered};
+ghost use Rattle.vr_event.specs.Lacking.{IfLacks, IsLacking, LacksRoomIn};
 ghost use Rattle.vr_event.specs.Putting as putting;
 ghost use Rattle.vr_event.specs.Room.{IsDueAt};
 ghost use Rattle.vr_event.specs.Volume.{Holds, IsHeld, IsWhole};
@@ -46,6 +53,13 @@ impl<B: Blocks, P: Part> Volume<B, P> {
         ensures may { IsTrue B.tells → (opening : State) → IsHeld B.seen opening self.old
             → putting.MayWeigh (case_of self.old.file.geometry (state_now opening self.old.file)
             unit request.now) result }
+        ensures lacks { IsTrue B.tells → (opening : State) → IsHeld B.seen opening self.old
+            → let case = case_of self.old.file.geometry (state_now opening self.old.file) unit
+            request.now in
+            first_of (file_refusals case) ≡ None → (place : List ℕ)
+            → place_changed case ≡ Some place
+            → IfLacks (LacksRoomIn self.old.store (B.seen self.old.blocks).cur part.0 place
+            request.now) result }
         ensures opens { IsTrue B.tells → putting.IsOpenTo self.new.store
             (B.seen self.new.blocks).cur part.0 request.now result }
         ensures fits { putting.FitsIn self.new.store.parts part.0 request.now result }
@@ -107,6 +121,9 @@ impl<B: Blocks, P: Part> Volume<B, P> {
         ensures again { (opening : State) → putting.IfAgain result
             ((self.new.file.geometry ≡ self.old.file.geometry)
             × (state_now opening self.new.file ≡ state_now opening self.old.file)) }
+        // Where it is entered, it is not for want of areas.
+        ensures lacks { (entered : IsEntered after unit line request self.old.file self.new.file)
+            (need free : ℕ) → entered.reply ≡ Refused (NoSpace need free) → ⊥ }
         ensures number { self.new.number ≡ self.old.number }
         ensures generation { self.new.store.log.generation ≡ self.old.store.log.generation }
     {
@@ -173,6 +190,10 @@ impl<B: Blocks, P: Part> Volume<B, P> {
             → Guards (B.seen self.old.blocks) (B.seen self.new.blocks)
             (RecoversTo self.old.store.log.geometry self.old.number
             (state_now opening self.old.file) []) }
+        // Where it is refused for want of areas, that was its reply.
+        ensures lacks { (entered : IsEntered after unit line request self.old.file self.new.file)
+            (need free : ℕ) → entered.reply ≡ Refused (NoSpace need free)
+            → reply ≡ Refused (NoSpace need free) }
         ensures number { self.new.number ≡ self.old.number }
         ensures generation { self.new.file.stopped ≡ None
             → self.new.store.log.generation ≡ self.old.store.log.generation }
@@ -194,11 +215,12 @@ impl<B: Blocks, P: Part> Volume<B, P> {
 
     /// One step of a PUT or an ERASE that [`Volume::refused_early`] doesn't refuse, on a volume that
     /// has not stopped. The record at its place is looked at; it is refused by what the record is and
-    /// by locks in the way, where the log is full (`LogFull`, before any split), where more areas are
-    /// needed than are free (`NoSpace`), for a read that fails (`ReadFault`), and where memory runs
-    /// out (`Memory`). A stage of a split that its place needs is done, and it is to be asked again
-    /// (`Again`). Else its before-image is kept, logged and forced, its lock is taken, and the record
-    /// is set (`Done`). A fault of a write stops the volume. There is room for two events.
+    /// by locks in the way, where the log is full (`LogFull`, before any split), where its part lacks
+    /// room and has no area to take (`NoSpace`, with the part's numbers), for a read that fails
+    /// (`ReadFault`), and where memory runs out (`Memory`). A stage of a split that its place needs
+    /// is done, and it is to be asked again (`Again`). Else its before-image is kept, logged and
+    /// forced, its lock is taken, and the record is set (`Done`). A fault of a write stops the
+    /// volume. There is room for two events.
     pub fn change(
         &mut self,
         alloc: Global,
@@ -229,6 +251,14 @@ impl<B: Blocks, P: Part> Volume<B, P> {
         ensures again { IsTrue B.tells → (opening : State) → IsHeld B.seen opening self.old
             → putting.IsChanging opening self.old.file unit request
             → putting.IfAgain result (putting.MayLackRoom opening self.new.file unit request) }
+        // It is refused with NoSpace only where its part lacks room, and with the part's numbers.
+        ensures lacks { IsTrue B.tells → (opening : State) → IsHeld B.seen opening self.old
+            → putting.IsChanging opening self.old.file unit request
+            → (entered : IsEntered after unit line request self.old.file self.new.file)
+            → (need free : ℕ) → entered.reply ≡ Refused (NoSpace need free) → (place : List ℕ)
+            → place_changed (case_of self.old.file.geometry (state_now opening self.old.file) unit
+            request) ≡ Some place
+            → IsLacking self.old.store (B.seen self.old.blocks).cur place request need free }
         ensures number { self.new.number ≡ self.old.number }
         ensures generation { self.new.file.stopped ≡ None
             → self.new.store.log.generation ≡ self.old.store.log.generation }

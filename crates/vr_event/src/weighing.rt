@@ -1,10 +1,10 @@
 //! What a PUT or an ERASE comes to before it is made.
-ghost use Rattle.std.specs.Prelude.{◌≡◌, ◌⊎◌, ◌==◌, ◌<◌, ◌^◌, ℕ, IfOk, IfSome, IsTrue, List};
-ghost use Rattle.std.specs.Prelude.{None, Some, false, length, length as count};
+ghost use Rattle.std.specs.Prelude.{◌≡◌, ◌≢◌, ◌⊎◌, ◌==◌, ◌<◌, ◌^◌, ℕ, IfOk, IfSome, IsTrue, List};
+ghost use Rattle.std.specs.Prelude.{None, Some, false, length, length as count, option_and_then};
 ghost use Rattle.std.specs.Option.{ForSome, option_copied};
 ghost use Rattle.vr_types.specs.Blocks.{Keeps};
 ghost use Rattle.vr_types.specs.Space.{free_count};
-ghost use Rattle.vr_types.specs.declared.reply.Refusal.TheVariants.{Memory as NoMemory};
+ghost use Rattle.vr_types.specs.declared.reply.Refusal.TheVariants.{Memory as NoMemory, NoSpace};
 ghost use Rattle.vr_history.specs.Case as cases;
 ghost use Rattle.vr_history.specs.Change as changes;
 ghost use Rattle.vr_history.specs.Names as locks;
@@ -12,23 +12,30 @@ ghost use Rattle.vr_history.specs.Opened as files;
 ghost use Rattle.vr_history.specs.Replies as replies;
 ghost use Rattle.vr_history.specs.RefusedRoom.{free_areas};
 ghost use Rattle.vr_history.specs.State.{State};
-ghost use Rattle.vr_history.specs.Step.{IsOfUnit, case_of};
+ghost use Rattle.vr_history.specs.Step.{IsOfUnit, case_of, stand_refused};
 ghost use Rattle.vr_answer.specs.Here.{base_here};
-ghost use Rattle.vr_answer.specs.InHand.{InEach, InEachLogged, InEachWith};
+ghost use Rattle.vr_answer.specs.InHand.{InEach, IsLookedAt};
+ghost use Rattle.vr_answer.specs.Tried.{file_refusals};
 ghost use Rattle.vr_record_file.specs.Now.{IsStateOf, state_now};
 ghost use Rattle.vr_volume.specs.Laid.{shape_in};
 ghost use Rattle.vr_event.specs.Cause.{HasReplyCause, is_fault as faults, is_faulted};
+ghost use Rattle.vr_event.specs.Lacking as lacking;
+ghost use Rattle.vr_event.specs.Looking.{InEachLogged, InEachWith};
 ghost use Rattle.vr_event.specs.Parts.{OnlyMet};
 ghost use Rattle.vr_event.specs.Putting as putting;
+ghost use Rattle.vr_event.specs.Room.{IsRoomAt};
 ghost use Rattle.vr_types.specs.Image.{Image};
-ghost use Rattle.vr_event.specs.Store.{IsSet, IsStored, PartNow, Stands, StoreNow};
+ghost use Rattle.vr_event.specs.Store.{IsSet, IsStored, PartNow, Stands, StoreNow, part_among};
+ghost use Rattle.vr_space.specs.declared.room.Room.TheVariants as rooms;
 
 use crate::fitting::{fits_item, length_asked};
 use crate::getting::{fits, is_fault, refusal_of};
 use crate::no::LookNo;
 use crate::store::Store;
 use std::alloc::Global;
-use vr_answer::{Case, done, file_of, lock_names, log_full, place_changed, refused_by_record};
+use vr_answer::{
+    Case, Looked, done, file_of, lock_names, log_full, place_changed, refused_by_record,
+};
 use vr_catalog::Catalog;
 use vr_record_file::RecordFile;
 use vr_space::{Part, Room};
@@ -124,6 +131,18 @@ fn place_asked(alloc: Global, case: &Case) -> Option<Place>
     }
 }
 
+/// What a change comes to: the place that it names, and the record that stands there.
+fn changed_at<'a>(case: &Case<'a>, present: Option<&'a [u8]>) -> Looked<'a>
+    ensures looked { InEachWith case.now (option_copied present.entry) (λ whole.
+        putting.IsChange whole.request → IsLookedAt result whole) }
+    ensures present { option_copied result.present ≡ option_copied present.entry }
+{
+    Looked {
+        place: place_changed(case),
+        present,
+    }
+}
+
 /// How a change is refused by the record that stands at its place and by the locks of others, and
 /// then by the log. It fails only if memory runs out.
 fn refused_in_memory(
@@ -134,12 +153,21 @@ fn refused_in_memory(
     live: bool,
 ) -> Result<Option<Refusal>, OutOfMemory>
     requires { ForSome (option_copied present) (λ bytes. length bytes < 2 ^ 32) }
-    ensures { IfOk result (λ refused. InEachLogged case.now (option_copied present.entry) logged
-        live (λ whole. putting.IsRefusedBy whole refused)) }
+    ensures value { IfOk result (λ refused. InEachLogged case.now (option_copied present.entry)
+        logged live (λ whole. putting.IsChange whole.request
+        → putting.IsRefusedBy whole refused)) }
+    // and the refusal moves no file
+    ensures stays { IfOk result (λ refused. putting.IsChange case.now.request.now
+        → option_and_then (stand_refused case.now.request.now) refused ≡ None) }
+    // and none is for want of areas
+    ensures lacks { IfOk result (λ refused. InEachLogged case.now (option_copied present.entry)
+        logged live (λ whole. putting.IsChange whole.request
+        → replies.first_of (file_refusals whole) ≡ None → lacking.AreElse refused)) }
 {
-    match refused_by_record(alloc, case, present)? {
+    let looked = changed_at(case, present);
+    match refused_by_record(alloc, case, looked)? {
         Some(refusal) => Ok(Some(refusal)),
-        None => Ok(log_full(case, present, logged, live)),
+        None => Ok(log_full(case, looked, logged, live)),
     }
 }
 
@@ -150,11 +178,12 @@ fn reply_and_names(
     present: Option<&[u8]>,
 ) -> Result<(Reply, LockNames), OutOfMemory>
     ensures { IfOk result (λ both. InEachWith case.now (option_copied present.entry) (λ whole.
-        (both.0 ≡ replies.done_by whole whole.request)
+        putting.IsChange whole.request → (both.0 ≡ replies.done_by whole whole.request)
         × (both.1 ≡ locks.lock_names whole whole.request))) }
 {
-    let reply = done(alloc, case, present)?;
-    let names = lock_names(alloc, case)?;
+    let looked = changed_at(case, present);
+    let reply = done(alloc, case, looked)?;
+    let names = lock_names(alloc, case, looked)?;
     Ok((reply, names))
 }
 
@@ -170,6 +199,7 @@ fn ready(alloc: Global, case: &Case, place: Place, old: Option<Bytes>) -> Weighe
         → putting.IsReadyIn parts part case.now.request.now place old
         → putting.FitsIn parts part case.now.request.now result }
     ensures calm { is_faulted (putting.reply_to result) ≡ false }
+    ensures lacks { lacking.IfLacks (λ need free. ⊥) result }
 {
     match reply_and_names(alloc, case, slice_of(&old)) {
         Err(_) => Weighed::Refused(Refusal::Memory),
@@ -188,9 +218,17 @@ fn ready(alloc: Global, case: &Case, place: Place, old: Option<Bytes>) -> Weighe
     }
 }
 
-/// A change for which its part has no room: more areas are needed than are free. An ERASE needs none.
-fn crowded(alloc: Global, case: &Case, free: u32, place: Place, old: Option<Bytes>) -> Weighed
-    ensures may { InEachWith case.now old (λ whole. free ≡ free_areas whole
+/// A change for which its part has no room: it needs this many areas, and so many are free to it.
+/// An ERASE needs none.
+fn crowded(
+    alloc: Global,
+    case: &Case,
+    need: u64,
+    free: u32,
+    place: Place,
+    old: Option<Bytes>,
+) -> Weighed
+    ensures may { InEachWith case.now old (λ whole. NoSpace need free ≡ replies.lacks_area
         → putting.IsReadyAt whole place old → putting.MayWeigh whole result) }
     ensures opens { (store : StoreNow) (image : Image) (part : ℕ)
         → putting.HasRoomAt store image part place None
@@ -199,11 +237,16 @@ fn crowded(alloc: Global, case: &Case, free: u32, place: Place, old: Option<Byte
         → putting.IsReadyIn parts part case.now.request.now place old
         → putting.FitsIn parts part case.now.request.now result }
     ensures calm { is_faulted (putting.reply_to result) ≡ false }
+    ensures lacks { (store : StoreNow) (image : Image) (part n : ℕ)
+        → part_among store.parts part ≢ None
+        → IsRoomAt store image part place n (rooms.NoSpace need free)
+        → IfSome (cases.new_record case.now.request.now) (λ bytes. n ≡ count bytes)
+        → lacking.IfLacks
+        (lacking.LacksRoomIn store image part place case.now.request.now) result }
 {
     if is_erase(case.request) {
         return ready(alloc, case, place, old);
     }
-    let need = free as u64 + 1;
     match new_record(case.request) {
         Some(given) => Weighed::Refused(Refusal::NoSpace { need, free }),
         None => Weighed::Refused(Refusal::Memory),
@@ -230,8 +273,10 @@ fn weigh_room<B: Blocks, P: Part>(
     requires old_fits { putting.FitsItem store.old.parts part.0 place old }
     requires long { IfSome (cases.new_record case.now.request.now)
         (λ bytes. length ≡ count bytes) }
-    ensures may { InEachWith case.now old (λ whole. free_count store.old.space ≡ free_areas whole
-        → putting.IsReadyAt whole place old → putting.MayWeigh whole result) }
+    ensures may { IsTrue B.tells → InEachWith case.now old (λ whole.
+        putting.IsReadyAt whole place old → putting.MayWeigh whole result) }
+    ensures lacks { IsTrue B.tells → lacking.IfLacks (lacking.LacksRoomIn store.old
+        (B.seen blocks.old).cur part.0 place case.now.request.now) result }
     ensures opens { IsTrue B.tells → putting.IsOpenTo store.new (B.seen blocks.new).cur part.0
         case.now.request.now result }
     ensures fits { putting.FitsIn store.new.parts part.0 case.now.request.now result }
@@ -248,7 +293,7 @@ fn weigh_room<B: Blocks, P: Part>(
     match store.ask_room(blocks, part, &place, length) {
         Err(fault) => Weighed::Refused(refusal_of(LookNo::Fault(fault))),
         Ok(Room::Stage(_)) => Weighed::Stage { place, length },
-        Ok(Room::NoSpace { .. }) => crowded(alloc, case, store.free_areas(), place, old),
+        Ok(Room::NoSpace { need, free }) => crowded(alloc, case, need, free, place, old),
         Ok(Room::Ready) => ready(alloc, case, place, old),
     }
 }
@@ -268,6 +313,7 @@ fn weigh_record<B: Blocks, P: Part>(
     requires set { IsSet store.old (B.seen blocks.old) }
     requires stands { IsTrue B.tells → Stands store.old (B.seen blocks.old) }
     requires at { putting.HasPlace store.old.parts part.0 place }
+    requires change { putting.IsChange case.now.request.now }
     requires size { IfSome length (λ n. putting.FitsLength store.old.parts part.0 n) }
     requires new_fits { IfSome length (λ n. putting.FitsItem store.old.parts part.0 place
         (cases.new_record case.now.request.now)) }
@@ -276,8 +322,13 @@ fn weigh_record<B: Blocks, P: Part>(
         (λ bytes. n ≡ count bytes)) }
     ensures may { IsTrue B.tells → (volume : ℕ) → InEachWith case.now old (λ whole.
         IsStored volume store.old whole.state (B.seen blocks.old)
-        → free_count store.old.space ≡ free_areas whole
         → putting.IsAskedAt whole part.0 place → putting.MayWeigh whole result) }
+    ensures lacks { IsTrue B.tells → (volume : ℕ) → InEachWith case.now old (λ whole.
+        IsStored volume store.old whole.state (B.seen blocks.old)
+        → putting.IsAskedAt whole part.0 place
+        → replies.first_of (file_refusals whole) ≡ None
+        → lacking.IfLacks (lacking.LacksRoomIn store.old (B.seen blocks.old).cur part.0 place
+        case.now.request.now) result) }
     ensures opens { IsTrue B.tells → putting.IsOpenTo store.new (B.seen blocks.new).cur part.0
         case.now.request.now result }
     ensures fits { putting.FitsIn store.new.parts part.0 case.now.request.now result }
@@ -321,8 +372,13 @@ fn weigh_looked<B: Blocks, P: Part>(
     requires change { putting.IsChange case.now.request.now }
     ensures may { IsTrue B.tells → (volume : ℕ) → InEachWith case.now old (λ whole.
         IsStored volume store.old whole.state (B.seen blocks.old)
-        → free_count store.old.space ≡ free_areas whole
         → putting.IsAskedAt whole part.0 place → putting.MayWeigh whole result) }
+    ensures lacks { IsTrue B.tells → (volume : ℕ) → InEachWith case.now old (λ whole.
+        IsStored volume store.old whole.state (B.seen blocks.old)
+        → putting.IsAskedAt whole part.0 place
+        → replies.first_of (file_refusals whole) ≡ None
+        → lacking.IfLacks (lacking.LacksRoomIn store.old (B.seen blocks.old).cur part.0 place
+        case.now.request.now) result) }
     ensures opens { IsTrue B.tells → putting.IsOpenTo store.new (B.seen blocks.new).cur part.0
         case.now.request.now result }
     ensures fits { putting.FitsIn store.new.parts part.0 case.now.request.now result }
@@ -361,8 +417,13 @@ fn weigh_at<B: Blocks, P: Part>(
     requires change { putting.IsChange case.now.request.now }
     ensures may { IsTrue B.tells → (volume : ℕ) → InEach case.now (λ whole.
         IsStored volume store.old whole.state (B.seen blocks.old)
-        → free_count store.old.space ≡ free_areas whole
         → putting.IsAskedAt whole part.0 place → putting.MayWeigh whole result) }
+    ensures lacks { IsTrue B.tells → (volume : ℕ) → InEach case.now (λ whole.
+        IsStored volume store.old whole.state (B.seen blocks.old)
+        → putting.IsAskedAt whole part.0 place
+        → replies.first_of (file_refusals whole) ≡ None
+        → lacking.IfLacks (lacking.LacksRoomIn store.old (B.seen blocks.old).cur part.0 place
+        case.now.request.now) result) }
     ensures opens { IsTrue B.tells → putting.IsOpenTo store.new (B.seen blocks.new).cur part.0
         case.now.request.now result }
     ensures fits { putting.FitsIn store.new.parts part.0 case.now.request.now result }
@@ -427,6 +488,15 @@ pub(crate) fn weigh<B: Blocks, P: Part>(
         → IsStored volume store.old (state_now opening file.now) (B.seen blocks.old)
         → let case = case_of file.now.geometry (state_now opening file.now) unit request.now in
         free_count store.old.space ≡ free_areas case → putting.MayWeigh case result }
+    ensures lacks { IsTrue B.tells → (volume : ℕ) (opening : State) → IsStateOf opening file.now
+        → file.now.stopped ≡ None
+        → IsStored volume store.old (state_now opening file.now) (B.seen blocks.old)
+        → let case = case_of file.now.geometry (state_now opening file.now) unit request.now in
+        free_count store.old.space ≡ free_areas case
+        → replies.first_of (file_refusals case) ≡ None → (place : List ℕ)
+        → changes.place_changed case ≡ Some place
+        → lacking.IfLacks (lacking.LacksRoomIn store.old (B.seen blocks.old).cur part.0 place
+        request.now) result }
     ensures opens { IsTrue B.tells → putting.IsOpenTo store.new (B.seen blocks.new).cur part.0
         request.now result }
     ensures fits { putting.FitsIn store.new.parts part.0 request.now result }

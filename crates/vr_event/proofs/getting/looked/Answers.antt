@@ -1,37 +1,34 @@
-use Rattle.std.proofs.Common.{subst, sym, ◌∙◌}
-use Rattle.vr_types.specs.declared.reply.Refusal.{Refusal}
+use Rattle.std.proofs.Common.{ℕ, List, Option, refl, subst}
+use Rattle.vr_types.proofs.CallerLemmas.{keeps-none}
 use Rattle.vr_answer.specs.InHand.{whole}
-use Rattle.vr_event.specs.Getting.{MayEnd}
-use Rattle.vr_event.specs.declared.getting.Outcome.TheVariants.{Refused}
+use Rattle.vr_event.specs.Searching.{IsSought}
+use Rattle.vr_event.specs.declared.no.LookNo.TheVariants.{Memory}
+use Rattle.vr_event.proofs.Causes.{may-unless}
 use Rattle.vr_event.proofs.Ended.{may-fail}
-use Rattle.vr_event.proofs.Known.{get-of, looked-is}
-use Rattle.vr_types.specs.declared.reply.Reply.TheVariants as replies
-use Rattle.vr_event.specs.Cause.{HasReplyCause}
-use Rattle.vr_event.proofs.Causes.{cause-calm, cause-look, may-unless}
 use Rattle.vr_event.proofs.getting.looked.Goals as goal
 
-pub returns-in-Err-clause-ends : goal.returns-in-Err-clause-ends
-returns-in-Err-clause-ends g c told volume state is stored names none =
-    subst (λ (r : Refusal). MayEnd (whole c.args.case.now state) (Refused r))
-    (sym c.refusal_of.ensures) (may-fail (whole c.args.case.now state)
-    (get-of c.args.case.now.request.now c.args.part.0 c.args.place.now names) none c.in-Err.no)
-
-pub returns-in-Ok-clause-ends : goal.returns-in-Ok-clause-ends
-returns-in-Ok-clause-ends g c told volume state is stored names none =
-    let get = get-of c.args.case.now.request.now c.args.part.0 c.args.place.now names in
-    may-unless (whole c.args.case.now state) get none c.answered.result c.unless_fault.result
-    c.unless_fault.ensures.is
+pub returns-in-None-clause-ends : goal.returns-in-None-clause-ends
+returns-in-None-clause-ends g c told volume state is stored read none sought =
+    let w = whole c.args.case.now state in
+    may-unless w read none c.answered.result c.unless_fault.result c.unless_fault.ensures.is
     (c.answered.ensures state is
-    (c.in-Ok.ensures.found told volume state stored
-    ∙ sym (looked-is c.args.case.now state is c.args.part.0 c.args.place.now names none)) none get)
+    (subst (λ (o : Option (List ℕ)). IsSought w o) c.in-None.is sought) refl none read)
 
-pub returns-in-Err-clause-cause : goal.returns-in-Err-clause-cause
-returns-in-Err-clause-cause g c =
-    subst (λ (r : Refusal). HasReplyCause (g.B.Blocks.faults c.args.blocks.now)
-    (g.B.Blocks.faults c.look.new.blocks) (replies.Refused r))
-    (sym c.refusal_of.ensures) (cause-look _ _ c.in-Err.no c.in-Err.ensures.cause)
+pub returns-in-None-clause-keeps : goal.returns-in-None-clause-keeps
+returns-in-None-clause-keeps g c =
+    keeps-none g.B.Blocks.tells (g.B.Blocks.seen c.args.blocks.now)
+    (λ told image is. g.met.B.Blocks.images_may c.args.blocks.now image told is)
 
-pub returns-in-Ok-clause-cause : goal.returns-in-Ok-clause-cause
-returns-in-Ok-clause-cause g c =
-    cause-calm _ _ _ c.in-Ok.ensures.cause.reads c.in-Ok.ensures.cause.writes
-    c.unless_fault.ensures.calm
+pub returns-then-fits-clause-ends : goal.returns-then-fits-clause-ends
+returns-then-fits-clause-ends g c told volume state is stored read none sought =
+    c.looked_at.ensures.ends told volume state is stored read none
+    (subst (λ (o : Option (List ℕ)). IsSought (whole c.args.case.now state) o) c.in-Some.is sought)
+
+pub returns-else-fits-clause-ends : goal.returns-else-fits-clause-ends
+returns-else-fits-clause-ends g c told volume state is stored read none sought =
+    may-fail (whole c.args.case.now state) read none Memory
+
+pub returns-else-fits-clause-keeps : goal.returns-else-fits-clause-keeps
+returns-else-fits-clause-keeps g c =
+    keeps-none g.B.Blocks.tells (g.B.Blocks.seen c.args.blocks.now)
+    (λ told image is. g.met.B.Blocks.images_may c.args.blocks.now image told is)

@@ -1,17 +1,20 @@
-use Rattle.std.proofs.Common.{◌≡◌, List, Some, ap, sym, subst, ◌∙◌}
+use Rattle.std.proofs.Common.{◌≡◌, ℕ, List, None, Some, sym, subst, ◌∙◌}
 use Rattle.vr_types.proofs.CallerLemmas.{keeps-none}
 use Rattle.vr_catalog.specs.declared.entry.CatEntry.{CatEntry}
 use Rattle.vr_types.specs.declared.geometry.Geometry.{Geometry}
+use Rattle.vr_types.specs.declared.request.Request.{Request}
 use Rattle.vr_history.specs.Case.{Case}
 use Rattle.vr_history.specs.Change.{place_changed}
-use Rattle.vr_history.specs.RefusedRoom.{free_areas}
+use Rattle.vr_history.specs.Replies.{first_of}
 use Rattle.vr_history.specs.State.{State}
 use Rattle.vr_history.specs.Step.{case_of}
 use Rattle.vr_answer.specs.InHand.{IsCaseOf}
+use Rattle.vr_answer.specs.Tried.{file_refusals}
 use Rattle.vr_record_file.specs.Now.{state_now}
+use Rattle.vr_event.specs.Lacking.{IfLacks, LacksRoomIn}
 use Rattle.vr_event.specs.Putting.{AreLaidBy, IsAskedAt, MayWeigh}
 use Rattle.vr_event.proofs.Known.{whole-is}
-use Rattle.vr_event.proofs.Weighs.{change-direct, refuse-memory}
+use Rattle.vr_event.proofs.Weighs.{refuse-memory}
 use Rattle.vr_event.proofs.weighing.weigh.Goals as goal
 
 pub weigh_at-requires-clause-laid : goal.weigh_at-requires-clause-laid
@@ -48,7 +51,6 @@ returns-then-may_change-clause-may g c told volume opening is going stored free 
     let case = c.case-case.result in
     let deck = c.may_change.ensures.deck c.if-may_change.true in
     let agrees : IsCaseOf case state = c.case-case.ensures.going opening is going deck
-    (change-direct c.args.request.now c.requires.change)
     (c.used.ensures ∙ stored.volume.logged.used) (c.free_areas.ensures ∙ free) in
     let same = whole-is case state file.geometry c.args.unit c.args.request.now
     c.case-case.ensures.geometry c.case-case.ensures.unit c.case-case.ensures.asked in
@@ -62,4 +64,36 @@ returns-then-may_change-clause-may g c told volume opening is going stored free 
     } in
     subst (λ (w : Case). MayWeigh w c.weigh_at.result) same
     (c.weigh_at.ensures.may told volume state agrees stored
-    (free ∙ ap (λ (w : Case). free_areas w) (sym same)) (subst (λ (w : Case). IsAskedAt w c.args.part.0 c.in-Some.place) (sym same) asked))
+    (subst (λ (w : Case). IsAskedAt w c.args.part.0 c.in-Some.place) (sym same) asked))
+
+pub returns-then-may_change-clause-lacks : goal.returns-then-may_change-clause-lacks
+returns-then-may_change-clause-lacks g c told volume opening is going stored free none place at =
+    let file = c.args.file.now in
+    let state : State = state_now opening file in
+    let case = c.case-case.result in
+    let image = (g.B.Blocks.seen c.args.blocks.now).cur in
+    let deck = c.may_change.ensures.deck c.if-may_change.true in
+    let agrees : IsCaseOf case state = c.case-case.ensures.going opening is going deck
+    (c.used.ensures ∙ stored.volume.logged.used) (c.free_areas.ensures ∙ free) in
+    let same = whole-is case state file.geometry c.args.unit c.args.request.now
+    c.case-case.ensures.geometry c.case-case.ensures.unit c.case-case.ensures.asked in
+    let found : place_changed (case_of file.geometry state c.args.unit c.args.request.now)
+    ≡ Some c.in-Some.place =
+    subst (λ (w : Case). place_changed w ≡ Some c.in-Some.place) same
+    (c.in-Some.ensures state agrees) in
+    let asked : IsAskedAt (case_of file.geometry state c.args.unit c.args.request.now) c.args.part.0
+    c.in-Some.place = record {
+      current = c.may_change.ensures.current c.if-may_change.true opening is;
+      not_catalog = c.may_change.ensures.not_catalog c.if-may_change.true;
+      base = sym c.requires.base;
+      place_is = found;
+    } in
+    let places : Some c.in-Some.place ≡ Some place = sym found ∙ at in
+    let here : c.in-Some.place ≡ place = cc in
+    subst (λ (p : List ℕ). IfLacks (LacksRoomIn c.args.store.now image c.args.part.0 p
+    c.args.request.now) c.weigh_at.result) here
+    (subst (λ (r : Request). IfLacks (LacksRoomIn c.args.store.now image c.args.part.0
+    c.in-Some.place r) c.weigh_at.result) c.case-case.ensures.asked
+    (c.weigh_at.ensures.lacks told volume state agrees stored
+    (subst (λ (w : Case). IsAskedAt w c.args.part.0 c.in-Some.place) (sym same) asked)
+    (subst (λ (w : Case). first_of (file_refusals w) ≡ None) (sym same) none)))

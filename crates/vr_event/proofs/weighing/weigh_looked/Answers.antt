@@ -7,7 +7,7 @@ use Rattle.vr_event.proofs.Weighs.{refuse-memory}
 use Rattle.vr_event.proofs.weighing.weigh_looked.Goals as goal
 
 pub returns-then-not-fits_item-clause-may : goal.returns-then-not-fits_item-clause-may
-returns-then-not-fits_item-clause-may g c told volume state is at stored free asked =
+returns-then-not-fits_item-clause-may g c told volume state is at stored asked =
     refuse-memory (whole c.args.case.now state) c.requires.change
 
 pub returns-then-not-fits_item-clause-keeps : goal.returns-then-not-fits_item-clause-keeps

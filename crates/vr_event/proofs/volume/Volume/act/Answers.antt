@@ -1,14 +1,16 @@
-use Rattle.std.proofs.Common.{◌≡◌, ◌∙◌, subst, sym}
+use Rattle.std.proofs.Common.{◌≡◌, ◌∙◌, Some, subst, sym}
 use Rattle.vr_types.specs.Moments.{Guards}
 use Rattle.vr_types.specs.declared.request.Request.{Request}
 use Rattle.vr_types.proofs.CallerLemmas.{keeps-none}
-use Rattle.vr_answer.specs.Scope.{IsDirect}
 use Rattle.vr_answer.specs.Tried.{file_refusals}
 use Rattle.vr_history.specs.Replies.{first_of}
 use Rattle.vr_history.specs.Step.{case_of}
 use Rattle.vr_record_file.specs.Now.{state_now}
 use Rattle.vr_event.specs.Acting.{IsLeftIn}
+use Rattle.vr_event.specs.Lacking.{AreElse}
+use Rattle.vr_event.proofs.Lacks.{fact-of, file-else}
 use Rattle.vr_event.proofs.Recovers.{recovers-keeps, recovers-with}
+use Rattle.vr_event.proofs.Weighs.{asks-change}
 use Rattle.vr_event.proofs.volume.Volume.act.Goals as goal
 
 pub returns-in-Some-clause-moments : goal.returns-in-Some-clause-moments
@@ -30,9 +32,30 @@ pub returns-in-None-clause-held : goal.returns-in-None-clause-held
 returns-in-None-clause-held g c told opening held may =
     let old = c.args.self.now in
     let state = state_now opening old.file in
-    let value = c.refused_early.ensures.value told opening held may.of_deck
-    (subst IsDirect (sym c.get.ensures) c.requires.direct) in
+    let value = c.refused_early.ensures.value told opening held may.of_deck in
     c.serve.ensures.held told opening held may
     (sym (subst (λ (r : Request). c.refused_early.result
     ≡ first_of (file_refusals (case_of old.file.geometry state c.args.unit r))) c.get.ensures value)
     ∙ c.in-None.is)
+
+pub returns-in-Some-clause-lacks : goal.returns-in-Some-clause-lacks
+returns-in-Some-clause-lacks g c told opening held may entered need free is place at =
+    let old = c.args.self.now in
+    let request = c.args.request in
+    let case = case_of old.file.geometry (state_now opening old.file) c.args.unit request in
+    let value = subst (λ (r : Request). c.refused_early.result
+    ≡ first_of (file_refusals (case_of old.file.geometry (state_now opening old.file) c.args.unit
+    r))) c.get.ensures (c.refused_early.ensures.value told opening held may.of_deck) in
+    let other : AreElse (Some c.in-Some.refusal) = subst AreElse (sym value ∙ c.in-Some.is)
+    (file-else case (asks-change case request place at)) in
+    absurd (fact-of (λ need free. ⊥) c.in-Some.refusal need free other
+    (sym (c.refuse_early.ensures.replied entered) ∙ is))
+
+pub returns-in-None-clause-lacks : goal.returns-in-None-clause-lacks
+returns-in-None-clause-lacks g c told opening held may entered need free is place at =
+    let old = c.args.self.now in
+    let value = subst (λ (r : Request). c.refused_early.result
+    ≡ first_of (file_refusals (case_of old.file.geometry (state_now opening old.file) c.args.unit
+    r))) c.get.ensures (c.refused_early.ensures.value told opening held may.of_deck) in
+    c.serve.ensures.lacks told opening held may (sym value ∙ c.in-None.is) entered need free is
+    place at

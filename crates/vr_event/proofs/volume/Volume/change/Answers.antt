@@ -1,10 +1,14 @@
-use Rattle.std.proofs.Common.{◌≡◌, ◌∙◌, ℕ, List, [], None, Option, ap, subst, sym}
+use Rattle.std.proofs.Common.{◌≡◌, ◌∙◌, ℕ, List, [], None, Option, Some, ap, subst, sym}
 use Rattle.vr_types.proofs.CallerLemmas.{guards-then}
 use Rattle.vr_types.specs.Moments.{Guards}
 use Rattle.vr_types.specs.declared.geometry.Geometry.{Geometry}
+use Rattle.vr_types.specs.declared.reply.Refusal.TheVariants.{NoSpace}
 use Rattle.vr_types.specs.declared.request.Request.{Request}
 use Rattle.vr_types.specs.declared.reply.Reply.TheVariants.{Refused}
 use Rattle.vr_types.specs.declared.unit.Unit.{Unit as UnitOfRecovery}
+use Rattle.vr_answer.specs.Here.{base_here}
+use Rattle.vr_answer.specs.Tried.{file_refusals}
+use Rattle.vr_history.specs.Change.{place_changed}
 use Rattle.vr_history.specs.Replies.{FillsKeyed, before_room, first_of}
 use Rattle.vr_history.specs.State.{State}
 use Rattle.vr_history.specs.Step.{case_of}
@@ -12,12 +16,15 @@ use Rattle.vr_log.specs.LogNow.{LogNow}
 use Rattle.vr_record_file.specs.Now.{FileNow, MayBeAsked, state_now}
 use Rattle.vr_volume.specs.Crashes.{RecoversTo}
 use Rattle.vr_event.specs.Acting.{IsActed}
+use Rattle.vr_event.specs.Getting.{IsEntered}
+use Rattle.vr_event.specs.Lacking.{IfNoSpace, IsLacking, LacksRoomIn}
 use Rattle.vr_event.specs.Putting.{IfAgain, IsReadyFor, MayLackRoom, MayWeigh}
 use Rattle.vr_event.specs.Store.{StoreNow}
 use Rattle.vr_event.specs.declared.act.Act.{Act}
 use Rattle.vr_event.specs.declared.act.Act.TheVariants.{Again, Done}
 use Rattle.vr_event.specs.declared.weighing.Weighed.TheVariants as weighed
 use Rattle.vr_event.proofs.ActedLater.{acted-earlier}
+use Rattle.vr_event.proofs.Lacks.{done-unrefused, fact-of}
 use Rattle.vr_event.proofs.Recovering.{keeps-recovers}
 use Rattle.vr_event.proofs.Wholes.{may-changing}
 use Rattle.vr_event.proofs.volume.Volume.change.Goals as goal
@@ -36,7 +43,7 @@ returns-in-Refused-clause-held g c told opening held asked =
     c.enter_refused.ensures.held told opening (c.weigh_change.ensures.held told opening held)
     (subst (λ (f : FileNow). MayBeAsked opening f unit request (Refused c.in-Refused.refusal))
     (sym c.weigh_change.ensures.file)
-    (may-changing opening old unit request (Refused c.in-Refused.refusal) asked both.0)) both.1
+    (may-changing opening old unit request (Refused c.in-Refused.refusal) asked both.0))
 
 pub returns-in-Refused-clause-moments : goal.returns-in-Refused-clause-moments
 returns-in-Refused-clause-moments g c told opening held =
@@ -162,3 +169,47 @@ returns-in-Stage-clause-again g c told opening held asked =
     ((c.do_stage.new.self.file.geometry ≡ f.geometry)
     × (state_now o c.do_stage.new.self.file ≡ state_now o f))) c.weigh_change.ensures.file
     (c.do_stage.ensures.again o)) (may asked.unrefused)
+
+pub returns-in-Refused-clause-lacks : goal.returns-in-Refused-clause-lacks
+returns-in-Refused-clause-lacks g c told opening held asked entered need free is place at =
+    let old = c.args.self.now in
+    let image = (g.B.Blocks.seen old.blocks).cur in
+    let request = c.args.request in
+    let refusal = c.in-Refused.refusal in
+    let here : c.base_of-part.result.0 ≡ base_here request =
+    c.base_of-part.ensures ∙ ap (λ (r : Request). base_here r) c.get.ensures in
+    let lacks = subst (λ (r : Request).
+    first_of (file_refusals (case_of old.file.geometry (state_now opening old.file) c.args.unit r))
+    ≡ None
+    → place_changed (case_of old.file.geometry (state_now opening old.file) c.args.unit r)
+    ≡ Some place
+    → IfNoSpace (LacksRoomIn old.store image c.base_of-part.result.0 place r) refusal)
+    c.get-2.ensures
+    (λ none at. c.in-Refused.ensures.lacks told opening held none place at) asked.unrefused at in
+    let replied = subst (λ (f : FileNow).
+    (entered : IsEntered c.args.after c.args.unit c.args.line request f
+    c.enter_refused.new.self.file)
+    → entered.reply ≡ Refused refusal) c.weigh_change.ensures.file c.enter_refused.ensures.replied
+    entered in
+    fact-of (IsLacking old.store image place request) refusal need free
+    (subst (λ (n : ℕ). IfNoSpace (LacksRoomIn old.store image n place request) refusal) here lacks)
+    (sym replied ∙ is)
+
+pub returns-in-Stage-clause-lacks : goal.returns-in-Stage-clause-lacks
+returns-in-Stage-clause-lacks g c told opening held asked entered need free is place at =
+    absurd (subst (λ (f : FileNow).
+    (entered : IsEntered c.args.after c.args.unit c.args.line c.args.request f
+    c.do_stage.new.self.file) (need free : ℕ) → entered.reply ≡ Refused (NoSpace need free) → ⊥)
+    c.weigh_change.ensures.file c.do_stage.ensures.lacks entered need free is)
+
+pub returns-in-Ready-clause-lacks : goal.returns-in-Ready-clause-lacks
+returns-in-Ready-clause-lacks g c told opening held asked entered need free is place at =
+    let reply = subst (λ (f : FileNow).
+    (entered : IsEntered c.args.after c.args.unit c.args.line c.args.request f c.put.new.self.file)
+    (need free : ℕ) → entered.reply ≡ Refused (NoSpace need free)
+    → c.in-Ready.reply ≡ Refused (NoSpace need free)) c.weigh_change.ensures.file
+    c.put.ensures.lacks entered need free is in
+    let ready = c.in-Ready.ensures.may told opening held in
+    absurd (done-unrefused (case_of c.args.self.now.file.geometry
+    (state_now opening c.args.self.now.file) c.args.unit c.get-2.result.now) c.get-2.result.now
+    (NoSpace need free) (sym ready.reply_is ∙ reply))

@@ -2,10 +2,11 @@ use Rattle.std.proofs.Common.{◌≡◌, ◌∙◌, [], Err, None, ap, inl, inr,
 use Rattle.vr_types.specs.Moments.{Guards}
 use Rattle.vr_types.specs.declared.fault.DeviceFault.{DeviceFault}
 use Rattle.vr_types.specs.declared.fault.DeviceFault.TheVariants.{Read, Write}
-use Rattle.vr_types.specs.declared.reply.Refusal.TheVariants.{ReadFault, WriteFault}
+use Rattle.vr_types.specs.declared.reply.Refusal.TheVariants.{NoSpace, ReadFault, WriteFault}
 use Rattle.vr_types.specs.declared.reply.Reply.TheVariants.{Refused}
 use Rattle.vr_history.specs.Step.{case_of}
-use Rattle.vr_record_file.specs.Now.{FileNow, state_now}
+use Rattle.vr_history.specs.declared.entry.What.TheVariants.{Split}
+use Rattle.vr_record_file.specs.Now.{FileNow, state_now, with_event}
 use Rattle.vr_volume.specs.Crashes.{RecoversTo}
 use Rattle.vr_event.specs.Acting.{IsActed}
 use Rattle.vr_event.specs.Putting.{IsChanging}
@@ -18,6 +19,7 @@ use Rattle.vr_event.proofs.Causes.{entered-refused}
 use Rattle.vr_event.proofs.Entering.{held-refused}
 use Rattle.vr_event.proofs.Placing.{shapes-same}
 use Rattle.vr_event.proofs.Recovering.{stored-recovers}
+use Rattle.vr_event.proofs.Replied.{not-failed, not-same, not-split, replied-over}
 use Rattle.vr_event.proofs.UnitEnded.{held-stopped}
 use Rattle.vr_event.proofs.Weighs.{refuse-look}
 use Rattle.vr_event.proofs.Wholes.{held-moved, held-split, may-changing, state-split, whole-of}
@@ -154,7 +156,7 @@ returns-in-Err-Read-clause-whole g c =
     ap (λ (v : VolumeNow g.row.B.Denot). v.file.stopped) c.self.view_is ∙ c.requires.going in
     let whole : IsWhole seen before = subst (IsWhole seen) (sym c.self.view_is) c.requires.whole in
     whole-of seen before c.advance.new.self c.advance.new.blocks c.refuse.new.self whole (λ going. goes)
-    (ap (λ (f : FileNow). f.geometry) c.refuse.ensures.leaves) (ap (λ (f : FileNow). f.catalog) c.refuse.ensures.leaves)
+    (ap (λ (f : FileNow). f.geometry) c.refuse.ensures.same) (ap (λ (f : FileNow). f.catalog) c.refuse.ensures.same)
     (λ going. ap (λ (s : StoreNow). s.log.geometry) c.advance.ensures.rest)
     (λ going. shapes-same c.advance.new.self.parts before.store.parts
     c.advance.ensures.parts.parts)
@@ -267,7 +269,7 @@ returns-in-Err-Read-clause-held g c told opening held asked =
       blocks = c.advance.new.blocks;
       store = c.advance.new.self;
     }) c.refuse.new.self c.args.after c.args.unit c.args.line c.args.request ReadFault
-    c.refuse.ensures.leaves refl moved (c.refuse.ensures.state opening was.file may refl refl)
+    c.refuse.ensures.same moved (c.refuse.ensures.state opening was.file may refl)
 
 pub returns-in-Err-Read-clause-acted : goal.returns-in-Err-Read-clause-acted
 returns-in-Err-Read-clause-acted g c =
@@ -278,7 +280,7 @@ returns-in-Err-Read-clause-acted g c =
     v.file c.refuse.new.self) c.self.view_is (record {
       reads = cause.reads;
       writes = cause.writes;
-      by = inl (entered-refused ReadFault c.refuse.ensures.leaves (record {
+      by = inl (entered-refused ReadFault c.refuse.ensures.same (record {
         reads = cause.reads;
         writes = cause.writes;
         read = λ is. cause.read (ap (λ (f : DeviceFault). Err f) c.in-Err-Read.field-0-is);
@@ -323,3 +325,33 @@ returns-in-Err-Write-clause-acted g c =
         cause.write (ap (λ (f : DeviceFault). Err f) c.in-Err-Write.field-0-is),
       ));
     })
+
+pub returns-in-Ok-CiSwitch-clause-lacks : goal.returns-in-Ok-CiSwitch-clause-lacks
+returns-in-Ok-CiSwitch-clause-lacks g c entered need free is =
+    let of-file = ap (λ (v : VolumeNow g.row.B.Denot). v.file) c.self.view_is in
+    not-split c.args.after c.args.unit c.args.line c.args.request c.args.self.now.file
+    c.split.new.self entered c.args.part
+    (subst (λ (f : FileNow). c.split.new.self
+    ≡ with_event c.args.after c.args.unit 0 (Split c.args.part) f) of-file c.split.ensures.leaves)
+
+pub returns-in-Ok-clause-lacks : goal.returns-in-Ok-clause-lacks
+returns-in-Ok-clause-lacks g c entered need free is =
+    not-same c.args.after c.args.unit c.args.line c.args.request c.args.self.now.file
+    c.self.inside.file entered (ap (λ (v : VolumeNow g.row.B.Denot). v.file) c.self.view_is)
+
+pub returns-in-Err-Read-clause-lacks : goal.returns-in-Err-Read-clause-lacks
+returns-in-Err-Read-clause-lacks g c entered need free is =
+    let of-file = ap (λ (v : VolumeNow g.row.B.Denot). v.file) c.self.view_is in
+    let reply : entered.reply ≡ Refused ReadFault =
+    replied-over c.args.after c.args.unit c.args.line c.args.request c.args.self.now.file
+    c.refuse.new.self entered c.self.inside.file.entries (ap (λ (f : FileNow). f.entries) of-file)
+    (Refused ReadFault) (ap (λ (f : FileNow). f.entries) c.refuse.ensures.same) in
+    let both : Refused ReadFault ≡ Refused (NoSpace need free) = sym reply ∙ is in
+    cc
+
+pub returns-in-Err-Write-clause-lacks : goal.returns-in-Err-Write-clause-lacks
+returns-in-Err-Write-clause-lacks g c entered need free is =
+    let of-file = ap (λ (v : VolumeNow g.row.B.Denot). v.file) c.self.view_is in
+    not-failed c.args.after c.args.unit c.args.line c.args.request c.args.self.now.file
+    c.fail_write.new.self entered c.self.inside.file (ap (λ (f : FileNow). f.entries) of-file)
+    c.fail_write.ensures.leaves

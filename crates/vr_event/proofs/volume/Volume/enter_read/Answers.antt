@@ -20,7 +20,7 @@ returns-in-Err-clause-held g c told opening held asked may =
     (subst (IsHeld g.B.Blocks.seen opening) same held)
     (subst (λ (v : VolumeNow g.row.B.Denot). MayBeAsked opening v.file c.args.unit c.args.request
     (Refused NoMemory)) same (may-asked opening file c.args.unit c.args.request (Refused NoMemory)
-    asked (may-fail case asked.get asked.unrefused Memory).0)) refl refl
+    asked (may-fail case asked.read asked.unrefused Memory))) refl
 
 pub returns-in-Ok-clause-cause : goal.returns-in-Ok-clause-cause
 returns-in-Ok-clause-cause g c before now cause =
@@ -30,5 +30,5 @@ pub returns-in-Err-clause-cause : goal.returns-in-Err-clause-cause
 returns-in-Err-clause-cause g c before now cause =
     subst (λ (v : VolumeNow g.row.B.Denot). HasGetCause before now c.args.after c.args.unit
     c.args.line c.args.request v.file c.refuse.new.self.file) c.in-Err.ensures.same
-    (cause-entered (entered-refused NoMemory c.refuse.ensures.leaves
+    (cause-entered (entered-refused NoMemory c.refuse.ensures.same
     (cause-calm before now (Refused NoMemory) cause.reads cause.writes refl)))

@@ -4,6 +4,7 @@ use Rattle.vr_types.specs.Content.{Standing}
 use Rattle.vr_types.specs.Moments.{Guards}
 use Rattle.vr_types.specs.declared.lock_name.LockName.{LockName}
 use Rattle.vr_types.specs.declared.reply.Refusal.TheVariants.{Memory as NoMemory, WriteFault}
+use Rattle.vr_types.specs.declared.reply.Refusal.TheVariants.{NoSpace}
 use Rattle.vr_types.specs.declared.reply.Reply.TheVariants.{Refused}
 use Rattle.vr_types.specs.declared.request.Request.{Request}
 use Rattle.vr_types.specs.declared.unit.Mode.TheVariants.{Exclusive}
@@ -14,7 +15,7 @@ use Rattle.vr_history.specs.Change.{place_changed}
 use Rattle.vr_history.specs.Names.{lock_names, with_locks}
 use Rattle.vr_history.specs.State.{State}
 use Rattle.vr_history.specs.Step.{case_of}
-use Rattle.vr_record_file.specs.Now.{FileNow, IsStateOf, MayBeAsked, failed, lets_go, state_now}
+use Rattle.vr_record_file.specs.Now.{FileNow, IsStateOf, MayBeAsked, failed, state_now}
 use Rattle.vr_record_file.specs.Now.{with_event}
 use Rattle.vr_volume.specs.Crashes.{RecoversTo}
 use Rattle.vr_event.specs.Acting.{IsActed}
@@ -29,6 +30,7 @@ use Rattle.vr_event.proofs.Entering.{held-refused}
 use Rattle.vr_event.proofs.Makes.{entered-change, has-room, held-put, may-reply, replied}
 use Rattle.vr_event.proofs.Makes.{to-make-laid}
 use Rattle.vr_event.proofs.MetParts.{met-shapes}
+use Rattle.vr_event.proofs.Replied.{not-failed, replied-over}
 use Rattle.vr_event.proofs.Weighs.{asks-change, refuse-look, refuse-memory}
 use Rattle.vr_event.proofs.Wholes.{held-moved, held-stopped-locked, may-changing, whole-of}
 use Rattle.vr_event.proofs.volume.Volume.put.Goals as goal
@@ -294,12 +296,13 @@ returns-in-Err-Memory-clause-held g c told opening held ready asked =
       blocks = c.put_at_place.new.blocks;
       store = c.put_at_place.new.store;
     }) c.refuse.new.self c.args.after unit c.args.line request NoMemory
-    (c.refuse.ensures.leaves
+    (c.refuse.ensures.same
     ∙ ap (λ (f : FileNow). with_event c.args.after unit c.args.line (Asked request (Refused NoMemory))
-    (lets_go unit.deck request f)) same) refl moved
+    (record f { files = c.refuse.new.self.files; files_room = c.refuse.new.self.files_room })) same)
+    moved
     (c.refuse.ensures.state opening (subst (IsStateOf opening) (sym same) was.file)
     (subst (λ (f : FileNow). MayBeAsked opening f unit request (Refused NoMemory)) (sym same) may)
-    refl refl)
+    refl)
 
 pub returns-clause-held : goal.returns-clause-held
 returns-clause-held g c told opening held ready asked =
@@ -393,9 +396,9 @@ returns-in-Err-Memory-clause-whole g c =
     let left = c.in-Err-Memory.ensures.unchanged c.in-Err-Memory.field-0-is in
     whole-of seen before c.put_at_place.new.store c.put_at_place.new.blocks c.refuse.new.self whole
     (λ going. goes)
-    (ap (λ (f : FileNow). f.geometry) c.refuse.ensures.leaves
+    (ap (λ (f : FileNow). f.geometry) c.refuse.ensures.same
     ∙ ap (λ (f : FileNow). f.geometry) c.put_at_place.ensures.file)
-    (ap (λ (f : FileNow). f.catalog) c.refuse.ensures.leaves
+    (ap (λ (f : FileNow). f.catalog) c.refuse.ensures.same
     ∙ ap (λ (f : FileNow). f.catalog) c.put_at_place.ensures.file)
     (λ going. ap (λ (s : StoreNow). s.log.geometry) left.1)
     (λ going n. ap (λ (s : StoreNow). Rattle.vr_event.specs.Store.shape_among s.parts n) left.1)
@@ -424,7 +427,34 @@ returns-in-Err-Memory-clause-acted g c =
       reads = c.put_at_place.ensures.reads_rise;
       writes = c.put_at_place.ensures.writes_rise;
       by = inl (entered-change (Refused NoMemory) c.self.inside.file c.put_at_place.new.file
-          c.refuse.new.self c.put_at_place.ensures.file c.refuse.ensures.leaves
+          c.refuse.new.self c.put_at_place.ensures.file (c.refuse.ensures.leaves refl)
           (cause-calm _ _ (Refused NoMemory) c.put_at_place.ensures.reads_rise
           c.put_at_place.ensures.writes_rise refl));
     })
+
+pub returns-in-Ok-clause-lacks : goal.returns-in-Ok-clause-lacks
+returns-in-Ok-clause-lacks g c entered need free is =
+    sym (replied-over c.args.after c.args.unit c.args.line c.args.request c.args.self.now.file
+    c.change.new.self entered c.put_at_place.new.file.entries
+    (ap (λ (f : FileNow). f.entries) c.put_at_place.ensures.file
+    ∙ ap (λ (v : VolumeNow g.row.B.Denot). v.file.entries) c.self.view_is) c.args.reply
+    (ap (λ (f : FileNow). f.entries) c.change.ensures.leaves)) ∙ is
+
+pub returns-in-Err-Memory-clause-lacks : goal.returns-in-Err-Memory-clause-lacks
+returns-in-Err-Memory-clause-lacks g c entered need free is =
+    let reply : entered.reply ≡ Refused NoMemory =
+    replied-over c.args.after c.args.unit c.args.line c.args.request c.args.self.now.file
+    c.refuse.new.self entered c.put_at_place.new.file.entries
+    (ap (λ (f : FileNow). f.entries) c.put_at_place.ensures.file
+    ∙ ap (λ (v : VolumeNow g.row.B.Denot). v.file.entries) c.self.view_is) (Refused NoMemory)
+    (ap (λ (f : FileNow). f.entries) c.refuse.ensures.same) in
+    let both : Refused NoMemory ≡ Refused (NoSpace need free) = sym reply ∙ is in
+    absurd cc
+
+pub returns-clause-lacks : goal.returns-clause-lacks
+returns-clause-lacks g c entered need free is =
+    absurd (not-failed c.args.after c.args.unit c.args.line c.args.request c.args.self.now.file
+    c.fail_write.new.self entered c.put_at_place.new.file
+    (ap (λ (f : FileNow). f.entries) c.put_at_place.ensures.file
+    ∙ ap (λ (v : VolumeNow g.row.B.Denot). v.file.entries) c.self.view_is)
+    c.fail_write.ensures.leaves)

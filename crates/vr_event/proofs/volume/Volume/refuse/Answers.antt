@@ -6,7 +6,7 @@ use Rattle.vr_event.proofs.Entering.{held-refused}
 use Rattle.vr_event.proofs.volume.Volume.refuse.Goals as goal
 
 pub returns-clause-held : goal.returns-clause-held
-returns-clause-held g c told opening held asked stays whole =
+returns-clause-held g c told opening held asked whole =
     let seen = g.B.Blocks.seen in
     let before : VolumeNow g.row.B.Denot = record {
       blocks = c.self.inside.blocks;
@@ -20,5 +20,5 @@ returns-clause-held g c told opening held asked stays whole =
     (Refused c.args.refusal))
     (sym (ap (λ (v : VolumeNow g.row.B.Denot). v.file) c.self.view_is)) asked in
     held-refused seen opening before c.refuse.new.self c.args.after c.args.unit c.args.line
-    c.args.request c.args.refusal c.refuse.ensures.leaves stays then
-    (c.refuse.ensures.state opening then.file may stays whole)
+    c.args.request c.args.refusal c.refuse.ensures.same then
+    (c.refuse.ensures.state opening then.file may whole)

@@ -21,14 +21,14 @@ returns-clause-held g c told opening held asked =
     let then : IsHeld seen opening before =
     subst (IsHeld seen opening) (sym c.self.view_is) held in
     held-refused seen opening before c.refuse.new.self c.args.after c.args.unit c.args.line
-    c.args.request ReadFault c.refuse.ensures.leaves refl then
+    c.args.request ReadFault c.refuse.ensures.same then
     (c.refuse.ensures.state opening then.file
     (subst (λ (f : FileNow). MayBeAsked opening f c.args.unit c.args.request (Refused ReadFault))
-    (sym (ap (λ (v : VolumeNow g.row.B.Denot). v.file) c.self.view_is)) asked) refl refl)
+    (sym (ap (λ (v : VolumeNow g.row.B.Denot). v.file) c.self.view_is)) asked) refl)
 
 pub returns-clause-acted : goal.returns-clause-acted
 returns-clause-acted g c before now reads writes =
     subst (λ (f : FileNow). IsActed before now Done c.args.after c.args.unit c.args.line
     c.args.request f c.refuse.new.self)
     (ap (λ (v : VolumeNow g.row.B.Denot). v.file) c.self.view_is)
-    (acted-read reads writes c.refuse.ensures.leaves)
+    (acted-read reads writes c.refuse.ensures.same)

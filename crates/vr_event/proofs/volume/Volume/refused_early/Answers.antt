@@ -1,16 +1,18 @@
 use Rattle.std.proofs.Common.{ap, refl, subst, sym, ◌∙◌}
+use Rattle.std.specs.Option.{option_and_then}
 use Rattle.vr_types.specs.declared.geometry.Geometry.{Geometry}
 use Rattle.vr_history.specs.Replies.{first_of}
 use Rattle.vr_history.specs.State.{State}
-use Rattle.vr_history.specs.Step.{case_of}
+use Rattle.vr_history.specs.Step.{case_of, stand_refused}
 use Rattle.vr_answer.specs.Tried.{file_refusals}
 use Rattle.vr_record_file.specs.Now.{state_now}
 use Rattle.vr_event.specs.Volume.{IsHeld, VolumeNow}
 use Rattle.vr_event.proofs.Early.{early, early-is}
+use Rattle.vr_event.proofs.Staying.{files-stay}
 use Rattle.vr_event.proofs.volume.Volume.refused_early.Goals as goal
 
 pub returns-clause-value : goal.returns-clause-value
-returns-clause-value g c told opening held deck direct =
+returns-clause-value g c told opening held deck =
     let seen = g.B.Blocks.seen in
     let before : VolumeNow g.row.B.Denot = record {
       blocks = c.self.inside.blocks;
@@ -24,9 +26,16 @@ returns-clause-value g c told opening held deck direct =
     subst (IsHeld seen opening) (sym c.self.view_is) held in
     c.refused_by_file.ensures.value state
     (early-is opening file then.file _ c.catalog.ensures c.lock_table-locks.ensures c.held.ensures
-    c.stopped.ensures c.geometry.ensures refl direct refl
+    c.stand.ensures c.stopped.ensures c.geometry.ensures refl refl
     (c.free_areas.ensures ∙ then.free))
     ∙ ap (λ (shape : Geometry). first_of (file_refusals (case_of shape state c.args.unit
     c.args.request.now))) c.geometry.ensures
     ∙ ap (λ (v : VolumeNow g.row.B.Denot). first_of (file_refusals (case_of v.file.geometry
     (state_now opening v.file) c.args.unit c.args.request.now))) c.self.view_is
+
+pub returns-clause-stays_any : goal.returns-clause-stays_any
+returns-clause-stays_any g c told opening held deck =
+    let file = c.args.self.now.file in
+    ap (option_and_then (stand_refused c.args.request.now))
+    (returns-clause-value g c told opening held deck)
+    ∙ files-stay (case_of file.geometry (state_now opening file) c.args.unit c.args.request.now)

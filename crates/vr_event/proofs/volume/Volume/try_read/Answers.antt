@@ -1,7 +1,10 @@
-use Rattle.std.proofs.Common.{◌≡◌, ap, subst, sym}
+use Rattle.std.proofs.Common.{◌≡◌, Some, ap, subst, sym, ◌∙◌}
 use Rattle.vr_types.specs.declared.request.Request.{Request}
 use Rattle.vr_history.specs.Step.{case_of}
-use Rattle.vr_record_file.specs.Now.{FileNow, locks_kept, mode_kept, state_now}
+use Rattle.vr_types.specs.declared.request.Request.TheVariants.{Get}
+use Rattle.vr_answer.specs.Least.{found_at}
+use Rattle.vr_record_file.specs.Now.{FileNow, IsStateOf, locks_kept, mode_kept, stand_done}
+use Rattle.vr_record_file.specs.Now.{state_now}
 use Rattle.vr_event.specs.Getting.{IsAsked, MayEnd}
 use Rattle.vr_event.specs.declared.getting.Outcome.TheVariants.{Done}
 use Rattle.vr_event.specs.Volume.{IsHeld, VolumeNow}
@@ -28,15 +31,22 @@ returns-clause-held g c = ok-both c.read.result c.read.ensures.leaves c.read.ens
     let same : shared ≡ c.args.request.now = c.in_ok-shared.ensures in
     let of-file : before.file ≡ c.args.self.now.file =
     ap (λ (v : VolumeNow g.row.B.Denot). v.file) c.self.view_is in
-    held-read seen opening before c.read.new.self c.args.after unit c.args.line shared reply names
-    holds (locks_kept unit (mode_kept shared) names file.locks) c.read.new.self.files
+    let at = c.args.at.now in
+    let stand = c.in_ok-stand.stand in
+    held-read seen opening before c.read.new.self c.args.after unit c.args.line shared reply names at
+    stand holds (locks_kept unit (mode_kept shared) names file.locks) c.read.new.self.files
     c.read.new.self.files_room leaves (state opening)
+    (λ on find update integrity. subst (λ (r : Request).
+    let case = case_of file.geometry (state_now opening file) unit r in
+    IsStateOf opening file → r ≡ Get on find update integrity → found_at case ≡ Some at
+    → stand ≡ stand_done case) (c.get.ensures ∙ sym same)
+    (c.in_ok-stand.ensures.found opening on find update integrity))
     (subst (λ (r : Request). IsAsked opening file unit r) (sym same)
     (subst (λ (f : FileNow). IsAsked opening f unit c.args.request.now) (sym of-file) asked))
     (subst (λ (r : Request). MayEnd (case_of file.geometry (state_now opening file) unit r)
-    (Done reply names holds)) (sym same)
+    (Done reply names at holds)) (sym same)
     (subst (λ (f : FileNow). MayEnd (case_of f.geometry (state_now opening f) unit
-    c.args.request.now) (Done reply names holds)) (sym of-file) may))
+    c.args.request.now) (Done reply names at holds)) (sym of-file) may))
     (subst (IsHeld seen opening) (sym c.self.view_is) held))
 
 pub returns-clause-replied : goal.returns-clause-replied

@@ -1,6 +1,10 @@
-use Rattle.std.proofs.Common.{◌≡◌, ◌∙◌, ap, refl, subst, sym}
+use Rattle.std.proofs.Common.{◌≡◌, ◌∙◌, None, Some, ap, refl, subst, sym}
+use Rattle.vr_history.specs.Change.{place_changed}
+use Rattle.vr_history.specs.Replies.{first_of}
 use Rattle.vr_history.specs.Step.{case_of}
+use Rattle.vr_answer.specs.Tried.{file_refusals}
 use Rattle.vr_record_file.specs.Now.{FileNow, state_now}
+use Rattle.vr_event.specs.Lacking.{IfLacks, LacksRoomIn}
 use Rattle.vr_event.specs.Putting.{MayWeigh}
 use Rattle.vr_event.specs.Store.{StoreNow}
 use Rattle.vr_event.specs.Volume.{IsHeld, IsWhole, VolumeNow}
@@ -58,3 +62,27 @@ returns-clause-whole g c =
     (λ going. met-shapes c.args.part.0 before.store.parts c.weigh.new.store.parts
     c.weigh.ensures.parts)
     (λ going. c.weigh.ensures.set)
+
+pub returns-clause-lacks : goal.returns-clause-lacks
+returns-clause-lacks g c told opening held none place at =
+    let seen = g.B.Blocks.seen in
+    let before : VolumeNow g.row.B.Denot = record {
+      blocks = c.self.inside.blocks;
+      number = c.self.inside.number;
+      store = c.self.inside.store;
+      file = c.self.inside.file;
+    } in
+    let request = c.args.request.now in
+    let was : IsHeld seen opening before =
+    subst (IsHeld seen opening) (sym c.self.view_is) held in
+    let going = ap (λ (v : VolumeNow g.row.B.Denot). v.file.stopped) c.self.view_is
+    ∙ c.requires.going in
+    subst (λ (v : VolumeNow g.row.B.Denot).
+    first_of (file_refusals (case_of v.file.geometry (state_now opening v.file) c.args.unit
+    request)) ≡ None
+    → place_changed (case_of v.file.geometry (state_now opening v.file) c.args.unit request)
+    ≡ Some place
+    → IfLacks (LacksRoomIn v.store (seen v.blocks).cur c.args.part.0 place request) c.weigh.result)
+    c.self.view_is
+    (λ none at. c.weigh.ensures.lacks told before.number opening was.file going (was.stored going)
+    was.free none place at) none at

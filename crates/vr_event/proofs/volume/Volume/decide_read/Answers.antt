@@ -1,7 +1,5 @@
-use Rattle.std.proofs.Common.{◌≡◌, ap, subst, sym, ◌∙◌, refl}
+use Rattle.std.proofs.Common.{◌≡◌, ap, subst, sym, ◌∙◌}
 use Rattle.vr_types.specs.Space.{free_count}
-use Rattle.vr_types.specs.declared.request.Find.{Find}
-use Rattle.vr_types.specs.declared.request.Request.TheVariants.{Get}
 use Rattle.vr_history.specs.Step.{case_of}
 use Rattle.vr_record_file.specs.Now.{FileNow, state_now}
 use Rattle.vr_event.specs.Getting.{IsAsked, MayEnd}
@@ -9,7 +7,7 @@ use Rattle.vr_event.specs.Store.{IsStored, StoreNow}
 use Rattle.vr_event.specs.Volume.{IsHeld, VolumeNow}
 use Rattle.vr_event.proofs.Keeping.{stored-keeps}
 use Rattle.vr_event.specs.Cause.{HasReplyCause, reply_of}
-use Rattle.vr_event.proofs.volume.Volume.decide_get.Goals as goal
+use Rattle.vr_event.proofs.volume.Volume.decide_read.Goals as goal
 
 pub returns-clause-held : goal.returns-clause-held
 returns-clause-held g c told opening held =
@@ -52,14 +50,7 @@ returns-clause-ends g c told opening held asked =
     subst (λ (f : FileNow). MayEnd (case_of f.geometry (state_now opening f) c.args.unit
     c.args.request.now) c.decide.result) of-file
     (c.decide.ensures.ends told before.number opening then.file going (then.stored going)
-    mine.of_deck (record {
-      on = c.in-Get.file;
-      update = c.in-Get.update;
-      integrity = c.in-Get.integrity;
-      is = c.in-Get.is
-          ∙ ap (λ (f : Find). Get c.in-Get.file f c.in-Get.update c.in-Get.integrity) c.in-Equal.is;
-      base = refl;
-    }) then.free mine.unrefused)
+    mine.of_deck mine.read then.free mine.unrefused)
 
 pub returns-clause-cause : goal.returns-clause-cause
 returns-clause-cause g c =

@@ -4,7 +4,24 @@ use Rattle.vr_record_file.specs.Now.{state_now}
 use Rattle.vr_event.specs.Getting.{MayEnd}
 use Rattle.vr_event.specs.Cause.{HasReplyCause, reply_of}
 use Rattle.vr_event.specs.declared.getting.Outcome.{Outcome}
-use Rattle.vr_event.proofs.volume.Volume.enter_get.Goals as goal
+use Rattle.vr_types.specs.declared.reply.Reply.TheVariants.{Refused}
+use Rattle.vr_event.proofs.Entries.{may-asked}
+use Rattle.vr_event.proofs.volume.Volume.enter_outcome.Goals as goal
+
+pub returns-in-Refused-clause-held : goal.returns-in-Refused-clause-held
+returns-in-Refused-clause-held g c told opening held asked may =
+    let file = c.args.self.now.file in
+    c.enter_refused.ensures.held told opening held
+    (may-asked opening file c.args.unit c.args.request (Refused c.in-Refused.refusal) asked
+    (subst (MayEnd (case_of file.geometry (state_now opening file) c.args.unit c.args.request))
+    c.in-Refused.is may))
+
+pub returns-in-Pointed-clause-held : goal.returns-in-Pointed-clause-held
+returns-in-Pointed-clause-held g c told opening held asked may =
+    let file = c.args.self.now.file in
+    c.enter_point.ensures.held told opening held asked
+    (subst (MayEnd (case_of file.geometry (state_now opening file) c.args.unit c.args.request))
+    c.in-Pointed.is may)
 
 pub returns-in-Done-clause-held : goal.returns-in-Done-clause-held
 returns-in-Done-clause-held g c told opening held asked may =

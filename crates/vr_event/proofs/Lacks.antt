@@ -1,0 +1,306 @@
+-- Which refusals are for want of areas: that of a part that lacks room, with the part's numbers, and
+-- no other of a change of a key-sequenced cluster.
+use Rattle.std.proofs.Common.{◌≡◌, ◌≢◌, ◌⊎◌, ⊎_elim, ℕ, Bool, true, false, List, [], ◌∷◌}
+use Rattle.std.proofs.Common.{Option, Some, None, refl, sym, ap, subst, ◌∙◌, length}
+use Rattle.std.specs.Prelude.{IfSome}
+use Rattle.std.specs.Option.{option_and_then, option_map}
+use Rattle.vr_catalog.specs.declared.definition.Definition.{Definition}
+use Rattle.vr_types.specs.Image.{Image, block_at}
+use Rattle.vr_types.specs.Space.{free_count}
+use Rattle.vr_types.specs.declared.fault.DeviceFault.TheVariants.{Read, Write}
+use Rattle.vr_types.specs.declared.reply.Refusal.{Refusal}
+use Rattle.vr_types.specs.declared.reply.Refusal.TheVariants.{BadSlot, KeyChanged}
+use Rattle.vr_types.specs.declared.reply.Refusal.TheVariants.{LengthChanged, LogFull, NoFile, NoGet}
+use Rattle.vr_types.specs.declared.reply.Refusal.TheVariants.{Memory as NoMemory}
+use Rattle.vr_types.specs.declared.reply.Refusal.TheVariants.{NoPosition, NoSpace, NotAllowed}
+use Rattle.vr_types.specs.declared.reply.Refusal.TheVariants.{NotFound, Stopped}
+use Rattle.vr_types.specs.declared.reply.Reply.TheVariants.{Refused}
+use Rattle.vr_types.specs.declared.request.FileRef.{FileRef}
+use Rattle.vr_types.specs.declared.request.Request.{Request}
+use Rattle.vr_types.specs.declared.request.Request.TheVariants.{Get, Point, Add, Update, Erase}
+use Rattle.vr_types.specs.declared.request.Request.TheVariants.{EndReq, Commit, Backout}
+use Rattle.vr_types.specs.declared.unit.Kind.TheVariants.{Keyed}
+use Rattle.vr_types.specs.declared.unit.StageKind.{StageKind}
+use Rattle.vr_space.specs.Known.{Known}
+use Rattle.vr_space.specs.Part.{KeyedShape, Shape, room_of}
+use Rattle.vr_space.specs.Room.{Lengths}
+use Rattle.vr_space.specs.Split.{SplitNow, free_interval, keyed_fits, keyed_stage, room_after}
+use Rattle.vr_space.specs.Split.{room_by, room_by_split}
+use Rattle.vr_space.specs.declared.room.Room.TheVariants as answers
+use Rattle.vr_history.specs.Case.{Case, file_of, new_record}
+use Rattle.vr_history.specs.Change.{place_changed}
+use Rattle.vr_history.specs.Opened.{ByPath, Cluster, Opened, Unknown, definition_in, opened}
+use Rattle.vr_history.specs.RefusedFile.{bad_slot, is_slot_zero, length_wrong, no_file}
+use Rattle.vr_history.specs.RefusedFile.{record_wrong, refused_if, slot_named}
+use Rattle.vr_history.specs.RefusedRecord.{absent_to, conflict_in, held_by, taken_twice}
+use Rattle.vr_history.specs.RefusedRoom.{free_areas, lacks, log_full, need_at, no_space}
+use Rattle.vr_history.specs.Replies.{done_by, first_of, lacks_area}
+use Rattle.vr_history.specs.State.{State}
+use Rattle.vr_undo.specs.Records.{images_in}
+use Rattle.vr_volume.specs.PutBack.{lengths_kept}
+use Rattle.vr_answer.specs.InHand.{IsCaseOf, whole}
+use Rattle.vr_answer.specs.Tried.{file_refusals, record_refusals}
+use Rattle.vr_answer.specs.declared.case.Case.{Case as CaseInHand}
+use Rattle.vr_event.specs.Getting.{refusal_of}
+use Rattle.vr_event.specs.Lacking.{AreElse, IfLacks, IfNoSpace, IsElse, LacksRoomIn}
+use Rattle.vr_event.specs.Putting.{IsChange}
+use Rattle.vr_event.specs.Room.{IsRoomAt}
+use Rattle.vr_event.specs.Store.{PartNow, StoreNow, part_among}
+use Rattle.vr_event.specs.declared.no.LookNo.{LookNo}
+use Rattle.vr_event.specs.declared.no.LookNo.TheVariants.{Fault, Memory}
+use Rattle.vr_event.specs.declared.weighing.Weighed.{Weighed}
+use Rattle.vr_event.specs.declared.weighing.Weighed.TheVariants as weighed
+use Rattle.vr_event.proofs.Weighs.{on-keyed}
+
+-- ---- what a part answers
+
+lacks-after : (stage : Option StageKind) (fits : Bool) (split : Option SplitNow) (free : Option ℕ)
+    (need left : ℕ)
+    → room_after stage (room_by fits (room_by_split split free)) ≡ answers.NoSpace need left
+    → NoSpace need left ≡ lacks_area
+lacks-after (Some stage) fits split free need left is = absurd cc
+lacks-after None true split free need left is = absurd cc
+lacks-after None false (Some split) free need left is = absurd cc
+lacks-after None false None (Some interval) need left is = absurd cc
+lacks-after None false None None need left is =
+    let needs : need ≡ 1 = cc in
+    let lefts : left ≡ 0 = cc in
+    ap (λ (n : ℕ). NoSpace n left) needs ∙ ap (λ (n : ℕ). NoSpace 1 n) lefts
+
+-- A part that lacks room needs one area, and none is free to it.
+room-lacks : (shape : Shape) (known : Known) (image : Image) (free : ℕ) (kept : Lengths)
+    (place : List ℕ) (n need left : ℕ)
+    → room_of shape known image free kept place n ≡ answers.NoSpace need left
+    → NoSpace need left ≡ lacks_area
+room-lacks (KeyedShape part) known image free kept place n need left is =
+    lacks-after (keyed_stage part known.split image place) (keyed_fits part image kept place n)
+    known.split (free_interval part (block_at image part.head)) need left is
+
+module _ (store : StoreNow) (image : Image) (number : ℕ) (place : List ℕ) (n need left : ℕ)
+    (laid : part_among store.parts number ≢ None)
+    (room : IsRoomAt store image number place n (answers.NoSpace need left)) where
+  pub lacks-is : NoSpace need left ≡ lacks_area
+  lacks-is = of (part_among store.parts number) laid room
+    where
+      of : (found : Option PartNow) → found ≢ None
+          → IfSome found (λ (one : PartNow). answers.NoSpace need left
+          ≡ room_of one.shape one.known image (free_count store.space)
+          (lengths_kept (images_in store.undo) number) place n)
+          → NoSpace need left ≡ lacks_area
+      of None some is = absurd (some refl)
+      of (Some one) some is = room-lacks one.shape one.known image (free_count store.space)
+          (lengths_kept (images_in store.undo) number) place n need left (sym is)
+
+  -- it lacks room for the record that the request gives
+  pub lacking : (request : Request) (bytes : List ℕ) → new_record request ≡ Some bytes
+      → n ≡ length bytes → LacksRoomIn store image number place request need left
+  lacking request bytes given long = of (part_among store.parts number) refl laid room
+    where
+      of : (found : Option PartNow) → part_among store.parts number ≡ found → found ≢ None
+          → IfSome found (λ (one : PartNow). answers.NoSpace need left
+          ≡ room_of one.shape one.known image (free_count store.space)
+          (lengths_kept (images_in store.undo) number) place n)
+          → LacksRoomIn store image number place request need left
+      of None there some is = absurd (some refl)
+      of (Some one) there some is = record {
+        part = one;
+        there = there;
+        bytes = bytes;
+        given = given;
+        lacks = sym (subst (λ (m : ℕ). answers.NoSpace need left
+            ≡ room_of one.shape one.known image (free_count store.space)
+            (lengths_kept (images_in store.undo) number) place m) long is);
+      }
+
+pub long-some : (request : Request) (n : ℕ) (bytes : List ℕ) → new_record request ≡ Some bytes
+    → IfSome (new_record request) (λ (bytes : List ℕ). n ≡ length bytes) → n ≡ length bytes
+long-some request n bytes given long =
+    subst (λ (o : Option (List ℕ)). IfSome o (λ (bytes : List ℕ). n ≡ length bytes)) given long
+
+-- ---- what other refusals are
+
+else-if : (test : Bool) (refusal : Refusal) → IsElse refusal → AreElse (refused_if test refusal)
+else-if false refusal is = tt
+else-if true refusal is = is
+
+else-map : {T : Type 0} (f : T → Refusal) → ((t : T) → IsElse (f t)) → (o : Option T)
+    → AreElse (option_map f o)
+else-map f each None = tt
+else-map f each (Some t) = each t
+
+else-then : {T : Type 0} (f : T → Option Refusal) → ((t : T) → AreElse (f t)) → (o : Option T)
+    → AreElse (option_and_then f o)
+else-then f each None = tt
+else-then f each (Some t) = each t
+
+-- each of some is no refusal for want of areas
+abbrev EachElse : List (Option Refusal) → Type 0
+EachElse [] = Unit {0}
+EachElse (refused ∷ rest) = AreElse refused × EachElse rest
+
+first-else : (refusals : List (Option Refusal)) → EachElse refusals → AreElse (first_of refusals)
+first-else [] each = tt
+first-else (None ∷ rest) each = first-else rest each.1
+first-else (Some refusal ∷ rest) each = each.0
+
+record-else : (opened : Opened) (bytes : List ℕ) → AreElse (record_wrong opened bytes)
+record-else Unknown bytes = tt
+record-else (Cluster definition) bytes = else-if _ _ tt
+record-else (ByPath definition alternate) bytes = else-if _ _ tt
+
+length-else : (opened : Opened) (request : Request) → IsChange request
+    → AreElse (length_wrong opened request)
+length-else opened (Add on place bytes) change = record-else opened bytes
+length-else opened (Update on bytes) change = record-else opened bytes
+length-else opened (Erase on) change = tt
+length-else opened (Get on find update integrity) change = absurd change
+length-else opened (Point on find) change = absurd change
+length-else opened (EndReq on) change = absurd change
+length-else opened Commit change = absurd change
+length-else opened Backout change = absurd change
+
+absent-else : (case : Case) (request : Request) → IsChange request
+    → AreElse (absent_to case request)
+absent-else case (Add on place bytes) change = tt
+absent-else case (Update on bytes) change = tt
+absent-else case (Erase on) change = tt
+absent-else case (Get on find update integrity) change = absurd change
+absent-else case (Point on find) change = absurd change
+absent-else case (EndReq on) change = absurd change
+absent-else case Commit change = absurd change
+absent-else case Backout change = absurd change
+
+module _ (case : Case) (change : IsChange case.request) where
+  -- by what is in memory,
+  no-file-else : AreElse (no_file case)
+  no-file-else = else-then (λ (file : FileRef). refused_if _ NoFile) (λ file. else-if _ NoFile tt)
+      (file_of case.request)
+
+  slot-else : AreElse (bad_slot case)
+  slot-else =
+      else-then (λ (place : List ℕ). refused_if (is_slot_zero (opened case) place) BadSlot)
+      (λ place. else-if _ BadSlot tt) (slot_named case.request)
+
+  pub file-else : AreElse (first_of (file_refusals case))
+  file-else = first-else (file_refusals case) (
+    no-file-else,
+    (
+      else-map Stopped (λ stamp. tt) case.state.stopped,
+      (
+        else-if _ NotAllowed tt,
+        (
+          slot-else,
+          (
+            length-else (opened case) case.request change,
+            (
+              else-if _ NoPosition tt,
+              (else-if _ NoGet tt, tt),
+            ),
+          ),
+        ),
+      ),
+    ),
+  )
+
+  -- by the record at its place and by locks, where the file is key-sequenced,
+  record-else-by : no_space case ≡ None → AreElse (first_of (record_refusals case))
+  record-else-by none = first-else (record_refusals case) (
+    else-if _ NotFound tt,
+    (
+      else-if _ KeyChanged tt,
+      (
+        else-if _ LengthChanged tt,
+        (
+          else-map held_by (λ lock. tt) (conflict_in case),
+          (
+            absent-else case case.request change,
+            (
+              else-if _ _ tt,
+              (
+                else-map _ (λ move. tt) (taken_twice case),
+                (subst AreElse (sym none) tt, tt),
+              ),
+            ),
+          ),
+        ),
+      ),
+    ),
+  )
+
+-- a key-sequenced cluster has no areas of numbered places
+no-need : (case : Case) (definition : Definition) → definition.kind ≡ Keyed
+    → (place new : Option (List ℕ))
+    → option_and_then (λ (at : List ℕ). option_and_then (need_at case definition at) new) place
+    ≡ None
+no-need case definition keyed None new = refl
+no-need case definition keyed (Some at) None = refl
+no-need case definition keyed (Some at) (Some bytes) = need-none case definition keyed at bytes
+  where
+    need-none : (case : Case) (definition : Definition) → definition.kind ≡ Keyed
+        → (at bytes : List ℕ) → need_at case definition at bytes ≡ None
+    need-none case definition keyed at bytes =
+        subst (λ (kind : _). need_at case (record definition { kind = kind }) at bytes ≡ None)
+        (sym keyed) refl
+
+keyed-none : (case : Case) (definition : Definition) → opened case ≡ Cluster definition
+    → definition.kind ≡ Keyed → no_space case ≡ None
+keyed-none case definition on keyed =
+    ap (λ (need : Option ℕ). option_and_then (lacks (free_areas case)) need)
+    (ap (λ (o : Opened). option_and_then (λ (one : Definition).
+    option_and_then (λ (at : List ℕ).
+    option_and_then (need_at case one at) (new_record case.request)) (place_changed case))
+    (definition_in o)) on
+    ∙ no-need case definition keyed (place_changed case) (new_record case.request))
+
+pub refused-else : (case : CaseInHand) (state : State) → IsCaseOf case state
+    → IsChange case.request.now → first_of (file_refusals (whole case state)) ≡ None
+    → AreElse (first_of (record_refusals (whole case state)))
+refused-else case state is change none =
+    let on = on-keyed case state is change none in
+    record-else-by (whole case state) change
+    (keyed-none (whole case state) on.definition on.on on.keyed)
+
+-- and by the log
+pub log-else : (case : Case) → AreElse (log_full case)
+log-else case = else-if _ (LogFull _ _ _) tt
+
+any-fact : (fact : ℕ → ℕ → Type 0) (refusal : Refusal) → IsElse refusal → IfNoSpace fact refusal
+any-fact fact (NoSpace need free) other = absurd other
+any-fact fact _ other = tt
+
+-- whatever is said of the numbers of one that is none
+pub lacks-any : (fact : ℕ → ℕ → Type 0) (found : Weighed) → IfLacks (λ need free. ⊥) found
+    → IfLacks fact found
+lacks-any fact (weighed.Refused refusal) other = any-fact fact refusal other
+lacks-any fact (weighed.Stage place n) other = tt
+lacks-any fact (weighed.Ready place old reply names) other = tt
+
+pub unless-else : (fact : ℕ → ℕ → Type 0) (refusal result : Refusal)
+    → (result ≡ refusal) ⊎ (result ≡ NoMemory) → IsElse refusal → IfNoSpace fact result
+unless-else fact refusal result is other = ⊎_elim
+    (λ same. any-fact fact result (subst IsElse (sym same) other))
+    (λ memory. subst (IfNoSpace fact) (sym memory) tt) is
+
+pub look-else : (fact : ℕ → ℕ → Type 0) (no : LookNo) → IfNoSpace fact (refusal_of no)
+look-else fact (Fault Read) = tt
+look-else fact (Fault Write) = tt
+look-else fact Memory = tt
+
+-- ---- what was refused so
+
+pub fact-of : (fact : ℕ → ℕ → Type 0) (refusal : Refusal) (need free : ℕ) → IfNoSpace fact refusal
+    → Refused refusal ≡ Refused (NoSpace need free) → fact need free
+fact-of fact refusal need free has is =
+    let same : refusal ≡ NoSpace need free = cc in subst (IfNoSpace fact) same has
+
+-- nothing that is done is refused
+pub done-unrefused : (case : Case) (request : Request) (refusal : Refusal)
+    → done_by case request ≡ Refused refusal → ⊥
+done-unrefused case (Add on place bytes) refusal is = cc
+done-unrefused case (Update on bytes) refusal is = cc
+done-unrefused case (Erase on) refusal is = cc
+done-unrefused case (Get on find update integrity) refusal is = cc
+done-unrefused case (Point on find) refusal is = cc
+done-unrefused case (EndReq on) refusal is = cc
+done-unrefused case Commit refusal is = cc
+done-unrefused case Backout refusal is = cc
