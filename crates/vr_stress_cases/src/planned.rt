@@ -39,8 +39,11 @@ pub struct Plan {
 enum Turn {
     Add,
     Read(&'static str),
+    Next(&'static str),
+    Point(&'static str),
     Update,
     Erase,
+    EraseNext,
     LetGo,
     End(Verb),
 }
@@ -57,7 +60,7 @@ struct Where {
 const HEAD: u32 = 12;
 
 /// How many numbers name a turn.
-const SIDES: u32 = 17;
+const SIDES: u32 = 24;
 
 fn turn_of(number: u32) -> Turn {
     match number {
@@ -69,7 +72,14 @@ fn turn_of(number: u32) -> Turn {
         11 => Turn::Erase,
         12 => Turn::LetGo,
         13..=15 => Turn::End(Verb::Commit),
-        _ => Turn::End(Verb::Backout),
+        16 => Turn::End(Verb::Backout),
+        17 => Turn::Next(""),
+        18 => Turn::Next(" CR"),
+        19 => Turn::Next(" CRE"),
+        20 => Turn::EraseNext,
+        21 => Turn::Read(" GE CR"),
+        22 => Turn::Point(" GE"),
+        _ => Turn::Point(""),
     }
 }
 
@@ -128,13 +138,19 @@ impl Plan {
     fn add_turn(&mut self, place: Where, turn: Turn, number: u32) -> Answer {
         match turn {
             Turn::Add => self.add_record(place, "", number),
-            Turn::Read(integrity) => self.add_get(place, integrity),
+            Turn::Read(how) => self.add_get(place, how),
+            Turn::Next(integrity) => self.add_next(place, integrity),
+            Turn::Point(how) => self.add_point(place, how),
             Turn::Update => {
                 self.add_get(place, " UPD")?;
                 self.add_record(place, " UPD", number)
             }
             Turn::Erase => {
                 self.add_get(place, " UPD")?;
+                self.add_simple(place, Verb::Erase)
+            }
+            Turn::EraseNext => {
+                self.add_next(place, " UPD")?;
                 self.add_simple(place, Verb::Erase)
             }
             Turn::LetGo => {
@@ -167,6 +183,21 @@ impl Plan {
         write!(self.text, "GET F{volume} KEY=C'{key:08}'{how}\n")?;
         self.count_line();
         self.plan(deck, Verb::Get, volume, self.lines)
+    }
+
+    /// Adds a GET of the next record, from where the file stands.
+    fn add_next(&mut self, place: Where, how: &str) -> Answer {
+        let Where { deck, volume, .. } = place;
+        write!(self.text, "GET F{volume} SEQ{how}\n")?;
+        self.count_line();
+        self.plan(deck, Verb::Get, volume, self.lines)
+    }
+
+    fn add_point(&mut self, place: Where, how: &str) -> Answer {
+        let Where { deck, volume, key } = place;
+        write!(self.text, "POINT F{volume} KEY=C'{key:08}'{how}\n")?;
+        self.count_line();
+        self.plan(deck, Verb::Point, volume, self.lines)
     }
 
     fn add_simple(&mut self, place: Where, verb: Verb) -> Answer {
@@ -204,7 +235,7 @@ impl Plan {
     }
 }
 
-/// Adds so many letters to a text.
+/// Adds letters to a text.
 fn add_letters(text: &mut String, letters: u32) -> Answer {
     for _ in 0..letters {
         text.push('x')?;
