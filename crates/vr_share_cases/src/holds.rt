@@ -41,6 +41,47 @@ pub fn held_record<R: Threads + Wait + Sync>(rt: &R, alloc: Global, out: &mut St
     say_asked(out, entries_of(&ran.histories, 0), 2, 1)
 }
 
+/// Deck 3 adds three records. Deck 1 erases the second one and backs out; deck 2 reads one record
+/// after another, and looks for the second one again once it is back.
+const BROWSED: [&str; 27] = [
+    "//A EXEC PGM=VRMDECK",
+    "//DECK3 DD *",
+    "FILE F VRM.FIRST",
+    "PUT F DATA=C'00000001A'",
+    "PUT F DATA=C'00000003C'",
+    "PUT F DATA=C'00000005E'",
+    "//B EXEC PGM=VRMDECK",
+    "//DECK1 DD *",
+    "FILE F VRM.FIRST",
+    "FILE G VRM.ONE",
+    "GET F KEY=C'00000003' UPD",
+    "ERASE F",
+    "GET G KEY=C'00000001'",
+    "BACKOUT",
+    "GET G KEY=C'00000001'",
+    "//DECK2 DD *",
+    "FILE F VRM.FIRST",
+    "FILE H VRM.TWO",
+    "GET H KEY=C'00000001'",
+    "GET F SEQ",
+    "GET F SEQ CR",
+    "GET F KEY=C'00000002' GE CR",
+    "GET F SEQ NRI",
+    "GET H KEY=C'00000001'",
+    "POINT F KEY=C'00000002' GE",
+    "GET F SEQ",
+    "GET F SEQ CRE",
+];
+
+/// The replies to deck 2 on volume 0, which reads on while deck 1 has erased a record, by the gate
+/// of `held_record`.
+pub fn browsed<R: Threads + Wait + Sync>(rt: &R, alloc: Global, out: &mut String) -> Answer {
+    let shelf = three_volumes(alloc, SMALL)?;
+    let gate = InTurns::new();
+    let ran = run_lines(rt, alloc, shelf, &BROWSED, &gate)?;
+    say_asked(out, entries_of(&ran.histories, 0), 2, 1)
+}
+
 /// Deck 3 adds four records of 120 bytes, which fill an interval; deck 1 adds one among them; deck
 /// 2 asks for the last and the first of them.
 fn splitting(text: &mut String) -> Answer {

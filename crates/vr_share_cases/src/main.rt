@@ -22,6 +22,7 @@ use vr_case_volumes::{Answer, Stop};
 #[derive(Clone, Copy)]
 enum Case {
     HeldRecord,
+    Browsed,
     FullLog,
     /// A deck is held after so many events of its request.
     After(u32),
@@ -30,8 +31,9 @@ enum Case {
 }
 
 /// The cases, in the order of their lines.
-const CASES: [Case; 7] = [
+const CASES: [Case; 8] = [
     Case::HeldRecord,
+    Case::Browsed,
     Case::FullLog,
     Case::After(1),
     Case::After(2),
@@ -61,6 +63,7 @@ fn print_case<R: Threads + Wait + Sync + Print + AllocGlobal>(
 fn name_of(case: Case) -> &'static str {
     match case {
         Case::HeldRecord => "a held record",
+        Case::Browsed => "a browse",
         Case::FullLog => "a full log",
         Case::After(1) => "after one event",
         Case::After(2) => "after two events",
@@ -74,6 +77,7 @@ fn name_of(case: Case) -> &'static str {
 fn answer<R: Threads + Wait + Sync>(rt: &R, alloc: Global, case: Case, out: &mut String) -> Answer {
     match case {
         Case::HeldRecord => holds::held_record(rt, alloc, out),
+        Case::Browsed => holds::browsed(rt, alloc, out),
         Case::FullLog => full_log::full_log(rt, alloc, out),
         Case::After(events) => holds::between_events(rt, alloc, events, out),
         Case::SameListing => listings::same_listing(rt, alloc, out),
