@@ -44,7 +44,7 @@ commit-going : (geometry : Geometry) (state : State) (unit : UnitOfRecovery)
     → MayReply (case_of geometry state unit Commit) (DoneReply 0 None None) → state.stopped ≡ None
 commit-going geometry state unit is = ⊎_elim
     (λ answered. going-by state.stopped _ _ answered.0)
-    (λ lacks. ⊎_elim (λ room. absurd (not-refused _ room.4))
+    (λ lacks. ⊎_elim (λ room. absurd (not-refused _ room.2))
     (λ further. ⊎_elim (λ memory. absurd (not-refused _ memory.2))
     (λ faults. ⊎_elim (λ write. absurd (not-refused _ write))
     (λ read. absurd (not-refused _ read.1)) faults.1) further) lacks) is
