@@ -4,7 +4,7 @@
 use crate::answers::{Answer, Stop, say_deck, say_fault, say_order, say_step};
 use crate::look::{Look, What, lines_of, look_at, name_of, number_of};
 use std::alloc::Global;
-use vr_deck_text::{Ask, At, DeckFault, DeckText, Seek, parse_deck};
+use vr_deck_text::{DeckFault, parse_deck};
 use vr_text::Lines;
 
 /// The first fault of a text.
@@ -104,7 +104,7 @@ fn fault_at(alloc: Global, text: &Text, at: usize) -> Result<Option<Fault>, Stop
     Ok(fault)
 }
 
-/// The fault of a line that isn't run.
+/// The fault of a step that isn't run.
 fn form_at(at: usize) -> Fault {
     Fault {
         kind: "FORM",
@@ -232,9 +232,6 @@ fn deck_fault(alloc: Global, text: &Text, card: usize) -> Result<Option<Fault>, 
     for count in 1..length_of(text, card).saturating_add(1) {
         let at = card.saturating_add(count);
         let cause = cause_of(alloc, text, card, count)?;
-        if cause == Some(0) {
-            return Ok(Some(form_at(at)));
-        }
         if let Some(cause) = cause {
             return Ok(Some(Fault {
                 kind: "DECK",
@@ -247,38 +244,13 @@ fn deck_fault(alloc: Global, text: &Text, card: usize) -> Result<Option<Fault>, 
     Ok(None)
 }
 
-/// The number of the fault in the first lines of a deck: 0 where an order isn't run.
+/// The number of the fault in the first lines of a deck.
 fn cause_of(alloc: Global, text: &Text, card: usize, count: usize) -> Result<Option<u8>, Stop> {
     let lines = lines_from(alloc, text, card, count)?;
     match parse_deck(alloc, &lines) {
-        Ok(deck) => Ok(if is_all_run(&deck) { None } else { Some(0) }),
+        Ok(_) => Ok(None),
         Err(DeckFault::Text(fault)) => Ok(Some(fault.cause.number())),
         Err(DeckFault::Memory) => Err(Stop::Memory),
-    }
-}
-
-/// Whether each order of a deck is run.
-fn is_all_run(deck: &DeckText) -> bool {
-    for order in deck.orders.as_slice() {
-        let run = match &order.ask {
-            Ask::Point { .. } => false,
-            Ask::Add { at, .. } => at.is_none(),
-            Ask::Get { seek, .. } => is_keyed(seek),
-            _ => true,
-        };
-        if !run {
-            return false;
-        }
-    }
-    true
-}
-
-/// Whether the record of a key is asked for.
-fn is_keyed(seek: &Seek) -> bool {
-    if let Seek::Equal(At::Key(_)) = seek {
-        true
-    } else {
-        false
     }
 }
 
