@@ -117,6 +117,7 @@ cause_err {T} {U} before now fault call = record {
   ok = tt;
   read = λ is. call.read (same_fault {T = U} {U = T} fault Read is);
   write = λ is. call.write (same_fault {T = U} {U = T} fault Write is);
+  unwritten = λ is. call.unwritten (same_fault {T = U} {U = T} fault Read is);
 }
 
 -- what a `get` leaves, with its block and without one

@@ -438,4 +438,5 @@ cause-ok a b x same = record {
   ok = same;
   read = λ is. absurd (true≢false (ap is_ok is));
   write = λ is. absurd (true≢false (ap is_ok is));
+  unwritten = λ is. absurd (true≢false (ap is_ok is));
 }

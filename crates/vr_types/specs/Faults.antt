@@ -25,7 +25,7 @@ CountsWrite before now result =
     × OnErr result ((before.writes < now.writes) × (now.reads ≡ before.reads))
 
 -- Neither count falls, each fault is one that its count rose for, and neither rose where there is
--- none.
+-- none. A call ends with its first fault: where that is of a read, no write failed.
 pub record HasCause {T : Type 0} (before now : Faults) (result : Result T DeviceFault) : Type 0
   where
     pub reads : before.reads ≤ now.reads
@@ -33,6 +33,7 @@ pub record HasCause {T : Type 0} (before now : Faults) (result : Result T Device
     pub ok : OnOk result (now ≡ before)
     pub read : IsErrOf result Read → before.reads < now.reads
     pub write : IsErrOf result Write → before.writes < now.writes
+    pub unwritten : IsErrOf result Read → now.writes ≡ before.writes
 
 -- the same of a call that reads nothing
 pub record HasWriteCause {T : Type 0} (before now : Faults) (result : Result T DeviceFault) : Type 0
