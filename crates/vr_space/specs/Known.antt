@@ -4,11 +4,14 @@ use Rattle.std.specs.Prelude.{ℕ, List, map, Contains, Option}
 use Rattle.vr_space.specs.Met.{Met}
 use Rattle.vr_space.specs.Split.{SplitNow}
 
--- the split that is under way, and the intervals that the last two calls of `room` met, the last
--- one first
+-- The split that is under way, and the intervals that the last two calls of `room` met, the last
+-- one first; and of a chain of rosters its areas in their order, and how many intervals of them are
+-- used.
 pub record Known : Type 0 where
   pub split : Option SplitNow
   pub met : List Met
+  pub areas : List ℕ
+  pub used : ℕ
 
 -- the places that were met
 abbrev pub places_met : Known → List (List ℕ)

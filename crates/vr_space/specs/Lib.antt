@@ -8,5 +8,7 @@ pub mod Split
 pub mod UnderWay
 pub mod Met
 pub mod Known
+pub mod Rosters
+pub mod Slots
 pub mod Part
 pub mod Search

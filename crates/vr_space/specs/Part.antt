@@ -30,30 +30,40 @@ use Rattle.vr_space.specs.Met.{IsMet}
 use Rattle.vr_space.specs.Owners.{Owners}
 use Rattle.vr_space.specs.Keyed.{InArea, IsOwned, Keyed, keyed_way, KeyedStandsFor, IsKeyedSound, IsKeyedAtRest}
 use Rattle.vr_space.specs.Keyed.{KeepsRoom, HaveRooms, IsValid, entries_of, key_of}
+use Rattle.vr_space.specs.Rosters.{IsInArea, IsOf, Numbered}
+use Rattle.vr_space.specs.Slots.{AreSlotsAtRest, AreSlotsSound, IsNumberedOn, IsSlotPlace}
+use Rattle.vr_space.specs.Slots.{IsSlotRecord, KeepsSlots, KnowsChain, SlotsStandFor, SlotsStayIn}
+use Rattle.vr_space.specs.Slots.{slot_fits, slot_room, slot_way}
 
 -- Where a part is on its blocks and how they are spelled, by its kind.
 pub data Shape : Type 0 where
   KeyedShape : Keyed → Shape
+  RelativeShape : Numbered → Shape
 
 -- its number
 abbrev pub part_no : Shape → PartNo
 part_no (KeyedShape part) = record { 0 = part.part }
+part_no (RelativeShape part) = record { 0 = part.part }
 
 -- the blocks that it is on are there, with their size
 abbrev pub IsOn : Shape → Seen → Type 0
 IsOn (KeyedShape part) now = (part.head + part.area < now.count) × (now.size ≡ part.size)
+IsOn (RelativeShape part) now = IsNumberedOn part now
 
 -- how long its places are at most
 abbrev pub place_length : Shape → ℕ
 place_length (KeyedShape part) = part.key
+place_length (RelativeShape part) = 4
 
 -- a length that a record of the part may have
 abbrev pub IsLengthOf : Shape → ℕ → Type 0
 IsLengthOf (KeyedShape part) n = (part.offset + part.key ≤ n) × (n ≤ part.most)
+IsLengthOf (RelativeShape part) n = n ≡ part.most
 
 -- the blocks of its first area
 abbrev pub InFirstArea : Shape → ℕ → Type 0
 InFirstArea (KeyedShape part) n = InArea part n
+InFirstArea (RelativeShape part) n = IsInArea part part.first n
 
 -- the blocks that are its own
 abbrev pub InPart : Shape → Owners → ℕ → Type 0
@@ -62,14 +72,17 @@ InPart shape owners n = owners n ≡ Some (part_no shape).0
 -- a place that a record of the part may have
 abbrev pub IsPlaceOf : Shape → List ℕ → Type 0
 IsPlaceOf (KeyedShape part) place = length place ≡ part.key
+IsPlaceOf (RelativeShape part) place = IsSlotPlace place
 
 -- a record that may stand at the place
 abbrev pub IsRecordOf : Shape → List ℕ → List ℕ → Type 0
 IsRecordOf (KeyedShape part) place bytes = IsValid part bytes × (key_of part bytes ≡ place)
+IsRecordOf (RelativeShape part) place bytes = IsSlotRecord part place bytes
 
 -- the blocks of the image stand for the content
 abbrev pub StandsFor : Shape → Image → Content → Type 0
 StandsFor (KeyedShape part) image content = KeyedStandsFor part image content
+StandsFor (RelativeShape part) image content = SlotsStandFor part image content
 
 -- they stand for some content
 abbrev pub Stands : Shape → Image → Type 0
@@ -78,14 +91,17 @@ Stands shape image = (content : Content) × StandsFor shape image content
 -- how a reader gets to a place
 abbrev pub way_to : Shape → List ℕ → Way
 way_to (KeyedShape part) place = keyed_way part place
+way_to (RelativeShape part) place = slot_way part place
 
 -- every content that a crash may leave of a block is in order, and leads to blocks of the part alone
 abbrev pub IsSound : Shape → Owners → Seen → Type 0
 IsSound (KeyedShape part) owners now = IsKeyedSound part now × IsOwned part owners
+IsSound (RelativeShape part) owners now = AreSlotsSound part owners now
 
 -- and blocks that say where others are have one content
 abbrev pub IsAtRest : Shape → Owners → Seen → Type 0
 IsAtRest (KeyedShape part) owners now = IsKeyedAtRest part now × IsOwned part owners
+IsAtRest (RelativeShape part) owners now = AreSlotsAtRest part owners now
 
 -- the same, whichever blocks are the part's
 abbrev pub IsQuiet : Shape → Seen → Type 0
@@ -94,15 +110,18 @@ IsQuiet shape now = (owners : Owners) × IsAtRest shape owners now
 -- the image leads to blocks of the part alone
 abbrev pub StaysIn : Shape → Owners → Image → Type 0
 StaysIn (KeyedShape part) owners image = IsOwned part owners
+StaysIn (RelativeShape part) owners image = SlotsStayIn part owners image
 
 -- whatever a crash leaves of an interval, what is kept for its places has room beside it
 abbrev pub HasKeptRoom : Shape → Lengths → Seen → Type 0
 HasKeptRoom (KeyedShape part) kept now = KeepsRoom part kept now
+HasKeptRoom (RelativeShape part) kept now = KeepsSlots part kept now.may
 
 -- the same in one image
 abbrev pub HasRoom : Shape → Lengths → Image → Type 0
 HasRoom (KeyedShape part) kept image =
     HaveRooms part kept image None (entries_of (block_at image part.head))
+HasRoom (RelativeShape part) kept image = KeepsSlots part kept (IsOf image)
 
 -- the item at a place
 abbrev pub item_of : Shape → Image → List ℕ → Option Item
@@ -117,9 +136,10 @@ abbrev pub MayHold : Shape → (ℕ → Block → Type 0) → List ℕ → Optio
 MayHold shape may place item = MayFind may item (way_to shape place)
 
 -- What a call leaves at a place where this item is, or none, as it gives a record to the place, or
--- takes the one there away: of a keyed part nothing is withdrawn.
+-- takes the one there away: of keyed and relative parts nothing is withdrawn.
 abbrev pub left_by : Shape → Option Item → Option (List ℕ) → Option Item
 left_by (KeyedShape part) now bytes = option_map Standing bytes
+left_by (RelativeShape part) now bytes = option_map Standing bytes
 
 -- which items, or none, a call adds to what places may hold
 abbrev pub Nothing : List ℕ → Option Item → Type 0
@@ -197,22 +217,27 @@ IsFirm shape now place = (item : Option Item) → MayHold shape now.may place it
 abbrev pub room_of : Shape → Known → Image → ℕ → Lengths → List ℕ → ℕ → Room
 room_of (KeyedShape part) known image free kept place n =
     keyed_room part known.split image kept place n
+room_of (RelativeShape part) known image free kept place n = slot_room part image free place
 
 -- a record of this length has room beside what stands there and what is kept
 abbrev pub fits_at : Shape → Image → Lengths → List ℕ → ℕ → Bool
 fits_at (KeyedShape part) image kept place n = keyed_fits part image kept place n
+fits_at (RelativeShape part) image kept place n = slot_fits part image place
 
 -- the stage of a split under way that comes before any change at the place
 abbrev pub stage_of : Shape → Known → Image → List ℕ → Option StageKind
 stage_of (KeyedShape part) known image place = keyed_stage part known.split image place
+stage_of (RelativeShape part) known image place = None
 
 -- the blocks are as the split under way left them
 abbrev pub IsUnderWay : Shape → Known → Seen → Type 0
 IsUnderWay (KeyedShape part) known now = KeyedUnderWay part known.split now
+IsUnderWay (RelativeShape part) known now = Unit {0}
 
 -- the blocks that were met are as they were
 abbrev pub AreMet : Shape → Known → Image → Type 0
 AreMet (KeyedShape part) known image = All (IsMet part image) known.met
+AreMet (RelativeShape part) known image = KnowsChain part known image
 
 -- The blocks are as the part knows them: by its split under way, and those that it met.
 pub record Knows (shape : Shape) (known : Known) (now : Seen) : Type 0 where
@@ -236,9 +261,16 @@ OwnersAfter part Post old new = (new ≡ old) ⊎ IsClaimed part old new
 OwnersAfter part Extend old new = (new ≡ old) ⊎ IsClaimed part old new
 OwnersAfter part stage old new = new ≡ old
 
+-- the blocks of the areas that the part has, as it keeps them in memory
+abbrev pub InHeld : Shape → Known → ℕ → Type 0
+InHeld (KeyedShape part) known n = InArea part n
+InHeld (RelativeShape part) known n =
+    (area : ℕ) × Contains known.areas area × IsInArea part area n
+
 -- the blocks of an area that a stage of the part may claim: a keyed part stays in its one area
 abbrev pub InClaimed : Shape → ℕ → ℕ → Type 0
 InClaimed (KeyedShape part) area n = ⊥
+InClaimed (RelativeShape part) area n = IsInArea part area n
 
 -- The part has the blocks that it had, and those of the least free area too, as a stage may claim
 -- it; and no other part has less.

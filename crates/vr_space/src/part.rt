@@ -22,6 +22,7 @@ ghost use Rattle.vr_space.specs.Part.{
   left_by,
   room_of,
   IsOn,
+  InHeld,
   InPart,
   IsPlaceOf,
   IsLengthOf,
@@ -74,6 +75,8 @@ pub trait Part {
         requires on { IsOn (shape part.old) (B.seen blocks.old) }
         requires place { IsPlaceOf (shape part.old) place.now }
         requires stands { IsTrue B.tells → Stands (shape part.old) (B.seen blocks.old).cur }
+        requires knows { IsTrue B.tells → Knows (shape part.old) (known part.old)
+            (B.seen blocks.old) }
         ensures item { IsTrue B.tells → IfOk result (λ found. MatchOption found
             (record_read (shape part.old) (B.seen blocks.old).cur place.now ≡ None)
             (λ s. record_read (shape part.old) (B.seen blocks.old).cur place.now ≡ Some s.now)) }
@@ -94,6 +97,8 @@ pub trait Part {
         requires on { IsOn (shape self.old) (B.seen blocks.old) }
         requires room { place_length (shape self.old) ≤ into.old.room }
         requires stands { IsTrue B.tells → Stands (shape self.old) (B.seen blocks.old).cur }
+        requires knows { IsTrue B.tells → Knows (shape self.old) (known self.old)
+            (B.seen blocks.old) }
         ensures next { IsTrue B.tells → IfOk result (λ found.
             NextIs (shape self.old) (B.seen blocks.old).cur from.entry found into.new.place) }
         ensures room { into.new.room ≡ into.old.room }
@@ -135,7 +140,8 @@ pub trait Part {
         ensures put { put self.new ≡ put self.old };
 
     /// Does the stage that comes before such a record, and answers it. Each place keeps its item.
-    /// The caller asks `room` again.
+    /// A stage that claims an area takes the least free one of `space`, once the part's blocks lead
+    /// to it. The caller asks `room` again.
     fn advance<B: Blocks, K: Kept>(
         &mut self,
         blocks: &mut B,
@@ -229,7 +235,8 @@ pub trait Part {
         ensures due { IsTrue B.tells → OnOk result
             (DueMoreAt (shape self.old) place.now (put self.new)
             (B.seen blocks.old) (B.seen blocks.new)) }
-        ensures put { OnOk result (All (λ n. n < (B.seen blocks.new).count) (put self.new)) }
+        ensures put { OnOk result (All (InHeld (shape self.old) (known self.new)) (put self.new)) }
+        ensures below { OnOk result (All (λ n. n < (B.seen blocks.new).count) (put self.new)) }
         ensures rests { IsTrue B.tells → (owners : Owners)
             → IsAtRest (shape self.old) owners (B.seen blocks.old)
             → OnOk result (IsAtRest (shape self.old) owners (B.seen blocks.new)) }
