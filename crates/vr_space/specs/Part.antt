@@ -272,11 +272,13 @@ abbrev pub InClaimed : Shape → ℕ → ℕ → Type 0
 InClaimed (KeyedShape part) area n = ⊥
 InClaimed (RelativeShape part) area n = IsInArea part area n
 
--- The part has the blocks that it had, and those of the least free area too, as a stage may claim
--- it; and no other part has less.
+-- The part has the blocks that it had, and those of the least free area too, which were nobody's, as
+-- a stage may claim it; and no other part has less.
 pub record MayGrow (shape : Shape) (areas : List (Option PartNo)) (owners grown : Owners) : Type 0
   where
     pub kept : (n part : ℕ) → owners n ≡ Some part → grown n ≡ Some part
+    pub free : (area : ℕ) → least_free areas ≡ Some area → (n : ℕ) → InClaimed shape area n
+        → owners n ≡ None
     pub claimed : (area : ℕ) → least_free areas ≡ Some area → (n : ℕ) → InClaimed shape area n
         → InPart shape grown n
 

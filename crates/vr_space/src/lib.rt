@@ -4,6 +4,7 @@
 //! It promises that blocks stand for one content at most, whose places ascend.
 #![tactic(auto)]
 
+mod chain_layout;
 mod kept;
 mod laws;
 mod layout;
@@ -14,6 +15,7 @@ mod room;
 mod search;
 mod whence;
 
+pub use chain_layout::ChainLayout;
 pub use kept::Kept;
 pub use laws::{content_is_read, kept_takes_no_room, one_content};
 pub use layout::Layout;

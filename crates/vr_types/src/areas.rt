@@ -54,12 +54,25 @@ impl Space {
         ensures none { result ≡ None → self.new ≡ self.old }
     {
         let area = self.least_free()?;
-        self.owners[area] = Some(part);
+        self.owners[area.0 as usize] = Some(part);
+        Some(area)
+    }
+
+    /// The least free area, where one is free.
+    pub fn least_free(&self) -> Option<AreaNo>
+        ensures least { option_map (λ area. area.0) result ≡ least_free self.now }
+        ensures below { IfSome result (λ area. area.0 < length self.now) }
+    {
+        let area = self.first_free()?;
+        if area >= self.owners.len() {
+            unreachable!("it is one of them")
+        }
         Some(AreaNo(area as u32))
     }
 
-    fn least_free(&self) -> Option<usize>
-        ensures { result ≡ least_free self.now }
+    fn first_free(&self) -> Option<usize>
+        ensures least { result ≡ least_free self.now }
+        ensures below { IfSome result (λ area. area < length self.now) }
     {
         self.owners.iter().position(|owner| owner.is_none())
     }
