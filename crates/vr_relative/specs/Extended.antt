@@ -1,0 +1,34 @@
+-- What an interval more, or an area more, leaves of a relative part. The rules are this project's
+-- own.
+use Rattle.std.specs.Prelude.{◌≡◌, ℕ, List, [], Option}
+use Rattle.vr_types.specs.Regions.{Touches}
+use Rattle.vr_types.specs.Seen.{Seen}
+use Rattle.vr_types.specs.declared.unit.PartNo.{PartNo}
+use Rattle.vr_space.specs.Room.{Lengths}
+use Rattle.vr_space.specs.Owners.{Owners}
+use Rattle.vr_space.specs.Part.{AddsTo, DueMore, HasKeptRoom, HasRoom, InPart, IsAtRest, MayGrow}
+use Rattle.vr_space.specs.Part.{Nothing, RelativeShape, SameRecords}
+use Rattle.vr_space.specs.Rosters.{Numbered}
+
+-- Whether it failed or not: nothing is added to what places may hold, and what is kept has room, in
+-- the image of each moment and from then on.
+pub record MayExtend (part : Numbered) (areas : List (Option PartNo)) (kept : Lengths)
+    (old new : Seen) : Type 0 where
+  pub adds : (owners grown : Owners) → MayGrow (RelativeShape part) areas owners grown
+      → IsAtRest (RelativeShape part) owners old
+      → AddsTo (RelativeShape part) grown Nothing old new
+  pub same : SameRecords (RelativeShape part) old.cur new.cur
+  pub room : HasKeptRoom (RelativeShape part) kept new
+  pub rooms : (owners grown : Owners) → MayGrow (RelativeShape part) areas owners grown
+      → IsAtRest (RelativeShape part) owners old
+      → Touches (InPart (RelativeShape part) grown) (HasRoom (RelativeShape part) kept) old new
+
+-- The interval is there: the part is at rest, with the blocks that it may have claimed.
+pub record IsExtended (part : Numbered) (areas after : List (Option PartNo)) (old new : Seen)
+    : Type 0
+  where
+    pub due : DueMore (RelativeShape part) [] old new
+    pub rests : (owners grown : Owners) → MayGrow (RelativeShape part) areas owners grown
+        → IsAtRest (RelativeShape part) owners old → IsAtRest (RelativeShape part) grown new
+    pub stays : (owners : Owners) → after ≡ areas → IsAtRest (RelativeShape part) owners old
+        → IsAtRest (RelativeShape part) owners new

@@ -1,0 +1,28 @@
+-- Which places a search comes to: bytes at others or past them, and the slots with a record. The
+-- rules are those of relative record numbers (DFSMS Using Data Sets).
+use Rattle.std.specs.Prelude.{◌≡◌, ◌≢◌, ℕ, ◌≤◌, ◌<◌, Bool, true, false, List, None}
+use Rattle.std.specs.Ordering.{is_le, is_lt}
+use Rattle.vr_types.specs.Content.{place_cmp}
+use Rattle.vr_types.specs.Fields.{four}
+use Rattle.vr_types.specs.Image.{Image}
+use Rattle.vr_space.specs.Part.{RelativeShape, record_read}
+use Rattle.vr_space.specs.Rosters.{Numbered}
+
+-- at these bytes or past them, or past them alone
+abbrev pub is_from : Bool → List ℕ → List ℕ → Bool
+is_from false bytes place = is_le (place_cmp bytes place)
+is_from true bytes place = is_lt (place_cmp bytes place)
+
+-- ---- the slots with a record, by their numbers
+
+-- none of the slots from a number on, below another, has a record
+abbrev pub HasNoneRead : Numbered → Image → ℕ → ℕ → Type 0
+HasNoneRead part image from below = (number : ℕ) → from ≤ number → number < below
+    → record_read (RelativeShape part) image (four number) ≡ None
+
+-- the slot of this number is the first of them that has one
+pub record IsFirstRead (part : Numbered) (image : Image) (from below number : ℕ) : Type 0 where
+  pub from_is : from ≤ number
+  pub below_is : number < below
+  pub some : record_read (RelativeShape part) image (four number) ≢ None
+  pub none : HasNoneRead part image from number

@@ -1,0 +1,214 @@
+//! The chain of a part's areas, in memory.
+ghost use Rattle.std.specs.Prelude.{◌≡◌, ◌≤◌, ◌<◌, ◌+◌, ◌-◌, ◌*◌, ◌/◌, ◌%◌, ◌++◌, ◌∷◌, [], ℕ, List};
+ghost use Rattle.std.specs.Prelude.{IfOk, IfSome, IsTrue, None, false, length, nat_lt};
+ghost use Rattle.std.specs.Int.{div_ceil};
+ghost use Rattle.vr_types.specs.Geometry.{area_count};
+ghost use Rattle.vr_space.specs.Rosters.{roster_block};
+ghost use Rattle.vr_space.specs.Slots.{IsSlotPlace, chain_block, interval_of, slot_room_by};
+ghost use Rattle.vr_space.specs.Slots.{slots_of};
+
+use crate::number::slot_number;
+use std::alloc::Global;
+use std::marker::Model;
+use vr_space::{ChainLayout, Room};
+use vr_types::{OutOfMemory, StageKind};
+
+/// The areas of a part in the order of its chain, and how many of their intervals are used. There
+/// is room for as many areas as the volume has.
+#[derive(Drop)]
+pub struct Chain {
+    pub(crate) layout: ChainLayout,
+    areas: Vec<u32>,
+    used: u32,
+}
+
+impl Model for Chain {
+    ghost use Rattle.std.specs.Prelude.{◌≤◌, vec_capacity};
+    ghost use Rattle.vr_types.specs.Geometry.{area_count};
+    ghost use Rattle.vr_relative.specs.Chain.{ChainNow, IsChainNow};
+
+    ghost Value = { ChainNow };
+
+    ghost view = { λ chain. record {
+      part = chain.layout;
+      areas = chain.areas.items;
+      used = chain.used;
+    } };
+
+    ghost invariant = { λ chain. IsChainNow chain.layout chain.areas.items chain.used
+        × (area_count chain.layout.geometry ≤ vec_capacity chain.areas) };
+}
+
+/// The chain of the first area alone, with no interval used. It fails only if memory runs out, and
+/// takes what the chain of all areas needs.
+pub fn first_chain(alloc: Global, layout: ChainLayout) -> Result<Chain, OutOfMemory>
+    ensures { IfOk result (λ chain. chain ≡ record {
+      part = layout;
+      areas = layout.first ∷ [];
+      used = 0;
+    }) }
+{
+    let mut areas = Vec::with_capacity(alloc, layout.geometry.areas() as usize)?;
+    let first = layout.first;
+    if areas.push(first).is_err() {
+        unreachable!("there is room")
+    }
+    Ok(Chain {
+        layout,
+        areas,
+        used: 0,
+    })
+}
+
+impl Chain {
+    ghost use Rattle.vr_relative.specs.Chain.{ChainNow};
+
+    /// How many intervals are used.
+    pub fn used(&self) -> u32
+        ensures { result ≡ self.now.used }
+    {
+        self.used
+    }
+
+    /// The block of a used interval, by its number over the whole chain. None where that isn't used.
+    pub fn block_of(&self, interval: u32) -> Option<u32>
+        ensures used { IfSome result (λ n. interval < self.now.used) }
+        ensures block { IfSome result
+            (λ n. n ≡ chain_block self.now.part self.now.areas interval) }
+        ensures below { IfSome result (λ n. n < self.now.part.geometry.blocks) }
+        ensures none { result ≡ None → self.now.used ≤ interval }
+    {
+        if interval >= self.used {
+            return None;
+        }
+        let whole = self.layout.geometry.area;
+        let area = self.areas[(interval / whole) as usize];
+        Some(self.layout.interval_in(area, interval % whole))
+    }
+
+    /// The interval of a slot, by the slot's number.
+    pub(crate) fn interval_of(&self, number: u32) -> u32
+        requires { 0 < number }
+        ensures { result ≡ (number - 1) / slots_of self.now.part }
+    {
+        (number - 1) / self.layout.slots()
+    }
+
+    /// Which slot of its interval it is.
+    pub(crate) fn slot_in(&self, number: u32) -> u32
+        requires { 0 < number }
+        ensures place { result ≡ (number - 1) % slots_of self.now.part }
+        ensures below { result < slots_of self.now.part }
+    {
+        (number - 1) % self.layout.slots()
+    }
+
+    /// The block of a place's interval. None where the place is that of no slot, or its interval
+    /// isn't used.
+    pub(crate) fn block_at(&self, place: &[u8]) -> Option<u32>
+        ensures used { IfSome result (λ n. IsSlotPlace place.now
+            × (interval_of self.now.part place.now < self.now.used)) }
+        ensures block { IfSome result (λ n. n ≡ chain_block self.now.part self.now.areas
+            (interval_of self.now.part place.now)) }
+        ensures below { IfSome result (λ n. n < self.now.part.geometry.blocks) }
+        ensures none { result ≡ None → IsSlotPlace place.now
+            → self.now.used ≤ interval_of self.now.part place.now }
+    {
+        let number = slot_number(place)?;
+        self.block_of(self.interval_of(number))
+    }
+
+    /// What stands in the way of a record in that interval, where so many areas are free.
+    pub fn room(&self, interval: u32, free: u32) -> Room
+        ensures { result ≡ slot_room_by (nat_lt interval self.now.used)
+            (div_ceil (interval + 1) self.now.part.geometry.area - length self.now.areas) free }
+    {
+        if interval < self.used {
+            return Room::Ready;
+        }
+        let whole = u64::from(self.layout.geometry.area);
+        let wanted = (u64::from(interval) + 1).div_ceil(whole) as u32;
+        let need = wanted.saturating_sub(self.areas.len() as u32);
+        if need <= free {
+            Room::Stage(StageKind::Extend)
+        } else {
+            Room::NoSpace { need, free }
+        }
+    }
+
+    /// What stands in the way of a record in the slot of a place.
+    pub(crate) fn room_at(&self, place: &[u8], free: u32) -> Room
+        requires { IsSlotPlace place.now }
+        ensures { result ≡ slot_room_by
+            (nat_lt (interval_of self.now.part place.now) self.now.used)
+            (div_ceil (interval_of self.now.part place.now + 1) self.now.part.geometry.area
+            - length self.now.areas) free }
+    {
+        match slot_number(place) {
+            Some(number) => self.room(self.interval_of(number), free),
+            None => unreachable!("it is the place of a slot"),
+        }
+    }
+
+    /// Whether every interval of its areas is used.
+    pub(crate) fn is_whole(&self) -> bool
+        ensures whole { IsTrue result
+            → self.now.used ≡ length self.now.areas * self.now.part.geometry.area }
+        ensures unused { result ≡ false
+            → self.now.used < length self.now.areas * self.now.part.geometry.area }
+    {
+        self.used == self.areas.len() as u32 * self.layout.geometry.area
+    }
+
+    /// The last area.
+    pub(crate) fn last(&self) -> u32
+        ensures last { (before : List ℕ) (area : ℕ) → self.now.areas ≡ before ++ area ∷ []
+            → result ≡ area }
+        ensures there { result < area_count self.now.part.geometry }
+    {
+        self.areas[self.areas.len() - 1]
+    }
+
+    /// How many intervals of the last area are used.
+    pub(crate) fn used_of_last(&self) -> u32
+        ensures { result ≡ self.now.used
+            - (length self.now.areas - 1) * self.now.part.geometry.area }
+    {
+        let before = (self.areas.len() - 1) as u32 * self.layout.geometry.area;
+        self.used.saturating_sub(before)
+    }
+
+    /// One interval more of the last area is used.
+    pub(crate) fn use_next(&mut self)
+        requires { self.old.used < length self.old.areas * self.old.part.geometry.area }
+        ensures { self.new ≡ record {
+          part = self.old.part;
+          areas = self.old.areas;
+          used = self.old.used + 1;
+        } }
+    {
+        self.used += 1;
+    }
+
+    /// An area more is the last one.
+    pub(crate) fn add_area(&mut self, area: u32)
+        requires there { area < area_count self.old.part.geometry }
+        requires room { length self.old.areas < area_count self.old.part.geometry }
+        ensures { self.new ≡ record {
+          part = self.old.part;
+          areas = self.old.areas ++ area ∷ [];
+          used = self.old.used;
+        } }
+    {
+        if self.areas.push(area).is_err() {
+            unreachable!("there is room")
+        }
+    }
+
+    /// Whether there is room for an area more.
+    pub(crate) fn has_room(&self) -> bool
+        ensures { result ≡ nat_lt (length self.now.areas) (area_count self.now.part.geometry) }
+    {
+        (self.areas.len() as u32) < self.layout.geometry.areas()
+    }
+}

@@ -1,0 +1,104 @@
+//! Searching for the next slot with a record.
+ghost use Rattle.std.specs.Prelude.{◌≡◌, ◌≤◌, ◌<◌, ◌+◌, ◌*◌, None, IsTrue, IfOk, IfSome};
+ghost use Rattle.vr_types.specs.Blocks.{Keeps};
+ghost use Rattle.vr_types.specs.Faults.{HasCause};
+ghost use Rattle.vr_space.specs.Part.{NextIs, RelativeShape, Stands};
+ghost use Rattle.vr_space.specs.Slots.{IsNumberedOn, slots_of};
+ghost use Rattle.vr_relative.specs.Chain.{IsChainOf};
+ghost use Rattle.vr_relative.specs.Searched.{HasNoneRead, IsFirstRead};
+
+use crate::chain::Chain;
+use crate::number::first_number;
+use crate::slots::first_live;
+use vr_space::Whence;
+use vr_types::{Blocks, DeviceFault, PlaceBuffer};
+
+/// The number of the first slot with a record of an interval, from one of its slots on.
+fn first_in<B: Blocks>(
+    chain: &Chain,
+    blocks: &mut B,
+    interval: u32,
+    slot: u32,
+) -> Result<Option<u32>, DeviceFault>
+    requires on { IsNumberedOn chain.now.part (B.seen blocks.old) }
+    requires used { interval < chain.now.used }
+    requires stands { IsTrue B.tells
+        → Stands (RelativeShape chain.now.part) (B.seen blocks.old).cur }
+    requires chain { IsTrue B.tells → IsChainOf chain.now (B.seen blocks.old).cur }
+    ensures some { IsTrue B.tells → IfOk result (λ found. IfSome found
+        (IsFirstRead chain.now.part (B.seen blocks.old).cur
+        (interval * slots_of chain.now.part + slot + 1)
+        ((interval + 1) * slots_of chain.now.part + 1))) }
+    ensures none { IsTrue B.tells → IfOk result (λ found. found ≡ None
+        → HasNoneRead chain.now.part (B.seen blocks.old).cur
+        (interval * slots_of chain.now.part + slot + 1)
+        ((interval + 1) * slots_of chain.now.part + 1)) }
+    ensures keeps { Keeps B.tells (B.seen blocks.old) (B.seen blocks.new) }
+    ensures cause { HasCause (B.faults blocks.old) (B.faults blocks.new) result }
+{
+    let Some(number) = chain.block_of(interval) else {
+        return Ok(None);
+    };
+    let block = blocks.get(number)?;
+    match first_live(&chain.layout, block, slot) {
+        Some(found) => Ok(Some(interval * chain.layout.slots() + found + 1)),
+        None => Ok(None),
+    }
+}
+
+/// The number of the first slot with a record, from this number on: interval by interval, each read
+/// once.
+fn first_from<B: Blocks>(
+    chain: &Chain,
+    blocks: &mut B,
+    number: u32,
+) -> Result<Option<u32>, DeviceFault>
+    requires on { IsNumberedOn chain.now.part (B.seen blocks.old) }
+    requires some { 0 < number }
+    requires stands { IsTrue B.tells
+        → Stands (RelativeShape chain.now.part) (B.seen blocks.old).cur }
+    requires chain { IsTrue B.tells → IsChainOf chain.now (B.seen blocks.old).cur }
+    ensures some { IsTrue B.tells → IfOk result (λ found. IfSome found
+        (IsFirstRead chain.now.part (B.seen blocks.old).cur number 4294967296)) }
+    ensures none { IsTrue B.tells → IfOk result (λ found. found ≡ None
+        → HasNoneRead chain.now.part (B.seen blocks.old).cur number 4294967296) }
+    ensures keeps { Keeps B.tells (B.seen blocks.old) (B.seen blocks.new) }
+    ensures cause { HasCause (B.faults blocks.old) (B.faults blocks.new) result }
+{
+    let mut slot = chain.slot_in(number);
+    for interval in chain.interval_of(number)..chain.used() {
+        if let Some(found) = first_in(chain, blocks, interval, slot)? {
+            return Ok(Some(found));
+        }
+        slot = 0;
+    }
+    Ok(None)
+}
+
+/// Gives the least place with a record that `from` allows; false where there is none.
+pub(crate) fn next_in<B: Blocks>(
+    chain: &Chain,
+    blocks: &mut B,
+    from: Whence<'_>,
+    into: &mut PlaceBuffer,
+) -> Result<bool, DeviceFault>
+    requires on { IsNumberedOn chain.now.part (B.seen blocks.old) }
+    requires room { 4 ≤ into.old.room }
+    requires stands { IsTrue B.tells
+        → Stands (RelativeShape chain.now.part) (B.seen blocks.old).cur }
+    requires chain { IsTrue B.tells → IsChainOf chain.now (B.seen blocks.old).cur }
+    ensures next { IsTrue B.tells → IfOk result (λ found. NextIs (RelativeShape chain.now.part)
+        (B.seen blocks.old).cur from.entry found into.new.place) }
+    ensures room { into.new.room ≡ into.old.room }
+    ensures keeps { Keeps B.tells (B.seen blocks.old) (B.seen blocks.new) }
+    ensures cause { HasCause (B.faults blocks.old) (B.faults blocks.new) result }
+{
+    let Some(number) = first_number(from) else {
+        return Ok(false);
+    };
+    let Some(found) = first_from(chain, blocks, number)? else {
+        return Ok(false);
+    };
+    into.set(&found.to_be_bytes());
+    Ok(true)
+}

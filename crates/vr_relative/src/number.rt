@@ -1,0 +1,56 @@
+//! The numbers of slots, and the places that spell them.
+ghost use Rattle.std.specs.Prelude.{◌≡◌, ◌≤◌, ◌<◌, ◌↔◌, ℕ, None, IsTrue, IfSome};
+ghost use Rattle.vr_types.specs.Fields.{four};
+ghost use Rattle.vr_space.specs.Slots.{IsSlotPlace, number_of};
+ghost use Rattle.vr_space.specs.Whence.{allows};
+ghost use Rattle.vr_relative.specs.Searched.{is_from};
+
+use vr_space::Whence;
+use vr_types::four_at;
+
+/// The number of the slot at a place. None where the place is that of no slot.
+pub(crate) fn slot_number(place: &[u8]) -> Option<u32>
+    ensures some { IfSome result (λ n. IsSlotPlace place.now × (n ≡ number_of place.now)) }
+    ensures none { result ≡ None → IsSlotPlace place.now → ⊥ }
+{
+    if place.len() != 4 {
+        return None;
+    }
+    let number = four_at(place, 0);
+    if number == 0 { None } else { Some(number) }
+}
+
+/// The least number whose four bytes are at these bytes or past them, or past them alone. None where
+/// there is none.
+fn least_from(bytes: &[u8], past: bool) -> Option<u32>
+    ensures some { IfSome result (λ n. (r : ℕ) → r < 4294967296
+        → (IsTrue (is_from past bytes.now (four r)) ↔ (n ≤ r))) }
+    ensures none { result ≡ None → (r : ℕ) → r < 4294967296
+        → IsTrue (is_from past bytes.now (four r)) → ⊥ }
+{
+    let mut start = [0; 4];
+    let n = bytes.len().min(4);
+    start[..n].copy_from_slice(&bytes[..n]);
+    let number = u32::from_be_bytes(start);
+    if bytes.len() > 4 || (past && bytes.len() == 4) {
+        number.checked_add(1)
+    } else {
+        Some(number)
+    }
+}
+
+/// The least number of a slot that the search may find. None where it may find none.
+pub(crate) fn first_number(from: Whence<'_>) -> Option<u32>
+    ensures some { IfSome result (λ n. (0 < n) × ((r : ℕ) → 0 < r → r < 4294967296
+        → (IsTrue (allows from.entry (four r)) ↔ (n ≤ r)))) }
+    ensures none { result ≡ None → (r : ℕ) → 0 < r → r < 4294967296
+        → IsTrue (allows from.entry (four r)) → ⊥ }
+{
+    let number = match from {
+        Whence::Start => 1,
+        Whence::At(first) => least_from(first.as_slice(), false)?,
+        Whence::After(last) => least_from(last.as_slice(), true)?,
+        Whence::Above(low) => least_from(low, true)?,
+    };
+    Some(number.max(1))
+}
