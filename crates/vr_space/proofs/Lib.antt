@@ -4,6 +4,7 @@ pub mod KeyedContent
 pub mod KeyedSound
 pub mod UnderWay
 pub mod Searching
+pub mod SlotRooms
 pub mod Adding
 pub mod Intervals
 pub mod Rising
