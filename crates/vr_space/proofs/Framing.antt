@@ -1,5 +1,5 @@
 -- What a part keeps while others put: what rests on its own blocks alone.
-use Rattle.std.proofs.Common.{◌≡◌, ⊎_elim, inl, inr, ◌<◌, ℕ, IsTrue, List, Option}
+use Rattle.std.proofs.Common.{◌≡◌, ⊎_elim, inl, inr, ◌<◌, ℕ, IsTrue, List, Option, nat_lt}
 use Rattle.std.proofs.Common.{Some}
 use Rattle.std.proofs.Common.{None, refl, sym, ap, subst, ◌∙◌, arith, length}
 use Rattle.std.proofs.lemmas.List.Elements.{All-weaker}
@@ -11,7 +11,12 @@ use Rattle.vr_space.specs.Known.{Known}
 use Rattle.vr_space.specs.Met.{IsMet}
 use Rattle.vr_space.specs.Owners.{Owners}
 use Rattle.vr_space.specs.Part.{CanSet, HasKeptRoom, HasRoomFor, IsAtRest, IsSound}
-use Rattle.vr_space.specs.Part.{KeyedShape, Knows, Shape}
+use Rattle.vr_space.specs.Part.{KeyedShape, Knows, RelativeShape, Shape, fits_at}
+use Rattle.vr_types.specs.Geometry.{area_count}
+use Rattle.vr_space.specs.Rosters.{IsOwnArea, Numbered, roster_block}
+use Rattle.vr_space.specs.Slots.{AreSlotsSound, IsSlots, interval_of, slot_fits}
+use Rattle.vr_space.proofs.Chains.{used-same}
+use Rattle.vr_space.proofs.SlotRooms.{roster-below, roster-owned, slots-less}
 use Rattle.vr_types.specs.Content.{item_at}
 use Rattle.vr_space.specs.Keyed.{records_of, way_in, way_under}
 use Rattle.vr_types.specs.declared.unit.PartNo.{PartNo}
@@ -77,6 +82,11 @@ module _ (a b : Seen) where
             each-less part a b _ None (entries_of top) less sound.area
             (head-in part top (sound.heads top before)) (room.each top before);
       }
+  room-stays (RelativeShape part) owners kept stays sound room =
+      slots-less part (IsOwnArea part owners) (IsSlots part) b.may a.may kept
+      (λ area own top may. stays.fewer (roster_block part area) top
+      (roster-below part owners a area sound.on own) (roster-owned part owners area own) may)
+      sound.chain room
 
   pub knows-stays : (shape : Shape) (owners : Owners) (known : Known)
       → StaysPart shape owners a b → IsSound shape owners a → Left a a.cur → Knows shape known a
@@ -118,13 +128,25 @@ module _ (a b : Seen) where
       (λ at is. let below = found-in part (block_at a.cur part.head) place at head is in
       (omega arith, omega (arith, below)))
 
-  room-for : (part : Keyed) (kept : Lengths) (place : List ℕ) (item : Option (List ℕ))
-      → StaysArea part a b → IsHead part (block_at a.cur part.head)
-      → HasRoomFor (KeyedShape part) a.cur kept place item
-      → HasRoomFor (KeyedShape part) b.cur kept place item
-  room-for part kept place None stays head has = tt
-  room-for part kept place (Some bytes) stays head has = ⊎_elim
-      (λ fits. inl (subst IsTrue (sym (fits-same part kept place (length bytes) stays head)) fits))
+  -- the slots that have their interval are the same
+  slot-fits-same : (part : Numbered) (owners : Owners) (place : List ℕ)
+      → StaysPart (RelativeShape part) owners a b → AreSlotsSound part owners a → Left a a.cur
+      → slot_fits part b.cur place ≡ slot_fits part a.cur place
+  slot-fits-same part owners place stays sound left =
+      ap (λ (used : ℕ). nat_lt (interval_of part place) used)
+      (used-same part (IsOwnArea part owners) (IsSlots part) a.may a.cur b.cur
+      (λ area own. left.each (roster_block part area)
+      (roster-below part owners a area sound.on own))
+      (λ area own. stays.same (roster_block part area) (roster-owned part owners area own))
+      (area_count part.geometry) part.first sound.chain)
+
+  -- what fits in the same way has room
+  room-for : (shape : Shape) (kept : Lengths) (place : List ℕ) (item : Option (List ℕ))
+      → ((n : ℕ) → fits_at shape b.cur kept place n ≡ fits_at shape a.cur kept place n)
+      → HasRoomFor shape a.cur kept place item → HasRoomFor shape b.cur kept place item
+  room-for shape kept place None same has = tt
+  room-for shape kept place (Some bytes) same has = ⊎_elim
+      (λ fits. inl (subst IsTrue (sym (same (length bytes))) fits))
       (λ kept-there. inr kept-there) has
 
   pub can-stays : (shape : Shape) (owners : Owners) (known : Known) (kept : Lengths) (place : List ℕ)
@@ -135,9 +157,15 @@ module _ (a b : Seen) where
       let stays = area-stays part owners a b owned part-stays in record {
         no_stage = ap (λ (top : Block). stage_in known.split (entry_for None (entries_of top) place))
             (stays.same part.head (omega arith, omega arith)) ∙ can.no_stage;
-        room = room-for part kept place item stays
-            (sound.heads _ (left.each part.head (omega (arith, sound.area)))) can.room;
+        room = room-for (KeyedShape part) kept place item
+            (λ n. fits-same part kept place n stays
+            (sound.heads _ (left.each part.head (omega (arith, sound.area))))) can.room;
       }
+  can-stays (RelativeShape part) owners known kept place item stays sound left can = record {
+    no_stage = refl;
+    room = room-for (RelativeShape part) kept place item
+        (λ n. slot-fits-same part owners place stays sound left) can.room;
+  }
 
   -- each place has the record that it had
   way-same : (part : Keyed) (place : List ℕ) → StaysArea part a b

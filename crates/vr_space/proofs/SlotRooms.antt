@@ -3,23 +3,25 @@ use Rattle.std.proofs.Common.{◌≡◌, ◌≢◌, ◌⊎◌, inl, inr, ⊎_eli
 use Rattle.std.proofs.Common.{Bool, true, false, IsTrue, List, [], ◌∷◌, Option, Some, None, refl}
 use Rattle.std.proofs.Common.{sym, ap, subst, ◌∙◌, arith, cond, nat_lt}
 use Rattle.std.proofs.lemmas.Bool.Decides.{nat_tests}
-use Rattle.std.proofs.lemmas.List.Elements.{All-from_recursion, All-weaker, recursion_from_All}
+use Rattle.std.proofs.lemmas.List.Elements.{All-weaker, recursion_from_All}
 use Rattle.std.specs.List.{AllByRecursion}
-use Rattle.std.specs.Prelude.{max}
 use Rattle.std.specs.declared.cmp.Ordering.{Ordering}
 use Rattle.std.specs.declared.cmp.Ordering.TheVariants.{Less, Equal, Greater}
 use Rattle.vr_types.specs.Content.{Item, place_cmp}
 use Rattle.vr_types.specs.Geometry.{area_count}
 use Rattle.vr_types.specs.Image.{Block, Image, block_at}
+use Rattle.vr_types.specs.Seen.{Seen}
 use Rattle.vr_types.proofs.CallerLemmas.{same_place}
 use Rattle.vr_seqset.specs.Reading.{roster_in}
-use Rattle.vr_space.specs.Room.{Lengths, length_at, length_by, lengthen_by, with_length}
-use Rattle.vr_space.specs.Rosters.{Chains, HasInterval, IsChained, IsGoingOn, IsNextOf, IsOf}
+use Rattle.vr_space.specs.Room.{Lengths, length_at, length_by}
+use Rattle.vr_space.specs.Rosters.{Chains, HasInterval, IsChained, IsGoingOn, IsNextOf, IsOf, IsOwnArea}
 use Rattle.vr_space.specs.Rosters.{Numbered, after_next, chain_way, interval_in, interval_way}
 use Rattle.vr_space.specs.Rosters.{roster_block, used_from}
-use Rattle.vr_space.specs.Slots.{HasKeptSlot, IsSlotPlace, KeepsSlots, interval_of, slot_fits}
+use Rattle.vr_space.specs.Owners.{Owners}
+use Rattle.vr_space.specs.Slots.{HasKeptSlot, IsNumberedOn, IsSlotPlace, KeepsSlots, interval_of, slot_fits}
 use Rattle.vr_space.specs.Slots.{is_slot_place, slot_in, slot_read, slot_way}
-use Rattle.vr_space.specs.Way.{Found, MayFind, Reads, Way}
+use Rattle.vr_space.specs.Way.{Found, MayFind, Way}
+use Rattle.vr_space.proofs.Chains.{area-below, roster-inside}
 
 -- ---- the next area
 
@@ -129,6 +131,19 @@ used-interval part Own Interval image (suc k) n area chain below =
         let past : used ≤ n = grind (arith, nat_tests, is) in
         inr (step after follows.1 (omega (arith, past, below, follows.0)))
 
+-- ---- rosters
+
+-- the roster of an area of the part's own is among the blocks that the device has
+pub roster-below : (part : Numbered) (owners : Owners) (now : Seen) (area : ℕ)
+    → IsNumberedOn part now → IsOwnArea part owners area → roster_block part area < now.count
+roster-below part owners now area on own = omega (arith, on.blocks,
+    area-below part area (roster_block part area) own.there (roster-inside part area))
+
+-- and one of its own
+pub roster-owned : (part : Numbered) (owners : Owners) (area : ℕ) → IsOwnArea part owners area
+    → owners (roster_block part area) ≡ Some part.part
+roster-owned part owners area own = own.owned (roster_block part area) (roster-inside part area)
+
 -- ---- the way finds it
 
 -- Where each way finds an item, whatever is allowed of the rosters, the chain has the interval.
@@ -156,43 +171,36 @@ finds-interval part may reached (suc k) n area some = λ top may-top.
 
 -- ---- what is kept
 
--- a place keeps its interval where less is allowed
-pub slots-less : (part : Numbered) (less more : ℕ → Block → Type 0) (kept : Lengths)
-    → ((entry : List ℕ × ℕ) → HasKeptSlot part more entry → HasKeptSlot part less entry)
-    → KeepsSlots part kept more → KeepsSlots part kept less
-slots-less part less more kept each room =
-    All-weaker (HasKeptSlot part more) (HasKeptSlot part less) each kept room
+-- Each place for which a record is kept keeps its interval as the chain grows,
+pub slots-grow : (part : Numbered) (Own : ℕ → Type 0) (Interval : Block → Type 0)
+    (old new : ℕ → Block → Type 0) (kept : Lengths)
+    → ((area : ℕ) → Own area → GrowsFrom part old new area)
+    → IsChained part Own Interval old → KeepsSlots part kept old → KeepsSlots part kept new
+slots-grow part Own Interval old new kept grows chain room =
+    All-weaker (HasKeptSlot part old) (HasKeptSlot part new) (λ entry has. record {
+      place = has.place;
+      interval = interval-grows part Own Interval old new grows (area_count part.geometry)
+          (interval_of part entry.0) part.first chain has.interval;
+    }) kept room
 
--- its length counts for nothing
-any-length : (part : Numbered) (may : ℕ → Block → Type 0) (place other : List ℕ) (n m : ℕ)
-    → other ≡ place → HasKeptSlot part may (place, n) → HasKeptSlot part may (other, m)
-any-length part may place other n m same has =
-    subst (λ (q : List ℕ). HasKeptSlot part may (q, m)) (sym same)
-    (record { place = has.place; interval = has.interval })
+-- and where less is allowed of the rosters.
+pub slots-less : (part : Numbered) (Own : ℕ → Type 0) (Interval : Block → Type 0)
+    (less more : ℕ → Block → Type 0) (kept : Lengths)
+    → ((area : ℕ) → Own area → (top : Block) → less (roster_block part area) top
+    → more (roster_block part area) top)
+    → IsChained part Own Interval more → KeepsSlots part kept more → KeepsSlots part kept less
+slots-less part Own Interval less more kept each chain room =
+    slots-grow part Own Interval more less kept
+    (λ here own top may. (top, each here own top may, omega arith, inr refl)) chain room
 
--- one more that is kept
-pub slots-with : (part : Numbered) (may : ℕ → Block → Type 0) (kept : Lengths) (place : List ℕ)
-    (n : ℕ) → HasKeptSlot part may (place, n) → KeepsSlots part kept may
-    → KeepsSlots part (with_length kept place n) may
-slots-with part may kept place n has room =
-    All-from_recursion (HasKeptSlot part may) (with_length kept place n)
-    (with-one kept (recursion_from_All (HasKeptSlot part may) kept room))
-  where
-    by_order : (order : Ordering) (entry : List ℕ × ℕ) (rest : Lengths)
-        → HasKeptSlot part may entry → AllByRecursion (HasKeptSlot part may) rest
-        → AllByRecursion (HasKeptSlot part may) (with_length rest place n)
-        → AllByRecursion (HasKeptSlot part may)
-        (lengthen_by order place n entry rest (with_length rest place n))
-    by_order Less entry rest first all further = (has, (first, all))
-    by_order Equal entry rest first all further =
-        (any-length part may entry.0 entry.0 entry.1 (max n entry.1) refl first, all)
-    by_order Greater entry rest first all further = (first, further)
-
-    with-one : (lengths : Lengths) → AllByRecursion (HasKeptSlot part may) lengths
-        → AllByRecursion (HasKeptSlot part may) (with_length lengths place n)
-    with-one [] all = (has, tt)
-    with-one (entry ∷ rest) all = by_order (place_cmp place entry.0) entry rest all.0 all.1
-        (with-one rest all.1)
+-- the length that is kept counts for nothing
+pub any-length : (part : Numbered) (may : ℕ → Block → Type 0) (first entry : List ℕ × ℕ)
+    → entry.0 ≡ first.0 → HasKeptSlot part may first → HasKeptSlot part may entry
+any-length part may first entry same has = record {
+  place = subst IsSlotPlace (sym same) has.place;
+  interval = subst (λ (place : List ℕ). HasInterval part may (area_count part.geometry)
+      (interval_of part place) part.first) (sym same) has.interval;
+}
 
 -- the place of a length that is kept has its interval
 pub slot-kept : (part : Numbered) (may : ℕ → Block → Type 0) (kept : Lengths) (place : List ℕ)
@@ -208,7 +216,7 @@ slot-kept part may kept place n room is =
         → HasKeptSlot part may (place, n)
     by_order Less entry rest at first is further = further is
     by_order Equal entry rest at first is further =
-        any-length part may entry.0 place entry.1 n (same_place place entry.0 at) first
+        any-length part may entry (place, n) (same_place place entry.0 at) first
     by_order Greater entry rest at first is further = further is
 
     among : (lengths : Lengths) → AllByRecursion (HasKeptSlot part may) lengths
