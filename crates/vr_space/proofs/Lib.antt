@@ -1,4 +1,5 @@
 pub mod Ways
+pub mod Chains
 pub mod Places
 pub mod KeyedContent
 pub mod KeyedSound
