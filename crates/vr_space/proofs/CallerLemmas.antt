@@ -35,3 +35,7 @@ pub use Rattle.vr_space.proofs.Fewer.{under-self}
 pub use Rattle.vr_space.proofs.Intervals.{interval-owners, interval-stage}
 pub use Rattle.vr_space.proofs.Standing.{item-read, left-is}
 pub use Rattle.vr_space.proofs.PlacesHeld.{read-place}
+pub use Rattle.vr_space.proofs.SlotRooms.{GrowsFrom, interval-grows, interval-less, interval-used}
+pub use Rattle.vr_space.proofs.SlotRooms.{used-interval, finds-interval, finds-slot, slots-grow}
+pub use Rattle.vr_space.proofs.SlotRooms.{slots-less, slot-kept, kept-slot-fits, any-length}
+pub use Rattle.vr_space.proofs.SlotRooms.{roster-below, roster-owned}
