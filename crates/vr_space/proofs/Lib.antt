@@ -1,5 +1,6 @@
 pub mod Ways
 pub mod Places
+pub mod SlotNumbers
 pub mod KeyedContent
 pub mod KeyedSound
 pub mod UnderWay
