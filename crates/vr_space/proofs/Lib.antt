@@ -1,6 +1,8 @@
 pub mod Ways
 pub mod Chains
 pub mod Places
+pub mod SlotNumbers
+pub mod SlotContent
 pub mod KeyedContent
 pub mod KeyedSound
 pub mod UnderWay

@@ -1,0 +1,174 @@
+-- The content of a relative part: the records of its slots, in the order of their numbers.
+use Rattle.std.proofs.Common.{◌≡◌, ◌⊎◌, inl, inr, ◌+◌, ◌-◌, ◌*◌, ◌^◌, ◌<◌, ◌≤◌, ℕ, zero, suc, Bool}
+use Rattle.std.proofs.Common.{true, false, List, [], ◌∷◌, ◌++◌, length, Option, Some, None, refl, sym}
+use Rattle.std.proofs.Common.{ap, subst, ◌∙◌, ⊎_elim, arith, true≢false}
+use Rattle.std.specs.Prelude.{cond, nat_lt, option_and_then, slice_get}
+use Rattle.std.specs.List.{AllByRecursion}
+use Rattle.std.specs.declared.cmp.Ordering.{Ordering}
+use Rattle.std.specs.declared.cmp.Ordering.TheVariants.{Less, Equal, Greater}
+use Rattle.std.proofs.lemmas.Bool.{cases_lt, le-ltb, lt-ltb}
+use Rattle.vr_types.specs.Content.{Content, Item, Placed, found_by, item_at, place_cmp}
+use Rattle.vr_types.specs.Content.Item.{Standing}
+use Rattle.vr_types.specs.Fields.{four}
+use Rattle.vr_types.specs.Image.{Block, Image, block_at}
+use Rattle.vr_types.proofs.CallerLemmas.{same_place}
+use Rattle.vr_ci.specs.Interval as ci
+use Rattle.vr_seqset.specs.Roster.{Roster}
+use Rattle.vr_space.specs.Keyed.{items_of}
+use Rattle.vr_space.specs.Rosters.{Chains, IsChainedBy, IsNextOf, IsOf, Numbered, after_next}
+use Rattle.vr_space.specs.Rosters.{chain_way, interval_in, roster_at, roster_block, way_by}
+use Rattle.vr_space.specs.Slots.{IsSlots, records_from, records_over, slot_item, slot_read, slots_from}
+use Rattle.vr_space.specs.Slots.{slots_of, standing_in}
+use Rattle.vr_space.specs.Way.{Found, Way, found_on}
+use Rattle.vr_space.proofs.Places.{NoneAt, by_other, none-record, record-left, record-right}
+use Rattle.vr_space.proofs.Places.{same_is_equal}
+use Rattle.vr_space.proofs.SlotNumbers.{number-four, slots_up}
+
+-- ---- records of slots
+
+-- what the slot of that number has in a content: a record of the part's length
+pub record IsSlotEntry (most number : ℕ) (entry : Placed) : Type 0 where
+  pub place : entry.0 ≡ four number
+  pub bytes : List ℕ
+  pub item : entry.1 ≡ Standing bytes
+  pub whole : length bytes ≡ most
+
+-- records of slots whose numbers ascend, from one on and below another
+abbrev pub AreSlotsOf : ℕ → ℕ → ℕ → Content → Type 0
+AreSlotsOf most from to [] = Unit {0}
+AreSlotsOf most from to (entry ∷ content) =
+    (number : ℕ) × IsSlotEntry most number entry × (from ≤ number) × (number < to)
+    × AreSlotsOf most (suc number) to content
+
+pub slots-from : (most less from to : ℕ) (content : Content) → less ≤ from
+    → AreSlotsOf most from to content → AreSlotsOf most less to content
+slots-from most less from to [] most_from all = tt
+slots-from most less from to (entry ∷ content) most_from (number, is, least, below, more) =
+    (number, is, omega (arith, least, most_from), below, more)
+
+pub slots-to : (most from to more : ℕ) (content : Content) → to ≤ more
+    → AreSlotsOf most from to content → AreSlotsOf most from more content
+slots-to most from to more [] up all = tt
+slots-to most from to more (entry ∷ content) up (number, is, least, below, further) = (
+  number,
+  is,
+  least,
+  omega (arith, below, up),
+  slots-to most (suc number) to more content up further,
+)
+
+slots-append : (most from middle to : ℕ) (xs ys : Content) → from ≤ middle → middle ≤ to
+    → AreSlotsOf most from middle xs → AreSlotsOf most middle to ys
+    → AreSlotsOf most from to (xs ++ ys)
+slots-append most from middle to [] ys least up left right =
+    slots-from most from middle to ys least right
+slots-append most from middle to (entry ∷ xs) ys least up (number, is, first, below, more) right = (
+  number,
+  is,
+  first,
+  omega (arith, below, up),
+  slots-append most (suc number) middle to xs ys (omega (arith, below)) up more right,
+)
+
+-- no place of another number is among them
+slots-none : (most from to : ℕ) (content : Content) → AreSlotsOf most from to content
+    → to ≤ 2 ^ 32 → (n : ℕ) → n < 2 ^ 32 → (n < from) ⊎ (to ≤ n) → NoneAt (four n) content
+slots-none most from to [] all fits n room beyond = tt
+slots-none most from to (entry ∷ content) (number, is, least, below, more) fits n room beyond = (
+  λ same.
+      let one : four n ≡ four number = same_place (four n) entry.0 same ∙ is.place in
+      let equal : n ≡ number =
+      sym (number-four n room) ∙ ap Rattle.vr_space.specs.Slots.number_of one
+      ∙ number-four number (omega (arith, below, fits)) in
+      ⊎_elim (λ (before : n < from). absurd (omega (arith, before, least, equal)))
+      (λ (after : to ≤ n). absurd (omega (arith, after, below, equal))) beyond,
+  slots-none most (suc number) to content more fits n room
+      (⊎_elim (λ (before : n < from). inl (omega (arith, before, least)))
+      (λ (after : to ≤ n). inr after) beyond),
+)
+
+-- ---- those of an interval
+
+abbrev AreWhole : ℕ → List ci.Item → Type 0
+AreWhole most items = AllByRecursion (λ (item : ci.Item). length item.bytes ≡ most) items
+
+records-slots : (most number : ℕ) (items : List ci.Item) → AreWhole most items
+    → AreSlotsOf most number (number + length items) (records_from number items)
+records-slots most number [] whole = tt
+records-slots most number (item ∷ items) whole =
+    by_live item.live
+    (slots-to most (suc number) (suc number + length items) (number + length (item ∷ items))
+    (records_from (suc number) items) (omega arith)
+    (records-slots most (suc number) items whole.1))
+  where
+    rest : Content
+    rest = records_from (suc number) items
+
+    to : ℕ
+    to = number + length (item ∷ items)
+
+    by_live : (live : Bool) → AreSlotsOf most (suc number) to rest
+        → AreSlotsOf most number to (cond live ((four number, Standing item.bytes) ∷ rest) rest)
+    by_live true more = (
+      number,
+      record { place = refl; bytes = item.bytes; item = refl; whole = whole.0 },
+      omega arith,
+      omega arith,
+      more,
+    )
+    by_live false more = slots-from most number (suc number) to rest (omega arith) more
+
+-- the content has at a slot's place what the slot has
+records-item : (most number : ℕ) (items : List ci.Item) (slot n : ℕ) → AreWhole most items
+    → number + length items ≤ 2 ^ 32 → slot < length items → n ≡ number + slot
+    → item_at (records_from number items) (four n)
+    ≡ option_and_then standing_in (slice_get items slot)
+records-item most number [] slot n whole fits within is = absurd (omega (arith, within))
+records-item most number (item ∷ items) zero n whole fits within is =
+    by_live item.live
+  where
+    rest : Content
+    rest = records_from (suc number) items
+
+    none : item_at rest (four n) ≡ None
+    none = none-record (four n) rest
+        (slots-none most (suc number) (suc number + length items) rest
+        (records-slots most (suc number) items whole.1) (omega (arith, fits)) n
+        (omega (arith, fits, is)) (inl (omega (arith, is))))
+
+    here : four n ≡ four number
+    here = ap four (omega (arith, is))
+
+    by_live : (live : Bool)
+        → item_at (cond live ((four number, Standing item.bytes) ∷ rest) rest) (four n)
+        ≡ cond live (Some (Standing item.bytes)) None
+    by_live true =
+        ap (λ (order : Ordering). found_by order (Some (Standing item.bytes))
+        (item_at rest (four n)))
+        (ap (λ (place : List ℕ). place_cmp place (four number)) here ∙ same_is_equal (four number))
+    by_live false = none
+records-item most number (item ∷ items) (suc slot) n whole fits within is =
+    by_live item.live
+    (records-item most (suc number) items slot n whole.1 (omega (arith, fits))
+    (omega (arith, within)) (omega (arith, is)))
+  where
+    rest : Content
+    rest = records_from (suc number) items
+
+    other : place_cmp (four n) (four number) ≡ Equal → ⊥
+    other same =
+        let equal : n ≡ number =
+        sym (number-four n (omega (arith, fits, within, is)))
+        ∙ ap Rattle.vr_space.specs.Slots.number_of (same_place (four n) (four number) same)
+        ∙ number-four number (omega (arith, fits, within)) in
+        omega (arith, equal, is)
+
+    by_live : (live : Bool)
+        → item_at rest (four n) ≡ option_and_then standing_in (slice_get items slot)
+        → item_at (cond live ((four number, Standing item.bytes) ∷ rest) rest) (four n)
+        ≡ option_and_then standing_in (slice_get items slot)
+    by_live true more =
+        by_other (place_cmp (four n) (four number)) (Some (Standing item.bytes))
+        (item_at rest (four n)) other
+        ∙ more
+    by_live false more = more
