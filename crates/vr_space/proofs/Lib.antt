@@ -3,6 +3,8 @@ pub mod Chains
 pub mod Places
 pub mod KeyedContent
 pub mod KeyedSound
+pub mod PartBlocks
+pub mod Due
 pub mod UnderWay
 pub mod Searching
 pub mod Adding
