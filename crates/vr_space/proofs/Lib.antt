@@ -5,6 +5,8 @@ pub mod SlotNumbers
 pub mod SlotContent
 pub mod KeyedContent
 pub mod KeyedSound
+pub mod PartBlocks
+pub mod Due
 pub mod UnderWay
 pub mod Searching
 pub mod SlotRooms
