@@ -6,7 +6,8 @@ use Rattle.std.specs.Prelude.{cond, nat_lt, option_and_then, slice_get}
 use Rattle.std.specs.List.{AllByRecursion}
 use Rattle.std.specs.declared.cmp.Ordering.{Ordering}
 use Rattle.std.specs.declared.cmp.Ordering.TheVariants.{Less, Equal, Greater}
-use Rattle.std.proofs.lemmas.Bool.{cases_lt, le-ltb, lt-ltb}
+use Rattle.std.proofs.Math.Nat.{mul-le-mul_right}
+use Rattle.std.proofs.lemmas.Bool.{cases_lt, le-ltb, lt-ltb, ltb-true, ltb-false}
 use Rattle.vr_types.specs.Content.{Content, Item, Placed, found_by, item_at, place_cmp}
 use Rattle.vr_types.specs.Content.Item.{Standing}
 use Rattle.vr_types.specs.Fields.{four}
@@ -172,3 +173,98 @@ records-item most number (item ∷ items) (suc slot) n whole fits within is =
         (item_at rest (four n)) other
         ∙ more
     by_live false more = more
+
+-- ---- those of several intervals
+
+-- the intervals from a block on are of slots
+abbrev AreIntervals : Numbered → Image → ℕ → ℕ → Type 0
+AreIntervals part image n count = (i : ℕ) → i < count → IsSlots part (block_at image (n + i))
+
+later-intervals : (part : Numbered) (image : Image) (n count : ℕ)
+    → AreIntervals part image n (suc count) → AreIntervals part image (suc n) count
+later-intervals part image n count each i below =
+    let same : n + suc i ≡ suc n + i = omega arith in
+    subst (λ (m : ℕ). IsSlots part (block_at image m)) same (each (suc i) (omega (arith, below)))
+
+first-interval : (part : Numbered) (image : Image) (n count : ℕ)
+    → AreIntervals part image n (suc count) → IsSlots part (block_at image n)
+first-interval part image n count each =
+    let same : n + 0 ≡ n = omega arith in
+    subst (λ (m : ℕ). IsSlots part (block_at image m)) same (each 0 (omega arith))
+
+-- its items are slots of one length, as many as an interval has
+are-whole : (part : Numbered) (block : Block) → IsSlots part block
+    → AreWhole part.most (items_of block)
+are-whole part block is = is.spelled.fits.block.0
+
+slots-count : (part : Numbered) (block : Block) → IsSlots part block
+    → length (items_of block) ≡ slots_of part
+slots-count part block is =
+    is.spelled.fits.block.1
+    ∙ ap (λ (size : ℕ). Rattle.vr_ci_match.specs.Laid.slots_in size part.most) is.size
+
+interval-slots : (part : Numbered) (number : ℕ) (block : Block) → IsSlots part block
+    → AreSlotsOf part.most number (number + slots_of part) (records_from number (items_of block))
+interval-slots part number block is =
+    subst (λ (count : ℕ). AreSlotsOf part.most number (number + count)
+    (records_from number (items_of block))) (slots-count part block is)
+    (records-slots part.most number (items_of block) (are-whole part block is))
+
+over-slots : (part : Numbered) (image : Image) (number n count : ℕ)
+    → AreIntervals part image n count
+    → AreSlotsOf part.most number (number + count * slots_of part)
+    (records_over part image number n count)
+over-slots part image number n zero each = tt
+over-slots part image number n (suc count) each =
+    let middle = number + slots_of part in
+    slots-append part.most number middle (number + suc count * slots_of part)
+    (records_from number (items_of (block_at image n)))
+    (records_over part image middle (suc n) count) (omega arith) (omega arith)
+    (interval-slots part number (block_at image n) (first-interval part image n count each))
+    (slots-to part.most middle (middle + count * slots_of part)
+    (number + suc count * slots_of part) (records_over part image middle (suc n) count)
+    (omega arith)
+    (over-slots part image middle (suc n) count (later-intervals part image n count each)))
+
+-- the content has at a slot's place what its interval has there
+over-item : (part : Numbered) (image : Image) (number n count interval slot place : ℕ)
+    → AreIntervals part image n count → number + count * slots_of part ≤ 2 ^ 32
+    → interval < count → slot < slots_of part → place ≡ number + interval * slots_of part + slot
+    → item_at (records_over part image number n count) (four place)
+    ≡ slot_item slot (block_at image (n + interval))
+over-item part image number n zero interval slot place each fits within less is =
+    absurd (omega (arith, within))
+over-item part image number n (suc count) zero slot place each fits within less is =
+    let block = block_at image n in
+    let middle = number + slots_of part in
+    let one : IsSlots part block = first-interval part image n count each in
+    let later : AreIntervals part image (suc n) count = later-intervals part image n count each in
+    let end : middle + count * slots_of part ≤ 2 ^ 32 = omega (arith, fits) in
+    let same : n ≡ n + 0 = omega arith in
+    record-left (records_from number (items_of block))
+    (records_over part image middle (suc n) count) (four place)
+    (slots-none part.most middle (middle + count * slots_of part)
+    (records_over part image middle (suc n) count)
+    (over-slots part image middle (suc n) count later) end place
+    (omega (arith, is, less, fits)) (inl (omega (arith, is, less))))
+    ∙ records-item part.most number (items_of block) slot place (are-whole part block one)
+    (omega (arith, slots-count part block one, end)) (omega (arith, slots-count part block one, less))
+    (omega (arith, is))
+    ∙ ap (λ (m : ℕ). slot_item slot (block_at image m)) same
+over-item part image number n (suc count) (suc interval) slot place each fits within less is =
+    let block = block_at image n in
+    let middle = number + slots_of part in
+    let one : IsSlots part block = first-interval part image n count each in
+    let later : AreIntervals part image (suc n) count = later-intervals part image n count each in
+    let end : middle + count * slots_of part ≤ 2 ^ 32 = omega (arith, fits) in
+    let spread : suc interval * slots_of part ≤ count * slots_of part =
+    mul-le-mul_right (slots_of part) (omega (arith, within)) in
+    let same : suc n + interval ≡ n + suc interval = omega arith in
+    record-right (records_from number (items_of block))
+    (records_over part image middle (suc n) count) (four place)
+    (slots-none part.most number middle (records_from number (items_of block))
+    (interval-slots part number block one) (omega (arith, end)) place
+    (omega (arith, is, less, fits, spread)) (inr (omega (arith, is))))
+    ∙ over-item part image middle (suc n) count interval slot place later end
+    (omega (arith, within)) less (omega (arith, is))
+    ∙ ap (λ (m : ℕ). slot_item slot (block_at image m)) same
