@@ -21,6 +21,7 @@ use Rattle.vr_space.specs.Rosters.{chain_way, interval_in, roster_at, roster_blo
 use Rattle.vr_space.specs.Slots.{IsSlots, records_from, records_over, slot_item, slot_read, slots_from}
 use Rattle.vr_space.specs.Slots.{slots_of, standing_in}
 use Rattle.vr_space.specs.Way.{Found, Way, found_on}
+use Rattle.vr_space.proofs.ChainWays.{chained-here}
 use Rattle.vr_space.proofs.Places.{NoneAt, by_other, none-record, record-left, record-right}
 use Rattle.vr_space.proofs.Places.{same_is_equal}
 use Rattle.vr_space.proofs.SlotNumbers.{number-four, slots_up}
@@ -268,3 +269,155 @@ over-item part image number n (suc count) (suc interval) slot place each fits wi
     ∙ over-item part image middle (suc n) count interval slot place later end
     (omega (arith, within)) less (omega (arith, is))
     ∙ ap (λ (m : ℕ). slot_item slot (block_at image m)) same
+
+-- ---- those of a chain
+
+-- the intervals that are used by the roster of an area
+here-intervals : (part : Numbered) (Own : ℕ → Type 0) (image : Image) (k area : ℕ)
+    → Chains part Own (IsSlots part) (IsOf image) (suc k) area
+    → AreIntervals part image (interval_in part area 0) (roster_at part image area).used
+here-intervals part Own image k area chain i below =
+    let same : interval_in part area i ≡ interval_in part area 0 + i = omega arith in
+    subst (λ (n : ℕ). IsSlots part (block_at image n)) same
+    ((chained-here part Own (IsSlots part) image k area chain).intervals i below
+    (block_at image (interval_in part area i)) refl)
+
+-- an area has no more of them than it has intervals
+used-most : (part : Numbered) (Own : ℕ → Type 0) (image : Image) (k area : ℕ)
+    → Chains part Own (IsSlots part) (IsOf image) (suc k) area
+    → (roster_at part image area).used * slots_of part ≤ part.geometry.area * slots_of part
+used-most part Own image k area chain =
+    mul-le-mul_right (slots_of part)
+    (chained-here part Own (IsSlots part) image k area chain).roster.spelled.rules.used
+
+chain-slots : (part : Numbered) (Own : ℕ → Type 0) (image : Image) (k number area : ℕ)
+    → Chains part Own (IsSlots part) (IsOf image) k area
+    → AreSlotsOf part.most number (number + slots_up part k) (slots_from part image k number area)
+chain-slots part Own image zero number area chain = absurd chain
+chain-slots part Own image (suc k) number area chain =
+    slots-append part.most number past (number + slots_up part (suc k))
+    (records_over part image number (interval_in part area 0) used)
+    (after_next [] (slots_from part image k past) (roster_at part image area).next)
+    (omega arith) (omega (arith, used-most part Own image k area chain))
+    (over-slots part image number (interval_in part area 0) used
+    (here-intervals part Own image k area chain))
+    (by_next (roster_at part image area).next
+    (chained-here part Own (IsSlots part) image k area chain).next
+    (λ after. chain-slots part Own image k past after))
+  where
+    used : ℕ
+    used = (roster_at part image area).used
+
+    past : ℕ
+    past = number + used * slots_of part
+
+    by_next : (next : Option ℕ)
+        → IsNextOf used part.geometry.area (Chains part Own (IsSlots part) (IsOf image) k) next
+        → ((after : ℕ) → Chains part Own (IsSlots part) (IsOf image) k after
+        → AreSlotsOf part.most past (past + slots_up part k) (slots_from part image k past after))
+        → AreSlotsOf part.most past (number + slots_up part (suc k))
+        (after_next [] (slots_from part image k past) next)
+    by_next None chained more = tt
+    by_next (Some after) (whole, chained) more =
+        let same : used * slots_of part ≡ part.geometry.area * slots_of part =
+        ap (λ (count : ℕ). count * slots_of part) whole in
+        slots-to part.most past (past + slots_up part k) (number + slots_up part (suc k))
+        (slots_from part image k past after) (omega (arith, same)) (more after chained)
+
+-- the content has at a slot's place what the way over the chain leads to
+chain-item : (part : Numbered) (Own : ℕ → Type 0) (image : Image)
+    (k number area interval slot place : ℕ)
+    → Chains part Own (IsSlots part) (IsOf image) k area → number + slots_up part k ≤ 2 ^ 32
+    → place < 2 ^ 32 → slot < slots_of part → place ≡ number + interval * slots_of part + slot
+    → item_at (slots_from part image k number area) (four place)
+    ≡ found_on image (chain_way part (slot_read slot) k interval area)
+chain-item part Own image zero number area interval slot place chain fits room less is =
+    absurd chain
+chain-item part Own image (suc k) number area interval slot place chain fits room less is =
+    by_used (nat_lt interval used) refl (roster_at part image area).next
+    (chained-here part Own (IsSlots part) image k area chain).next
+    (λ after chained. chain-slots part Own image k past after chained)
+    (λ after chained end same. chain-item part Own image k past after
+    (interval - part.geometry.area) slot place chained end room less same)
+  where
+    used : ℕ
+    used = (roster_at part image area).used
+
+    past : ℕ
+    past = number + used * slots_of part
+
+    here : Content
+    here = records_over part image number (interval_in part area 0) used
+
+    all : AreSlotsOf part.most number past here
+    all = over-slots part image number (interval_in part area 0) used
+        (here-intervals part Own image k area chain)
+
+    end : past ≤ 2 ^ 32
+    end = omega (arith, fits, used-most part Own image k area chain)
+
+    -- those that come after an area that is used whole
+    further : (next : Option ℕ)
+        → IsNextOf used part.geometry.area (Chains part Own (IsSlots part) (IsOf image) k) next
+        → ((after : ℕ) → Chains part Own (IsSlots part) (IsOf image) k after
+        → AreSlotsOf part.most past (past + slots_up part k) (slots_from part image k past after))
+        → place < past → NoneAt (four place) (after_next [] (slots_from part image k past) next)
+    further None chained each before = tt
+    further (Some after) (whole, chained) each before =
+        let same : used * slots_of part ≡ part.geometry.area * slots_of part =
+        ap (λ (count : ℕ). count * slots_of part) whole in
+        slots-none part.most past (past + slots_up part k) (slots_from part image k past after)
+        (each after chained) (omega (arith, same, fits)) place room (inl before)
+
+    by_used : (below : Bool) → nat_lt interval used ≡ below → (next : Option ℕ)
+        → IsNextOf used part.geometry.area (Chains part Own (IsSlots part) (IsOf image) k) next
+        → ((after : ℕ) → Chains part Own (IsSlots part) (IsOf image) k after
+        → AreSlotsOf part.most past (past + slots_up part k) (slots_from part image k past after))
+        → ((after : ℕ) → Chains part Own (IsSlots part) (IsOf image) k after
+        → past + slots_up part k ≤ 2 ^ 32
+        → place ≡ past + (interval - part.geometry.area) * slots_of part + slot
+        → item_at (slots_from part image k past after) (four place)
+        ≡ found_on image (chain_way part (slot_read slot) k (interval - part.geometry.area) after))
+        → item_at (here ++ after_next [] (slots_from part image k past) next) (four place)
+        ≡ found_on image (cond below (slot_read slot (interval_in part area interval))
+        (after_next (Found None)
+        (chain_way part (slot_read slot) k (interval - part.geometry.area)) next))
+    by_used true within next chained each more =
+        let spread : suc interval * slots_of part ≤ used * slots_of part =
+        mul-le-mul_right (slots_of part) (ltb-true interval used within) in
+        let same : interval_in part area 0 + interval ≡ interval_in part area interval =
+        omega arith in
+        record-left here (after_next [] (slots_from part image k past) next) (four place)
+        (further next chained each (omega (arith, is, less, spread)))
+        ∙ over-item part image number (interval_in part area 0) used interval slot place
+        (here-intervals part Own image k area chain) end (ltb-true interval used within) less is
+        ∙ ap (λ (n : ℕ). slot_item slot (block_at image n)) same
+    by_used false beyond next chained each more =
+        let spread : used * slots_of part ≤ interval * slots_of part =
+        mul-le-mul_right (slots_of part) (ltb-false interval used beyond) in
+        record-right here (after_next [] (slots_from part image k past) next) (four place)
+        (slots-none part.most number past here all end place room
+        (inr (omega (arith, is, spread))))
+        ∙ after_used next chained more
+      where
+        after_used : (onward : Option ℕ)
+            → IsNextOf used part.geometry.area (Chains part Own (IsSlots part) (IsOf image) k) onward
+            → ((after : ℕ) → Chains part Own (IsSlots part) (IsOf image) k after
+            → past + slots_up part k ≤ 2 ^ 32
+            → place ≡ past + (interval - part.geometry.area) * slots_of part + slot
+            → item_at (slots_from part image k past after) (four place)
+            ≡ found_on image
+            (chain_way part (slot_read slot) k (interval - part.geometry.area) after))
+            → item_at (after_next [] (slots_from part image k past) onward) (four place)
+            ≡ found_on image (after_next (Found None)
+            (chain_way part (slot_read slot) k (interval - part.geometry.area)) onward)
+        after_used None rule onto = refl
+        after_used (Some after) (whole, rule) onto =
+            let same : used * slots_of part ≡ part.geometry.area * slots_of part =
+            ap (λ (count : ℕ). count * slots_of part) whole in
+            let apart : interval ≡ (interval - part.geometry.area) + part.geometry.area =
+            omega (arith, ltb-false interval used beyond, whole) in
+            let product : interval * slots_of part
+            ≡ ((interval - part.geometry.area) + part.geometry.area) * slots_of part =
+            ap (λ (count : ℕ). count * slots_of part) apart in
+            onto after rule (omega (arith, same, fits)) (omega (arith, is, same, product))
