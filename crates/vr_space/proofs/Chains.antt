@@ -2,8 +2,9 @@
 -- over it leads, and which areas an image has of it.
 use Rattle.std.proofs.Common.{◌≡◌, ℕ, zero, suc, ◌+◌, ◌-◌, ◌*◌, ◌/◌, ◌<◌, ◌≤◌, Bool, true, false}
 use Rattle.std.proofs.Common.{List, [], ◌∷◌, Option, Some, None, refl, ap, ◌∙◌, arith, nat_lt}
-use Rattle.std.proofs.Common.{if◌then◌else◌, ltb-true}
-use Rattle.std.proofs.Math.Nat.{div-mul-le_self, mul-le-mul_right}
+use Rattle.std.proofs.Common.{if◌then◌else◌, ltb-true, slice_index, subst, sym, ⊎_elim}
+use Rattle.std.proofs.Math.Nat.{div-eq-sub-div, div-eq_of_lt, div-mul-le_self, mul-le-mul_right}
+use Rattle.std.proofs.lemmas.Bool.{cases_lt}
 use Rattle.vr_types.specs.Geometry.{area_count, head_block}
 use Rattle.vr_types.specs.Image.{Block, Image, block_at}
 use Rattle.vr_types.specs.declared.geometry.Geometry.{Geometry}
@@ -203,3 +204,39 @@ module _ (part : Numbered) (Own : ℕ → Type 0) (Interval : Block → Type 0)
       (roster_at part one area).used part.geometry.area (Chains part Own Interval may k)
       (λ further. used-same k further) (roster_at part one area).next
       (chain.1 (block_at one (roster_block part area)) (allowed area chain.0)).next)
+
+  -- Of a used interval the area that is at its place in the chain is one of the chain's.
+  pub area-nth : 0 < part.geometry.area → (k n area : ℕ) → Chains part Own Interval may k area
+      → n < used_from part one k area
+      → Own (slice_index (areas_from part one k area) (n / part.geometry.area))
+  area-nth some zero n area chain below = absurd chain
+  area-nth some (suc k) n area chain below = ⊎_elim
+      (λ here. subst (λ (at : ℕ). Own (slice_index (areas_from part one (suc k) area) at))
+      (sym (div-eq_of_lt here)) chain.0)
+      (λ past.
+      let index : suc ((n - part.geometry.area) / part.geometry.area) ≡ n / part.geometry.area =
+      omega (arith, div-eq-sub-div some past) in
+      subst (λ (at : ℕ). Own (slice_index (areas_from part one (suc k) area) at)) index
+      (by_next past (roster_at part one area).next chained.next
+      (used-most part (block_at one (roster_block part area)) chained.roster) below
+      (λ further goes less. area-nth some k (n - part.geometry.area) further goes less)))
+      (cases_lt n part.geometry.area)
+    where
+      chained : IsChainedBy part Interval may area (Chains part Own Interval may k)
+          (block_at one (roster_block part area))
+      chained = chain.1 (block_at one (roster_block part area)) (allowed area chain.0)
+
+      by_next : part.geometry.area ≤ n → (next : Option ℕ)
+          → IsNextOf (roster_at part one area).used part.geometry.area
+          (Chains part Own Interval may k) next
+          → (roster_at part one area).used ≤ part.geometry.area
+          → n < (roster_at part one area).used + after_next 0 (used_from part one k) next
+          → ((further : ℕ) → Chains part Own Interval may k further
+          → n - part.geometry.area < used_from part one k further
+          → Own (slice_index (areas_from part one k further)
+          ((n - part.geometry.area) / part.geometry.area)))
+          → Own (slice_index (after_next [] (areas_from part one k) next)
+          ((n - part.geometry.area) / part.geometry.area))
+      by_next past None is most less on = absurd (omega (arith, past, most, less))
+      by_next past (Some further) is most less on =
+          on further is.1 (omega (arith, past, is.0, less))

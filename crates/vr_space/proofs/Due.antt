@@ -5,8 +5,8 @@ use Rattle.vr_types.specs.Content.{Item}
 use Rattle.vr_types.specs.Image.{Block}
 use Rattle.vr_types.specs.Seen.{Left, Seen}
 use Rattle.vr_space.specs.Owners.{Owners}
-use Rattle.vr_space.specs.Part.{DueMore, DueMoreAt, IsDueTo, IsFirm, IsSound, SameRecords, Shape}
-use Rattle.vr_space.specs.Part.{item_of, way_to}
+use Rattle.vr_space.specs.Part.{DueMore, DueMoreAt, IsDueTo, IsFirm, IsSound, MayHold}
+use Rattle.vr_space.specs.Part.{SameRecords, Shape, item_of, way_to}
 use Rattle.vr_space.specs.Way.{MayOnceForced}
 use Rattle.vr_space.proofs.PartBlocks.{IsPartBlock, StaysPart, holds-less, way-within}
 use Rattle.vr_space.proofs.Ways.{find-more, found-same, within-less}
@@ -19,7 +19,7 @@ module _ (shape : Shape) (owners : Owners) (a : Seen) (sound : IsSound shape own
       → ((n : ℕ) (block : Block) → IsPartBlock shape owners a n → less n block
       → MayOnceForced listed a n block)
       → IsDueTo shape listed a place → (item : Option Item)
-      → Rattle.vr_space.specs.Part.MayHold shape less place item
+      → MayHold shape less place item
       → item ≡ item_of shape a.cur place
   found-due listed place less each due item holds = due item
       (find-more (IsPartBlock shape owners a) less (MayOnceForced listed a) item each

@@ -1,39 +1,34 @@
 -- What a part keeps while others put: what rests on its own blocks alone.
-use Rattle.std.proofs.Common.{◌≡◌, ⊎_elim, inl, inr, ◌<◌, ℕ, IsTrue, List, Option, nat_lt}
-use Rattle.std.proofs.Common.{Some}
-use Rattle.std.proofs.Common.{None, refl, sym, ap, subst, ◌∙◌, arith, length}
+use Rattle.std.proofs.Common.{◌≡◌, ◌≢◌, ⊎_elim, inl, inr, ◌<◌, ℕ, Bool, IsTrue, List, Option, Some}
+use Rattle.std.proofs.Common.{None, refl, sym, ap, subst, ◌∙◌, ◌/◌, ◌%◌, arith, length, ltb-true}
+use Rattle.std.proofs.Common.{nat_lt, slice_index, true}
+use Rattle.std.proofs.Math.Nat.{mod-lt}
 use Rattle.std.proofs.lemmas.List.Elements.{All-weaker}
+use Rattle.vr_types.specs.Blocks.{Keeps, Puts}
+use Rattle.vr_types.specs.Geometry.{area_count}
 use Rattle.vr_types.specs.Image.{Block, block_at}
 use Rattle.vr_types.specs.Seen.{Left, Seen}
+use Rattle.vr_types.specs.declared.unit.PartNo.{PartNo}
+use Rattle.vr_types.proofs.CallerLemmas.{cur-elsewhere}
 use Rattle.vr_seqset.specs.Entry.{Entry}
 use Rattle.vr_space.specs.Keyed.{InArea, IsHead, IsOwned, Keyed, entries_of, entry_block, entry_for}
 use Rattle.vr_space.specs.Known.{Known}
-use Rattle.vr_space.specs.Met.{IsMet}
+use Rattle.vr_space.specs.Met.{IsMet, Met}
 use Rattle.vr_space.specs.Owners.{Owners}
-use Rattle.vr_space.specs.Part.{CanSet, HasKeptRoom, HasRoomFor, IsAtRest, IsSound}
-use Rattle.vr_space.specs.Part.{KeyedShape, Knows, RelativeShape, Shape, fits_at}
-use Rattle.vr_types.specs.Geometry.{area_count}
-use Rattle.vr_space.specs.Rosters.{IsOwnArea, Numbered, roster_block}
-use Rattle.vr_space.specs.Slots.{AreSlotsSound, IsSlots, interval_of, slot_fits}
-use Rattle.vr_space.proofs.Chains.{used-same}
-use Rattle.vr_space.proofs.SlotRooms.{roster-below, roster-owned, slots-less}
-use Rattle.vr_types.specs.Content.{item_at}
-use Rattle.vr_space.specs.Keyed.{records_of, way_in, way_under}
-use Rattle.vr_types.specs.declared.unit.PartNo.{PartNo}
-use Rattle.vr_space.specs.Part.{InFirstArea, InPart, MayGrow, SameRecords, part_no}
-use Rattle.vr_space.specs.Way.{found_on}
+use Rattle.vr_space.specs.Part.{AreMet, CanSet, HasKeptRoom, HasRoomFor, InPart, IsSound}
+use Rattle.vr_space.specs.Part.{IsUnderWay, KeyedShape, Knows, MayGrow, RelativeShape, Shape}
+use Rattle.vr_space.specs.Part.{fits_at, part_no}
 use Rattle.vr_space.specs.Room.{Lengths, Range}
+use Rattle.vr_space.specs.Rosters.{IsInArea, IsOwnArea, Numbered, chain_of, roster_block, used_of}
+use Rattle.vr_space.specs.Slots.{AreSlotsSound, IsSlotMet, IsSlots, KnowsChain, chain_block}
+use Rattle.vr_space.specs.Slots.{interval_of, slot_fits}
 use Rattle.vr_space.specs.Split.{fits_in, keyed_fits, stage_in}
-use Rattle.vr_space.proofs.KeyedSound.{IsBlock, each-less, head-in, keyed-less}
+use Rattle.vr_space.proofs.Chains.{area-nth, areas-same, interval-inside, roster-inside}
+use Rattle.vr_space.proofs.Chains.{used-same}
+use Rattle.vr_space.proofs.KeyedSound.{IsBlock, each-less, head-in}
+use Rattle.vr_space.proofs.PartBlocks.{IsPartBlock, StaysPart, area-owned, stays-keeps}
+use Rattle.vr_space.proofs.SlotRooms.{slots-less}
 use Rattle.vr_space.proofs.UnderWay.{found-in, met-stays, way-stays}
-
--- the part's blocks have what they had, and a crash may leave no more of them
-pub record StaysPart (shape : Shape) (owners : Owners) (a b : Seen) : Type 0 where
-  pub count : b.count ≡ a.count
-  pub size : b.size ≡ a.size
-  pub same : (n : ℕ) → InPart shape owners n → block_at b.cur n ≡ block_at a.cur n
-  pub fewer : (n : ℕ) (block : Block) → n < a.count → InPart shape owners n
-      → b.may n block → a.may n block
 
 -- the blocks of a keyed part's area do
 record StaysArea (part : Keyed) (a b : Seen) : Type 0 where
@@ -52,21 +47,6 @@ area-stays part owners a b owned stays = record {
 }
 
 module _ (a b : Seen) where
-  pub rest-stays : (shape : Shape) (owners : Owners) → StaysPart shape owners a b
-      → IsAtRest shape owners a → IsAtRest shape owners b
-  rest-stays (KeyedShape part) owners part-stays (rests, owned) =
-      let stays = area-stays part owners a b owned part-stays in
-      let less : (n : ℕ) (block : Block) → IsBlock part a n → b.may n block → a.may n block =
-      λ n block is. stays.fewer n block is.0 is.1 in (
-        record {
-          sound = keyed-less part a b stays.count stays.size less rests.sound;
-          one_head = λ top may. rests.one_head top
-              (less part.head top (omega (arith, rests.sound.area), (omega arith, omega arith)) may)
-              ∙ sym (stays.same part.head (omega arith, omega arith));
-        },
-        owned,
-      )
-
   pub room-stays : (shape : Shape) (owners : Owners) (kept : Lengths)
       → StaysPart shape owners a b → IsSound shape owners a → HasKeptRoom shape kept a
       → HasKeptRoom shape kept b
@@ -84,26 +64,103 @@ module _ (a b : Seen) where
       }
   room-stays (RelativeShape part) owners kept stays sound room =
       slots-less part (IsOwnArea part owners) (IsSlots part) b.may a.may kept
-      (λ area own top may. stays.fewer (roster_block part area) top
-      (roster-below part owners a area sound.on own) (roster-owned part owners area own) may)
-      sound.chain room
+      (λ area own top may.
+      let there = area-owned part owners a sound.on area own (roster_block part area)
+      (roster-inside part area) in
+      stays.fewer (roster_block part area) top there.0 there.1 may) sound.chain room
 
+  -- a split under way stays so,
+  under-stays : (shape : Shape) (owners : Owners) (known : Known) → StaysPart shape owners a b
+      → IsSound shape owners a → Left a a.cur → IsUnderWay shape known a → IsUnderWay shape known b
+  under-stays (KeyedShape part) owners known part-stays (sound, owned) left way =
+      let stays = area-stays part owners a b owned part-stays in
+      way-stays part known.split a b sound left
+      (λ now some n block named. record {
+        cur = stays.same n block.1;
+        less = λ bytes may. stays.fewer n bytes block.0 block.1 may;
+      }) way
+  under-stays (RelativeShape part) owners known stays sound left way = tt
+
+  module _ (part : Numbered) (owners : Owners) (stays : StaysPart (RelativeShape part) owners a b)
+      (sound : AreSlotsSound part owners a) (left : Left a a.cur) where
+    there : (area : ℕ) → IsOwnArea part owners area → (n : ℕ) → IsInArea part area n
+        → IsPartBlock (RelativeShape part) owners a n
+    there = area-owned part owners a sound.on
+
+    allowed : (area : ℕ) → IsOwnArea part owners area
+        → a.may (roster_block part area) (block_at a.cur (roster_block part area))
+    allowed area own = left.each (roster_block part area)
+        (there area own (roster_block part area) (roster-inside part area)).0
+
+    same-top : (area : ℕ) → IsOwnArea part owners area
+        → block_at b.cur (roster_block part area) ≡ block_at a.cur (roster_block part area)
+    same-top area own = stays.same (roster_block part area)
+        (there area own (roster_block part area) (roster-inside part area)).1
+
+    same-areas : chain_of part b.cur ≡ chain_of part a.cur
+    same-areas = areas-same part (IsOwnArea part owners) (IsSlots part) a.may a.cur b.cur allowed
+        same-top (area_count part.geometry) part.first sound.chain
+
+    same-used : used_of part b.cur ≡ used_of part a.cur
+    same-used = used-same part (IsOwnArea part owners) (IsSlots part) a.may a.cur b.cur allowed
+        same-top (area_count part.geometry) part.first sound.chain
+
+    -- the block of a used interval is the part's own
+    used-owned : (interval : ℕ) → interval < used_of part a.cur
+        → InPart (RelativeShape part) owners (chain_block part (chain_of part a.cur) interval)
+    used-owned interval below =
+        let some : 0 < part.geometry.area =
+        omega (arith, sound.on.part_is.allowed.some_intervals) in
+        let area : ℕ = slice_index (chain_of part a.cur) (interval / part.geometry.area) in
+        (there area (area-nth part (IsOwnArea part owners) (IsSlots part) a.may a.cur b.cur
+        allowed same-top some (area_count part.geometry) interval part.first sound.chain below)
+        (chain_block part (chain_of part a.cur) interval)
+        (interval-inside part area (interval % part.geometry.area)
+        (mod-lt interval some))).1
+
+    slot-met-stays : (met : Met) → IsSlotMet part a.cur met → IsSlotMet part b.cur met
+    slot-met-stays met is fits =
+        let before = is (subst (λ (used : ℕ). IsTrue (nat_lt (interval_of part met.place) used))
+        same-used fits) in
+        let below : interval_of part met.place < used_of part a.cur =
+        ltb-true (interval_of part met.place) (used_of part a.cur)
+        (subst (λ (used : ℕ). nat_lt (interval_of part met.place) used ≡ true) same-used fits) in (
+          before.0 ∙ ap (λ (areas : List ℕ). chain_block part areas (interval_of part met.place))
+              (sym same-areas),
+          stays.same met.number (subst (InPart (RelativeShape part) owners) (sym before.0)
+              (used-owned (interval_of part met.place) below)) ∙ before.1,
+        )
+
+    -- the chain stays as it is known,
+    chain-stays : (known : Known) → KnowsChain part known a.cur → KnowsChain part known b.cur
+    chain-stays known knows = record {
+      areas = knows.areas ∙ sym same-areas;
+      used = knows.used ∙ sym same-used;
+      met = All-weaker (IsSlotMet part a.cur) (IsSlotMet part b.cur) slot-met-stays known.met
+          knows.met;
+    }
+
+  -- the blocks that were met as they were,
+  met-known : (shape : Shape) (owners : Owners) (known : Known) → StaysPart shape owners a b
+      → IsSound shape owners a → Left a a.cur → AreMet shape known a.cur → AreMet shape known b.cur
+  met-known (KeyedShape part) owners known part-stays (sound, owned) left met =
+      let stays = area-stays part owners a b owned part-stays in
+      All-weaker (IsMet part a.cur) (IsMet part b.cur)
+      (λ one is. met-stays part a.cur b.cur one
+      (sound.heads _ (left.each part.head (omega (arith, sound.area))))
+      (stays.same part.head (omega arith, omega arith))
+      (λ inside. stays.same one.number inside) is) known.met met
+  met-known (RelativeShape part) owners known stays sound left met =
+      chain-stays part owners stays sound left known met
+
+  -- and so does what a part knows of its blocks.
   pub knows-stays : (shape : Shape) (owners : Owners) (known : Known)
       → StaysPart shape owners a b → IsSound shape owners a → Left a a.cur → Knows shape known a
       → Knows shape known b
-  knows-stays (KeyedShape part) owners known part-stays (sound, owned) left knows =
-      let stays = area-stays part owners a b owned part-stays in record {
-        way = way-stays part known.split a b sound left
-            (λ now some n block named. record {
-              cur = stays.same n block.1;
-              less = λ bytes may. stays.fewer n bytes block.0 block.1 may;
-            }) knows.way;
-        blocks = All-weaker (IsMet part a.cur) (IsMet part b.cur)
-            (λ one is. met-stays part a.cur b.cur one
-            (sound.heads _ (left.each part.head (omega (arith, sound.area))))
-            (stays.same part.head (omega arith, omega arith))
-            (λ inside. stays.same one.number inside) is) known.met knows.blocks;
-      }
+  knows-stays shape owners known stays sound left knows = record {
+    way = under-stays shape owners known stays sound left knows.way;
+    blocks = met-known shape owners known stays sound left knows.blocks;
+  }
 
   -- the record that fits where the interval is as it was
   fits-stays : (part : Keyed) (kept : Lengths) (place : List ℕ) (n : ℕ)
@@ -134,11 +191,7 @@ module _ (a b : Seen) where
       → slot_fits part b.cur place ≡ slot_fits part a.cur place
   slot-fits-same part owners place stays sound left =
       ap (λ (used : ℕ). nat_lt (interval_of part place) used)
-      (used-same part (IsOwnArea part owners) (IsSlots part) a.may a.cur b.cur
-      (λ area own. left.each (roster_block part area)
-      (roster-below part owners a area sound.on own))
-      (λ area own. stays.same (roster_block part area) (roster-owned part owners area own))
-      (area_count part.geometry) part.first sound.chain)
+      (same-used part owners stays sound left)
 
   -- what fits in the same way has room
   room-for : (shape : Shape) (kept : Lengths) (place : List ℕ) (item : Option (List ℕ))
@@ -167,27 +220,42 @@ module _ (a b : Seen) where
         (λ n. slot-fits-same part owners place stays sound left) can.room;
   }
 
-  -- each place has the record that it had
-  way-same : (part : Keyed) (place : List ℕ) → StaysArea part a b
-      → (found : Option (Range × Entry))
-      → ((at : Range × Entry) → found ≡ Some at → InArea part (entry_block part at.1))
-      → found_on b.cur (way_in part place found) ≡ found_on a.cur (way_in part place found)
-  way-same part place stays None inside = refl
-  way-same part place stays (Some at) inside =
-      ap (λ (block : Block). item_at (records_of part block) place)
-      (stays.same (entry_block part at.1) (inside at refl))
+-- ---- calls that put nothing into the part
 
-  pub same-stays : (shape : Shape) (owners : Owners) → StaysPart shape owners a b
-      → IsSound shape owners a → Left a a.cur → SameRecords shape a.cur b.cur
-  same-stays (KeyedShape part) owners part-stays (sound, owned) left place =
-      let stays = area-stays part owners a b owned part-stays in
-      let head : IsHead part (block_at a.cur part.head) =
-      sound.heads _ (left.each part.head (omega (arith, sound.area))) in
-      ap (λ (top : Block). found_on b.cur (way_under part place top))
-      (stays.same part.head (omega arith, omega arith))
-      ∙ way-same part place stays (entry_for None (entries_of (block_at a.cur part.head)) place)
-      (λ at is. let below = found-in part (block_at a.cur part.head) place at head is in
-      (omega arith, omega (arith, below)))
+module _ (tells : Bool) (told : IsTrue tells) where
+  -- a call that puts nothing leaves a split under way
+  pub way-keeps : (shape : Shape) (owners : Owners) (known : Known) (a b : Seen) → Keeps tells a b
+      → IsSound shape owners a → Left a a.cur → IsUnderWay shape known a → IsUnderWay shape known b
+  way-keeps shape owners known a b call =
+      under-stays a b shape owners known (stays-keeps tells told a b call shape owners)
+
+  -- and what a part knows of its blocks
+  pub knows-keeps : (shape : Shape) (owners : Owners) (known : Known) (a b : Seen) → Keeps tells a b
+      → IsSound shape owners a → Left a a.cur → Knows shape known a
+      → Knows shape known b
+  knows-keeps shape owners known a b call =
+      knows-stays a b shape owners known (stays-keeps tells told a b call shape owners)
+
+  -- what is put outside the part leaves its blocks as they are,
+  pub stays-puts : (shape : Shape) (owners : Owners) (n : ℕ) (bytes : Block) (a b : Seen)
+      → Puts tells n bytes a b → (InPart shape owners n → ⊥) → StaysPart shape owners a b
+  stays-puts shape owners n bytes a b call beyond =
+      let other : (m : ℕ) → InPart shape owners m → m ≢ n =
+      λ m inside same. beyond (subst (InPart shape owners) same inside) in
+      record {
+        count = call.count_same;
+        size = call.size_same;
+        same = λ m inside. cur-elsewhere tells a b m n bytes told (other m inside) call;
+        fewer = λ m block below inside may. ⊎_elim (λ old. old)
+            (λ new. absurd (other m inside new.0)) (call.adds told m block below may);
+      }
+
+  -- and what it knows of them
+  pub knows-puts : (shape : Shape) (owners : Owners) (known : Known) (n : ℕ) (bytes : Block) (a b : Seen)
+      → Puts tells n bytes a b → (InPart shape owners n → ⊥)
+      → IsSound shape owners a → Left a a.cur → Knows shape known a → Knows shape known b
+  knows-puts shape owners known n bytes a b call beyond =
+      knows-stays a b shape owners known (stays-puts shape owners n bytes a b call beyond)
 
 -- ---- owners
 
@@ -200,12 +268,7 @@ one-owner here there owners n is also = some-same (sym is ∙ also)
     some-same same = cc
 
 -- a keyed part of one area claims none
-pub grows-none : (shape : Shape) (areas : List (Option PartNo)) (owners : Owners)
-    → MayGrow shape areas owners owners
-grows-none (KeyedShape part) areas owners =
+pub grows-none : (part : Keyed) (areas : List (Option PartNo)) (owners : Owners)
+    → MayGrow (KeyedShape part) areas owners owners
+grows-none part areas owners =
     record { kept = λ n other is. is; claimed = λ area least n inside. absurd inside }
-
--- the blocks of the first area are the part's own
-pub first-owned : (shape : Shape) (owners : Owners) (now : Seen) → IsSound shape owners now
-    → (n : ℕ) → InFirstArea shape n → InPart shape owners n
-first-owned (KeyedShape part) owners now (sound, owned) n inside = owned n inside
