@@ -19,13 +19,14 @@ use Rattle.vr_space.specs.Split.{SplitNow, keyed_stage, keyed_fits, room_after, 
 use Rattle.vr_space.specs.Split.{room_by_split, free_interval}
 use Rattle.vr_space.specs.Keyed.{IsKeyedSound, Keyed, entries_of, keyed_way}
 use Rattle.vr_space.specs.Owners.{Owners}
-use Rattle.vr_space.specs.Part.{Shape, KeyedShape, InPart, StandsFor, Stands, HasOnly, MayHold}
+use Rattle.vr_space.specs.Part.{Shape, KeyedShape, RelativeShape, InPart, StandsFor, Stands, HasOnly, MayHold}
 use Rattle.vr_space.specs.Part.{MayAlsoHold, Nothing, AddsTo, IsSound, IsAtRest, HasKeptRoom}
 use Rattle.vr_space.specs.Part.{way_to, item_of, left_by, SameRecords, SetsOne, IsDueTo, DueMore, IsFirm}
 use Rattle.vr_space.specs.Part.{CanSet, DueMoreAt}
 use Rattle.vr_space.specs.Part.{room_of, stage_of, fits_at}
 use Rattle.vr_space.proofs.Ways.{find-more, within-less}
 use Rattle.vr_space.proofs.KeyedContent.{way-content}
+use Rattle.vr_space.proofs.SlotReads.{slots-item}
 use Rattle.vr_space.proofs.KeyedSound.{keyed-within, keyed-image, keyed-less, each-less, head-in}
 use Rattle.vr_space.proofs.KeyedSound.{head-ascends, IsBlock}
 
@@ -129,6 +130,8 @@ content_item (KeyedShape part) image content stands place =
     ap (λ (c : Content). item_at c place) stands.records
     ∙ way-content part image None (entries_of (block_at image part.head)) place
     (head-ascends part (block_at image part.head) stands.head) refl
+content_item (RelativeShape part) image content stands place =
+    slots-item part image content stands place
 
 -- ---- calls that put nothing
 
@@ -340,3 +343,4 @@ pub record-length : (shape : Shape) (place bytes : List ℕ)
     → Rattle.vr_space.specs.Part.IsRecordOf shape place bytes
     → Rattle.vr_space.specs.Part.IsLengthOf shape (Rattle.std.specs.Prelude.length bytes)
 record-length (KeyedShape part) place bytes is = (is.0.least, is.0.most)
+record-length (RelativeShape part) place bytes is = is.whole

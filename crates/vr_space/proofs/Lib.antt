@@ -3,6 +3,7 @@ pub mod Places
 pub mod SlotNumbers
 pub mod ChainWays
 pub mod SlotContent
+pub mod SlotReads
 pub mod KeyedContent
 pub mod KeyedSound
 pub mod UnderWay
@@ -17,4 +18,5 @@ pub mod Framing
 pub mod Fewer
 pub mod Standing
 pub mod PlacesHeld
+pub mod RecordsHeld
 pub mod CallerLemmas

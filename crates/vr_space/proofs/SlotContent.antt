@@ -290,7 +290,8 @@ used-most part Own image k area chain =
     mul-le-mul_right (slots_of part)
     (chained-here part Own (IsSlots part) image k area chain).roster.spelled.rules.used
 
-chain-slots : (part : Numbered) (Own : ℕ → Type 0) (image : Image) (k number area : ℕ)
+-- the slots of a chain, from a number on
+pub chain-slots : (part : Numbered) (Own : ℕ → Type 0) (image : Image) (k number area : ℕ)
     → Chains part Own (IsSlots part) (IsOf image) k area
     → AreSlotsOf part.most number (number + slots_up part k) (slots_from part image k number area)
 chain-slots part Own image zero number area chain = absurd chain
@@ -325,7 +326,7 @@ chain-slots part Own image (suc k) number area chain =
         (slots_from part image k past after) (omega (arith, same)) (more after chained)
 
 -- the content has at a slot's place what the way over the chain leads to
-chain-item : (part : Numbered) (Own : ℕ → Type 0) (image : Image)
+pub chain-item : (part : Numbered) (Own : ℕ → Type 0) (image : Image)
     (k number area interval slot place : ℕ)
     → Chains part Own (IsSlots part) (IsOf image) k area → number + slots_up part k ≤ 2 ^ 32
     → place < 2 ^ 32 → slot < slots_of part → place ≡ number + interval * slots_of part + slot
