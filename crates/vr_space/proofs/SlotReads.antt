@@ -1,8 +1,8 @@
 -- What is read at the places of a relative part: what its content has there.
-use Rattle.std.proofs.Common.{◌≡◌, ◌⊎◌, ◌+◌, ◌-◌, ◌*◌, ◌/◌, ◌%◌, ◌^◌, ◌<◌, ◌≤◌, ℕ, suc, Bool, true}
+use Rattle.std.proofs.Common.{◌≡◌, ◌+◌, ◌-◌, ◌*◌, ◌/◌, ◌%◌, ◌^◌, ◌<◌, ◌≤◌, ℕ, suc, Bool, true}
 use Rattle.std.proofs.Common.{false, List, [], ◌∷◌, length, Option, Some, None, refl, sym, ap, subst, ◌∙◌}
 use Rattle.std.proofs.Common.{arith, true≢false}
-use Rattle.std.specs.Prelude.{◌≢◌, ◌&&◌, bytes_eq, cond, nat_lt, option_and_then, slice_get}
+use Rattle.std.specs.Prelude.{◌≢◌, bytes_eq, cond, nat_lt, option_and_then, slice_get}
 use Rattle.std.specs.Prelude.{slice_index}
 use Rattle.std.specs.Option.{option_map}
 use Rattle.std.specs.declared.cmp.Ordering.{Ordering}
@@ -11,11 +11,11 @@ use Rattle.std.proofs.Math.Nat.{mod-lt}
 use Rattle.std.proofs.lemmas.Bool.{and_from, and_parts, lt-ltb, ltb-true}
 use Rattle.std.proofs.lemmas.Nat.{div-add-mod'}
 use Rattle.std.proofs.lemmas.Slice.Eq.{bytes_eq-Decides}
-use Rattle.vr_types.specs.Content.{Content, Item, Placed, found_by, item_at, place_cmp, record_of}
+use Rattle.vr_types.specs.Content.{Content, Item, found_by, item_at, place_cmp, record_of}
 use Rattle.vr_types.specs.Content.Item.{Standing}
 use Rattle.vr_types.specs.Fields.{four}
 use Rattle.vr_types.specs.Geometry.{area_count}
-use Rattle.vr_types.specs.Image.{Block, Image, block_at}
+use Rattle.vr_types.specs.Image.{Image, block_at}
 use Rattle.vr_types.proofs.CallerLemmas.{same_place}
 use Rattle.vr_ci.specs.Interval as ci
 use Rattle.vr_space.specs.Keyed.{items_of}
@@ -27,7 +27,7 @@ use Rattle.vr_space.specs.Slots.{slots_from, slots_of, standing_in, IsSlots}
 use Rattle.vr_space.specs.Way.{Found, Way, found_on}
 use Rattle.vr_space.proofs.ChainWays.{chain-ends, chain-has, chain-reaches, found-used}
 use Rattle.vr_space.proofs.Places.{NoneAt, none-record}
-use Rattle.vr_space.proofs.SlotContent.{AreSlotsOf, IsSlotEntry, chain-item, chain-slots}
+use Rattle.vr_space.proofs.SlotContent.{AreSlotsOf, chain-item, chain-slots}
 use Rattle.vr_space.proofs.SlotNumbers.{number-below, number-four, slots-below, slots-some, slots_up}
 
 -- ---- places
