@@ -31,6 +31,7 @@ use Rattle.vr_space.proofs.Chains.{chain-less, roster-inside}
 use Rattle.vr_space.proofs.Due.{due-fewer, due-firm}
 use Rattle.vr_space.proofs.PartBlocks.{IsPartBlock, area-owned, holds-less, on-less, rest-stays}
 use Rattle.vr_space.proofs.PartBlocks.{sound-less, stays-keeps, way-within}
+use Rattle.vr_space.proofs.SlotReads.{slots-item}
 use Rattle.vr_space.proofs.SlotRooms.{slots-less}
 use Rattle.vr_space.proofs.Ways.{found-may}
 use Rattle.vr_space.proofs.KeyedContent.{way-content}
@@ -114,6 +115,8 @@ content_item (KeyedShape part) image content stands place =
     ap (λ (c : Content). item_at c place) stands.records
     ∙ way-content part image None (entries_of (block_at image part.head)) place
     (head-ascends part (block_at image part.head) stands.head) refl
+content_item (RelativeShape part) image content stands place =
+    slots-item part image content stands place
 
 slots-stand : (part : Numbered) (owners : Owners) (now : Seen) → AreSlotsSound part owners now
     → (image : Image) → IsImageOn (InPart (RelativeShape part) owners) now.count now.may image

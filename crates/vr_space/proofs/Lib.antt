@@ -4,6 +4,7 @@ pub mod Places
 pub mod SlotNumbers
 pub mod ChainWays
 pub mod SlotContent
+pub mod SlotReads
 pub mod KeyedContent
 pub mod KeyedSound
 pub mod PartBlocks
@@ -21,4 +22,5 @@ pub mod Framing
 pub mod Fewer
 pub mod Standing
 pub mod PlacesHeld
+pub mod RecordsHeld
 pub mod CallerLemmas
