@@ -2,16 +2,12 @@
 use Rattle.std.proofs.Common.{◌≡◌, ◌≢◌, ◌⊎◌, inl, inr, ⊎_elim, ◌<◌, ◌≤◌, ◌+◌, ◌-◌, ℕ, zero, suc}
 use Rattle.std.proofs.Common.{Bool, true, false, IsTrue, List, [], ◌∷◌, Option, Some, None, refl}
 use Rattle.std.proofs.Common.{sym, ap, subst, ◌∙◌, arith, cond, nat_lt}
-use Rattle.std.proofs.lemmas.Bool.{and_from, lt-ltb}
 use Rattle.std.proofs.lemmas.Bool.Decides.{nat_tests}
-use Rattle.std.proofs.lemmas.Slice.Eq.{bytes_eq-Decides}
-use Rattle.std.specs.Prelude.{bytes_eq}
 use Rattle.std.proofs.lemmas.List.Elements.{All-weaker, recursion_from_All}
 use Rattle.std.specs.List.{AllByRecursion}
 use Rattle.std.specs.declared.cmp.Ordering.{Ordering}
 use Rattle.std.specs.declared.cmp.Ordering.TheVariants.{Less, Equal, Greater}
 use Rattle.vr_types.specs.Content.{Item, place_cmp}
-use Rattle.vr_types.specs.Fields.{four}
 use Rattle.vr_types.specs.Geometry.{area_count}
 use Rattle.vr_types.specs.Image.{Block, Image, block_at}
 use Rattle.vr_types.proofs.CallerLemmas.{same_place}
@@ -21,8 +17,9 @@ use Rattle.vr_space.specs.Rosters.{Chains, HasInterval, IsChained, IsGoingOn, Is
 use Rattle.vr_space.specs.Rosters.{Numbered, after_next, chain_way, interval_in, interval_way}
 use Rattle.vr_space.specs.Rosters.{roster_block, used_from}
 use Rattle.vr_space.specs.Slots.{HasKeptSlot, IsSlotPlace, KeepsSlots, interval_of, slot_fits}
-use Rattle.vr_space.specs.Slots.{is_slot_place, number_of, slot_in, slot_read, slot_way}
+use Rattle.vr_space.specs.Slots.{slot_in, slot_read, slot_way}
 use Rattle.vr_space.specs.Way.{Found, MayFind, Way}
+use Rattle.vr_space.proofs.SlotReads.{place-tested}
 
 -- ---- the next area
 
@@ -223,13 +220,6 @@ kept-slot-fits part Own Interval image kept place n chain room is =
     (slot-kept part (IsOf image) kept place n room is).interval in
     grind (arith, nat_tests, below)
 
--- a reader takes the place for a slot's
-pub slot-test : (place : List ℕ) → IsSlotPlace place → is_slot_place place ≡ true
-slot-test place is = and_from (bytes_eq place (four (number_of place)))
-    (nat_lt 0 (number_of place))
-    ((bytes_eq-Decides place (four (number_of place))).1 is.bytes)
-    (lt-ltb 0 (number_of place) is.some)
-
 -- The place of a record that each way finds may be kept.
 pub finds-slot : (part : Numbered) (may : ℕ → Block → Type 0) (place : List ℕ) (n : ℕ)
     → IsSlotPlace place
@@ -243,5 +233,5 @@ finds-slot part may place n numbered some =
           (area_count part.geometry) (interval_of part place) part.first
           (λ item found. some item (subst
           (λ (test : Bool). MayFind may item (cond test way (Found None)))
-          (sym (slot-test place numbered)) found));
+          (sym (place-tested place numbered)) found));
     }
