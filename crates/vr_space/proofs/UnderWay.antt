@@ -24,8 +24,10 @@ use Rattle.vr_space.specs.UnderWay.{IsBegun, IsCopied, IsSwitched, IsReadyFor, K
 use Rattle.vr_space.specs.UnderWay.{interval_block, above_cut}
 use Rattle.vr_space.specs.Met.{Met, IsMet}
 use Rattle.vr_space.specs.Owners.{Owners}
-use Rattle.vr_space.specs.Part.{Shape, KeyedShape, InPart, IsSound, IsUnderWay, Knows}
+use Rattle.vr_space.specs.Part.{Shape, KeyedShape, RelativeShape, InPart, IsSound, IsUnderWay}
+use Rattle.vr_space.specs.Part.{AreMet, Knows}
 use Rattle.vr_space.proofs.KeyedSound.{IsBlock, entry-in, head-in}
+use Rattle.vr_space.proofs.SlotsKnown.{slots-known, stays-puts}
 
 -- the blocks that a split under way has to do with
 abbrev pub IsSplitBlock : Keyed → SplitNow → ℕ → Type 0
@@ -187,6 +189,7 @@ module _ (tells : Bool) (told : IsTrue tells) where
         cur = ap (λ (image : Image). block_at image n) (call.content told);
         less = λ bytes may. call.adds_none told n bytes block.0 may;
       }) is
+  way-keeps (RelativeShape part) owners known a b call sound left is = tt
 
   -- and so does a put into a block that it has nothing to do with
   pub way-puts : (part : Keyed) (split : Option SplitNow) (n : ℕ) (bytes : Block) (a b : Seen)
@@ -217,9 +220,9 @@ module _ (tells : Bool) (told : IsTrue tells) where
   pub knows-keeps : (shape : Shape) (owners : Owners) (known : Known) (a b : Seen) → Keeps tells a b
       → IsSound shape owners a → Left a a.cur → Knows shape known a
       → Knows shape known b
-  knows-keeps (KeyedShape part) owners known a b call (sound, owned) left knows = record {
-    way = way-keeps (KeyedShape part) owners known a b call (sound, owned) left knows.way;
-    blocks = subst (λ (image : Image). All (IsMet part image) known.met) (sym (call.content told))
+  knows-keeps shape owners known a b call sound left knows = record {
+    way = way-keeps shape owners known a b call sound left knows.way;
+    blocks = subst (λ (image : Image). AreMet shape known image) (sym (call.content told))
         knows.blocks;
   }
 
@@ -241,3 +244,9 @@ module _ (tells : Bool) (told : IsTrue tells) where
             (λ one is. met-stays part a.cur b.cur one head (still part.head
             (omega arith, omega arith)) (still one.number) is) known.met knows.blocks;
       }
+  knows-puts (RelativeShape part) owners known n bytes a b call beyond sound left knows = record {
+    way = tt;
+    blocks = slots-known part owners known a b
+        (stays-puts tells told (RelativeShape part) owners n bytes a b call beyond) sound left
+        knows.blocks;
+  }
