@@ -1,7 +1,7 @@
 -- What calls of a part add to what its places may hold, one after another, and what a force leaves.
 use Rattle.std.proofs.Common.{◌≡◌, ◌⊎◌, inl, inr, ⊎_elim, ◌<◌, ℕ, Bool, IsTrue, true, false, List}
 use Rattle.std.proofs.Common.{[], Option, Some, None, refl, sym, ap, subst, ◌∙◌, arith, length}
-use Rattle.std.proofs.Common.{◌≤◌}
+use Rattle.std.proofs.Common.{◌≤◌, cond, nat_le}
 use Rattle.vr_types.specs.Content.{Content, Item, item_at}
 use Rattle.vr_types.specs.Geometry.{area_count}
 use Rattle.vr_types.specs.Image.{Block, Image, block_at}
@@ -10,8 +10,9 @@ use Rattle.vr_types.specs.Blocks.{Keeps, Forced}
 use Rattle.vr_types.specs.Regions.{IsImageOn}
 use Rattle.vr_types.proofs.CallerLemmas.{touches-then, touches-weaken, keeps-touches}
 use Rattle.vr_types.specs.declared.unit.StageKind.{StageKind}
+use Rattle.vr_types.specs.declared.unit.StageKind.TheVariants.{Extend}
 use Rattle.vr_space.specs.declared.room.Room.{Room}
-use Rattle.vr_space.specs.declared.room.Room.TheVariants.{Ready, NoSpace}
+use Rattle.vr_space.specs.declared.room.Room.TheVariants.{Ready, NoSpace, Stage}
 use Rattle.vr_space.specs.Room.{Lengths, length_at}
 use Rattle.vr_space.specs.Known.{Known}
 use Rattle.vr_space.specs.Split.{SplitNow, keyed_stage, keyed_fits, room_after, room_by}
@@ -23,12 +24,14 @@ use Rattle.vr_space.specs.Part.{MayHold, MayAlsoHold, Nothing, AddsTo, IsSound, 
 use Rattle.vr_space.specs.Part.{HasKeptRoom, IsLengthOf, IsOn, IsRecordOf, StaysIn}
 use Rattle.vr_space.specs.Part.{way_to, item_of, left_by, SameRecords, SetsOne, IsDueTo, DueMore, IsFirm}
 use Rattle.vr_space.specs.Part.{CanSet, room_of, stage_of, fits_at}
-use Rattle.vr_space.specs.Rosters.{IsInArea, IsOf, IsOwnArea, Numbered}
-use Rattle.vr_space.specs.Slots.{AreSlotsSound, IsSlots, SlotsStayIn, slots_from}
+use Rattle.vr_space.specs.Rosters.{IsInArea, IsOf, IsOwnArea, Numbered, roster_block}
+use Rattle.vr_space.specs.Slots.{AreSlotsSound, IsSlots, SlotsStayIn, areas_short, interval_of}
+use Rattle.vr_space.specs.Slots.{slot_fits, slot_room_by, slots_from}
 use Rattle.vr_space.proofs.Chains.{chain-less}
 use Rattle.vr_space.proofs.Due.{due-fewer, due-firm}
 use Rattle.vr_space.proofs.PartBlocks.{IsPartBlock, area-owned, holds-less, on-less, rest-stays}
 use Rattle.vr_space.proofs.PartBlocks.{sound-less, stays-keeps, way-within}
+use Rattle.vr_space.proofs.SlotRooms.{roster-below, slots-less}
 use Rattle.vr_space.proofs.Ways.{found-may}
 use Rattle.vr_space.proofs.KeyedContent.{way-content}
 use Rattle.vr_space.proofs.KeyedSound.{keyed-image, each-less, head-in, head-ascends, IsBlock}
@@ -201,6 +204,10 @@ module _ (tells : Bool) (told : IsTrue tells) where
             each-less part a b _ None (entries_of top) (fewer a b call part) sound.area
             (head-in part top (sound.heads top before)) (room.each top before);
       }
+  room-keeps (RelativeShape part) owners kept a b call sound room =
+      slots-less part (IsOwnArea part owners) (IsSlots part) b.may a.may kept
+      (λ area own top may. call.adds_none told (roster_block part area) top
+      (roster-below part owners a area sound.on own) may) sound.chain room
 
   pub keeps-adds : (shape : Shape) (owners : Owners) (a b : Seen) → Keeps tells a b
       → IsSound shape owners a → AddsTo shape owners Nothing a b
@@ -254,6 +261,14 @@ never-ready (Some split) free is = cc
 never-ready None (Some interval) is = cc
 never-ready None None is = cc
 
+slot-ready : (fits : Bool) (need free : ℕ) → slot_room_by fits need free ≡ Ready → IsTrue fits
+slot-ready true need free is = refl
+slot-ready false need free is = absurd (by_enough (nat_le need free) is)
+  where
+    by_enough : (enough : Bool) → cond enough (Stage Extend) (NoSpace need free) ≡ Ready → ⊥
+    by_enough true is = cc
+    by_enough false is = cc
+
 -- a record that room is ready for may be set
 pub ready-can : (shape : Shape) (known : Known) (image : Image) (free : ℕ)
     (kept : Lengths) (place : List ℕ) (n : ℕ) → room_of shape known image free kept place n ≡ Ready
@@ -264,6 +279,11 @@ ready-can (KeyedShape part) known image free kept place n is =
       ready-by (keyed_fits part image kept place n) _
           (never-ready known.split (free_interval part (block_at image part.head))) both.1,
     )
+ready-can (RelativeShape part) known image free kept place n is = (
+  refl,
+  slot-ready (slot_fits part image place) (areas_short part image (interval_of part place)) free
+      is,
+)
 
 -- and is set
 pub can-set : (shape : Shape) (known : Known) (image : Image) (free : ℕ) (kept : Lengths)
@@ -287,6 +307,7 @@ pub room-no-stage : (shape : Shape) (known : Known) (image : Image) (free : ℕ)
 room-no-stage (KeyedShape part) known image free kept place n need left = ⊎_elim
     (λ ready. (ready-can (KeyedShape part) known image free kept place n ready).0)
     (λ full. no-stage-after (keyed_stage part known.split image place) _ need left full)
+room-no-stage (RelativeShape part) known image free kept place n need left = λ either. refl
 
 -- a record may be taken away there
 pub can-erase : (shape : Shape) (known : Known) (image : Image) (free : ℕ)

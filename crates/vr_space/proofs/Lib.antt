@@ -1,12 +1,17 @@
 pub mod Ways
 pub mod Chains
 pub mod Places
+pub mod SlotNumbers
+pub mod ChainWays
+pub mod SlotContent
 pub mod KeyedContent
 pub mod KeyedSound
 pub mod PartBlocks
 pub mod Due
+pub mod SlotsKnown
 pub mod UnderWay
 pub mod Searching
+pub mod SlotRooms
 pub mod Adding
 pub mod Intervals
 pub mod Rising

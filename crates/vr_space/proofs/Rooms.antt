@@ -1,5 +1,6 @@
 -- Room in the images that a crash may leave.
 use Rattle.std.proofs.Common.{◌<◌, ◌+◌, ℕ, Bool, IsTrue, List, [], ◌∷◌, Option, Some, None, arith}
+use Rattle.std.proofs.Common.{subst, sym}
 use Rattle.vr_types.specs.Image.{Image, block_at}
 use Rattle.vr_types.specs.Seen.{Seen}
 use Rattle.vr_types.specs.Blocks.{Keeps}
@@ -10,8 +11,12 @@ use Rattle.vr_space.specs.Room.{Lengths, HaveRoom}
 use Rattle.vr_space.specs.Keyed.{Keyed, EachMayLeave, HaveRooms, entries_of, entry_block}
 use Rattle.vr_space.specs.Keyed.{InArea, lengths_of}
 use Rattle.vr_space.specs.Owners.{Owners}
-use Rattle.vr_space.specs.Part.{Shape, KeyedShape, HasKeptRoom, HasRoom, InPart, IsSound}
+use Rattle.vr_space.specs.Part.{Shape, KeyedShape, RelativeShape, HasKeptRoom, HasRoom}
+use Rattle.vr_space.specs.Part.{InPart, IsSound}
+use Rattle.vr_space.specs.Rosters.{IsOf, IsOwnArea, roster_block}
+use Rattle.vr_space.specs.Slots.{IsSlots}
 use Rattle.vr_space.proofs.KeyedSound.{AreIn, head-in}
+use Rattle.vr_space.proofs.SlotRooms.{roster-below, roster-owned, slots-less}
 
 rooms-image : (part : Keyed) (kept : Lengths) (now : Seen) (image : Image) (low : Option (List ℕ))
     (entries : List Entry) → part.head + part.area < now.count
@@ -38,6 +43,11 @@ room-image (KeyedShape part) owners kept now (sound, owned) room image left =
     rooms-image part kept now image None (entries_of (block_at image part.head)) sound.area mine
     (head-in part (block_at image part.head) (sound.heads (block_at image part.head) top))
     (room.each (block_at image part.head) top)
+room-image (RelativeShape part) owners kept now sound room image left =
+    slots-less part (IsOwnArea part owners) (IsSlots part) (IsOf image) now.may kept
+    (λ area own top is. subst (now.may (roster_block part area)) (sym is)
+    (left.each (roster_block part area) (roster-below part owners now area sound.on own)
+    (roster-owned part owners area own))) sound.chain room
 
 -- and so has that of each moment of a call that puts nothing
 pub keeps-rooms : (tells : Bool) → IsTrue tells → (shape : Shape) (owners : Owners) (kept : Lengths) (a b : Seen)
