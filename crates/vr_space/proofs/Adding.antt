@@ -27,11 +27,12 @@ use Rattle.vr_space.specs.Part.{CanSet, room_of, stage_of, fits_at}
 use Rattle.vr_space.specs.Rosters.{IsInArea, IsOf, IsOwnArea, Numbered, roster_block}
 use Rattle.vr_space.specs.Slots.{AreSlotsSound, IsSlots, SlotsStayIn, areas_short, interval_of}
 use Rattle.vr_space.specs.Slots.{slot_fits, slot_room_by, slots_from}
-use Rattle.vr_space.proofs.Chains.{chain-less}
+use Rattle.vr_space.proofs.Chains.{chain-less, roster-inside}
 use Rattle.vr_space.proofs.Due.{due-fewer, due-firm}
 use Rattle.vr_space.proofs.PartBlocks.{IsPartBlock, area-owned, holds-less, on-less, rest-stays}
 use Rattle.vr_space.proofs.PartBlocks.{sound-less, stays-keeps, way-within}
-use Rattle.vr_space.proofs.SlotRooms.{roster-below, slots-less}
+use Rattle.vr_space.proofs.SlotReads.{slots-item}
+use Rattle.vr_space.proofs.SlotRooms.{slots-less}
 use Rattle.vr_space.proofs.Ways.{found-may}
 use Rattle.vr_space.proofs.KeyedContent.{way-content}
 use Rattle.vr_space.proofs.KeyedSound.{keyed-image, each-less, head-in, head-ascends, IsBlock}
@@ -114,6 +115,8 @@ content_item (KeyedShape part) image content stands place =
     ap (λ (c : Content). item_at c place) stands.records
     ∙ way-content part image None (entries_of (block_at image part.head)) place
     (head-ascends part (block_at image part.head) stands.head) refl
+content_item (RelativeShape part) image content stands place =
+    slots-item part image content stands place
 
 slots-stand : (part : Numbered) (owners : Owners) (now : Seen) → AreSlotsSound part owners now
     → (image : Image) → IsImageOn (InPart (RelativeShape part) owners) now.count now.may image
@@ -207,7 +210,8 @@ module _ (tells : Bool) (told : IsTrue tells) where
   room-keeps (RelativeShape part) owners kept a b call sound room =
       slots-less part (IsOwnArea part owners) (IsSlots part) b.may a.may kept
       (λ area own top may. call.adds_none told (roster_block part area) top
-      (roster-below part owners a area sound.on own) may) sound.chain room
+      (area-owned part owners a sound.on area own (roster_block part area)
+      (roster-inside part area)).0 may) sound.chain room
 
   pub keeps-adds : (shape : Shape) (owners : Owners) (a b : Seen) → Keeps tells a b
       → IsSound shape owners a → AddsTo shape owners Nothing a b

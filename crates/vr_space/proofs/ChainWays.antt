@@ -1,5 +1,5 @@
 -- Ways over a chain of rosters in an image: which interval they reach, and where they end.
-use Rattle.std.proofs.Common.{◌≡◌, ◌⊎◌, inl, inr, ◌+◌, ◌-◌, ◌*◌, ◌/◌, ◌%◌, ◌<◌, ◌≤◌, ℕ, zero, suc}
+use Rattle.std.proofs.Common.{◌≡◌, ◌⊎◌, inl, inr, ◌+◌, ◌-◌, ◌/◌, ◌%◌, ◌<◌, ◌≤◌, ℕ, zero, suc}
 use Rattle.std.proofs.Common.{Bool, true, false, List, [], ◌∷◌, length, Option, Some, None, refl, sym}
 use Rattle.std.proofs.Common.{ap, subst, ◌∙◌, arith}
 use Rattle.std.specs.Prelude.{◌≢◌, cond, nat_lt, slice_index}
@@ -8,14 +8,13 @@ use Rattle.std.proofs.lemmas.Bool.{cases_lt, ltb-true, ltb-false}
 use Rattle.vr_types.specs.Geometry.{area_count}
 use Rattle.vr_types.specs.Content.{Item}
 use Rattle.vr_types.specs.Image.{Block, Image, block_at}
-use Rattle.vr_seqset.specs.Roster.{Roster}
 use Rattle.vr_space.specs.Rosters.{Chains, IsChained, IsChainedBy, IsNextOf, IsNumbered, IsOf}
 use Rattle.vr_space.specs.Rosters.{Numbered}
-use Rattle.vr_space.specs.Rosters.{after_next, areas_from, chain_of, chain_way, interval_in}
-use Rattle.vr_space.specs.Rosters.{interval_way, roster_at, roster_block, used_from, used_of, way_by}
+use Rattle.vr_space.specs.Rosters.{after_next, areas_from, chain_way, interval_in}
+use Rattle.vr_space.specs.Rosters.{interval_way, roster_at, roster_block, used_from, used_of}
 use Rattle.vr_space.specs.Known.{Known}
 use Rattle.vr_space.specs.Slots.{KnowsChain}
-use Rattle.vr_space.specs.Way.{Found, Reads, Way, found_on}
+use Rattle.vr_space.specs.Way.{Found, Way, found_on}
 
 -- what holds of nothing and of all that intervals lead to holds of what a chain leads to
 pub chain-has : (part : Numbered) (image : Image) (reached : ℕ → Way) (P : Option Item → Type 0)

@@ -19,8 +19,9 @@ use Rattle.vr_space.specs.Rosters.{IsOwnArea, roster_block}
 use Rattle.vr_space.specs.Slots.{IsSlots}
 use Rattle.vr_space.specs.Split.{fits_in, keyed_fits, stage_in}
 use Rattle.vr_space.proofs.KeyedSound.{IsBlock, each-less, head-in}
-use Rattle.vr_space.proofs.PartBlocks.{StaysPart, stays-keeps, stays-puts}
-use Rattle.vr_space.proofs.SlotRooms.{roster-below, roster-owned, slots-less}
+use Rattle.vr_space.proofs.Chains.{roster-inside}
+use Rattle.vr_space.proofs.PartBlocks.{StaysPart, area-owned, stays-keeps, stays-puts}
+use Rattle.vr_space.proofs.SlotRooms.{slots-less}
 use Rattle.vr_space.proofs.SlotsKnown.{slot-fits-same, slots-known}
 use Rattle.vr_space.proofs.UnderWay.{found-in, met-stays, way-stays}
 
@@ -58,9 +59,10 @@ module _ (a b : Seen) where
       }
   room-stays (RelativeShape part) owners kept stays sound room =
       slots-less part (IsOwnArea part owners) (IsSlots part) b.may a.may kept
-      (λ area own top may. stays.fewer (roster_block part area) top
-      (roster-below part owners a area sound.on own) (roster-owned part owners area own) may)
-      sound.chain room
+      (λ area own top may.
+      let there = area-owned part owners a sound.on area own (roster_block part area)
+      (roster-inside part area) in
+      stays.fewer (roster_block part area) top there.0 there.1 may) sound.chain room
 
   -- a split under way stays so,
   under-stays : (shape : Shape) (owners : Owners) (known : Known) → StaysPart shape owners a b

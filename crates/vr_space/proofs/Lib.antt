@@ -4,6 +4,7 @@ pub mod Places
 pub mod SlotNumbers
 pub mod ChainWays
 pub mod SlotContent
+pub mod SlotReads
 pub mod KeyedContent
 pub mod KeyedSound
 pub mod PartBlocks
@@ -22,4 +23,5 @@ pub mod Framing
 pub mod Fewer
 pub mod Standing
 pub mod PlacesHeld
+pub mod RecordsHeld
 pub mod CallerLemmas

@@ -16,7 +16,9 @@ use Rattle.vr_space.specs.Part.{InPart, IsSound}
 use Rattle.vr_space.specs.Rosters.{IsOf, IsOwnArea, roster_block}
 use Rattle.vr_space.specs.Slots.{IsSlots}
 use Rattle.vr_space.proofs.KeyedSound.{AreIn, head-in}
-use Rattle.vr_space.proofs.SlotRooms.{roster-below, roster-owned, slots-less}
+use Rattle.vr_space.proofs.Chains.{roster-inside}
+use Rattle.vr_space.proofs.PartBlocks.{area-owned}
+use Rattle.vr_space.proofs.SlotRooms.{slots-less}
 
 rooms-image : (part : Keyed) (kept : Lengths) (now : Seen) (image : Image) (low : Option (List ℕ))
     (entries : List Entry) → part.head + part.area < now.count
@@ -45,9 +47,11 @@ room-image (KeyedShape part) owners kept now (sound, owned) room image left =
     (room.each (block_at image part.head) top)
 room-image (RelativeShape part) owners kept now sound room image left =
     slots-less part (IsOwnArea part owners) (IsSlots part) (IsOf image) now.may kept
-    (λ area own top is. subst (now.may (roster_block part area)) (sym is)
-    (left.each (roster_block part area) (roster-below part owners now area sound.on own)
-    (roster-owned part owners area own))) sound.chain room
+    (λ area own top is.
+    let there = area-owned part owners now sound.on area own (roster_block part area)
+    (roster-inside part area) in
+    subst (now.may (roster_block part area)) (sym is)
+    (left.each (roster_block part area) there.0 there.1)) sound.chain room
 
 -- and so has that of each moment of a call that puts nothing
 pub keeps-rooms : (tells : Bool) → IsTrue tells → (shape : Shape) (owners : Owners) (kept : Lengths) (a b : Seen)

@@ -1,26 +1,26 @@
 -- The content of a relative part: the records of its slots, in the order of their numbers.
 use Rattle.std.proofs.Common.{◌≡◌, ◌⊎◌, inl, inr, ◌+◌, ◌-◌, ◌*◌, ◌^◌, ◌<◌, ◌≤◌, ℕ, zero, suc, Bool}
 use Rattle.std.proofs.Common.{true, false, List, [], ◌∷◌, ◌++◌, length, Option, Some, None, refl, sym}
-use Rattle.std.proofs.Common.{ap, subst, ◌∙◌, ⊎_elim, arith, true≢false}
+use Rattle.std.proofs.Common.{ap, subst, ◌∙◌, ⊎_elim, arith}
 use Rattle.std.specs.Prelude.{cond, nat_lt, option_and_then, slice_get}
 use Rattle.std.specs.List.{AllByRecursion}
 use Rattle.std.specs.declared.cmp.Ordering.{Ordering}
-use Rattle.std.specs.declared.cmp.Ordering.TheVariants.{Less, Equal, Greater}
+use Rattle.std.specs.declared.cmp.Ordering.TheVariants.{Equal}
 use Rattle.std.proofs.Math.Nat.{mul-le-mul_right}
-use Rattle.std.proofs.lemmas.Bool.{cases_lt, le-ltb, lt-ltb, ltb-true, ltb-false}
-use Rattle.vr_types.specs.Content.{Content, Item, Placed, found_by, item_at, place_cmp}
+use Rattle.std.proofs.lemmas.Bool.{ltb-true, ltb-false}
+use Rattle.vr_types.specs.Content.{Content, Placed, found_by, item_at, place_cmp}
 use Rattle.vr_types.specs.Content.Item.{Standing}
 use Rattle.vr_types.specs.Fields.{four}
 use Rattle.vr_types.specs.Image.{Block, Image, block_at}
 use Rattle.vr_types.proofs.CallerLemmas.{same_place}
 use Rattle.vr_ci.specs.Interval as ci
-use Rattle.vr_seqset.specs.Roster.{Roster}
+use Rattle.vr_ci_match.specs.Laid.{slots_in}
 use Rattle.vr_space.specs.Keyed.{items_of}
-use Rattle.vr_space.specs.Rosters.{Chains, IsChainedBy, IsNextOf, IsOf, Numbered, after_next}
-use Rattle.vr_space.specs.Rosters.{chain_way, interval_in, roster_at, roster_block, way_by}
+use Rattle.vr_space.specs.Rosters.{Chains, IsNextOf, IsOf, Numbered, after_next}
+use Rattle.vr_space.specs.Rosters.{chain_way, interval_in, roster_at}
 use Rattle.vr_space.specs.Slots.{IsSlots, records_from, records_over, slot_item, slot_read, slots_from}
-use Rattle.vr_space.specs.Slots.{slots_of, standing_in}
-use Rattle.vr_space.specs.Way.{Found, Way, found_on}
+use Rattle.vr_space.specs.Slots.{number_of, slots_of, standing_in}
+use Rattle.vr_space.specs.Way.{Found, found_on}
 use Rattle.vr_space.proofs.ChainWays.{chained-here}
 use Rattle.vr_space.proofs.Places.{NoneAt, by_other, none-record, record-left, record-right}
 use Rattle.vr_space.proofs.Places.{same_is_equal}
@@ -80,7 +80,7 @@ slots-none most from to (entry ∷ content) (number, is, least, below, more) fit
   λ same.
       let one : four n ≡ four number = same_place (four n) entry.0 same ∙ is.place in
       let equal : n ≡ number =
-      sym (number-four n room) ∙ ap Rattle.vr_space.specs.Slots.number_of one
+      sym (number-four n room) ∙ ap number_of one
       ∙ number-four number (omega (arith, below, fits)) in
       ⊎_elim (λ (before : n < from). absurd (omega (arith, before, least, equal)))
       (λ (after : to ≤ n). absurd (omega (arith, after, below, equal))) beyond,
@@ -161,7 +161,7 @@ records-item most number (item ∷ items) (suc slot) n whole fits within is =
     other same =
         let equal : n ≡ number =
         sym (number-four n (omega (arith, fits, within, is)))
-        ∙ ap Rattle.vr_space.specs.Slots.number_of (same_place (four n) (four number) same)
+        ∙ ap number_of (same_place (four n) (four number) same)
         ∙ number-four number (omega (arith, fits, within)) in
         omega (arith, equal, is)
 
@@ -202,7 +202,7 @@ slots-count : (part : Numbered) (block : Block) → IsSlots part block
     → length (items_of block) ≡ slots_of part
 slots-count part block is =
     is.spelled.fits.block.1
-    ∙ ap (λ (size : ℕ). Rattle.vr_ci_match.specs.Laid.slots_in size part.most) is.size
+    ∙ ap (λ (size : ℕ). slots_in size part.most) is.size
 
 interval-slots : (part : Numbered) (number : ℕ) (block : Block) → IsSlots part block
     → AreSlotsOf part.most number (number + slots_of part) (records_from number (items_of block))
@@ -290,7 +290,8 @@ used-most part Own image k area chain =
     mul-le-mul_right (slots_of part)
     (chained-here part Own (IsSlots part) image k area chain).roster.spelled.rules.used
 
-chain-slots : (part : Numbered) (Own : ℕ → Type 0) (image : Image) (k number area : ℕ)
+-- the slots of a chain, from a number on
+pub chain-slots : (part : Numbered) (Own : ℕ → Type 0) (image : Image) (k number area : ℕ)
     → Chains part Own (IsSlots part) (IsOf image) k area
     → AreSlotsOf part.most number (number + slots_up part k) (slots_from part image k number area)
 chain-slots part Own image zero number area chain = absurd chain
@@ -325,7 +326,7 @@ chain-slots part Own image (suc k) number area chain =
         (slots_from part image k past after) (omega (arith, same)) (more after chained)
 
 -- the content has at a slot's place what the way over the chain leads to
-chain-item : (part : Numbered) (Own : ℕ → Type 0) (image : Image)
+pub chain-item : (part : Numbered) (Own : ℕ → Type 0) (image : Image)
     (k number area interval slot place : ℕ)
     → Chains part Own (IsSlots part) (IsOf image) k area → number + slots_up part k ≤ 2 ^ 32
     → place < 2 ^ 32 → slot < slots_of part → place ≡ number + interval * slots_of part + slot

@@ -14,18 +14,15 @@ use Rattle.vr_types.specs.Content.{Item, place_cmp}
 use Rattle.vr_types.specs.Fields.{four}
 use Rattle.vr_types.specs.Geometry.{area_count}
 use Rattle.vr_types.specs.Image.{Block, Image, block_at}
-use Rattle.vr_types.specs.Seen.{Seen}
 use Rattle.vr_types.proofs.CallerLemmas.{same_place}
 use Rattle.vr_seqset.specs.Reading.{roster_in}
 use Rattle.vr_space.specs.Room.{Lengths, length_at, length_by}
-use Rattle.vr_space.specs.Rosters.{Chains, HasInterval, IsChained, IsGoingOn, IsNextOf, IsOf, IsOwnArea}
+use Rattle.vr_space.specs.Rosters.{Chains, HasInterval, IsChained, IsGoingOn, IsNextOf, IsOf}
 use Rattle.vr_space.specs.Rosters.{Numbered, after_next, chain_way, interval_in, interval_way}
 use Rattle.vr_space.specs.Rosters.{roster_block, used_from}
-use Rattle.vr_space.specs.Owners.{Owners}
-use Rattle.vr_space.specs.Slots.{HasKeptSlot, IsNumberedOn, IsSlotPlace, KeepsSlots, interval_of, slot_fits}
+use Rattle.vr_space.specs.Slots.{HasKeptSlot, IsSlotPlace, KeepsSlots, interval_of, slot_fits}
 use Rattle.vr_space.specs.Slots.{is_slot_place, number_of, slot_in, slot_read, slot_way}
 use Rattle.vr_space.specs.Way.{Found, MayFind, Way}
-use Rattle.vr_space.proofs.Chains.{area-below, roster-inside}
 
 -- ---- the next area
 
@@ -134,22 +131,6 @@ used-interval part Own Interval image (suc k) n area chain below =
     by_test {used} false is (Some after) follows below step =
         let past : used ≤ n = grind (arith, nat_tests, is) in
         inr (step after follows.1 (omega (arith, past, below, follows.0)))
-
--- ---- rosters
-
--- the roster of an area of the part's own is among the blocks that the device has
-pub roster-below : (part : Numbered) (owners : Owners) (now : Seen) (area : ℕ)
-    → IsNumberedOn part now → IsOwnArea part owners area → roster_block part area < now.count
-roster-below part owners now area on own = omega (
-  arith,
-  on.blocks,
-  area-below part area (roster_block part area) own.there (roster-inside part area),
-)
-
--- and one of its own
-pub roster-owned : (part : Numbered) (owners : Owners) (area : ℕ) → IsOwnArea part owners area
-    → owners (roster_block part area) ≡ Some part.part
-roster-owned part owners area own = own.owned (roster_block part area) (roster-inside part area)
 
 -- ---- the way finds it
 
