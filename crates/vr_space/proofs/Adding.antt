@@ -10,8 +10,8 @@ use Rattle.vr_types.specs.Blocks.{Keeps, Forced}
 use Rattle.vr_types.specs.Regions.{IsImageOn}
 use Rattle.vr_types.proofs.CallerLemmas.{touches-then, touches-weaken, keeps-touches}
 use Rattle.vr_types.specs.declared.unit.StageKind.{StageKind}
-use Rattle.vr_space.specs.declared.room.Room.{Room}
 use Rattle.vr_types.specs.declared.unit.StageKind.TheVariants.{Extend}
+use Rattle.vr_space.specs.declared.room.Room.{Room}
 use Rattle.vr_space.specs.declared.room.Room.TheVariants.{Ready, NoSpace, Stage}
 use Rattle.vr_space.specs.Room.{Lengths, length_at}
 use Rattle.vr_space.specs.Known.{Known}

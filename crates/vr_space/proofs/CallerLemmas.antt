@@ -9,7 +9,7 @@ pub use Rattle.vr_space.proofs.Chains.{used-same}
 pub use Rattle.vr_space.proofs.PartBlocks.{IsPartBlock, StaysPart, area-owned, first-owned}
 pub use Rattle.vr_space.proofs.PartBlocks.{holds-less, rest-grows, rest-of-quiet, rest-sound}
 pub use Rattle.vr_space.proofs.PartBlocks.{rest-stays, sound-grows, sound-less, stays-keeps}
-pub use Rattle.vr_space.proofs.PartBlocks.{way-within}
+pub use Rattle.vr_space.proofs.PartBlocks.{stays-puts, way-within}
 pub use Rattle.vr_space.proofs.Due.{due-at-more, due-at-then, due-fewer, due-firm, due-none}
 pub use Rattle.vr_space.proofs.Due.{due-stays, due-then, firm-due, same-stays}
 pub use Rattle.vr_space.proofs.Places.{NoneAt, AllAbove, none-record, record-left, record-right}
@@ -39,7 +39,7 @@ pub use Rattle.vr_space.proofs.Rooms.{room-image, keeps-rooms}
 pub use Rattle.vr_space.proofs.Keeping.{keep-room}
 pub use Rattle.vr_space.proofs.Counting.{kept_fits, kept_room}
 pub use Rattle.vr_space.proofs.Framing.{room-stays, knows-stays, can-stays, way-keeps}
-pub use Rattle.vr_space.proofs.Framing.{knows-keeps, stays-puts, knows-puts, one-owner, grows-none}
+pub use Rattle.vr_space.proofs.Framing.{knows-keeps, knows-puts, one-owner, grows-none}
 pub use Rattle.vr_space.proofs.Fewer.{Rise, Under, fewer-room, rise-with, under-both, under-more}
 pub use Rattle.vr_space.proofs.Fewer.{under-self}
 pub use Rattle.vr_space.proofs.Intervals.{interval-owners, room-stage, stage-owners}

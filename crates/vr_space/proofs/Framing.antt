@@ -1,33 +1,28 @@
 -- What a part keeps while others put: what rests on its own blocks alone.
-use Rattle.std.proofs.Common.{◌≡◌, ◌≢◌, ⊎_elim, inl, inr, ◌<◌, ℕ, Bool, IsTrue, List, Option, Some}
-use Rattle.std.proofs.Common.{None, refl, sym, ap, subst, ◌∙◌, ◌/◌, ◌%◌, arith, length, ltb-true}
-use Rattle.std.proofs.Common.{nat_lt, slice_index, true}
-use Rattle.std.proofs.Math.Nat.{mod-lt}
+use Rattle.std.proofs.Common.{◌≡◌, ⊎_elim, inl, inr, ◌<◌, ℕ, Bool, IsTrue, List, Option, Some}
+use Rattle.std.proofs.Common.{None, refl, sym, ap, subst, ◌∙◌, arith, length}
 use Rattle.std.proofs.lemmas.List.Elements.{All-weaker}
 use Rattle.vr_types.specs.Blocks.{Keeps, Puts}
-use Rattle.vr_types.specs.Geometry.{area_count}
 use Rattle.vr_types.specs.Image.{Block, block_at}
 use Rattle.vr_types.specs.Seen.{Left, Seen}
 use Rattle.vr_types.specs.declared.unit.PartNo.{PartNo}
-use Rattle.vr_types.proofs.CallerLemmas.{cur-elsewhere}
 use Rattle.vr_seqset.specs.Entry.{Entry}
 use Rattle.vr_space.specs.Keyed.{InArea, IsHead, IsOwned, Keyed, entries_of, entry_block, entry_for}
 use Rattle.vr_space.specs.Known.{Known}
-use Rattle.vr_space.specs.Met.{IsMet, Met}
+use Rattle.vr_space.specs.Met.{IsMet}
 use Rattle.vr_space.specs.Owners.{Owners}
 use Rattle.vr_space.specs.Part.{AreMet, CanSet, HasKeptRoom, HasRoomFor, InPart, IsSound}
 use Rattle.vr_space.specs.Part.{IsUnderWay, KeyedShape, Knows, MayGrow, RelativeShape, Shape}
 use Rattle.vr_space.specs.Part.{fits_at, part_no}
 use Rattle.vr_space.specs.Room.{Lengths, Range}
-use Rattle.vr_space.specs.Rosters.{IsInArea, IsOwnArea, Numbered, chain_of, roster_block, used_of}
-use Rattle.vr_space.specs.Slots.{AreSlotsSound, IsSlotMet, IsSlots, KnowsChain, chain_block}
-use Rattle.vr_space.specs.Slots.{interval_of, slot_fits}
+use Rattle.vr_space.specs.Rosters.{IsOwnArea, roster_block}
+use Rattle.vr_space.specs.Slots.{IsSlots}
 use Rattle.vr_space.specs.Split.{fits_in, keyed_fits, stage_in}
-use Rattle.vr_space.proofs.Chains.{area-nth, areas-same, interval-inside, roster-inside}
-use Rattle.vr_space.proofs.Chains.{used-same}
 use Rattle.vr_space.proofs.KeyedSound.{IsBlock, each-less, head-in}
-use Rattle.vr_space.proofs.PartBlocks.{IsPartBlock, StaysPart, area-owned, stays-keeps}
+use Rattle.vr_space.proofs.Chains.{roster-inside}
+use Rattle.vr_space.proofs.PartBlocks.{StaysPart, area-owned, stays-keeps, stays-puts}
 use Rattle.vr_space.proofs.SlotRooms.{slots-less}
+use Rattle.vr_space.proofs.SlotsKnown.{slot-fits-same, slots-known}
 use Rattle.vr_space.proofs.UnderWay.{found-in, met-stays, way-stays}
 
 -- the blocks of a keyed part's area do
@@ -81,65 +76,6 @@ module _ (a b : Seen) where
       }) way
   under-stays (RelativeShape part) owners known stays sound left way = tt
 
-  module _ (part : Numbered) (owners : Owners) (stays : StaysPart (RelativeShape part) owners a b)
-      (sound : AreSlotsSound part owners a) (left : Left a a.cur) where
-    there : (area : ℕ) → IsOwnArea part owners area → (n : ℕ) → IsInArea part area n
-        → IsPartBlock (RelativeShape part) owners a n
-    there = area-owned part owners a sound.on
-
-    allowed : (area : ℕ) → IsOwnArea part owners area
-        → a.may (roster_block part area) (block_at a.cur (roster_block part area))
-    allowed area own = left.each (roster_block part area)
-        (there area own (roster_block part area) (roster-inside part area)).0
-
-    same-top : (area : ℕ) → IsOwnArea part owners area
-        → block_at b.cur (roster_block part area) ≡ block_at a.cur (roster_block part area)
-    same-top area own = stays.same (roster_block part area)
-        (there area own (roster_block part area) (roster-inside part area)).1
-
-    same-areas : chain_of part b.cur ≡ chain_of part a.cur
-    same-areas = areas-same part (IsOwnArea part owners) (IsSlots part) a.may a.cur b.cur allowed
-        same-top (area_count part.geometry) part.first sound.chain
-
-    same-used : used_of part b.cur ≡ used_of part a.cur
-    same-used = used-same part (IsOwnArea part owners) (IsSlots part) a.may a.cur b.cur allowed
-        same-top (area_count part.geometry) part.first sound.chain
-
-    -- the block of a used interval is the part's own
-    used-owned : (interval : ℕ) → interval < used_of part a.cur
-        → InPart (RelativeShape part) owners (chain_block part (chain_of part a.cur) interval)
-    used-owned interval below =
-        let some : 0 < part.geometry.area =
-        omega (arith, sound.on.part_is.allowed.some_intervals) in
-        let area : ℕ = slice_index (chain_of part a.cur) (interval / part.geometry.area) in
-        (there area (area-nth part (IsOwnArea part owners) (IsSlots part) a.may a.cur b.cur
-        allowed same-top some (area_count part.geometry) interval part.first sound.chain below)
-        (chain_block part (chain_of part a.cur) interval)
-        (interval-inside part area (interval % part.geometry.area)
-        (mod-lt interval some))).1
-
-    slot-met-stays : (met : Met) → IsSlotMet part a.cur met → IsSlotMet part b.cur met
-    slot-met-stays met is fits =
-        let before = is (subst (λ (used : ℕ). IsTrue (nat_lt (interval_of part met.place) used))
-        same-used fits) in
-        let below : interval_of part met.place < used_of part a.cur =
-        ltb-true (interval_of part met.place) (used_of part a.cur)
-        (subst (λ (used : ℕ). nat_lt (interval_of part met.place) used ≡ true) same-used fits) in (
-          before.0 ∙ ap (λ (areas : List ℕ). chain_block part areas (interval_of part met.place))
-              (sym same-areas),
-          stays.same met.number (subst (InPart (RelativeShape part) owners) (sym before.0)
-              (used-owned (interval_of part met.place) below)) ∙ before.1,
-        )
-
-    -- the chain stays as it is known,
-    chain-stays : (known : Known) → KnowsChain part known a.cur → KnowsChain part known b.cur
-    chain-stays known knows = record {
-      areas = knows.areas ∙ sym same-areas;
-      used = knows.used ∙ sym same-used;
-      met = All-weaker (IsSlotMet part a.cur) (IsSlotMet part b.cur) slot-met-stays known.met
-          knows.met;
-    }
-
   -- the blocks that were met as they were,
   met-known : (shape : Shape) (owners : Owners) (known : Known) → StaysPart shape owners a b
       → IsSound shape owners a → Left a a.cur → AreMet shape known a.cur → AreMet shape known b.cur
@@ -151,7 +87,7 @@ module _ (a b : Seen) where
       (stays.same part.head (omega arith, omega arith))
       (λ inside. stays.same one.number inside) is) known.met met
   met-known (RelativeShape part) owners known stays sound left met =
-      chain-stays part owners stays sound left known met
+      slots-known part owners a b stays sound left known met
 
   -- and so does what a part knows of its blocks.
   pub knows-stays : (shape : Shape) (owners : Owners) (known : Known)
@@ -185,14 +121,6 @@ module _ (a b : Seen) where
       (λ at is. let below = found-in part (block_at a.cur part.head) place at head is in
       (omega arith, omega (arith, below)))
 
-  -- the slots that have their interval are the same
-  slot-fits-same : (part : Numbered) (owners : Owners) (place : List ℕ)
-      → StaysPart (RelativeShape part) owners a b → AreSlotsSound part owners a → Left a a.cur
-      → slot_fits part b.cur place ≡ slot_fits part a.cur place
-  slot-fits-same part owners place stays sound left =
-      ap (λ (used : ℕ). nat_lt (interval_of part place) used)
-      (same-used part owners stays sound left)
-
   -- what fits in the same way has room
   room-for : (shape : Shape) (kept : Lengths) (place : List ℕ) (item : Option (List ℕ))
       → ((n : ℕ) → fits_at shape b.cur kept place n ≡ fits_at shape a.cur kept place n)
@@ -217,7 +145,7 @@ module _ (a b : Seen) where
   can-stays (RelativeShape part) owners known kept place item stays sound left can = record {
     no_stage = refl;
     room = room-for (RelativeShape part) kept place item
-        (λ n. slot-fits-same part owners place stays sound left) can.room;
+        (λ n. slot-fits-same part owners a b stays sound left place) can.room;
   }
 
 -- ---- calls that put nothing into the part
@@ -236,26 +164,12 @@ module _ (tells : Bool) (told : IsTrue tells) where
   knows-keeps shape owners known a b call =
       knows-stays a b shape owners known (stays-keeps tells told a b call shape owners)
 
-  -- what is put outside the part leaves its blocks as they are,
-  pub stays-puts : (shape : Shape) (owners : Owners) (n : ℕ) (bytes : Block) (a b : Seen)
-      → Puts tells n bytes a b → (InPart shape owners n → ⊥) → StaysPart shape owners a b
-  stays-puts shape owners n bytes a b call beyond =
-      let other : (m : ℕ) → InPart shape owners m → m ≢ n =
-      λ m inside same. beyond (subst (InPart shape owners) same inside) in
-      record {
-        count = call.count_same;
-        size = call.size_same;
-        same = λ m inside. cur-elsewhere tells a b m n bytes told (other m inside) call;
-        fewer = λ m block below inside may. ⊎_elim (λ old. old)
-            (λ new. absurd (other m inside new.0)) (call.adds told m block below may);
-      }
-
-  -- and what it knows of them
+  -- what is put outside the part leaves what it knows of them, too
   pub knows-puts : (shape : Shape) (owners : Owners) (known : Known) (n : ℕ) (bytes : Block) (a b : Seen)
       → Puts tells n bytes a b → (InPart shape owners n → ⊥)
       → IsSound shape owners a → Left a a.cur → Knows shape known a → Knows shape known b
   knows-puts shape owners known n bytes a b call beyond =
-      knows-stays a b shape owners known (stays-puts shape owners n bytes a b call beyond)
+      knows-stays a b shape owners known (stays-puts tells told a b shape owners n bytes call beyond)
 
 -- ---- owners
 

@@ -9,6 +9,7 @@ pub mod KeyedContent
 pub mod KeyedSound
 pub mod PartBlocks
 pub mod Due
+pub mod SlotsKnown
 pub mod UnderWay
 pub mod Searching
 pub mod SlotRooms

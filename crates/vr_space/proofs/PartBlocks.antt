@@ -1,12 +1,13 @@
 -- What is true of the blocks of each part: where its ways lead, and what stays where a crash may
 -- leave less of them, or where other owners leave it the blocks that it has.
-use Rattle.std.proofs.Common.{◌≡◌, ◌<◌, ℕ, Bool, IsTrue, true, false, List, Option, Some, None}
-use Rattle.std.proofs.Common.{sym, ap, ◌∙◌, arith, if◌then◌else◌}
-use Rattle.vr_types.specs.Blocks.{Keeps}
+use Rattle.std.proofs.Common.{◌≡◌, ◌≢◌, ◌<◌, ℕ, Bool, IsTrue, true, false, List, Option, Some}
+use Rattle.std.proofs.Common.{None, sym, ap, subst, ⊎_elim, ◌∙◌, arith, if◌then◌else◌}
+use Rattle.vr_types.specs.Blocks.{Keeps, Puts}
 use Rattle.vr_types.specs.Content.{Item}
 use Rattle.vr_types.specs.Geometry.{area_count}
 use Rattle.vr_types.specs.Image.{Block, Image, block_at}
 use Rattle.vr_types.specs.Seen.{Seen}
+use Rattle.vr_types.proofs.CallerLemmas.{cur-elsewhere}
 use Rattle.vr_space.specs.Keyed.{InArea, Keyed, keyed_way}
 use Rattle.vr_space.specs.Owners.{Owners}
 use Rattle.vr_space.specs.Part.{InFirstArea, InPart, IsAtRest, IsQuiet, IsSound, KeyedShape, MayHold}
@@ -94,14 +95,28 @@ pub record StaysPart (shape : Shape) (owners : Owners) (a b : Seen) : Type 0 whe
       → b.may n block → a.may n block
 
 -- a call that puts nothing leaves them so
-module _ (tells : Bool) (told : IsTrue tells) (a b : Seen) (call : Keeps tells a b) where
-  pub stays-keeps : (shape : Shape) (owners : Owners) → StaysPart shape owners a b
-  stays-keeps shape owners = record {
+module _ (tells : Bool) (told : IsTrue tells) (a b : Seen) where
+  pub stays-keeps : Keeps tells a b → (shape : Shape) (owners : Owners) → StaysPart shape owners a b
+  stays-keeps call shape owners = record {
     count = call.count_same;
     size = call.size_same;
     same = λ n inside. ap (λ (image : Image). block_at image n) (call.content told);
     fewer = λ n block below inside may. call.adds_none told n block below may;
   }
+
+  -- and so does a put outside the part
+  pub stays-puts : (shape : Shape) (owners : Owners) (n : ℕ) (bytes : Block)
+      → Puts tells n bytes a b → (InPart shape owners n → ⊥) → StaysPart shape owners a b
+  stays-puts shape owners n bytes call beyond =
+      let other : (m : ℕ) → InPart shape owners m → m ≢ n =
+      λ m inside same. beyond (subst (InPart shape owners) same inside) in
+      record {
+        count = call.count_same;
+        size = call.size_same;
+        same = λ m inside. cur-elsewhere tells a b m n bytes told (other m inside) call;
+        fewer = λ m block below inside may. ⊎_elim (λ old. old)
+            (λ new. absurd (other m inside new.0)) (call.adds told m block below may);
+      }
 
 -- the blocks of the volume are as many, and as long
 pub on-less : (part : Numbered) (a b : Seen) → b.count ≡ a.count → b.size ≡ a.size
