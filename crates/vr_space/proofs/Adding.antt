@@ -19,7 +19,8 @@ use Rattle.vr_space.specs.Split.{SplitNow, keyed_stage, keyed_fits, room_after, 
 use Rattle.vr_space.specs.Split.{room_by_split, free_interval}
 use Rattle.vr_space.specs.Keyed.{IsKeyedSound, Keyed, entries_of, keyed_way}
 use Rattle.vr_space.specs.Owners.{Owners}
-use Rattle.vr_space.specs.Part.{Shape, KeyedShape, RelativeShape, InPart, StandsFor, Stands, HasOnly, MayHold}
+use Rattle.vr_space.specs.Part.{Shape, KeyedShape, RelativeShape, InPart, StandsFor, Stands}
+use Rattle.vr_space.specs.Part.{HasOnly, MayHold}
 use Rattle.vr_space.specs.Part.{MayAlsoHold, Nothing, AddsTo, IsSound, IsAtRest, HasKeptRoom}
 use Rattle.vr_space.specs.Part.{way_to, item_of, left_by, SameRecords, SetsOne, IsDueTo, DueMore, IsFirm}
 use Rattle.vr_space.specs.Part.{CanSet, DueMoreAt}
