@@ -1,9 +1,18 @@
 pub mod Ways
+pub mod Chains
 pub mod Places
+pub mod SlotNumbers
+pub mod ChainWays
+pub mod SlotContent
+pub mod SlotReads
 pub mod KeyedContent
 pub mod KeyedSound
+pub mod PartBlocks
+pub mod Due
+pub mod SlotsKnown
 pub mod UnderWay
 pub mod Searching
+pub mod SlotRooms
 pub mod Adding
 pub mod Intervals
 pub mod Rising
@@ -14,4 +23,5 @@ pub mod Framing
 pub mod Fewer
 pub mod Standing
 pub mod PlacesHeld
+pub mod RecordsHeld
 pub mod CallerLemmas

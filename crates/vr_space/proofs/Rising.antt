@@ -1,6 +1,7 @@
 -- The places of a content that blocks stand for ascend.
 use Rattle.std.proofs.Common.{◌≡◌, ℕ, Bool, true, false, List, [], ◌∷◌, ◌++◌, map, Option, Some}
-use Rattle.std.proofs.Common.{None, refl, sym, ap, subst, ◌∙◌, true≢false}
+use Rattle.std.proofs.Common.{None, refl, sym, ap, subst, ◌∙◌, true≢false, suc, arith}
+use Rattle.std.proofs.Common.{◌+◌, ◌^◌, ◌<◌, ◌≤◌}
 use Rattle.std.specs.Prelude.{filter, cond}
 use Rattle.std.specs.List.{AllByRecursion}
 use Rattle.std.specs.List.Sorted.{IsStrictlySortedBy}
@@ -11,6 +12,9 @@ use Rattle.std.proofs.lemmas.List.Elements.{All-from_recursion}
 use Rattle.std.proofs.lemmas.Map.Keys.{sorted_head, sorted_tail}
 use Rattle.vr_types.specs.Content.{Content, Placed, place_cmp, places_of, Ascends, HasLength}
 use Rattle.vr_types.specs.Content.{IsContent}
+use Rattle.vr_types.specs.Content.{Item}
+use Rattle.vr_types.specs.Fields.{four}
+use Rattle.vr_types.specs.Geometry.{area_count}
 use Rattle.vr_types.specs.Image.{Image, block_at}
 use Rattle.vr_types.proofs.CallerLemmas.{same_place}
 use Rattle.vr_ci.specs.Interval as ci
@@ -18,10 +22,13 @@ use Rattle.vr_seqset.specs.Entry.{Entry}
 use Rattle.vr_space.specs.Room.{Range, is_in, is_above}
 use Rattle.vr_space.specs.Keyed.{Keyed, HoldRanges, entry_block, entries_of, items_of, key_of}
 use Rattle.vr_space.specs.Keyed.{placed, records_of, records_in, range_of, content_from}
-use Rattle.vr_space.specs.Part.{Shape, KeyedShape, StandsFor}
+use Rattle.vr_space.specs.Part.{Shape, KeyedShape, RelativeShape, StandsFor}
 use Rattle.vr_space.proofs.Places.{AllAbove, above-more, in-most, lt_from_test}
 use Rattle.vr_space.proofs.KeyedContent.{AscendFrom, content-above}
 use Rattle.vr_space.proofs.KeyedSound.{head-ascends}
+use Rattle.vr_space.proofs.SlotContent.{AreSlotsOf}
+use Rattle.vr_space.proofs.SlotNumbers.{four-rises, slots-below, slots_up}
+use Rattle.vr_space.proofs.SlotReads.{stands-slots}
 
 -- each place is above those before it
 abbrev pub Rising : Content → Type 0
@@ -185,6 +192,35 @@ content-lengths part image low (entry ∷ entries) =
     (placed-lengths part (range_of low entry) (items_of (block_at image (entry_block part entry))))
     (content-lengths part image (Some entry.high) entries)
 
+-- ---- by the numbers of slots
+
+slots-above : (most number from to : ℕ) (content : Content) → number < from → to ≤ 2 ^ 32
+    → AreSlotsOf most from to content → AllAbove (Some (four number)) content
+slots-above most number from to [] less fits all = tt
+slots-above most number from to (entry ∷ content) less fits (other, is, least, below, more) = (
+  ap (λ (place : List ℕ). is_lt (place_cmp (four number) place)) is.place
+      ∙ ap is_lt
+      (four-rises number other (omega (arith, less, least)) (omega (arith, below, fits))),
+  slots-above most number (suc other) to content (omega (arith, less, least)) fits more,
+)
+
+slots-rise : (most from to : ℕ) (content : Content) → to ≤ 2 ^ 32
+    → AreSlotsOf most from to content → Rising content
+slots-rise most from to [] fits all = tt
+slots-rise most from to (entry ∷ content) fits (number, is, least, below, more) = (
+  subst (λ (place : List ℕ). AllAbove (Some place) content) (sym is.place)
+      (slots-above most number (suc number) to content (omega arith) fits more),
+  slots-rise most (suc number) to content fits more,
+)
+
+slots-lengths : (most from to : ℕ) (content : Content) → AreSlotsOf most from to content
+    → AllByRecursion HasLength content
+slots-lengths most from to [] all = tt
+slots-lengths most from to ((place, item) ∷ content) (number, is, least, below, more) = (
+  subst (λ (one : Item). HasLength (place, one)) (sym is.item) tt,
+  slots-lengths most (suc number) to content more,
+)
+
 -- what blocks stand for is a content
 pub stands_content : (shape : Shape) (image : Image) (content : Content)
     → StandsFor shape image content → IsContent content
@@ -196,8 +232,18 @@ stands_content (KeyedShape part) image content stands =
       lengths = All-from_recursion HasLength _
           (content-lengths part image None (entries_of (block_at image part.head)));
     })
+stands_content (RelativeShape part) image content stands =
+    let past = 1 + slots_up part (area_count part.geometry) in
+    let all : AreSlotsOf part.most 1 past content = stands-slots part image content stands in
+    record {
+      ascends = sorted-rising content
+          (slots-rise part.most 1 past content
+          (omega (arith, slots-below part stands.part_is)) all);
+      lengths = All-from_recursion HasLength content (slots-lengths part.most 1 past content all);
+    }
 
 -- and one content at most
 pub one_content : (shape : Shape) (image : Image) (one other : Content) → StandsFor shape image one
     → StandsFor shape image other → one ≡ other
 one_content (KeyedShape part) image one other first second = first.records ∙ sym second.records
+one_content (RelativeShape part) image one other first second = first.records ∙ sym second.records

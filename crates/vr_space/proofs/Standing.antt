@@ -1,4 +1,4 @@
--- Of a keyed part nothing is withdrawn: what stands at a place is a record, or nothing.
+-- Of keyed and relative parts nothing is withdrawn: what stands at a place is a record, or nothing.
 use Rattle.std.proofs.Common.{◌≡◌, List, ℕ, [], ◌∷◌, Option, Some, None, refl, map}
 use Rattle.std.specs.Prelude.{option_and_then}
 use Rattle.std.specs.Option.{option_map}
@@ -10,9 +10,10 @@ use Rattle.vr_types.specs.Image.{Block, Image, block_at}
 use Rattle.vr_ci.specs.Interval as ci
 use Rattle.vr_seqset.specs.Entry.{Entry}
 use Rattle.vr_space.specs.Keyed.{Keyed, entries_of, entry_block, entry_for, items_of, placed, way_in}
-use Rattle.vr_space.specs.Part.{KeyedShape, Shape, item_of, left_by, record_read}
+use Rattle.vr_space.specs.Part.{KeyedShape, RelativeShape, Shape, item_of, left_by, record_read}
 use Rattle.vr_space.specs.Room.{Range}
 use Rattle.vr_space.specs.Way.{found_on}
+use Rattle.vr_space.proofs.SlotReads.{slot-stands}
 
 -- an item is a record that stands, or there is none
 abbrev IsRecord : Option Item → Type 0
@@ -42,8 +43,10 @@ pub item-read : (shape : Shape) (image : Image) (place : List ℕ)
     → item_of shape image place ≡ option_map Standing (record_read shape image place)
 item-read (KeyedShape part) image place =
     way-stands part image place (entry_for None (entries_of (block_at image part.head)) place)
+item-read (RelativeShape part) image place = slot-stands part image place
 
 -- and what a call leaves there is the record that it gives
 pub left-is : (shape : Shape) (now : Option Item) (bytes : Option (List ℕ))
     → left_by shape now bytes ≡ option_map Standing bytes
 left-is (KeyedShape part) now bytes = refl
+left-is (RelativeShape part) now bytes = refl

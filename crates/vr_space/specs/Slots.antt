@@ -2,8 +2,9 @@
 -- a slot, counted from 1 over all of them, is its relative record number (DFSMS Using Data Sets,
 -- relative record data sets). What a crash may leave of them is this project's own rule.
 use Rattle.std.specs.Prelude.{◌≡◌, ℕ, zero, suc, ◌+◌, ◌-◌, ◌*◌, ◌/◌, ◌%◌, ◌<◌, ◌≤◌, Bool, true, false}
-use Rattle.std.specs.Prelude.{List, [], ◌∷◌, ◌++◌, length, All, Option, Some, None, ◌&&◌, nat_eq}
-use Rattle.std.specs.Prelude.{IsTrue, nat_lt, nat_le, option_and_then, slice_get, slice_index, if◌then◌else◌}
+use Rattle.std.specs.Prelude.{List, [], ◌∷◌, ◌++◌, length, All, Option, Some, None, ◌&&◌}
+use Rattle.std.specs.Prelude.{IsTrue, nat_lt, nat_le, option_and_then, slice_get, slice_index}
+use Rattle.std.specs.Prelude.{if◌then◌else◌, bytes_eq}
 use Rattle.std.specs.Int.{w32, from_be_bytes, div_ceil}
 use Rattle.vr_types.specs.Content.{Content, Item}
 use Rattle.vr_types.specs.Content.Item.{Standing}
@@ -41,11 +42,11 @@ number_of place = from_be_bytes w32 place
 
 -- a place is the number of a slot in four bytes, from 1 on
 pub record IsSlotPlace (place : List ℕ) : Type 0 where
-  pub bytes : length place ≡ 4
+  pub bytes : place ≡ four (number_of place)
   pub some : 0 < number_of place
 
 abbrev pub is_slot_place : List ℕ → Bool
-is_slot_place place = nat_eq (length place) 4 && nat_lt 0 (number_of place)
+is_slot_place place = bytes_eq place (four (number_of place)) && nat_lt 0 (number_of place)
 
 -- the interval of a slot, counted from 0 over all of the part, and which of its slots it is
 abbrev pub interval_of : Numbered → List ℕ → ℕ

@@ -35,7 +35,7 @@ use Rattle.vr_volume.specs.Volume.{CanPutBack}
 use Rattle.vr_volume.proofs.Images.{image_of, images-append, kept_more, kept-append}
 use Rattle.vr_volume.proofs.Alone.{alone-append}
 use Rattle.vr_volume.proofs.Images.{oldest-append}
-use Rattle.vr_volume.proofs.Standings.{record-read}
+use Rattle.vr_space.proofs.CallerLemmas.{record-read}
 
 -- ---- which logs there may be with one record more
 

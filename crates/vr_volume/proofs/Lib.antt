@@ -1,5 +1,4 @@
 pub mod PuttingBack
-pub mod Standings
 pub mod Recovering
 pub mod Apart
 pub mod Calls

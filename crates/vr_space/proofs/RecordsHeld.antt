@@ -1,11 +1,12 @@
--- The items of a keyed part's content: each is a record that may stand at its place.
+-- The items of a part's content: each is a record that may stand at its place.
 use Rattle.std.proofs.Common.{◌≡◌, ℕ, List, [], ◌∷◌, ◌++◌, Option, Some, None, refl, ap, ◌∙◌, map}
-use Rattle.std.proofs.Common.{subst, sym}
+use Rattle.std.proofs.Common.{◌+◌, arith, subst, sym}
 use Rattle.std.specs.Prelude.{filter, cond, All, Bool, true, false}
 use Rattle.std.specs.declared.cmp.Ordering.{Ordering}
 use Rattle.std.specs.declared.cmp.Ordering.TheVariants.{Less, Equal, Greater}
 use Rattle.std.proofs.lemmas.List.Elements.{All-head, All-tail}
 use Rattle.vr_types.specs.Content.{Content, Placed, Standing, place_cmp, found_by, item_at}
+use Rattle.vr_types.specs.Geometry.{area_count}
 use Rattle.vr_types.specs.Image.{Image, block_at}
 use Rattle.vr_types.proofs.CallerLemmas.{same_place}
 use Rattle.vr_ci.specs.Interval as ci
@@ -13,7 +14,9 @@ use Rattle.vr_seqset.specs.Entry.{Entry}
 use Rattle.vr_space.specs.Room.{Range, is_in}
 use Rattle.vr_space.specs.Keyed.{HoldRanges, IsKept, Keyed, content_from, entries_of, entry_block}
 use Rattle.vr_space.specs.Keyed.{items_of, placed, range_of, records_in}
-use Rattle.vr_space.specs.Part.{IsRecordOf, Shape, KeyedShape, StandsFor}
+use Rattle.vr_space.specs.Part.{IsRecordOf, KeyedShape, RelativeShape, Shape, StandsFor}
+use Rattle.vr_space.proofs.SlotNumbers.{slots-below, slots_up}
+use Rattle.vr_space.proofs.SlotReads.{slots-record, stands-slots}
 
 -- a record that may stand at this place
 abbrev IsRecordAt : Keyed → Placed → Type 0
@@ -94,3 +97,7 @@ pub record-read : (shape : Shape) (image : Image) (content : Content)
     → item_at content place ≡ Some (Standing bytes) → IsRecordOf shape place bytes
 record-read (KeyedShape part) image content stands place bytes is =
     read-record part content place bytes (content-records part image content stands) is
+record-read (RelativeShape part) image content stands place bytes is =
+    slots-record part 1 (1 + slots_up part (area_count part.geometry)) content place bytes
+    (omega arith) (omega (arith, slots-below part stands.part_is))
+    (stands-slots part image content stands) is

@@ -1,0 +1,82 @@
+-- The numbers of slots: their places in four bytes, and how many there may be.
+use Rattle.std.proofs.Common.{◌≡◌, ◌+◌, ◌-◌, ◌*◌, ◌/◌, ◌%◌, ◌^◌, ◌<◌, ◌≤◌}
+use Rattle.std.proofs.Common.{ℕ, zero, suc, List, sym, subst, arith}
+use Rattle.std.specs.Ordering.{nat_cmp, ordering_then}
+use Rattle.std.specs.declared.cmp.Ordering.{Ordering}
+use Rattle.std.specs.declared.cmp.Ordering.TheVariants.{Less}
+use Rattle.std.proofs.Math.Nat.{div-mul-le_self, le-div_iff_mul-le, mul-le-mul, mul-le-mul_left}
+use Rattle.std.proofs.lemmas.Cmp.{ranked}
+use Rattle.std.proofs.lemmas.Nat.{from_be_bytes-to_be_bytes_4}
+use Rattle.vr_types.specs.Content.{place_cmp}
+use Rattle.vr_types.specs.Fields.{four}
+use Rattle.vr_types.specs.Geometry.{area_count}
+use Rattle.vr_space.specs.Rosters.{IsNumbered, Numbered}
+use Rattle.vr_space.specs.Slots.{number_of, slots_of}
+
+-- ---- numbers in four bytes
+
+-- a smaller byte decides, and else what comes after bytes that are the same
+by-byte : (a b : ℕ) (rest : Ordering) → a ≤ b → (a ≡ b → rest ≡ Less)
+    → ordering_then (nat_cmp a b) rest ≡ Less
+by-byte a b rest most same = grind (arith, ranked)
+
+-- greater numbers have later places
+pub four-rises : (m n : ℕ) → m < n → n < 2 ^ 32 → place_cmp (four m) (four n) ≡ Less
+unfolding four
+four-rises m n less below =
+    by-byte (m / 256 ^ 3 % 256) (n / 256 ^ 3 % 256) _ (omega arith) (λ third.
+    by-byte (m / 256 ^ 2 % 256) (n / 256 ^ 2 % 256) _ (omega (arith, third)) (λ second.
+    by-byte (m / 256 ^ 1 % 256) (n / 256 ^ 1 % 256) _ (omega (arith, third, second)) (λ first.
+    by-byte (m % 256) (n % 256) _ (omega (arith, third, second, first)) (λ last.
+    absurd (omega (arith, third, second, first, last))))))
+
+-- the number at a place that spells one
+pub number-four : (n : ℕ) → n < 2 ^ 32 → number_of (four n) ≡ n
+unfolding four
+number-four n below = from_be_bytes-to_be_bytes_4 n below
+
+four-below : (n : ℕ) → number_of (four n) < 2 ^ 32
+unfolding four
+four-below n = omega arith
+
+pub number-below : (place : List ℕ) → place ≡ four (number_of place) → number_of place < 2 ^ 32
+number-below place spelled =
+    subst (λ (p : List ℕ). number_of p < 2 ^ 32) (sym spelled) (four-below (number_of place))
+
+-- ---- how many there may be
+
+-- the slots of so many areas
+abbrev pub slots_up : Numbered → ℕ → ℕ
+slots_up part zero = 0
+slots_up part (suc k) = part.geometry.area * slots_of part + slots_up part k
+
+slots-up : (part : Numbered) (k : ℕ) → slots_up part k ≡ k * (part.geometry.area * slots_of part)
+slots-up part zero = omega arith
+slots-up part (suc k) = omega (arith, slots-up part k)
+
+-- an interval has a slot or more
+pub slots-some : (part : Numbered) → IsNumbered part → 0 < slots_of part
+slots-some part is =
+    let some : 0 < part.most + 3 = omega arith in
+    (le-div_iff_mul-le some).1 (omega (arith, is.fits))
+
+-- their numbers have room in four bytes
+pub slots-below : (part : Numbered) → IsNumbered part
+    → 1 + slots_up part (area_count part.geometry) < 2 ^ 32
+slots-below part is =
+    let areas = area_count part.geometry in
+    let area = part.geometry.area in
+    let slots = slots_of part in
+    let within : areas * (area + 1) ≤ part.geometry.blocks =
+    omega (arith, div-mul-le_self (part.geometry.blocks - 1 - part.geometry.log) (area + 1)) in
+    let fields : slots * (part.most + 3) ≤ part.geometry.size - 4 =
+    div-mul-le_self (part.geometry.size - 4) (part.most + 3) in
+    let four_each : slots * 4 ≤ slots * (part.most + 3) =
+    mul-le-mul_left slots (omega (arith, is.some)) in
+    let bytes : (areas * (area + 1)) * (slots * 4) ≤ part.geometry.blocks * part.geometry.size =
+    mul-le-mul within (omega (arith, fields, four_each)) in
+    let most : part.geometry.blocks * part.geometry.size ≤ 2 ^ 31 =
+    omega (arith, is.allowed.bytes) in
+    let parts : (areas * (area + 1)) * (slots * 4)
+    ≡ 4 * (areas * (area * slots)) + 4 * (areas * slots) = omega arith in
+    omega (arith, slots-up part areas, bytes, most, parts)
