@@ -165,4 +165,8 @@ one-owner here there owners n is also = some-same (sym is ∙ also)
 pub grows-none : (part : Keyed) (areas : List (Option PartNo)) (owners : Owners)
     → MayGrow (KeyedShape part) areas owners owners
 grows-none part areas owners =
-    record { kept = λ n other is. is; claimed = λ area least n inside. absurd inside }
+    record {
+      kept = λ n other is. is;
+      free = λ area least n inside. absurd inside;
+      claimed = λ area least n inside. absurd inside;
+    }
