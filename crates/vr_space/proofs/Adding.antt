@@ -17,25 +17,24 @@ use Rattle.vr_space.specs.Room.{Lengths, length_at}
 use Rattle.vr_space.specs.Known.{Known}
 use Rattle.vr_space.specs.Split.{SplitNow, keyed_stage, keyed_fits, room_after, room_by}
 use Rattle.vr_space.specs.Split.{room_by_split, free_interval}
-use Rattle.vr_space.specs.Keyed.{IsKeyedSound, Keyed, entries_of}
+use Rattle.vr_space.specs.Keyed.{entries_of}
 use Rattle.vr_space.specs.Owners.{Owners}
 use Rattle.vr_space.specs.Part.{Shape, KeyedShape, RelativeShape, InPart, StandsFor, Stands, HasOnly}
 use Rattle.vr_space.specs.Part.{MayHold, MayAlsoHold, Nothing, AddsTo, IsSound, IsAtRest}
-use Rattle.vr_space.specs.Part.{HasKeptRoom, IsLengthOf, IsOn, IsRecordOf, StaysIn}
+use Rattle.vr_space.specs.Part.{IsLengthOf, IsOn, IsRecordOf, StaysIn}
 use Rattle.vr_space.specs.Part.{way_to, item_of, left_by, SameRecords, SetsOne, IsDueTo, DueMore, IsFirm}
 use Rattle.vr_space.specs.Part.{CanSet, room_of, stage_of, fits_at}
-use Rattle.vr_space.specs.Rosters.{IsInArea, IsOf, IsOwnArea, Numbered, roster_block}
+use Rattle.vr_space.specs.Rosters.{IsInArea, IsOf, IsOwnArea, Numbered}
 use Rattle.vr_space.specs.Slots.{AreSlotsSound, IsSlots, SlotsStayIn, areas_short, interval_of}
 use Rattle.vr_space.specs.Slots.{slot_fits, slot_room_by, slots_from}
-use Rattle.vr_space.proofs.Chains.{chain-less, roster-inside}
+use Rattle.vr_space.proofs.Chains.{chain-less}
 use Rattle.vr_space.proofs.Due.{due-fewer, due-firm}
 use Rattle.vr_space.proofs.PartBlocks.{IsPartBlock, area-owned, holds-less, on-less, rest-stays}
 use Rattle.vr_space.proofs.PartBlocks.{sound-less, stays-keeps, way-within}
 use Rattle.vr_space.proofs.SlotReads.{slots-item}
-use Rattle.vr_space.proofs.SlotRooms.{slots-less}
 use Rattle.vr_space.proofs.Ways.{found-may}
 use Rattle.vr_space.proofs.KeyedContent.{way-content}
-use Rattle.vr_space.proofs.KeyedSound.{keyed-image, each-less, head-in, head-ascends, IsBlock}
+use Rattle.vr_space.proofs.KeyedSound.{keyed-image, head-ascends}
 
 -- ---- one after another
 
@@ -181,10 +180,6 @@ rest-stands shape owners now sound left =
 -- ---- calls that put nothing
 
 module _ (tells : Bool) (told : IsTrue tells) where
-  fewer : (a b : Seen) → Keeps tells a b → (part : Keyed) (n : ℕ) (block : Block)
-      → IsBlock part a n → b.may n block → a.may n block
-  fewer a b call part n block is may = call.adds_none told n block is.0 may
-
   pub sound-keeps : (shape : Shape) (owners : Owners) (a b : Seen) → Keeps tells a b
       → IsSound shape owners a → IsSound shape owners b
   sound-keeps shape owners a b call = sound-less a b shape owners call.count_same call.size_same
@@ -194,24 +189,6 @@ module _ (tells : Bool) (told : IsTrue tells) where
       → IsAtRest shape owners a → IsAtRest shape owners b
   rest-keeps shape owners a b call =
       rest-stays a b shape owners (stays-keeps tells told a b call shape owners)
-
-  pub room-keeps : (shape : Shape) (owners : Owners) (kept : Lengths) (a b : Seen) → Keeps tells a b
-      → IsSound shape owners a → HasKeptRoom shape kept a
-      → HasKeptRoom shape kept b
-  room-keeps (KeyedShape part) owners kept a b call (sound, owned) room =
-      record {
-        places = room.places;
-        each = λ top may.
-            let before : a.may part.head top =
-            call.adds_none told part.head top (omega (arith, sound.area)) may in
-            each-less part a b _ None (entries_of top) (fewer a b call part) sound.area
-            (head-in part top (sound.heads top before)) (room.each top before);
-      }
-  room-keeps (RelativeShape part) owners kept a b call sound room =
-      slots-less part (IsOwnArea part owners) (IsSlots part) b.may a.may kept
-      (λ area own top may. call.adds_none told (roster_block part area) top
-      (area-owned part owners a sound.on area own (roster_block part area)
-      (roster-inside part area)).0 may) sound.chain room
 
   pub keeps-adds : (shape : Shape) (owners : Owners) (a b : Seen) → Keeps tells a b
       → IsSound shape owners a → AddsTo shape owners Nothing a b

@@ -29,13 +29,13 @@ pub use Rattle.vr_space.proofs.Searching.{low_at, found-entry, found-none, got-w
 pub use Rattle.vr_space.proofs.Searching.{holds-nth}
 pub use Rattle.vr_space.proofs.Adding.{only-weaken, adds-weaken, adds-then, nothing-then}
 pub use Rattle.vr_space.proofs.Adding.{then-nothing, sound-image, rest-stands}
-pub use Rattle.vr_space.proofs.Adding.{content_item, sound-keeps, rest-keeps, room-keeps}
+pub use Rattle.vr_space.proofs.Adding.{content_item, sound-keeps, rest-keeps}
 pub use Rattle.vr_space.proofs.Adding.{keeps-adds}
 pub use Rattle.vr_space.proofs.Adding.{same-keeps, due-keeps, forced-firm}
 pub use Rattle.vr_space.proofs.Adding.{can-set, can-erase, can-set-kept}
 pub use Rattle.vr_space.proofs.Adding.{room-no-stage}
 pub use Rattle.vr_space.proofs.Adding.{ready-can, records-then, sets-after, on-still, record-length}
-pub use Rattle.vr_space.proofs.Rooms.{room-image, keeps-rooms}
+pub use Rattle.vr_space.proofs.Rooms.{keeps-rooms, room-image, room-keeps, room-less}
 pub use Rattle.vr_space.proofs.Keeping.{keep-room}
 pub use Rattle.vr_space.proofs.Counting.{kept_fits, kept_room}
 pub use Rattle.vr_space.proofs.Framing.{room-stays, knows-stays, can-stays, way-keeps}

@@ -1,6 +1,7 @@
 -- Ways over a chain of rosters in an image: which interval they reach, and where they end.
 use Rattle.std.proofs.Common.{◌≡◌, ◌⊎◌, inl, inr, ◌+◌, ◌-◌, ◌/◌, ◌%◌, ◌<◌, ◌≤◌, ℕ, zero, suc}
-use Rattle.std.proofs.Common.{Bool, true, false, List, [], ◌∷◌, length, Option, Some, None, refl, sym}
+use Rattle.std.proofs.Common.{Bool, true, false, List, [], ◌∷◌, length, Option, Some, None, refl}
+use Rattle.std.proofs.Common.{sym}
 use Rattle.std.proofs.Common.{ap, subst, ◌∙◌, arith}
 use Rattle.std.specs.Prelude.{◌≢◌, cond, nat_lt, slice_index}
 use Rattle.std.proofs.Math.Nat.{div-eq-sub-div, div-eq_of_lt, mod-eq-sub-mod, mod-eq_of_lt}
@@ -102,7 +103,8 @@ reaches-from part Own Interval image reached some (suc k) n area chain within =
     most = (chained-here part Own Interval image k area chain).roster.spelled.rules.used
 
     first : (rest : List ℕ) → n < whole
-        → Reaches part image reached (area ∷ rest) n (found_on image (reached (interval_in part area n)))
+        → Reaches part image reached (area ∷ rest) n
+        (found_on image (reached (interval_in part area n)))
     first rest less =
         let quotient : n / whole ≡ 0 = div-eq_of_lt less in
         record {
@@ -111,7 +113,8 @@ reaches-from part Own Interval image reached some (suc k) n area chain within =
               ap (λ (m : ℕ). found_on image (reached (interval_in part area m)))
               (sym (mod-eq_of_lt less))
               ∙ ap (λ (i : ℕ). found_on image
-              (reached (interval_in part (slice_index (area ∷ rest) i) (n % whole)))) (sym quotient);
+              (reached (interval_in part (slice_index (area ∷ rest) i) (n % whole))))
+              (sym quotient);
         }
 
     later : (rest : List ℕ) (found : Option Item) → whole ≤ n
@@ -129,7 +132,8 @@ reaches-from part Own Interval image reached some (suc k) n area chain within =
               (reached (interval_in part (slice_index rest ((n - whole) / whole)) m)))
               (sym remainder)
               ∙ ap (λ (i : ℕ). found_on image
-              (reached (interval_in part (slice_index (area ∷ rest) i) (n % whole)))) (sym quotient);
+              (reached (interval_in part (slice_index (area ∷ rest) i) (n % whole))))
+              (sym quotient);
         }
 
     by_used : (below : Bool) → nat_lt n used ≡ below → (next : Option ℕ)

@@ -15,13 +15,9 @@ use Rattle.vr_space.specs.Part.{AreMet, CanSet, HasKeptRoom, HasRoomFor, InPart,
 use Rattle.vr_space.specs.Part.{IsUnderWay, KeyedShape, Knows, MayGrow, RelativeShape, Shape}
 use Rattle.vr_space.specs.Part.{fits_at, part_no}
 use Rattle.vr_space.specs.Room.{Lengths, Range}
-use Rattle.vr_space.specs.Rosters.{IsOwnArea, roster_block}
-use Rattle.vr_space.specs.Slots.{IsSlots}
 use Rattle.vr_space.specs.Split.{fits_in, keyed_fits, stage_in}
-use Rattle.vr_space.proofs.KeyedSound.{IsBlock, each-less, head-in}
-use Rattle.vr_space.proofs.Chains.{roster-inside}
-use Rattle.vr_space.proofs.PartBlocks.{StaysPart, area-owned, stays-keeps, stays-puts}
-use Rattle.vr_space.proofs.SlotRooms.{slots-less}
+use Rattle.vr_space.proofs.PartBlocks.{StaysPart, stays-keeps, stays-puts}
+use Rattle.vr_space.proofs.Rooms.{room-less}
 use Rattle.vr_space.proofs.SlotsKnown.{slot-fits-same, slots-known}
 use Rattle.vr_space.proofs.UnderWay.{found-in, met-stays, way-stays}
 
@@ -45,24 +41,8 @@ module _ (a b : Seen) where
   pub room-stays : (shape : Shape) (owners : Owners) (kept : Lengths)
       → StaysPart shape owners a b → IsSound shape owners a → HasKeptRoom shape kept a
       → HasKeptRoom shape kept b
-  room-stays (KeyedShape part) owners kept part-stays (sound, owned) room =
-      let stays = area-stays part owners a b owned part-stays in
-      let less : (n : ℕ) (block : Block) → IsBlock part a n → b.may n block → a.may n block =
-      λ n block is. stays.fewer n block is.0 is.1 in
-      record {
-        places = room.places;
-        each = λ top may.
-            let before : a.may part.head top =
-            less part.head top (omega (arith, sound.area), (omega arith, omega arith)) may in
-            each-less part a b _ None (entries_of top) less sound.area
-            (head-in part top (sound.heads top before)) (room.each top before);
-      }
-  room-stays (RelativeShape part) owners kept stays sound room =
-      slots-less part (IsOwnArea part owners) (IsSlots part) b.may a.may kept
-      (λ area own top may.
-      let there = area-owned part owners a sound.on area own (roster_block part area)
-      (roster-inside part area) in
-      stays.fewer (roster_block part area) top there.0 there.1 may) sound.chain room
+  room-stays shape owners kept stays =
+      room-less shape owners kept a b (λ n block is. stays.fewer n block is.0 is.1)
 
   -- a split under way stays so,
   under-stays : (shape : Shape) (owners : Owners) (known : Known) → StaysPart shape owners a b

@@ -1,6 +1,6 @@
 -- Where a record is read, the place is one of the part.
 use Rattle.std.proofs.Common.{◌≡◌, ◌≤◌, ◌-◌, ℕ, Bool, true, false, List, [], ◌∷◌, ◌++◌, map, All}
-use Rattle.std.proofs.Common.{Option, Some, None, refl, sym, ap, subst, ◌∙◌, arith, length, take, drop}
+use Rattle.std.proofs.Common.{Option, Some, None, refl, sym, ap, ◌∙◌, arith, length, drop}
 use Rattle.std.specs.Prelude.{◌≢◌, cond, filter, option_and_then}
 use Rattle.std.specs.List.{AllByRecursion}
 use Rattle.std.specs.declared.cmp.Ordering.{Ordering}
@@ -15,7 +15,8 @@ use Rattle.vr_seqset.specs.Entry.{Entry}
 use Rattle.vr_space.specs.Room.{Range, is_in}
 use Rattle.vr_space.specs.Keyed.{HoldRanges, IsKept, Keyed, content_from, entries_of, entry_block}
 use Rattle.vr_space.specs.Keyed.{items_of, key_of, placed, range_of, records_in}
-use Rattle.vr_space.specs.Part.{IsPlaceOf, KeyedShape, RelativeShape, Shape, Stands, item_of, record_read}
+use Rattle.vr_space.specs.Part.{IsPlaceOf, KeyedShape, RelativeShape, Shape, Stands, item_of}
+use Rattle.vr_space.specs.Part.{record_read}
 use Rattle.vr_space.proofs.Adding.{content_item}
 use Rattle.vr_space.proofs.SlotReads.{found-place}
 

@@ -1,7 +1,7 @@
 -- The places of a content that blocks stand for ascend.
 use Rattle.std.proofs.Common.{◌≡◌, ℕ, Bool, true, false, List, [], ◌∷◌, ◌++◌, map, Option, Some}
-use Rattle.std.proofs.Common.{None, refl, sym, ap, subst, ◌∙◌, true≢false, suc, arith, ◌+◌, ◌^◌, ◌<◌}
-use Rattle.std.proofs.Common.{◌≤◌}
+use Rattle.std.proofs.Common.{None, refl, sym, ap, subst, ◌∙◌, true≢false, suc, arith}
+use Rattle.std.proofs.Common.{◌+◌, ◌^◌, ◌<◌, ◌≤◌}
 use Rattle.std.specs.Prelude.{filter, cond}
 use Rattle.std.specs.List.{AllByRecursion}
 use Rattle.std.specs.List.Sorted.{IsStrictlySortedBy}
@@ -237,7 +237,8 @@ stands_content (RelativeShape part) image content stands =
     let all : AreSlotsOf part.most 1 past content = stands-slots part image content stands in
     record {
       ascends = sorted-rising content
-          (slots-rise part.most 1 past content (omega (arith, slots-below part stands.part_is)) all);
+          (slots-rise part.most 1 past content
+          (omega (arith, slots-below part stands.part_is)) all);
       lengths = All-from_recursion HasLength content (slots-lengths part.most 1 past content all);
     }
 

@@ -1,6 +1,7 @@
 -- The content of a relative part: the records of its slots, in the order of their numbers.
 use Rattle.std.proofs.Common.{◌≡◌, ◌⊎◌, inl, inr, ◌+◌, ◌-◌, ◌*◌, ◌^◌, ◌<◌, ◌≤◌, ℕ, zero, suc, Bool}
-use Rattle.std.proofs.Common.{true, false, List, [], ◌∷◌, ◌++◌, length, Option, Some, None, refl, sym}
+use Rattle.std.proofs.Common.{true, false, List, [], ◌∷◌, ◌++◌, length, Option, Some, None, refl}
+use Rattle.std.proofs.Common.{sym}
 use Rattle.std.proofs.Common.{ap, subst, ◌∙◌, ⊎_elim, arith}
 use Rattle.std.specs.Prelude.{cond, nat_lt, option_and_then, slice_get}
 use Rattle.std.specs.List.{AllByRecursion}
@@ -18,9 +19,10 @@ use Rattle.vr_ci_match.specs.Laid.{slots_in}
 use Rattle.vr_space.specs.Keyed.{items_of}
 use Rattle.vr_space.specs.Rosters.{Chains, IsNextOf, IsOf, Numbered, after_next}
 use Rattle.vr_space.specs.Rosters.{chain_way, interval_in, roster_at}
-use Rattle.vr_space.specs.Slots.{IsSlots, records_from, records_over, slot_item, slot_read, slots_from}
+use Rattle.vr_space.specs.Slots.{IsSlots, records_from, records_over, slot_item, slot_read}
+use Rattle.vr_space.specs.Slots.{slots_from}
 use Rattle.vr_space.specs.Slots.{number_of, slots_of, standing_in}
-use Rattle.vr_space.specs.Way.{Found, found_on}
+use Rattle.vr_space.specs.Way.{Found, Way, found_on}
 use Rattle.vr_space.proofs.ChainWays.{chained-here}
 use Rattle.vr_space.proofs.Places.{NoneAt, by_other, none-record, record-left, record-right}
 use Rattle.vr_space.proofs.Places.{same_is_equal}
@@ -249,7 +251,8 @@ over-item part image number n (suc count) zero slot place each fits within less 
     (over-slots part image middle (suc n) count later) end place
     (omega (arith, is, less, fits)) (inl (omega (arith, is, less))))
     ∙ records-item part.most number (items_of block) slot place (are-whole part block one)
-    (omega (arith, slots-count part block one, end)) (omega (arith, slots-count part block one, less))
+    (omega (arith, slots-count part block one, end))
+    (omega (arith, slots-count part block one, less))
     (omega (arith, is))
     ∙ ap (λ (m : ℕ). slot_item slot (block_at image m)) same
 over-item part image number n (suc count) (suc interval) slot place each fits within less is =
@@ -290,135 +293,142 @@ used-most part Own image k area chain =
     mul-le-mul_right (slots_of part)
     (chained-here part Own (IsSlots part) image k area chain).roster.spelled.rules.used
 
+-- those of the areas after one, where it is used whole
+rest-slots : (part : Numbered) (Own : ℕ → Type 0) (image : Image) (k number used : ℕ)
+    (next : Option ℕ)
+    → IsNextOf used part.geometry.area (Chains part Own (IsSlots part) (IsOf image) k) next
+    → ((from area : ℕ) → Chains part Own (IsSlots part) (IsOf image) k area
+    → AreSlotsOf part.most from (from + slots_up part k) (slots_from part image k from area))
+    → AreSlotsOf part.most (number + used * slots_of part) (number + slots_up part (suc k))
+    (after_next [] (slots_from part image k (number + used * slots_of part)) next)
+rest-slots part Own image k number used None rule each = tt
+rest-slots part Own image k number used (Some after) (whole, chain) each =
+    let past = number + used * slots_of part in
+    let same : used * slots_of part ≡ part.geometry.area * slots_of part =
+    ap (λ (count : ℕ). count * slots_of part) whole in
+    slots-to part.most past (past + slots_up part k) (number + slots_up part (suc k))
+    (slots_from part image k past after) (omega (arith, same)) (each past after chain)
+
 -- the slots of a chain, from a number on
 pub chain-slots : (part : Numbered) (Own : ℕ → Type 0) (image : Image) (k number area : ℕ)
     → Chains part Own (IsSlots part) (IsOf image) k area
     → AreSlotsOf part.most number (number + slots_up part k) (slots_from part image k number area)
 chain-slots part Own image zero number area chain = absurd chain
 chain-slots part Own image (suc k) number area chain =
+    let top = roster_at part image area in
+    let past = number + top.used * slots_of part in
     slots-append part.most number past (number + slots_up part (suc k))
-    (records_over part image number (interval_in part area 0) used)
-    (after_next [] (slots_from part image k past) (roster_at part image area).next)
+    (records_over part image number (interval_in part area 0) top.used)
+    (after_next [] (slots_from part image k past) top.next)
     (omega arith) (omega (arith, used-most part Own image k area chain))
-    (over-slots part image number (interval_in part area 0) used
+    (over-slots part image number (interval_in part area 0) top.used
     (here-intervals part Own image k area chain))
-    (by_next (roster_at part image area).next
+    (rest-slots part Own image k number top.used top.next
     (chained-here part Own (IsSlots part) image k area chain).next
-    (λ after. chain-slots part Own image k past after))
-  where
-    used : ℕ
-    used = (roster_at part image area).used
+    (λ from after. chain-slots part Own image k from after))
 
-    past : ℕ
-    past = number + used * slots_of part
-
-    by_next : (next : Option ℕ)
-        → IsNextOf used part.geometry.area (Chains part Own (IsSlots part) (IsOf image) k) next
-        → ((after : ℕ) → Chains part Own (IsSlots part) (IsOf image) k after
-        → AreSlotsOf part.most past (past + slots_up part k) (slots_from part image k past after))
-        → AreSlotsOf part.most past (number + slots_up part (suc k))
-        (after_next [] (slots_from part image k past) next)
-    by_next None chained more = tt
-    by_next (Some after) (whole, chained) more =
-        let same : used * slots_of part ≡ part.geometry.area * slots_of part =
-        ap (λ (count : ℕ). count * slots_of part) whole in
-        slots-to part.most past (past + slots_up part k) (number + slots_up part (suc k))
-        (slots_from part image k past after) (omega (arith, same)) (more after chained)
-
--- the content has at a slot's place what the way over the chain leads to
-pub chain-item : (part : Numbered) (Own : ℕ → Type 0) (image : Image)
+-- a slot of the first area is in its interval
+item-here : (part : Numbered) (Own : ℕ → Type 0) (image : Image)
     (k number area interval slot place : ℕ)
+    → Chains part Own (IsSlots part) (IsOf image) (suc k) area
+    → number + slots_up part (suc k) ≤ 2 ^ 32 → place < 2 ^ 32 → slot < slots_of part
+    → place ≡ number + interval * slots_of part + slot
+    → interval < (roster_at part image area).used
+    → item_at (slots_from part image (suc k) number area) (four place)
+    ≡ slot_item slot (block_at image (interval_in part area interval))
+item-here part Own image k number area interval slot place chain fits room less is within =
+    let top = roster_at part image area in
+    let past = number + top.used * slots_of part in
+    let later = after_next [] (slots_from part image k past) top.next in
+    let end : past ≤ 2 ^ 32 = omega (arith, fits, used-most part Own image k area chain) in
+    let spread : suc interval * slots_of part ≤ top.used * slots_of part =
+    mul-le-mul_right (slots_of part) within in
+    let same : interval_in part area 0 + interval ≡ interval_in part area interval =
+    omega arith in
+    record-left (records_over part image number (interval_in part area 0) top.used) later
+    (four place)
+    (slots-none part.most past (number + slots_up part (suc k)) later
+    (rest-slots part Own image k number top.used top.next
+    (chained-here part Own (IsSlots part) image k area chain).next
+    (λ from after. chain-slots part Own image k from after))
+    fits place room (inl (omega (arith, is, less, spread))))
+    ∙ over-item part image number (interval_in part area 0) top.used interval slot place
+    (here-intervals part Own image k area chain) end within less is
+    ∙ ap (λ (n : ℕ). slot_item slot (block_at image n)) same
+
+-- and each other is in the areas after it
+item-after : (part : Numbered) (Own : ℕ → Type 0) (image : Image)
+    (k number area interval slot place : ℕ)
+    → Chains part Own (IsSlots part) (IsOf image) (suc k) area
+    → number + slots_up part (suc k) ≤ 2 ^ 32 → place < 2 ^ 32
+    → place ≡ number + interval * slots_of part + slot
+    → (roster_at part image area).used ≤ interval
+    → item_at (slots_from part image (suc k) number area) (four place)
+    ≡ item_at (after_next []
+    (slots_from part image k (number + (roster_at part image area).used * slots_of part))
+    (roster_at part image area).next) (four place)
+item-after part Own image k number area interval slot place chain fits room is beyond =
+    let top = roster_at part image area in
+    let past = number + top.used * slots_of part in
+    let here = records_over part image number (interval_in part area 0) top.used in
+    let spread : top.used * slots_of part ≤ interval * slots_of part =
+    mul-le-mul_right (slots_of part) beyond in
+    record-right here (after_next [] (slots_from part image k past) top.next) (four place)
+    (slots-none part.most number past here
+    (over-slots part image number (interval_in part area 0) top.used
+    (here-intervals part Own image k area chain))
+    (omega (arith, fits, used-most part Own image k area chain)) place room
+    (inr (omega (arith, is, spread))))
+
+-- a chain of at most so many areas has at a slot's place what the way over it leads to
+abbrev pub AreFound : Numbered → (ℕ → Type 0) → Image → ℕ → ℕ → ℕ → Type 0
+AreFound part Own image slot place k = (number area interval : ℕ)
     → Chains part Own (IsSlots part) (IsOf image) k area → number + slots_up part k ≤ 2 ^ 32
-    → place < 2 ^ 32 → slot < slots_of part → place ≡ number + interval * slots_of part + slot
+    → place ≡ number + interval * slots_of part + slot
     → item_at (slots_from part image k number area) (four place)
     ≡ found_on image (chain_way part (slot_read slot) k interval area)
-chain-item part Own image zero number area interval slot place chain fits room less is =
+
+pub chain-item : (part : Numbered) (Own : ℕ → Type 0) (image : Image) (slot place : ℕ)
+    → place < 2 ^ 32 → slot < slots_of part → (k : ℕ) → AreFound part Own image slot place k
+chain-item part Own image slot place room less zero number area interval chain fits is =
     absurd chain
-chain-item part Own image (suc k) number area interval slot place chain fits room less is =
-    by_used (nat_lt interval used) refl (roster_at part image area).next
-    (chained-here part Own (IsSlots part) image k area chain).next
-    (λ after chained. chain-slots part Own image k past after chained)
-    (λ after chained end same. chain-item part Own image k past after
-    (interval - part.geometry.area) slot place chained end room less same)
+chain-item part Own image slot place room less (suc k) number area interval chain fits is =
+    by_used (nat_lt interval used) refl (chain-item part Own image slot place room less k)
   where
     used : ℕ
     used = (roster_at part image area).used
 
+    whole : ℕ
+    whole = part.geometry.area
+
     past : ℕ
     past = number + used * slots_of part
 
-    here : Content
-    here = records_over part image number (interval_in part area 0) used
+    after : ℕ → Way
+    after = chain_way part (slot_read slot) k (interval - whole)
 
-    all : AreSlotsOf part.most number past here
-    all = over-slots part image number (interval_in part area 0) used
-        (here-intervals part Own image k area chain)
+    by_next : used ≤ interval → AreFound part Own image slot place k → (next : Option ℕ)
+        → IsNextOf used whole (Chains part Own (IsSlots part) (IsOf image) k) next
+        → item_at (after_next [] (slots_from part image k past) next) (four place)
+        ≡ found_on image (after_next (Found None) after next)
+    by_next beyond further None rule = refl
+    by_next beyond further (Some onward) (all, rule) =
+        let same : used * slots_of part ≡ whole * slots_of part =
+        ap (λ (count : ℕ). count * slots_of part) all in
+        let split : interval * slots_of part ≡ ((interval - whole) + whole) * slots_of part =
+        ap (λ (count : ℕ). count * slots_of part) (omega (arith, beyond, all)) in
+        further past onward (interval - whole) rule (omega (arith, same, fits))
+        (omega (arith, is, same, split))
 
-    end : past ≤ 2 ^ 32
-    end = omega (arith, fits, used-most part Own image k area chain)
-
-    -- those that come after an area that is used whole
-    further : (next : Option ℕ)
-        → IsNextOf used part.geometry.area (Chains part Own (IsSlots part) (IsOf image) k) next
-        → ((after : ℕ) → Chains part Own (IsSlots part) (IsOf image) k after
-        → AreSlotsOf part.most past (past + slots_up part k) (slots_from part image k past after))
-        → place < past → NoneAt (four place) (after_next [] (slots_from part image k past) next)
-    further None chained each before = tt
-    further (Some after) (whole, chained) each before =
-        let same : used * slots_of part ≡ part.geometry.area * slots_of part =
-        ap (λ (count : ℕ). count * slots_of part) whole in
-        slots-none part.most past (past + slots_up part k) (slots_from part image k past after)
-        (each after chained) (omega (arith, same, fits)) place room (inl before)
-
-    by_used : (below : Bool) → nat_lt interval used ≡ below → (next : Option ℕ)
-        → IsNextOf used part.geometry.area (Chains part Own (IsSlots part) (IsOf image) k) next
-        → ((after : ℕ) → Chains part Own (IsSlots part) (IsOf image) k after
-        → AreSlotsOf part.most past (past + slots_up part k) (slots_from part image k past after))
-        → ((after : ℕ) → Chains part Own (IsSlots part) (IsOf image) k after
-        → past + slots_up part k ≤ 2 ^ 32
-        → place ≡ past + (interval - part.geometry.area) * slots_of part + slot
-        → item_at (slots_from part image k past after) (four place)
-        ≡ found_on image (chain_way part (slot_read slot) k (interval - part.geometry.area) after))
-        → item_at (here ++ after_next [] (slots_from part image k past) next) (four place)
+    by_used : (below : Bool) → nat_lt interval used ≡ below → AreFound part Own image slot place k
+        → item_at (slots_from part image (suc k) number area) (four place)
         ≡ found_on image (cond below (slot_read slot (interval_in part area interval))
-        (after_next (Found None)
-        (chain_way part (slot_read slot) k (interval - part.geometry.area)) next))
-    by_used true within next chained each more =
-        let spread : suc interval * slots_of part ≤ used * slots_of part =
-        mul-le-mul_right (slots_of part) (ltb-true interval used within) in
-        let same : interval_in part area 0 + interval ≡ interval_in part area interval =
-        omega arith in
-        record-left here (after_next [] (slots_from part image k past) next) (four place)
-        (further next chained each (omega (arith, is, less, spread)))
-        ∙ over-item part image number (interval_in part area 0) used interval slot place
-        (here-intervals part Own image k area chain) end (ltb-true interval used within) less is
-        ∙ ap (λ (n : ℕ). slot_item slot (block_at image n)) same
-    by_used false beyond next chained each more =
-        let spread : used * slots_of part ≤ interval * slots_of part =
-        mul-le-mul_right (slots_of part) (ltb-false interval used beyond) in
-        record-right here (after_next [] (slots_from part image k past) next) (four place)
-        (slots-none part.most number past here all end place room
-        (inr (omega (arith, is, spread))))
-        ∙ after_used next chained more
-      where
-        after_used : (onward : Option ℕ)
-            → IsNextOf used part.geometry.area (Chains part Own (IsSlots part) (IsOf image) k) onward
-            → ((after : ℕ) → Chains part Own (IsSlots part) (IsOf image) k after
-            → past + slots_up part k ≤ 2 ^ 32
-            → place ≡ past + (interval - part.geometry.area) * slots_of part + slot
-            → item_at (slots_from part image k past after) (four place)
-            ≡ found_on image
-            (chain_way part (slot_read slot) k (interval - part.geometry.area) after))
-            → item_at (after_next [] (slots_from part image k past) onward) (four place)
-            ≡ found_on image (after_next (Found None)
-            (chain_way part (slot_read slot) k (interval - part.geometry.area)) onward)
-        after_used None rule onto = refl
-        after_used (Some after) (whole, rule) onto =
-            let same : used * slots_of part ≡ part.geometry.area * slots_of part =
-            ap (λ (count : ℕ). count * slots_of part) whole in
-            let apart : interval ≡ (interval - part.geometry.area) + part.geometry.area =
-            omega (arith, ltb-false interval used beyond, whole) in
-            let product : interval * slots_of part
-            ≡ ((interval - part.geometry.area) + part.geometry.area) * slots_of part =
-            ap (λ (count : ℕ). count * slots_of part) apart in
-            onto after rule (omega (arith, same, fits)) (omega (arith, is, same, product))
+        (after_next (Found None) after (roster_at part image area).next))
+    by_used true within further =
+        item-here part Own image k number area interval slot place chain fits room less is
+        (ltb-true interval used within)
+    by_used false beyond further =
+        let past_used : used ≤ interval = ltb-false interval used beyond in
+        item-after part Own image k number area interval slot place chain fits room is past_used
+        ∙ by_next past_used further (roster_at part image area).next
+        (chained-here part Own (IsSlots part) image k area chain).next

@@ -75,7 +75,8 @@ slots-below part is =
     mul-le-mul_left slots (omega (arith, is.some)) in
     let bytes : (areas * (area + 1)) * (slots * 4) ≤ part.geometry.blocks * part.geometry.size =
     mul-le-mul within (omega (arith, fields, four_each)) in
-    let most : part.geometry.blocks * part.geometry.size ≤ 2 ^ 31 = omega (arith, is.allowed.bytes) in
+    let most : part.geometry.blocks * part.geometry.size ≤ 2 ^ 31 =
+    omega (arith, is.allowed.bytes) in
     let parts : (areas * (area + 1)) * (slots * 4)
     ≡ 4 * (areas * (area * slots)) + 4 * (areas * slots) = omega arith in
     omega (arith, slots-up part areas, bytes, most, parts)

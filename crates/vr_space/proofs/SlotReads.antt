@@ -1,6 +1,7 @@
 -- What is read at the places of a relative part: what its content has there.
 use Rattle.std.proofs.Common.{◌≡◌, ◌+◌, ◌-◌, ◌*◌, ◌/◌, ◌%◌, ◌^◌, ◌<◌, ◌≤◌, ℕ, suc, Bool, true}
-use Rattle.std.proofs.Common.{false, List, [], ◌∷◌, length, Option, Some, None, refl, sym, ap, subst, ◌∙◌}
+use Rattle.std.proofs.Common.{false, List, [], ◌∷◌, length, Option, Some, None, refl, sym, ap}
+use Rattle.std.proofs.Common.{subst, ◌∙◌}
 use Rattle.std.proofs.Common.{arith, true≢false}
 use Rattle.std.specs.Prelude.{◌≢◌, bytes_eq, cond, nat_lt, option_and_then, slice_get}
 use Rattle.std.specs.Prelude.{slice_index}
@@ -28,7 +29,8 @@ use Rattle.vr_space.specs.Way.{Found, Way, found_on}
 use Rattle.vr_space.proofs.ChainWays.{chain-ends, chain-has, chain-reaches, found-used}
 use Rattle.vr_space.proofs.Places.{NoneAt, none-record}
 use Rattle.vr_space.proofs.SlotContent.{AreSlotsOf, chain-item, chain-slots}
-use Rattle.vr_space.proofs.SlotNumbers.{number-below, number-four, slots-below, slots-some, slots_up}
+use Rattle.vr_space.proofs.SlotNumbers.{number-below, number-four, slots-below, slots-some}
+use Rattle.vr_space.proofs.SlotNumbers.{slots_up}
 
 -- ---- places
 
@@ -47,7 +49,8 @@ place-tested place is =
 
 pub place-is : (place : List ℕ) → is_slot_place place ≡ true → IsSlotPlace place
 place-is place is =
-    let both = and_parts (bytes_eq place (four (number_of place))) (nat_lt 0 (number_of place)) is in
+    let spelled = four (number_of place) in
+    let both = and_parts (bytes_eq place spelled) (nat_lt 0 (number_of place)) is in
     record {
       bytes = (bytes_eq-Decides place (four (number_of place))).0 both.0;
       some = ltb-true 0 (number_of place) both.1;
@@ -70,16 +73,17 @@ none-elsewhere : (most from to : ℕ) (content : Content) (place : List ℕ) →
     → to ≤ 2 ^ 32 → AreSlotsOf most from to content → is_slot_place place ≡ false
     → NoneAt place content
 none-elsewhere most from to [] place some fits all not = tt
-none-elsewhere most from to (entry ∷ content) place some fits (number, is, least, below, more) not = (
-  λ same.
-      let one : place ≡ four number = same_place place entry.0 same ∙ is.place in
-      true≢false
-      (sym (ap is_slot_place one
-      ∙ place-tested (four number)
-      (slot-place number (omega (arith, some, least)) (omega (arith, below, fits))))
-      ∙ not),
-  none-elsewhere most (suc number) to content place (omega arith) fits more not,
-)
+none-elsewhere most from to (entry ∷ content) place some fits
+    (number, is, least, below, more) not = (
+      λ same.
+          let one : place ≡ four number = same_place place entry.0 same ∙ is.place in
+          true≢false
+          (sym (ap is_slot_place one
+          ∙ place-tested (four number)
+          (slot-place number (omega (arith, some, least)) (omega (arith, below, fits))))
+          ∙ not),
+      none-elsewhere most (suc number) to content place (omega arith) fits more not,
+    )
 
 -- the content has at each place what the way to it finds
 pub slots-item : (part : Numbered) (image : Image) (content : Content)
@@ -109,17 +113,19 @@ slots-item part image content stands place = by_place (is_slot_place place) refl
         omega (arith, div-add-mod' (number_of place - 1) (slots_of part), slot.some) in
         ap (λ (c : Content). item_at c place) stands.records
         ∙ ap (item_at (slots_from part image (area_count part.geometry) 1 part.first)) slot.bytes
-        ∙ chain-item part (λ area. area < area_count part.geometry) image
-        (area_count part.geometry) 1 part.first (interval_of part place) (slot_in part place)
-        (number_of place) stands.chain (omega (arith, fits)) (number-below place slot.bytes)
-        (mod-lt (number_of place - 1) (slots-some part stands.part_is)) parts
+        ∙ chain-item part (λ area. area < area_count part.geometry) image (slot_in part place)
+        (number_of place) (number-below place slot.bytes)
+        (mod-lt (number_of place - 1) (slots-some part stands.part_is))
+        (area_count part.geometry) 1 part.first (interval_of part place) stands.chain
+        (omega (arith, fits)) parts
 
 -- a record that it has may stand at its place
 pub slots-record : (part : Numbered) (from to : ℕ) (content : Content) (place bytes : List ℕ)
     → 0 < from → to ≤ 2 ^ 32 → AreSlotsOf part.most from to content
     → item_at content place ≡ Some (Standing bytes) → IsSlotRecord part place bytes
 slots-record part from to [] place bytes some fits all is = absurd cc
-slots-record part from to (entry ∷ content) place bytes some fits (number, one, least, below, more) is =
+slots-record part from to (entry ∷ content) place bytes some fits
+    (number, one, least, below, more) is =
     by_order (place_cmp place entry.0) refl is
     (slots-record part (suc number) to content place bytes (omega arith) fits more)
   where
@@ -223,9 +229,10 @@ pub slot-there : (part : Numbered) (image : Image) (content : Content)
     → (place : List ℕ) → IsSlotPlace place → interval_of part place < known.used
     → SlotIsThere part known image place
 slot-there part image content stands known knows place is within =
-    let reaches = chain-reaches part (λ area. area < area_count part.geometry) (IsSlots part) image
-    known (slot_read (slot_in part place)) (interval_of part place) stands.part_is stands.chain knows
-    within in
+    let reaches =
+    chain-reaches part (λ area. area < area_count part.geometry) (IsSlots part) image
+    known (slot_read (slot_in part place)) (interval_of part place) stands.part_is stands.chain
+    knows within in
     record {
       area = reaches.there;
       item = ap (found_on image) (way-there part place is) ∙ reaches.item;
