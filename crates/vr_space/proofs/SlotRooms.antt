@@ -1,7 +1,7 @@
 -- The intervals that the chain of a relative part has, and the room that is kept for its records.
 use Rattle.std.proofs.Common.{◌≡◌, ◌≢◌, ◌⊎◌, inl, inr, ⊎_elim, ◌<◌, ◌≤◌, ◌+◌, ◌-◌, ℕ, zero, suc}
 use Rattle.std.proofs.Common.{Bool, true, false, IsTrue, List, [], ◌∷◌, Option, Some, None, refl}
-use Rattle.std.proofs.Common.{sym, ap, subst, ◌∙◌, arith, cond, nat_lt}
+use Rattle.std.proofs.Common.{sym, subst, arith, cond, nat_lt}
 use Rattle.std.proofs.lemmas.Bool.Decides.{nat_tests}
 use Rattle.std.proofs.lemmas.List.Elements.{All-weaker, recursion_from_All}
 use Rattle.std.specs.List.{AllByRecursion}
@@ -17,10 +17,9 @@ use Rattle.vr_space.specs.Known.{Known}
 use Rattle.vr_space.specs.Owners.{Owners}
 use Rattle.vr_space.specs.Part.{CanSet, RelativeShape}
 use Rattle.vr_space.specs.Room.{Lengths, length_at, length_by}
-use Rattle.vr_space.specs.Rosters.{Chains, HasInterval, IsChained, IsGoingOn, IsInArea, IsNextOf, IsOf}
-use Rattle.vr_space.specs.Rosters.{IsOwnArea}
-use Rattle.vr_space.specs.Rosters.{Numbered, after_next, chain_way, interval_in, interval_way}
-use Rattle.vr_space.specs.Rosters.{roster_block, used_from}
+use Rattle.vr_space.specs.Rosters.{Chains, HasInterval, IsChained, IsGoingOn, IsInArea, IsNextOf}
+use Rattle.vr_space.specs.Rosters.{IsOf, IsOwnArea, Numbered, after_next, chain_way, interval_in}
+use Rattle.vr_space.specs.Rosters.{interval_way, roster_block, used_from}
 use Rattle.vr_space.specs.Slots.{HasKeptSlot, IsSlotPlace, KeepsSlots, interval_of, slot_fits}
 use Rattle.vr_space.specs.Slots.{AreSlotsSound, IsSlots, slot_in, slot_read, slot_way}
 use Rattle.vr_space.specs.Way.{Found, MayFind, Way}
