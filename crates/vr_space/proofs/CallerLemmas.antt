@@ -40,7 +40,8 @@ pub use Rattle.vr_space.proofs.Fewer.{under-self}
 pub use Rattle.vr_space.proofs.Intervals.{interval-owners, room-stage, stage-owners}
 pub use Rattle.vr_space.proofs.Standing.{item-read, left-is}
 pub use Rattle.vr_space.proofs.PlacesHeld.{read-place}
-pub use Rattle.vr_space.proofs.SlotRooms.{GrowsFrom, interval-grows, interval-less, interval-used}
+pub use Rattle.vr_space.proofs.SlotRooms.{GrowsFrom, GrowsTo, grows-same, interval-grows}
+pub use Rattle.vr_space.proofs.SlotRooms.{interval-less, interval-used, set-fits, slots-put}
 pub use Rattle.vr_space.proofs.SlotRooms.{used-interval, finds-interval, finds-slot, slots-grow}
 pub use Rattle.vr_space.proofs.SlotRooms.{slots-less, slot-kept, kept-slot-fits, any-length}
 pub use Rattle.vr_space.proofs.RecordsHeld.{record-read}
