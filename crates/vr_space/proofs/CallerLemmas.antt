@@ -45,8 +45,10 @@ pub use Rattle.vr_space.proofs.SlotRooms.{interval-less, interval-used, set-fits
 pub use Rattle.vr_space.proofs.SlotRooms.{used-interval, finds-interval, finds-slot, slots-grow}
 pub use Rattle.vr_space.proofs.SlotRooms.{slots-less, slot-kept, kept-slot-fits, any-length}
 pub use Rattle.vr_space.proofs.RecordsHeld.{record-read}
-pub use Rattle.vr_space.proofs.SlotNumbers.{four-rises, number-below, number-four, slots-below}
-pub use Rattle.vr_space.proofs.SlotNumbers.{slots-some, slots_up}
+pub use Rattle.vr_space.proofs.SlotNumbers.{four-rises, number-below, number-four}
+pub use Rattle.vr_space.proofs.SlotNumbers.{number-order, slots-below, slots-some, slots_up}
 pub use Rattle.vr_space.proofs.ChainWays.{Reaches, chain-ends, chain-has, chain-reaches, found-used}
+pub use Rattle.vr_space.proofs.ChainWays.{AreChained, UsedBetween, are-chained, chained-here}
+pub use Rattle.vr_space.proofs.ChainWays.{count-from}
 pub use Rattle.vr_space.proofs.SlotReads.{SlotIsThere, place-is, place-tested, read-used, slot-past}
 pub use Rattle.vr_space.proofs.SlotReads.{slot-place, slot-there, slot_block, way-there}
