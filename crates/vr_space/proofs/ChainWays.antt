@@ -1,17 +1,18 @@
 -- Ways over a chain of rosters in an image: which interval they reach, and where they end.
-use Rattle.std.proofs.Common.{◌≡◌, ◌⊎◌, inl, inr, ◌+◌, ◌-◌, ◌/◌, ◌%◌, ◌<◌, ◌≤◌, ℕ, zero, suc}
+use Rattle.std.proofs.Common.{◌≡◌, ◌⊎◌, inl, inr, ◌+◌, ◌-◌, ◌*◌, ◌/◌, ◌%◌, ◌<◌, ◌≤◌, ℕ, zero, suc}
 use Rattle.std.proofs.Common.{Bool, true, false, List, [], ◌∷◌, length, Option, Some, None, refl}
 use Rattle.std.proofs.Common.{sym}
 use Rattle.std.proofs.Common.{ap, subst, ◌∙◌, arith}
-use Rattle.std.specs.Prelude.{◌≢◌, cond, nat_lt, slice_index}
+use Rattle.std.specs.Prelude.{◌≢◌, All, cond, nat_lt, slice_index}
 use Rattle.std.proofs.Math.Nat.{div-eq-sub-div, div-eq_of_lt, mod-eq-sub-mod, mod-eq_of_lt}
+use Rattle.std.proofs.lemmas.List.Elements.{All-cons, All-nil}
 use Rattle.std.proofs.lemmas.Bool.{cases_lt, ltb-true, ltb-false}
 use Rattle.vr_types.specs.Geometry.{area_count}
 use Rattle.vr_types.specs.Content.{Item}
 use Rattle.vr_types.specs.Image.{Block, Image, block_at}
 use Rattle.vr_space.specs.Rosters.{Chains, IsChained, IsChainedBy, IsNextOf, IsNumbered, IsOf}
 use Rattle.vr_space.specs.Rosters.{Numbered}
-use Rattle.vr_space.specs.Rosters.{after_next, areas_from, chain_way, interval_in}
+use Rattle.vr_space.specs.Rosters.{after_next, areas_from, chain_of, chain_way, interval_in}
 use Rattle.vr_space.specs.Rosters.{interval_way, roster_at, roster_block, used_from, used_of}
 use Rattle.vr_space.specs.Known.{Known}
 use Rattle.vr_space.specs.Slots.{KnowsChain}
@@ -157,6 +158,81 @@ reaches-from part Own Interval image reached some (suc k) n area chain within =
         (found_on image (chain_way part reached k (n - whole) after)) least
         (more after chained (omega (arith, inside, all, least)))
 
+-- ---- its areas
+
+-- each of them is one that the chain may go on in
+owns-from : (part : Numbered) (Own : ℕ → Type 0) (Interval : Block → Type 0) (image : Image)
+    (k area : ℕ) → Chains part Own Interval (IsOf image) k area
+    → All Own (areas_from part image k area)
+owns-from part Own Interval image zero area chain = absurd chain
+owns-from part Own Interval image (suc k) area chain =
+    All-cons Own area (after_next [] (areas_from part image k) (roster_at part image area).next)
+    chain.0
+    (by_next (roster_at part image area).next
+    (chained-here part Own Interval image k area chain).next
+    (λ after. owns-from part Own Interval image k after))
+  where
+    by_next : (next : Option ℕ)
+        → IsNextOf (roster_at part image area).used part.geometry.area
+        (Chains part Own Interval (IsOf image) k) next
+        → ((after : ℕ) → Chains part Own Interval (IsOf image) k after
+        → All Own (areas_from part image k after))
+        → All Own (after_next [] (areas_from part image k) next)
+    by_next None rule more = All-nil Own
+    by_next (Some after) rule more = more after rule.1
+
+pub count-from : (part : Numbered) (image : Image) (k area : ℕ)
+    → length (areas_from part image k area) ≤ k
+count-from part image zero area = omega arith
+count-from part image (suc k) area =
+    by_next (roster_at part image area).next (λ after. count-from part image k after)
+  where
+    by_next : (next : Option ℕ)
+        → ((after : ℕ) → length (areas_from part image k after) ≤ k)
+        → length (area ∷ after_next [] (areas_from part image k) next) ≤ suc k
+    by_next None more = omega arith
+    by_next (Some after) more = omega (arith, more after)
+
+-- The areas but the last are used whole, and the last at most so.
+pub record UsedBetween (part : Numbered) (areas : List ℕ) (used : ℕ) : Type 0 where
+  pub least : length areas * part.geometry.area ≤ used + part.geometry.area
+  pub most : used ≤ length areas * part.geometry.area
+
+used-between : (part : Numbered) (Own : ℕ → Type 0) (Interval : Block → Type 0) (image : Image)
+    (k area : ℕ) → Chains part Own Interval (IsOf image) k area
+    → UsedBetween part (areas_from part image k area) (used_from part image k area)
+used-between part Own Interval image zero area chain = absurd chain
+used-between part Own Interval image (suc k) area chain =
+    by_next (roster_at part image area).next here.next
+    (λ after. used-between part Own Interval image k after)
+  where
+    here : IsChainedBy part Interval (IsOf image) area (Chains part Own Interval (IsOf image) k)
+        (block_at image (roster_block part area))
+    here = chained-here part Own Interval image k area chain
+
+    used : ℕ
+    used = (roster_at part image area).used
+
+    whole : ℕ
+    whole = part.geometry.area
+
+    by_next : (next : Option ℕ)
+        → IsNextOf used whole (Chains part Own Interval (IsOf image) k) next
+        → ((after : ℕ) → Chains part Own Interval (IsOf image) k after
+        → UsedBetween part (areas_from part image k after) (used_from part image k after))
+        → UsedBetween part (area ∷ after_next [] (areas_from part image k) next)
+        (used + after_next 0 (used_from part image k) next)
+    by_next None rule more = record {
+      least = omega arith;
+      most = omega (arith, here.roster.spelled.rules.used);
+    }
+    by_next (Some after) (all, rule) more =
+        let further = more after rule in
+        record {
+          least = omega (arith, all, further.least);
+          most = omega (arith, all, further.most);
+        }
+
 -- ---- as the areas are kept in memory
 
 -- an interval that is used is reached in its area
@@ -191,3 +267,26 @@ found-used part Own Interval image reached n chain some =
     by_order (inr past) = absurd
         (some (ends-from part Own Interval image reached (area_count part.geometry) n part.first
         chain past))
+
+-- The areas that are kept are those that the chain may go on in, as many as the volume has at most.
+pub record AreChained (part : Numbered) (Own : ℕ → Type 0) (known : Known) : Type 0 where
+  pub own : All Own known.areas
+  pub count : length known.areas ≤ area_count part.geometry
+  pub used : UsedBetween part known.areas known.used
+
+pub are-chained : (part : Numbered) (Own : ℕ → Type 0) (Interval : Block → Type 0)
+    (image : Image) (known : Known) → IsChained part Own Interval (IsOf image)
+    → KnowsChain part known image → AreChained part Own known
+are-chained part Own Interval image known chain knows =
+    let count = area_count part.geometry in
+    let between : UsedBetween part (chain_of part image) (used_of part image) =
+    used-between part Own Interval image count part.first chain in
+    record {
+      own = subst (All Own) (sym knows.areas)
+          (owns-from part Own Interval image count part.first chain);
+      count = subst (λ (areas : List ℕ). length areas ≤ count) (sym knows.areas)
+          (count-from part image count part.first);
+      used = subst (UsedBetween part known.areas) (sym knows.used)
+          (subst (λ (areas : List ℕ). UsedBetween part areas (used_of part image))
+          (sym knows.areas) between);
+    }

@@ -5,14 +5,12 @@ use Rattle.std.proofs.Common.{List, [], ◌∷◌, Option, Some, None, refl, ap,
 use Rattle.std.proofs.Common.{if◌then◌else◌, ltb-true, slice_index, subst, sym, ⊎_elim}
 use Rattle.std.proofs.Math.Nat.{div-eq-sub-div, div-eq_of_lt, div-mul-le_self, mul-le-mul_right}
 use Rattle.std.proofs.lemmas.Bool.{cases_lt}
-use Rattle.vr_types.specs.Geometry.{area_count, head_block}
+use Rattle.vr_types.specs.Geometry.{area_count}
 use Rattle.vr_types.specs.Image.{Block, Image, block_at}
-use Rattle.vr_types.specs.declared.geometry.Geometry.{Geometry}
 use Rattle.vr_seqset.specs.Reading.{roster_in}
-use Rattle.vr_seqset.specs.Roster.{Roster}
 use Rattle.vr_space.specs.Rosters.{Chains, IsChainedBy, IsInArea, IsNextOf, IsRosterOf, Numbered}
 use Rattle.vr_space.specs.Rosters.{after_next, areas_from, chain_way, interval_in, roster_at}
-use Rattle.vr_space.specs.Rosters.{roster_block, used_from, way_by}
+use Rattle.vr_space.specs.Rosters.{roster_block, used_from}
 use Rattle.vr_space.specs.Way.{Found, IsWithin, Way}
 
 -- ---- blocks of an area

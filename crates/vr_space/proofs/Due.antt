@@ -1,6 +1,6 @@
 -- What has to be forced so that a crash leaves the current item alone, as what may be left of the
 -- part's blocks shrinks.
-use Rattle.std.proofs.Common.{◌≡◌, ◌⊎◌, inr, ℕ, List, [], Option, sym, ◌∙◌, refl, arith}
+use Rattle.std.proofs.Common.{◌≡◌, inr, ℕ, List, [], Option, sym, ◌∙◌, refl, arith}
 use Rattle.vr_types.specs.Content.{Item}
 use Rattle.vr_types.specs.Image.{Block}
 use Rattle.vr_types.specs.Seen.{Left, Seen}

@@ -18,10 +18,10 @@ use Rattle.vr_space.specs.Room.{Lengths, Range}
 use Rattle.vr_space.specs.Known.{Known}
 use Rattle.vr_space.specs.Slots.{areas_short, interval_of, slot_fits, slot_room_by}
 use Rattle.vr_space.specs.Split.{IsIntervalStage, SplitNow, free_interval, keyed_fits, room_after}
-use Rattle.vr_space.specs.Split.{room_by, room_by_split, stage_at, stage_in}
+use Rattle.vr_space.specs.Split.{room_by, room_by_split, stage_in}
 use Rattle.vr_space.specs.UnderWay.{IsReadyFor, KeyedUnderWay}
 use Rattle.vr_space.specs.declared.room.Room.{Room}
-use Rattle.vr_space.specs.declared.room.Room.TheVariants.{NoSpace, Ready, Stage}
+use Rattle.vr_space.specs.declared.room.Room.TheVariants.{NoSpace, Stage}
 
 -- a split under way is at one of them
 stage-ready : (part : Keyed) (split : SplitNow) (now : Seen) (stage : StageKind)

@@ -8,11 +8,11 @@ use Rattle.vr_types.specs.Geometry.{area_count}
 use Rattle.vr_types.specs.Image.{Block, Image, block_at}
 use Rattle.vr_types.specs.Seen.{Seen}
 use Rattle.vr_types.proofs.CallerLemmas.{cur-elsewhere}
-use Rattle.vr_space.specs.Keyed.{InArea, Keyed, keyed_way}
+use Rattle.vr_space.specs.Keyed.{InArea, keyed_way}
 use Rattle.vr_space.specs.Owners.{Owners}
 use Rattle.vr_space.specs.Part.{InFirstArea, InPart, IsAtRest, IsQuiet, IsSound, KeyedShape, MayHold}
 use Rattle.vr_space.specs.Part.{RelativeShape, Shape, way_to}
-use Rattle.vr_space.specs.Rosters.{Chains, IsInArea, IsOwnArea, Numbered, interval_way, roster_block}
+use Rattle.vr_space.specs.Rosters.{IsInArea, IsOwnArea, Numbered, interval_way, roster_block}
 use Rattle.vr_space.specs.Slots.{AreSlotsAtRest, AreSlotsSound, IsNumberedOn, IsRestingArea, IsSlots}
 use Rattle.vr_space.specs.Slots.{interval_of, is_slot_place, slot_in, slot_read, slot_way}
 use Rattle.vr_space.specs.Way.{Found, IsWithin}

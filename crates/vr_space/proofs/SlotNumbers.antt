@@ -1,17 +1,20 @@
 -- The numbers of slots: their places in four bytes, and how many there may be.
-use Rattle.std.proofs.Common.{◌≡◌, ◌+◌, ◌-◌, ◌*◌, ◌/◌, ◌%◌, ◌^◌, ◌<◌, ◌≤◌}
+use Rattle.std.proofs.Common.{◌≡◌, ◌⊎◌, inl, inr, ap, ◌∙◌, ◌+◌, ◌-◌, ◌*◌, ◌/◌, ◌%◌, ◌^◌, ◌<◌, ◌≤◌}
 use Rattle.std.proofs.Common.{ℕ, zero, suc, List, sym, subst, arith}
-use Rattle.std.specs.Ordering.{nat_cmp, ordering_then}
+use Rattle.std.specs.Cmp.{nat_cmp_is}
+use Rattle.std.specs.Ordering.{nat_cmp, ordering_reverse, ordering_then}
 use Rattle.std.specs.declared.cmp.Ordering.{Ordering}
-use Rattle.std.specs.declared.cmp.Ordering.TheVariants.{Less}
+use Rattle.std.specs.declared.cmp.Ordering.TheVariants.{Less, Equal, Greater}
 use Rattle.std.proofs.Math.Nat.{div-mul-le_self, le-div_iff_mul-le, mul-le-mul, mul-le-mul_left}
-use Rattle.std.proofs.lemmas.Cmp.{ranked}
+use Rattle.std.proofs.lemmas.Bool.{cases_lt}
+use Rattle.std.proofs.lemmas.Cmp.{nat_list_cmp_total, ranked}
 use Rattle.std.proofs.lemmas.Nat.{from_be_bytes-to_be_bytes_4}
 use Rattle.vr_types.specs.Content.{place_cmp}
 use Rattle.vr_types.specs.Fields.{four}
 use Rattle.vr_types.specs.Geometry.{area_count}
 use Rattle.vr_space.specs.Rosters.{IsNumbered, Numbered}
-use Rattle.vr_space.specs.Slots.{number_of, slots_of}
+use Rattle.vr_space.specs.Slots.{IsSlotPlace, number_of, slots_of}
+use Rattle.vr_space.proofs.Places.{same_is_equal}
 
 -- ---- numbers in four bytes
 
@@ -42,6 +45,32 @@ four-below n = omega arith
 pub number-below : (place : List ℕ) → place ≡ four (number_of place) → number_of place < 2 ^ 32
 number-below place spelled =
     subst (λ (p : List ℕ). number_of p < 2 ^ 32) (sym spelled) (four-below (number_of place))
+
+-- places of slots are in the order of their numbers
+pub number-order : (one other : List ℕ) → IsSlotPlace one → IsSlotPlace other
+    → place_cmp one other ≡ nat_cmp (number_of one) (number_of other)
+number-order one other first second =
+    subst (λ (p : List ℕ). place_cmp p other ≡ nat_cmp m n) (sym first.bytes)
+    (subst (λ (p : List ℕ). place_cmp (four m) p ≡ nat_cmp m n) (sym second.bytes)
+    (by_less (cases_lt m n) (cases_lt n m)))
+  where
+    m : ℕ
+    m = number_of one
+
+    n : ℕ
+    n = number_of other
+
+    by_less : (m < n) ⊎ (n ≤ m) → (n < m) ⊎ (m ≤ n) → place_cmp (four m) (four n) ≡ nat_cmp m n
+    by_less (inl less) turned =
+        four-rises m n less (number-below other second.bytes) ∙ nat_cmp_is m n Less less
+    by_less (inr most) (inl less) =
+        nat_list_cmp_total.antisymm (four m) (four n)
+        ∙ ap ordering_reverse (four-rises n m less (number-below one first.bytes))
+        ∙ nat_cmp_is m n Greater less
+    by_less (inr most) (inr least) =
+        let same : m ≡ n = omega (arith, most, least) in
+        subst (λ (k : ℕ). place_cmp (four m) (four k) ≡ Equal) same (same_is_equal (four m))
+        ∙ nat_cmp_is m n Equal same
 
 -- ---- how many there may be
 

@@ -1,7 +1,7 @@
 -- The intervals that the chain of a relative part has, and the room that is kept for its records.
 use Rattle.std.proofs.Common.{◌≡◌, ◌≢◌, ◌⊎◌, inl, inr, ⊎_elim, ◌<◌, ◌≤◌, ◌+◌, ◌-◌, ℕ, zero, suc}
 use Rattle.std.proofs.Common.{Bool, true, false, IsTrue, List, [], ◌∷◌, Option, Some, None, refl}
-use Rattle.std.proofs.Common.{sym, ap, subst, ◌∙◌, arith, cond, nat_lt}
+use Rattle.std.proofs.Common.{sym, subst, arith, cond, nat_lt}
 use Rattle.std.proofs.lemmas.Bool.Decides.{nat_tests}
 use Rattle.std.proofs.lemmas.List.Elements.{All-weaker, recursion_from_All}
 use Rattle.std.specs.List.{AllByRecursion}
@@ -9,16 +9,22 @@ use Rattle.std.specs.declared.cmp.Ordering.{Ordering}
 use Rattle.std.specs.declared.cmp.Ordering.TheVariants.{Less, Equal, Greater}
 use Rattle.vr_types.specs.Content.{Item, place_cmp}
 use Rattle.vr_types.specs.Geometry.{area_count}
-use Rattle.vr_types.specs.Image.{Block, Image, block_at}
+use Rattle.vr_types.specs.Image.{Block, Image, MayAlso, block_at}
+use Rattle.vr_types.specs.Seen.{Left, Seen}
 use Rattle.vr_types.proofs.CallerLemmas.{same_place}
 use Rattle.vr_seqset.specs.Reading.{roster_in}
+use Rattle.vr_space.specs.Known.{Known}
+use Rattle.vr_space.specs.Owners.{Owners}
+use Rattle.vr_space.specs.Part.{CanSet, RelativeShape}
 use Rattle.vr_space.specs.Room.{Lengths, length_at, length_by}
-use Rattle.vr_space.specs.Rosters.{Chains, HasInterval, IsChained, IsGoingOn, IsNextOf, IsOf}
-use Rattle.vr_space.specs.Rosters.{Numbered, after_next, chain_way, interval_in, interval_way}
-use Rattle.vr_space.specs.Rosters.{roster_block, used_from}
+use Rattle.vr_space.specs.Rosters.{Chains, HasInterval, IsChained, IsGoingOn, IsInArea, IsNextOf}
+use Rattle.vr_space.specs.Rosters.{IsOf, IsOwnArea, Numbered, after_next, chain_way, interval_in}
+use Rattle.vr_space.specs.Rosters.{interval_way, roster_block, used_from}
 use Rattle.vr_space.specs.Slots.{HasKeptSlot, IsSlotPlace, KeepsSlots, interval_of, slot_fits}
-use Rattle.vr_space.specs.Slots.{slot_in, slot_read, slot_way}
+use Rattle.vr_space.specs.Slots.{AreSlotsSound, IsSlots, slot_in, slot_read, slot_way}
 use Rattle.vr_space.specs.Way.{Found, MayFind, Way}
+use Rattle.vr_space.proofs.Chains.{chain-less, roster-inside}
+use Rattle.vr_space.proofs.PartBlocks.{IsPartBlock, area-owned}
 use Rattle.vr_space.proofs.SlotReads.{place-tested}
 
 -- ---- the next area
@@ -39,13 +45,25 @@ next-stays Then (Some area) next stays going = ⊎_elim (λ none. absurd cc)
 
 -- ---- intervals of a chain
 
--- Each roster of the area that is allowed now has what one had that was allowed before: it may have
--- more intervals used, and a next area where there was none.
+-- The roster has what one had that was allowed of the area: it may have more intervals used, and a
+-- next area where there was none.
+pub record GrowsTo (part : Numbered) (old : ℕ → Block → Type 0) (area : ℕ) (top : Block) : Type 0
+  where
+    pub before : Block
+    pub allowed : old (roster_block part area) before
+    pub used : (roster_in before).used ≤ (roster_in top).used
+    pub next : ((roster_in before).next ≡ None) ⊎ ((roster_in top).next ≡ (roster_in before).next)
+
+-- so has each roster of the area that is allowed now
 abbrev pub GrowsFrom : Numbered → (ℕ → Block → Type 0) → (ℕ → Block → Type 0) → ℕ → Type 0
 GrowsFrom part old new area = (top : Block) → new (roster_block part area) top
-    → (before : Block) × old (roster_block part area) before
-    × ((roster_in before).used ≤ (roster_in top).used)
-    × (((roster_in before).next ≡ None) ⊎ ((roster_in top).next ≡ (roster_in before).next))
+    → GrowsTo part old area top
+
+-- as where it was allowed before
+pub grows-same : (part : Numbered) (old : ℕ → Block → Type 0) (area : ℕ) (top : Block)
+    → old (roster_block part area) top → GrowsTo part old area top
+grows-same part old area top allowed =
+    record { before = top; allowed = allowed; used = omega arith; next = inr refl }
 
 -- A chain that grows keeps each interval that it had.
 pub interval-grows : (part : Numbered) (Own : ℕ → Type 0) (Interval : Block → Type 0)
@@ -56,15 +74,15 @@ interval-grows part Own Interval old new grows zero n area chain has = has
 interval-grows part Own Interval old new grows (suc k) n area chain has = λ top may.
     let from = grows area chain.0 top may in
     let further : ℕ = n - part.geometry.area in
-    ⊎_elim (λ here. inl (omega (arith, here, from.2)))
-    (λ after. inr (next-stays (HasInterval part new k further) (roster_in from.0).next
-    (roster_in top).next from.3
-    (next-goes (roster_in from.0).used part.geometry.area (Chains part Own Interval old k)
-    (HasInterval part old k further) (HasInterval part new k further) (roster_in from.0).next
-    (chain.1 from.0 from.1).next after
+    ⊎_elim (λ here. inl (omega (arith, here, from.used)))
+    (λ after. inr (next-stays (HasInterval part new k further) (roster_in from.before).next
+    (roster_in top).next from.next
+    (next-goes (roster_in from.before).used part.geometry.area (Chains part Own Interval old k)
+    (HasInterval part old k further) (HasInterval part new k further) (roster_in from.before).next
+    (chain.1 from.before from.allowed).next after
     (λ next chained have. interval-grows part Own Interval old new grows k further next chained
     have))))
-    (has from.0 from.1)
+    (has from.before from.allowed)
 
 -- The chain has the interval too where less is allowed of the rosters.
 pub interval-less : (part : Numbered) (Own : ℕ → Type 0) (Interval : Block → Type 0)
@@ -75,7 +93,7 @@ pub interval-less : (part : Numbered) (Own : ℕ → Type 0) (Interval : Block �
     → HasInterval part less k n area
 interval-less part Own Interval less more each k n area chain has =
     interval-grows part Own Interval more less
-    (λ here own top may. (top, each here own top may, omega arith, inr refl)) k n area chain has
+    (λ here own top may. grows-same part more here top (each here own top may)) k n area chain has
 
 -- ---- the intervals that an image has
 
@@ -176,7 +194,24 @@ pub slots-less : (part : Numbered) (Own : ℕ → Type 0) (Interval : Block → 
     → IsChained part Own Interval more → KeepsSlots part kept more → KeepsSlots part kept less
 slots-less part Own Interval less more kept each chain room =
     slots-grow part Own Interval more less kept
-    (λ here own top may. (top, each here own top may, omega arith, inr refl)) chain room
+    (λ here own top may. grows-same part more here top (each here own top may)) chain room
+
+-- So does a put into a block, where a roster that it replaces grows: in what a crash may leave, and
+-- in each image.
+pub slots-put : (part : Numbered) (owners : Owners) (kept : Lengths) (n : ℕ) (bytes : Block)
+    (now : Seen) (new : ℕ → Block → Type 0) → AreSlotsSound part owners now
+    → ((m : ℕ) (block : Block) → IsPartBlock (RelativeShape part) owners now m → new m block
+    → MayAlso now.may n bytes m block)
+    → ((area : ℕ) → IsOwnArea part owners area → roster_block part area ≡ n
+    → GrowsTo part now.may area bytes)
+    → KeepsSlots part kept now.may → KeepsSlots part kept new
+slots-put part owners kept n bytes now new sound adds grows room =
+    slots-grow part (IsOwnArea part owners) (IsSlots part) now.may new kept
+    (λ area own top may. ⊎_elim (λ old. grows-same part now.may area top old)
+    (λ put. subst (GrowsTo part now.may area) (sym put.1) (grows area own put.0))
+    (adds (roster_block part area) top
+    (area-owned part owners now sound.on area own (roster_block part area)
+    (roster-inside part area)) may)) sound.chain room
 
 -- the length that is kept counts for nothing
 pub any-length : (part : Numbered) (may : ℕ → Block → Type 0) (first entry : List ℕ × ℕ)
@@ -219,6 +254,27 @@ kept-slot-fits part Own Interval image kept place n chain room is =
     let below = interval-used part Own Interval image _ (interval_of part place) part.first chain
     (slot-kept part (IsOf image) kept place n room is).interval in
     grind (arith, nat_tests, below)
+
+-- A slot that may be set has its interval.
+pub set-fits : (part : Numbered) (owners : Owners) (known : Known) (kept : Lengths)
+    (place bytes : List ℕ) (now : Seen) → AreSlotsSound part owners now → Left now now.cur
+    → KeepsSlots part kept now.may
+    → CanSet (RelativeShape part) known now.cur kept place (Some bytes)
+    → IsTrue (slot_fits part now.cur place)
+set-fits part owners known kept place bytes now sound left room can =
+    let current : (area : ℕ) → IsOwnArea part owners area → (n : ℕ) → IsInArea part area n
+    → (block : Block) → IsOf now.cur n block → now.may n block =
+    λ area own n inside block is. subst (now.may n) (sym is)
+    (left.each n (area-owned part owners now sound.on area own n inside).0) in
+    ⊎_elim (λ fits. fits)
+    (λ among. kept-slot-fits part (IsOwnArea part owners) (IsSlots part) now.cur kept place among.0
+    (chain-less part (IsOwnArea part owners) (IsOwnArea part owners) (IsSlots part)
+    (IsOf now.cur) now.may (λ area own. own) current (area_count part.geometry) part.first
+    sound.chain)
+    (slots-less part (IsOwnArea part owners) (IsSlots part) (IsOf now.cur) now.may kept
+    (λ area own top is. current area own (roster_block part area) (roster-inside part area) top is)
+    sound.chain room) among.1)
+    can.room
 
 -- The place of a record that each way finds may be kept.
 pub finds-slot : (part : Numbered) (may : ℕ → Block → Type 0) (place : List ℕ) (n : ℕ)

@@ -2,7 +2,7 @@
 use Rattle.std.proofs.Common.{◌≡◌, ◌≢◌, ◌⊎◌, inl, inr, ⊎_elim, ◌<◌, ◌≤◌, ◌+◌, ◌-◌, ◌/◌, ℕ, zero}
 use Rattle.std.proofs.Common.{suc}
 use Rattle.std.proofs.Common.{Bool, IsTrue, true, false, List, Option, Some, None}
-use Rattle.std.proofs.Common.{All, refl, sym, ap, subst, ◌∙◌, arith, unwrap_or}
+use Rattle.std.proofs.Common.{refl, sym, ap, subst, ◌∙◌, arith, unwrap_or}
 use Rattle.std.specs.Prelude.{cond, IfSome, slice_index, nat_eq, min}
 use Rattle.std.specs.List.{list_any, flat_map}
 use Rattle.vr_types.specs.Image.{Block, Image, block_at}
