@@ -1,35 +1,40 @@
 -- What calls of a part add to what its places may hold, one after another, and what a force leaves.
 use Rattle.std.proofs.Common.{◌≡◌, ◌⊎◌, inl, inr, ⊎_elim, ◌<◌, ℕ, Bool, IsTrue, true, false, List}
-use Rattle.std.proofs.Common.{[], Option, Some, None, refl, sym, ap, ◌∙◌, arith, length}
-use Rattle.std.proofs.Common.{◌≤◌}
-use Rattle.std.specs.Prelude.{IfSome}
+use Rattle.std.proofs.Common.{[], Option, Some, None, refl, sym, ap, subst, ◌∙◌, arith, length}
+use Rattle.std.proofs.Common.{◌≤◌, cond, nat_le}
 use Rattle.vr_types.specs.Content.{Content, Item, item_at}
+use Rattle.vr_types.specs.Geometry.{area_count}
 use Rattle.vr_types.specs.Image.{Block, Image, block_at}
 use Rattle.vr_types.specs.Seen.{Seen, Left}
 use Rattle.vr_types.specs.Blocks.{Keeps, Forced}
 use Rattle.vr_types.specs.Regions.{IsImageOn}
 use Rattle.vr_types.proofs.CallerLemmas.{touches-then, touches-weaken, keeps-touches}
 use Rattle.vr_types.specs.declared.unit.StageKind.{StageKind}
+use Rattle.vr_types.specs.declared.unit.StageKind.TheVariants.{Extend}
 use Rattle.vr_space.specs.declared.room.Room.{Room}
-use Rattle.vr_space.specs.declared.room.Room.TheVariants.{Ready, NoSpace}
-use Rattle.vr_space.specs.Way.{MayOnceForced}
+use Rattle.vr_space.specs.declared.room.Room.TheVariants.{Ready, NoSpace, Stage}
 use Rattle.vr_space.specs.Room.{Lengths, length_at}
 use Rattle.vr_space.specs.Known.{Known}
 use Rattle.vr_space.specs.Split.{SplitNow, keyed_stage, keyed_fits, room_after, room_by}
 use Rattle.vr_space.specs.Split.{room_by_split, free_interval}
-use Rattle.vr_space.specs.Keyed.{IsKeyedSound, Keyed, entries_of, keyed_way}
+use Rattle.vr_space.specs.Keyed.{entries_of}
 use Rattle.vr_space.specs.Owners.{Owners}
-use Rattle.vr_space.specs.Part.{Shape, KeyedShape, RelativeShape, InPart, StandsFor, Stands}
-use Rattle.vr_space.specs.Part.{HasOnly, MayHold}
-use Rattle.vr_space.specs.Part.{MayAlsoHold, Nothing, AddsTo, IsSound, IsAtRest, HasKeptRoom}
+use Rattle.vr_space.specs.Part.{Shape, KeyedShape, RelativeShape, InPart, StandsFor, Stands, HasOnly}
+use Rattle.vr_space.specs.Part.{MayHold, MayAlsoHold, Nothing, AddsTo, IsSound, IsAtRest}
+use Rattle.vr_space.specs.Part.{IsLengthOf, IsOn, IsRecordOf, StaysIn}
 use Rattle.vr_space.specs.Part.{way_to, item_of, left_by, SameRecords, SetsOne, IsDueTo, DueMore, IsFirm}
-use Rattle.vr_space.specs.Part.{CanSet, DueMoreAt}
-use Rattle.vr_space.specs.Part.{room_of, stage_of, fits_at}
-use Rattle.vr_space.proofs.Ways.{find-more, within-less}
-use Rattle.vr_space.proofs.KeyedContent.{way-content}
+use Rattle.vr_space.specs.Part.{CanSet, room_of, stage_of, fits_at}
+use Rattle.vr_space.specs.Rosters.{IsInArea, IsOf, IsOwnArea, Numbered}
+use Rattle.vr_space.specs.Slots.{AreSlotsSound, IsSlots, SlotsStayIn, areas_short, interval_of}
+use Rattle.vr_space.specs.Slots.{slot_fits, slot_room_by, slots_from}
+use Rattle.vr_space.proofs.Chains.{chain-less}
+use Rattle.vr_space.proofs.Due.{due-fewer, due-firm}
+use Rattle.vr_space.proofs.PartBlocks.{IsPartBlock, area-owned, holds-less, on-less, rest-stays}
+use Rattle.vr_space.proofs.PartBlocks.{sound-less, stays-keeps, way-within}
 use Rattle.vr_space.proofs.SlotReads.{slots-item}
-use Rattle.vr_space.proofs.KeyedSound.{keyed-within, keyed-image, keyed-less, each-less, head-in}
-use Rattle.vr_space.proofs.KeyedSound.{head-ascends, IsBlock}
+use Rattle.vr_space.proofs.Ways.{found-may}
+use Rattle.vr_space.proofs.KeyedContent.{way-content}
+use Rattle.vr_space.proofs.KeyedSound.{keyed-image, head-ascends}
 
 -- ---- one after another
 
@@ -99,29 +104,7 @@ then-nothing shape owners A a b c first second =
     adds-weaken shape owners _ A a c (adds-then shape owners A Nothing a b c first second)
     (λ place item. ⊎_elim (λ new. new) (λ none. absurd none))
 
--- ---- at rest
-
--- what is at rest is sound
-pub rest-sound : (shape : Shape) (owners : Owners) (now : Seen) → IsAtRest shape owners now
-    → IsSound shape owners now
-rest-sound (KeyedShape part) owners now (rests, owned) = (rests.sound, owned)
-
--- each image stands for a content, of things that may be held
-pub sound-image : (shape : Shape) (owners : Owners) (now : Seen) → IsSound shape owners now
-    → (image : Image) → IsImageOn (InPart shape owners) now.count now.may image
-    → HasOnly shape owners (MayHold shape now.may) image
-sound-image (KeyedShape part) owners now sound image left =
-    keyed-image part now owners sound image left
-
--- the current blocks stand for a content
-pub rest-stands : (shape : Shape) (owners : Owners) (now : Seen) → IsSound shape owners now
-    → Left now now.cur → Stands shape now.cur
-rest-stands shape owners now sound left =
-    let has = sound-image shape owners now sound now.cur (record {
-      each =
-          λ n below is. left.each n below;
-    }) in
-    (has.content, has.stands)
+-- ---- what images have
 
 -- a content has at each place the item that is there
 pub content_item : (shape : Shape) (image : Image) (content : Content)
@@ -134,60 +117,88 @@ content_item (KeyedShape part) image content stands place =
 content_item (RelativeShape part) image content stands place =
     slots-item part image content stands place
 
+slots-stand : (part : Numbered) (owners : Owners) (now : Seen) → AreSlotsSound part owners now
+    → (image : Image) → IsImageOn (InPart (RelativeShape part) owners) now.count now.may image
+    → Stands (RelativeShape part) image × SlotsStayIn part owners image
+slots-stand part owners now sound image left =
+    let each : (area : ℕ) → IsOwnArea part owners area → (n : ℕ) → IsInArea part area n
+    → (block : Block) → IsOf image n block → now.may n block =
+    λ area own n inside block is.
+    let there : IsPartBlock (RelativeShape part) owners now n =
+    area-owned part owners now sound.on area own n inside in
+    subst (now.may n) (sym is) (left.each n there.0 there.1) in (
+      (
+        slots_from part image (area_count part.geometry) 1 part.first,
+        record {
+          part_is = sound.on.part_is;
+          chain = chain-less part (IsOwnArea part owners)
+              (λ area. area < area_count part.geometry) (IsSlots part) (IsOf image) now.may
+              (λ area own. own.there) each (area_count part.geometry) part.first sound.chain;
+          records = refl;
+        },
+      ),
+      chain-less part (IsOwnArea part owners) (IsOwnArea part owners) (IsSlots part) (IsOf image)
+          now.may (λ area own. own) each (area_count part.geometry) part.first sound.chain,
+    )
+
+-- each image stands for a content, in blocks of the part alone,
+sound-stands : (shape : Shape) (owners : Owners) (now : Seen) → IsSound shape owners now
+    → (image : Image) → IsImageOn (InPart shape owners) now.count now.may image
+    → Stands shape image × StaysIn shape owners image
+sound-stands (KeyedShape part) owners now sound image left =
+    let has = keyed-image part now owners sound image left in
+    ((has.content, has.stands), has.within)
+sound-stands (RelativeShape part) owners now sound image left =
+    slots-stand part owners now sound image left
+
+-- and of things that may be held
+pub sound-image : (shape : Shape) (owners : Owners) (now : Seen) → IsSound shape owners now
+    → (image : Image) → IsImageOn (InPart shape owners) now.count now.may image
+    → HasOnly shape owners (MayHold shape now.may) image
+sound-image shape owners now sound image left =
+    let has = sound-stands shape owners now sound image left in
+    record {
+      content = has.0.0;
+      stands = has.0.1;
+      within = has.1;
+      each = λ place. subst (λ (item : Option Item). MayHold shape now.may place item)
+          (sym (content_item shape image has.0.0 has.0.1 place))
+          (found-may (IsPartBlock shape owners now) now.may image (λ n is. left.each n is.0 is.1)
+          (way_to shape place) (way-within shape owners now sound place));
+    }
+
+-- the current blocks stand for a content
+pub rest-stands : (shape : Shape) (owners : Owners) (now : Seen) → IsSound shape owners now
+    → Left now now.cur → Stands shape now.cur
+rest-stands shape owners now sound left =
+    let has = sound-image shape owners now sound now.cur (record {
+      each =
+          λ n below is. left.each n below;
+    }) in
+    (has.content, has.stands)
+
 -- ---- calls that put nothing
 
 module _ (tells : Bool) (told : IsTrue tells) where
-  fewer : (a b : Seen) → Keeps tells a b → (part : Keyed) (n : ℕ) (block : Block)
-      → IsBlock part a n → b.may n block → a.may n block
-  fewer a b call part n block is may = call.adds_none told n block is.0 may
-
-  keyed-keeps : (part : Keyed) (a b : Seen) → Keeps tells a b → IsKeyedSound part a
-      → IsKeyedSound part b
-  keyed-keeps part a b call sound =
-      keyed-less part a b call.count_same call.size_same (fewer a b call part) sound
-
   pub sound-keeps : (shape : Shape) (owners : Owners) (a b : Seen) → Keeps tells a b
       → IsSound shape owners a → IsSound shape owners b
-  sound-keeps (KeyedShape part) owners a b call (sound, owned) = (keyed-keeps part a b call sound, owned)
+  sound-keeps shape owners a b call = sound-less a b shape owners call.count_same call.size_same
+      (λ n block is may. call.adds_none told n block is.0 may)
 
   pub rest-keeps : (shape : Shape) (owners : Owners) (a b : Seen) → Keeps tells a b
       → IsAtRest shape owners a → IsAtRest shape owners b
-  rest-keeps (KeyedShape part) owners a b call (rests, owned) = (
-    record {
-      sound = keyed-keeps part a b call rests.sound;
-      one_head = λ top may. rests.one_head top
-          (call.adds_none told part.head top (omega (arith, rests.sound.area)) may)
-          ∙ sym (ap (λ (image : Image). block_at image part.head) (call.content told));
-    },
-    owned,
-  )
-
-  pub room-keeps : (shape : Shape) (owners : Owners) (kept : Lengths) (a b : Seen) → Keeps tells a b
-      → IsSound shape owners a → HasKeptRoom shape kept a
-      → HasKeptRoom shape kept b
-  room-keeps (KeyedShape part) owners kept a b call (sound, owned) room =
-      record {
-        places = room.places;
-        each = λ top may.
-            let before : a.may part.head top =
-            call.adds_none told part.head top (omega (arith, sound.area)) may in
-            each-less part a b _ None (entries_of top) (fewer a b call part) sound.area
-            (head-in part top (sound.heads top before)) (room.each top before);
-      }
+  rest-keeps shape owners a b call =
+      rest-stays a b shape owners (stays-keeps tells told a b call shape owners)
 
   pub keeps-adds : (shape : Shape) (owners : Owners) (a b : Seen) → Keeps tells a b
       → IsSound shape owners a → AddsTo shape owners Nothing a b
-  keeps-adds (KeyedShape part) owners a b call (sound, owned) = record {
-    touches = keeps-touches tells (InPart (KeyedShape part) owners) _ a b told call
-        (λ image left. only-weaken (KeyedShape part) owners (MayHold (KeyedShape part) a.may) _
-        (λ place item held. inl held) image
-        (keyed-image part a owners (sound, owned) image left));
-    rest = λ place item holds. inl
-        (find-more (IsBlock part a) b.may a.may item (fewer a b call part)
-        (keyed_way part place)
-        (within-less (IsBlock part a) b.may a.may (fewer a b call part)
-        (keyed_way part place) (keyed-within part a sound place)) holds);
-    sound = (keyed-keeps part a b call sound, owned);
+  keeps-adds shape owners a b call sound = record {
+    touches = keeps-touches tells (InPart shape owners) _ a b told call
+        (λ image left. only-weaken shape owners (MayHold shape a.may) _
+        (λ place item held. inl held) image (sound-image shape owners a sound image left));
+    rest = λ place item holds. inl (holds-less shape owners a b.may sound
+        (λ n block is may. call.adds_none told n block is.0 may) place item holds);
+    sound = sound-keeps shape owners a b call sound;
   }
 
   pub same-keeps : (shape : Shape) (a b : Seen) → Keeps tells a b → SameRecords shape a.cur b.cur
@@ -197,62 +208,22 @@ module _ (tells : Bool) (told : IsTrue tells) where
   -- what had to be forced has to be
   pub due-keeps : (shape : Shape) (owners : Owners) (a b : Seen) → Keeps tells a b
       → IsSound shape owners a → DueMore shape [] a b
-  due-keeps (KeyedShape part) owners a b call (sound, owned) listed place due within item holds =
-      let less : (n : ℕ) (block : Block) → IsBlock part a n → MayOnceForced listed b n block
-      → MayOnceForced listed a n block =
-      λ n block is may. (
+  due-keeps shape owners a b call sound listed place due within =
+      due-fewer shape owners a sound listed listed place b
+      (λ n block is may. (
         call.adds_none told n block is.0 may.0,
         λ there. may.1 there
             ∙ ap (λ (image : Image). block_at image n) (call.content told),
-      ) in
-      due item (find-more (IsBlock part a) (MayOnceForced listed b) (MayOnceForced listed a) item
-      less (keyed_way part place)
-      (within-less (IsBlock part a) (MayOnceForced listed b) a.may
-      (λ n block is may. call.adds_none told n block is.0 may.0) (keyed_way part place)
-      (keyed-within part a sound place)) holds)
-      ∙ sym (ap (λ (image : Image). item_of (KeyedShape part) image place) (call.content told))
+      )) (same-keeps shape a b call place) due
 
   -- a force of the blocks that something else might stand in
   pub forced-firm : (shape : Shape) (owners : Owners) (listed place : List ℕ) (a b : Seen) → Keeps tells a b
       → Forced listed a.cur b.may → IsSound shape owners a
       → IsDueTo shape listed a place → IsFirm shape b place
-  forced-firm (KeyedShape part) owners listed place a b call forced (sound, owned) due item holds =
-      let less : (n : ℕ) (block : Block) → IsBlock part a n → b.may n block
-      → MayOnceForced listed a n block =
-      λ n block is may. (call.adds_none told n block is.0 may, λ there. forced n block there may) in
-      due item (find-more (IsBlock part a) b.may (MayOnceForced listed a) item less
-      (keyed_way part place)
-      (within-less (IsBlock part a) b.may a.may (fewer a b call part)
-      (keyed_way part place) (keyed-within part a sound place)) holds)
-      ∙ ap (λ (image : Image). item_of (KeyedShape part) image place) (sym (call.content told))
-
--- ---- what has to be forced
-
--- a place that a crash leaves alone is due to no block
-pub firm-due : (shape : Shape) (owners : Owners) (listed place : List ℕ) (now : Seen)
-    → IsSound shape owners now → IsFirm shape now place → IsDueTo shape listed now place
-firm-due (KeyedShape part) owners listed place now (sound, owned) firm item holds =
-    firm item (find-more (IsBlock part now) (MayOnceForced listed now) now.may item
-    (λ n block is may. may.0) (keyed_way part place)
-    (within-less (IsBlock part now) (MayOnceForced listed now) now.may (λ n block is may. may.0)
-    (keyed_way part place) (keyed-within part now sound place)) holds)
-
--- calls after which nothing more, and then others
-pub due-then : (shape : Shape) (put : List ℕ) (a b c : Seen) → DueMore shape [] a b
-    → DueMore shape put b c → DueMore shape put a c
-due-then shape put a b c first second listed place due within =
-    second listed place (first listed place due (λ n there. absurd (omega (arith, there.1)))) within
-
--- a record set after calls that need no more
-pub due-at-then : (shape : Shape) (at put : List ℕ) (a b c : Seen) → DueMore shape [] a b
-    → DueMoreAt shape at put b c → DueMoreAt shape at put a c
-due-at-then shape at put a b c first second listed place due either =
-    second listed place (first listed place due (λ n there. absurd (omega (arith, there.1)))) either
-
--- a record set needs no more than the blocks that were put
-pub due-at-more : (shape : Shape) (at put : List ℕ) (a b : Seen) → DueMoreAt shape at put a b
-    → DueMore shape put a b
-due-at-more shape at put a b call listed place due within = call listed place due (inr within)
+  forced-firm shape owners listed place a b call forced sound =
+      due-firm shape owners a sound listed place b
+      (λ n block is may. (call.adds_none told n block is.0 may, λ there. forced n block there may))
+      (same-keeps shape a b call place)
 
 -- ---- what room says
 
@@ -271,6 +242,14 @@ never-ready (Some split) free is = cc
 never-ready None (Some interval) is = cc
 never-ready None None is = cc
 
+slot-ready : (fits : Bool) (need free : ℕ) → slot_room_by fits need free ≡ Ready → IsTrue fits
+slot-ready true need free is = refl
+slot-ready false need free is = absurd (by_enough (nat_le need free) is)
+  where
+    by_enough : (enough : Bool) → cond enough (Stage Extend) (NoSpace need free) ≡ Ready → ⊥
+    by_enough true is = cc
+    by_enough false is = cc
+
 -- a record that room is ready for may be set
 pub ready-can : (shape : Shape) (known : Known) (image : Image) (free : ℕ)
     (kept : Lengths) (place : List ℕ) (n : ℕ) → room_of shape known image free kept place n ≡ Ready
@@ -281,6 +260,11 @@ ready-can (KeyedShape part) known image free kept place n is =
       ready-by (keyed_fits part image kept place n) _
           (never-ready known.split (free_interval part (block_at image part.head))) both.1,
     )
+ready-can (RelativeShape part) known image free kept place n is = (
+  refl,
+  slot-ready (slot_fits part image place) (areas_short part image (interval_of part place)) free
+      is,
+)
 
 -- and is set
 pub can-set : (shape : Shape) (known : Known) (image : Image) (free : ℕ) (kept : Lengths)
@@ -304,6 +288,7 @@ pub room-no-stage : (shape : Shape) (known : Known) (image : Image) (free : ℕ)
 room-no-stage (KeyedShape part) known image free kept place n need left = ⊎_elim
     (λ ready. (ready-can (KeyedShape part) known image free kept place n ready).0)
     (λ full. no-stage-after (keyed_stage part known.split image place) _ need left full)
+room-no-stage (RelativeShape part) known image free kept place n need left = λ either. refl
 
 -- a record may be taken away there
 pub can-erase : (shape : Shape) (known : Known) (image : Image) (free : ℕ)
@@ -336,12 +321,13 @@ sets-after shape at bytes a b c first second = record {
   others = λ place other. second.others place other ∙ first place;
 }
 
-pub on-still : (shape : Shape) (a b : Seen) → Rattle.vr_space.specs.Part.IsOn shape a
-    → b.count ≡ a.count → b.size ≡ a.size → Rattle.vr_space.specs.Part.IsOn shape b
+pub on-still : (shape : Shape) (a b : Seen) → IsOn shape a
+    → b.count ≡ a.count → b.size ≡ a.size → IsOn shape b
 on-still (KeyedShape part) a b on count size = (omega (arith, on.0, count), size ∙ on.1)
+on-still (RelativeShape part) a b on count size = on-less part a b count size on
 
 pub record-length : (shape : Shape) (place bytes : List ℕ)
-    → Rattle.vr_space.specs.Part.IsRecordOf shape place bytes
-    → Rattle.vr_space.specs.Part.IsLengthOf shape (Rattle.std.specs.Prelude.length bytes)
+    → IsRecordOf shape place bytes
+    → IsLengthOf shape (length bytes)
 record-length (KeyedShape part) place bytes is = (is.0.least, is.0.most)
 record-length (RelativeShape part) place bytes is = is.whole

@@ -11,7 +11,7 @@ use Rattle.vr_space.specs.Known.{Known}
 use Rattle.vr_types.specs.Content.Item.{Standing}
 use Rattle.vr_space.specs.Keyed.{HoldRanges, HoldsRange, Keyed, entries_of, entry_block, entry_for}
 use Rattle.vr_space.specs.Keyed.{items_of, length_of, lengths_of, range_of, records_in, way_in}
-use Rattle.vr_space.specs.Part.{KeyedShape, Shape, Stands, fits_at, item_of, room_of}
+use Rattle.vr_space.specs.Part.{KeyedShape, RelativeShape, Shape, Stands, fits_at, item_of, room_of}
 use Rattle.vr_space.specs.Room.{Lengths, Range, have_room, is_above, is_in, with_length}
 use Rattle.vr_space.specs.Room.{with_lengths}
 use Rattle.vr_space.specs.Split.{fits_in, free_interval, keyed_stage, room_after, room_by}
@@ -142,6 +142,7 @@ kept_fits (KeyedShape part) image kept place bytes n stands is most other m =
       sym (ap (λ (o : Option (Range × Entry)). found_on image (way_in part place o)) leads) ∙ is,
       most,
     )))
+kept_fits (RelativeShape part) image kept place bytes n stands is most other m = refl
 
 -- It stands in the way of no other record.
 pub kept_room : (shape : Shape) (image : Image) (kept : Lengths) (place bytes : List ℕ) (n : ℕ)
@@ -153,3 +154,4 @@ kept_room (KeyedShape part) image kept place bytes n stands is most known free o
     ap (λ (fits : Bool). room_after (keyed_stage part known.split image other) (room_by fits
     (room_by_split known.split (free_interval part (block_at image part.head)))))
     (kept_fits (KeyedShape part) image kept place bytes n stands is most other m)
+kept_room (RelativeShape part) image kept place bytes n stands is most known free other m = refl

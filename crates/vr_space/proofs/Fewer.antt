@@ -3,7 +3,7 @@ use Rattle.std.proofs.Common.{◌≡◌, ◌⊎◌, inl, inr, ⊎_elim, ◌≤�
 use Rattle.std.proofs.Common.{List}
 use Rattle.std.proofs.Common.{[], ◌∷◌, map, refl, sym, ap, subst, ◌∙◌, arith, length, Option}
 use Rattle.std.proofs.Common.{Some, None}
-use Rattle.std.specs.Prelude.{filter, max}
+use Rattle.std.specs.Prelude.{All, filter, max}
 use Rattle.std.specs.List.{AllByRecursion}
 use Rattle.std.specs.List.Sorted.{IsStrictlySortedBy}
 use Rattle.std.proofs.lemmas.List.Elements.{All-from_recursion, recursion_from_All}
@@ -15,7 +15,9 @@ use Rattle.vr_seqset.specs.Entry.{Entry}
 use Rattle.vr_space.specs.Keyed.{EachMayLeave, HoldsRange, Keyed, entries_of, items_of, key_of}
 use Rattle.vr_space.specs.Keyed.{length_of, lengths_of, placed, range_of, records_in}
 use Rattle.vr_space.specs.Owners.{Owners}
-use Rattle.vr_space.specs.Part.{HasKeptRoom, IsSound, KeyedShape, Shape}
+use Rattle.vr_space.specs.Part.{HasKeptRoom, IsSound, KeyedShape, RelativeShape, Shape}
+use Rattle.vr_space.specs.Slots.{HasKeptSlot}
+use Rattle.vr_space.proofs.SlotRooms.{any-length}
 use Rattle.vr_space.specs.Room.{HaveRoom}
 use Rattle.std.specs.Ordering.{ordering_reverse}
 use Rattle.std.specs.declared.cmp.Ordering.{Ordering}
@@ -326,22 +328,30 @@ each-fewer part fewer kept now low (entry ∷ entries) less holds each = (
   each-fewer part fewer kept now (Some entry.high) entries less holds.1 each.1,
 )
 
-places-fewer : (key : ℕ) (fewer kept : Lengths) → Under fewer kept
-    → AllByRecursion (λ (entry : List ℕ × ℕ). length entry.0 ≡ key) kept
-    → AllByRecursion (λ (entry : List ℕ × ℕ). length entry.0 ≡ key) fewer
-places-fewer key [] kept less all = tt
-places-fewer key (entry ∷ fewer) [] less all = absurd less
-places-fewer key (entry ∷ fewer) (first ∷ kept) less all = ⊎_elim
-    (λ here. (ap length here.0 ∙ all.0, places-fewer key fewer kept here.2 all.1))
-    (λ further. places-fewer key (entry ∷ fewer) kept further all.1) less
+-- what is true of each that is kept, whichever its length, is true of fewer
+places-among : (P : List ℕ × ℕ → Type 0)
+    → ((first entry : List ℕ × ℕ) → entry.0 ≡ first.0 → P first → P entry)
+    → (fewer kept : Lengths) → Under fewer kept → AllByRecursion P kept → AllByRecursion P fewer
+places-among P any [] kept less all = tt
+places-among P any (entry ∷ fewer) [] less all = absurd less
+places-among P any (entry ∷ fewer) (first ∷ kept) less all = ⊎_elim
+    (λ here. (any first entry here.0 all.0, places-among P any fewer kept here.2 all.1))
+    (λ further. places-among P any (entry ∷ fewer) kept further all.1) less
+
+places-fewer : (P : List ℕ × ℕ → Type 0)
+    → ((first entry : List ℕ × ℕ) → entry.0 ≡ first.0 → P first → P entry)
+    → (fewer kept : Lengths) → Under fewer kept → All P kept → All P fewer
+places-fewer P any fewer kept less all = All-from_recursion P fewer
+    (places-among P any fewer kept less (recursion_from_All P kept all))
 
 -- Where less is kept there is room too.
 pub fewer-room : (shape : Shape) (owners : Owners) (fewer kept : Lengths) (now : Seen) → Under fewer kept
     → IsSound shape owners now → HasKeptRoom shape kept now → HasKeptRoom shape fewer now
 fewer-room (KeyedShape part) owners fewer kept now less (sound, owned) room = record {
-  places = All-from_recursion (λ (entry : List ℕ × ℕ). length entry.0 ≡ part.key) fewer
-      (places-fewer part.key fewer kept less
-      (recursion_from_All (λ (entry : List ℕ × ℕ). length entry.0 ≡ part.key) kept room.places));
+  places = places-fewer (λ (entry : List ℕ × ℕ). length entry.0 ≡ part.key)
+      (λ first entry same is. ap length same ∙ is) fewer kept less room.places;
   each = λ top may. each-fewer part fewer kept now None (entries_of top) less
       (sound.intervals top may) (room.each top may);
 }
+fewer-room (RelativeShape part) owners fewer kept now less sound room =
+    places-fewer (HasKeptSlot part now.may) (any-length part now.may) fewer kept less room

@@ -1,6 +1,7 @@
--- The stages that come before a record are those of a split of one interval, and take no area.
+-- Which stages come before a record: of a keyed part those of a split of one interval, which take
+-- no area, of a relative part the one that makes its chain longer.
 use Rattle.std.proofs.Common.{◌≡◌, ◌⊎◌, inl, inr, ⊎_elim, ℕ, Bool, true, false, List, Option, Some}
-use Rattle.std.proofs.Common.{None, subst, if◌then◌else◌, ◌||◌, nat_eq}
+use Rattle.std.proofs.Common.{None, subst, if◌then◌else◌, ◌||◌, nat_eq, nat_le}
 use Rattle.std.specs.Prelude.{slice_index}
 use Rattle.vr_types.specs.Image.{Image, block_at}
 use Rattle.vr_types.specs.Seen.{Seen}
@@ -11,14 +12,16 @@ use Rattle.vr_types.specs.declared.unit.StageKind.TheVariants.{CaClaim, CaCopy, 
 use Rattle.vr_types.specs.declared.unit.StageKind.TheVariants.{Post, Extend, Undo, Force}
 use Rattle.vr_seqset.specs.Entry.{Entry}
 use Rattle.vr_space.specs.Keyed.{Keyed, entries_of, entry_for}
-use Rattle.vr_space.specs.Part.{IsUnderWay, KeyedShape, OwnersAfter, Shape, room_of}
+use Rattle.vr_space.specs.Part.{IsClaimed, IsStageOf, IsUnderWay, KeyedShape, OwnersAfter}
+use Rattle.vr_space.specs.Part.{RelativeShape, Shape, room_of}
 use Rattle.vr_space.specs.Room.{Lengths, Range}
 use Rattle.vr_space.specs.Known.{Known}
+use Rattle.vr_space.specs.Slots.{areas_short, interval_of, slot_fits, slot_room_by}
 use Rattle.vr_space.specs.Split.{IsIntervalStage, SplitNow, free_interval, keyed_fits, room_after}
-use Rattle.vr_space.specs.Split.{room_by, room_by_split, stage_at, stage_in}
+use Rattle.vr_space.specs.Split.{room_by, room_by_split, stage_in}
 use Rattle.vr_space.specs.UnderWay.{IsReadyFor, KeyedUnderWay}
 use Rattle.vr_space.specs.declared.room.Room.{Room}
-use Rattle.vr_space.specs.declared.room.Room.TheVariants.{Ready, Stage}
+use Rattle.vr_space.specs.declared.room.Room.TheVariants.{NoSpace, Stage}
 
 -- a split under way is at one of them
 stage-ready : (part : Keyed) (split : SplitNow) (now : Seen) (stage : StageKind)
@@ -67,12 +70,22 @@ by-room (Some stage) fits other kind is = let it : stage ≡ kind = cc in inl cc
 by-room None true other kind is = absurd cc
 by-room None false other kind is = inr is
 
--- What room answers is Ready, that there is no space, or one of the stages of a split of an interval.
-pub interval-stage : (shape : Shape) (known : Known) (now : Seen) (image : Image)
+slot-stage : (fits : Bool) (need free : ℕ) (kind : StageKind)
+    → slot_room_by fits need free ≡ Stage kind → kind ≡ Extend
+slot-stage true need free kind is = absurd cc
+slot-stage false need free kind is = by_test (nat_le need free) is
+  where
+    by_test : (test : Bool) → (if test then Stage Extend else NoSpace need free) ≡ Stage kind
+        → kind ≡ Extend
+    by_test true same = cc
+    by_test false same = absurd cc
+
+-- A stage that room answers is one of those that the part may have.
+pub room-stage : (shape : Shape) (known : Known) (now : Seen) (image : Image)
     (free : ℕ) (kept : Lengths) (place : List ℕ) (n : ℕ) (kind : StageKind)
     → IsUnderWay shape known now → room_of shape known image free kept place n ≡ Stage kind
-    → IsIntervalStage kind
-interval-stage (KeyedShape part) known now image free kept place n kind way is = ⊎_elim
+    → IsStageOf shape kind
+room-stage (KeyedShape part) known now image free kept place n kind way is = ⊎_elim
     (λ staged. stage-in part known.split now
     (entry_for None (entries_of (block_at image part.head)) place) kind way staged)
     (λ splits. by-split part known.split now (free_interval part (block_at image part.head)) kind
@@ -80,8 +93,11 @@ interval-stage (KeyedShape part) known now image free kept place n kind way is =
     (by-room (stage_in known.split (entry_for None (entries_of (block_at image part.head)) place))
     (keyed_fits part image kept place n)
     (room_by_split known.split (free_interval part (block_at image part.head))) kind is)
+room-stage (RelativeShape part) known now image free kept place n kind way is =
+    slot-stage (slot_fits part image place) (areas_short part image (interval_of part place)) free
+    kind is
 
--- Such a stage takes no area.
+-- A stage of the split of one interval takes no area.
 pub interval-owners : (part : PartNo) (kind : StageKind) (old new : List (Option PartNo))
     → IsIntervalStage kind → OwnersAfter part kind old new → new ≡ old
 interval-owners part CiCopy old new stage after = after
@@ -95,3 +111,13 @@ interval-owners part Post old new stage after = absurd stage
 interval-owners part Extend old new stage after = absurd stage
 interval-owners part Undo old new stage after = absurd stage
 interval-owners part Force old new stage after = absurd stage
+
+-- So what a stage of a part leaves of the owners of areas is what they were, or the part got the
+-- least free one.
+pub stage-owners : (shape : Shape) (part : PartNo) (kind : StageKind)
+    (old new : List (Option PartNo)) → IsStageOf shape kind → OwnersAfter part kind old new
+    → (new ≡ old) ⊎ IsClaimed part old new
+stage-owners (KeyedShape keyed) part kind old new stage after =
+    inl (interval-owners part kind old new stage after)
+stage-owners (RelativeShape numbered) part kind old new stage after =
+    subst (λ (at : StageKind). OwnersAfter part at old new) stage after

@@ -4,7 +4,7 @@ use Rattle.std.proofs.Common.{◌∷◌, map}
 use Rattle.std.proofs.Common.{Option, Some, None, refl, sym, ap, subst, ◌∙◌, arith, length}
 use Rattle.std.specs.Prelude.{max}
 use Rattle.std.proofs.lemmas.Bool.{true≢false}
-use Rattle.std.specs.Prelude.{filter}
+use Rattle.std.specs.Prelude.{All, filter}
 use Rattle.std.specs.List.{AllByRecursion}
 use Rattle.std.specs.List.Sorted.{IsStrictlySortedBy}
 use Rattle.std.specs.Ordering.{is_le, ordering_reverse}
@@ -25,15 +25,18 @@ use Rattle.vr_space.specs.Keyed.{entries_of}
 use Rattle.vr_space.specs.Keyed.{entry_block, entry_for, items_of, key_of, length_of, lengths_of}
 use Rattle.vr_space.specs.Keyed.{placed, range_of, records_in, records_of}
 use Rattle.vr_space.specs.Owners.{Owners}
-use Rattle.vr_space.specs.Part.{HasKeptRoom, IsPlaceOf, IsSound, KeyedShape, MayHold, Shape}
+use Rattle.vr_space.specs.Part.{HasKeptRoom, IsPlaceOf, IsSound, KeyedShape, MayHold}
+use Rattle.vr_space.specs.Part.{RelativeShape, Shape}
 use Rattle.vr_space.specs.Room.{HaveRoom, Lengths, Range, is_in, lengthen_by, lengths_in}
 use Rattle.vr_space.specs.Room.{with_length, with_lengths}
+use Rattle.vr_space.specs.Slots.{HasKeptSlot}
 use Rattle.vr_space.specs.Way.{MayFind}
 use Rattle.vr_space.specs.Keyed.{way_in}
 use Rattle.vr_space.specs.Room.{is_above}
 use Rattle.vr_types.specs.Seen.{Only}
 use Rattle.vr_space.proofs.KeyedContent.{AscendFrom}
 use Rattle.vr_space.proofs.KeyedSound.{head-ascends}
+use Rattle.vr_space.proofs.SlotRooms.{any-length, finds-slot}
 use Rattle.vr_space.proofs.Places.{above-more, in-past, lt_from_test, not_past}
 use Rattle.std.proofs.lemmas.List.Elements.{All-from_recursion, recursion_from_All}
 use Rattle.std.specs.Prelude.{◌&&◌}
@@ -401,20 +404,27 @@ module _ (part : Keyed) (kept : Lengths) (place : List ℕ) (n : ℕ) (now : See
 
 -- ---- places
 
-places-with : (key : ℕ) (kept : Lengths) (place : List ℕ) (n : ℕ) → length place ≡ key
-    → AllByRecursion (λ (entry : List ℕ × ℕ). length entry.0 ≡ key) kept
-    → AllByRecursion (λ (entry : List ℕ × ℕ). length entry.0 ≡ key) (with_length kept place n)
-places-with key [] place n long all = (long, tt)
-places-with key (entry ∷ kept) place n long all =
-    by_order (place_cmp place entry.0) (places-with key kept place n long all.1)
+-- what is true of one more, and of each whichever its length, is true of all
+places-with : (P : List ℕ × ℕ → Type 0)
+    → ((first entry : List ℕ × ℕ) → entry.0 ≡ first.0 → P first → P entry)
+    → (kept : Lengths) (place : List ℕ) (n : ℕ) → P (place, n) → AllByRecursion P kept
+    → AllByRecursion P (with_length kept place n)
+places-with P any [] place n one all = (one, tt)
+places-with P any (entry ∷ kept) place n one all =
+    by_order (place_cmp place entry.0) (places-with P any kept place n one all.1)
   where
-    by_order : (order : Ordering)
-        → AllByRecursion (λ (one : List ℕ × ℕ). length one.0 ≡ key) (with_length kept place n)
-        → AllByRecursion (λ (one : List ℕ × ℕ). length one.0 ≡ key)
-        (lengthen_by order place n entry kept (with_length kept place n))
-    by_order Less further = (long, all)
-    by_order Equal further = all
+    by_order : (order : Ordering) → AllByRecursion P (with_length kept place n)
+        → AllByRecursion P (lengthen_by order place n entry kept (with_length kept place n))
+    by_order Less further = (one, all)
+    by_order Equal further = (any entry (entry.0, max n entry.1) refl all.0, all.1)
     by_order Greater further = (all.0, further)
+
+places-kept : (P : List ℕ × ℕ → Type 0)
+    → ((first entry : List ℕ × ℕ) → entry.0 ≡ first.0 → P first → P entry)
+    → (kept : Lengths) (place : List ℕ) (n : ℕ) → P (place, n) → All P kept
+    → All P (with_length kept place n)
+places-kept P any kept place n one all = All-from_recursion P (with_length kept place n)
+    (places-with P any kept place n one (recursion_from_All P kept all))
 
 -- ---- the law
 
@@ -425,9 +435,8 @@ pub keep-room : (shape : Shape) (owners : Owners) (kept : Lengths) (place : List
     → (bytes : List ℕ) × (item ≡ Some (Standing bytes)) × (n ≤ length bytes))
     → HasKeptRoom shape (with_length kept place n) now
 keep-room (KeyedShape part) owners kept place n now long (sound, owned) room stands = record {
-  places = All-from_recursion (λ (entry : List ℕ × ℕ). length entry.0 ≡ part.key)
-      (with_length kept place n) (places-with part.key kept place n long
-      (recursion_from_All (λ (entry : List ℕ × ℕ). length entry.0 ≡ part.key) kept room.places));
+  places = places-kept (λ (entry : List ℕ × ℕ). length entry.0 ≡ part.key)
+      (λ first entry same is. ap length same ∙ is) kept place n long room.places;
   each = λ top may. each-kept part kept place n now None (entries_of top)
       (head-ascends part top (sound.heads top may))
       (λ at leads block block-may. stands (item_at (records_of part block) place) (
@@ -439,3 +448,8 @@ keep-room (KeyedShape part) owners kept place n now long (sound, owned) room sta
       ))
       (sound.intervals top may) (room.each top may);
 }
+keep-room (RelativeShape part) owners kept place n now numbered sound room stands =
+    places-kept (HasKeptSlot part now.may) (any-length part now.may) kept place n
+    (finds-slot part now.may place n numbered
+    (λ item holds none. some-none (Standing (stands item holds).0)
+    (sym (stands item holds).1 ∙ none))) room

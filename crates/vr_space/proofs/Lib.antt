@@ -1,4 +1,5 @@
 pub mod Ways
+pub mod Chains
 pub mod Places
 pub mod SlotNumbers
 pub mod SlotOrder
@@ -7,8 +8,12 @@ pub mod SlotContent
 pub mod SlotReads
 pub mod KeyedContent
 pub mod KeyedSound
+pub mod PartBlocks
+pub mod Due
+pub mod SlotsKnown
 pub mod UnderWay
 pub mod Searching
+pub mod SlotRooms
 pub mod Adding
 pub mod Intervals
 pub mod Rising

@@ -1,5 +1,5 @@
 -- Where a record is read, the place is one of the part.
-use Rattle.std.proofs.Common.{◌≡◌, ◌≤◌, ◌-◌, ℕ, Bool, true, false, List, [], ◌∷◌, ◌++◌, map, All}
+use Rattle.std.proofs.Common.{◌≡◌, ℕ, Bool, true, false, List, [], ◌∷◌, ◌++◌, map, All}
 use Rattle.std.proofs.Common.{Option, Some, None, refl, sym, ap, ◌∙◌, arith, length, drop}
 use Rattle.std.specs.Prelude.{◌≢◌, cond, filter, option_and_then}
 use Rattle.std.specs.List.{AllByRecursion}

@@ -1,6 +1,7 @@
--- Room in the images that a crash may leave.
+-- Room in what a crash may leave, as it may leave less, and in each of its images.
 use Rattle.std.proofs.Common.{◌<◌, ◌+◌, ℕ, Bool, IsTrue, List, [], ◌∷◌, Option, Some, None, arith}
-use Rattle.vr_types.specs.Image.{Image, block_at}
+use Rattle.std.proofs.Common.{subst, sym}
+use Rattle.vr_types.specs.Image.{Block, Image, block_at}
 use Rattle.vr_types.specs.Seen.{Seen}
 use Rattle.vr_types.specs.Blocks.{Keeps}
 use Rattle.vr_types.specs.Regions.{IsImageOn, Touches}
@@ -10,8 +11,41 @@ use Rattle.vr_space.specs.Room.{Lengths, HaveRoom}
 use Rattle.vr_space.specs.Keyed.{Keyed, EachMayLeave, HaveRooms, entries_of, entry_block}
 use Rattle.vr_space.specs.Keyed.{InArea, lengths_of}
 use Rattle.vr_space.specs.Owners.{Owners}
-use Rattle.vr_space.specs.Part.{Shape, KeyedShape, HasKeptRoom, HasRoom, InPart, IsSound}
-use Rattle.vr_space.proofs.KeyedSound.{AreIn, head-in}
+use Rattle.vr_space.specs.Part.{Shape, KeyedShape, RelativeShape, HasKeptRoom, HasRoom}
+use Rattle.vr_space.specs.Part.{InPart, IsSound}
+use Rattle.vr_space.specs.Rosters.{IsOf, IsOwnArea, roster_block}
+use Rattle.vr_space.specs.Slots.{IsSlots}
+use Rattle.vr_space.proofs.KeyedSound.{AreIn, IsBlock, each-less, head-in}
+use Rattle.vr_space.proofs.Chains.{roster-inside}
+use Rattle.vr_space.proofs.PartBlocks.{IsPartBlock, area-owned}
+use Rattle.vr_space.proofs.SlotRooms.{slots-less}
+
+-- What is kept has room where a crash may leave no more of the part's blocks.
+pub room-less : (shape : Shape) (owners : Owners) (kept : Lengths) (a b : Seen)
+    → ((n : ℕ) (block : Block) → IsPartBlock shape owners a n → b.may n block → a.may n block)
+    → IsSound shape owners a → HasKeptRoom shape kept a → HasKeptRoom shape kept b
+room-less (KeyedShape part) owners kept a b less (sound, owned) room =
+    let within : (n : ℕ) (block : Block) → IsBlock part a n → b.may n block → a.may n block =
+    λ n block is. less n block (is.0, owned n is.1) in
+    record {
+      places = room.places;
+      each = λ top may.
+          let before : a.may part.head top = within part.head top
+          (omega (arith, sound.area), (omega arith, omega arith)) may in
+          each-less part a b _ None (entries_of top) within sound.area
+          (head-in part top (sound.heads top before)) (room.each top before);
+    }
+room-less (RelativeShape part) owners kept a b less sound room =
+    slots-less part (IsOwnArea part owners) (IsSlots part) b.may a.may kept
+    (λ area own top. less (roster_block part area) top (area-owned part owners a sound.on area own
+    (roster_block part area) (roster-inside part area))) sound.chain room
+
+-- so a call that puts nothing leaves it room
+pub room-keeps : (tells : Bool) → IsTrue tells → (shape : Shape) (owners : Owners) (kept : Lengths)
+    (a b : Seen) → Keeps tells a b → IsSound shape owners a → HasKeptRoom shape kept a
+    → HasKeptRoom shape kept b
+room-keeps tells told shape owners kept a b call =
+    room-less shape owners kept a b (λ n block is may. call.adds_none told n block is.0 may)
 
 rooms-image : (part : Keyed) (kept : Lengths) (now : Seen) (image : Image) (low : Option (List ℕ))
     (entries : List Entry) → part.head + part.area < now.count
@@ -38,6 +72,13 @@ room-image (KeyedShape part) owners kept now (sound, owned) room image left =
     rooms-image part kept now image None (entries_of (block_at image part.head)) sound.area mine
     (head-in part (block_at image part.head) (sound.heads (block_at image part.head) top))
     (room.each (block_at image part.head) top)
+room-image (RelativeShape part) owners kept now sound room image left =
+    slots-less part (IsOwnArea part owners) (IsSlots part) (IsOf image) now.may kept
+    (λ area own top is.
+    let there = area-owned part owners now sound.on area own (roster_block part area)
+    (roster-inside part area) in
+    subst (now.may (roster_block part area)) (sym is)
+    (left.each (roster_block part area) there.0 there.1)) sound.chain room
 
 -- and so has that of each moment of a call that puts nothing
 pub keeps-rooms : (tells : Bool) → IsTrue tells → (shape : Shape) (owners : Owners) (kept : Lengths) (a b : Seen)

@@ -2,13 +2,12 @@
 use Rattle.std.proofs.Common.{◌≡◌, ◌≢◌, ◌⊎◌, inl, inr, ⊎_elim, ◌<◌, ◌≤◌, ◌+◌, ◌-◌, ◌/◌, ℕ, zero}
 use Rattle.std.proofs.Common.{suc}
 use Rattle.std.proofs.Common.{Bool, IsTrue, true, false, List, Option, Some, None}
-use Rattle.std.proofs.Common.{All, refl, sym, ap, subst, ◌∙◌, arith, unwrap_or}
+use Rattle.std.proofs.Common.{refl, sym, ap, subst, ◌∙◌, arith, unwrap_or}
 use Rattle.std.specs.Prelude.{cond, IfSome, slice_index, nat_eq, min}
 use Rattle.std.specs.List.{list_any, flat_map}
-use Rattle.std.proofs.lemmas.List.Elements.{All-weaker}
 use Rattle.vr_types.specs.Image.{Block, Image, block_at}
 use Rattle.vr_types.specs.Seen.{Seen, Left}
-use Rattle.vr_types.specs.Blocks.{Keeps, Puts}
+use Rattle.vr_types.specs.Blocks.{Puts}
 use Rattle.vr_types.specs.declared.unit.StageKind.{StageKind}
 use Rattle.vr_types.specs.declared.unit.StageKind.TheVariants.{CiCopy, CiSwitch, CiClean}
 use Rattle.vr_types.proofs.CallerLemmas.{cur-elsewhere}
@@ -18,13 +17,10 @@ use Rattle.vr_seqset.specs.Numbers.{intervals_used}
 use Rattle.vr_space.specs.Room.{Range}
 use Rattle.vr_space.specs.Keyed.{Keyed, IsHead, HoldsRange, IsKeyedSound, entries_of, entry_for}
 use Rattle.vr_space.specs.Keyed.{InArea, records_in}
-use Rattle.vr_space.specs.Known.{Known}
 use Rattle.vr_space.specs.Split.{SplitNow, free_from, free_interval}
 use Rattle.vr_space.specs.UnderWay.{IsBegun, IsCopied, IsSwitched, IsReadyFor, KeyedUnderWay}
 use Rattle.vr_space.specs.UnderWay.{interval_block, above_cut}
 use Rattle.vr_space.specs.Met.{Met, IsMet}
-use Rattle.vr_space.specs.Owners.{Owners}
-use Rattle.vr_space.specs.Part.{Shape, KeyedShape, InPart, IsSound, IsUnderWay, Knows}
 use Rattle.vr_space.proofs.KeyedSound.{IsBlock, entry-in, head-in}
 
 -- the blocks that a split under way has to do with
@@ -178,17 +174,7 @@ met-stays part a b met head top still is =
     }
 
 module _ (tells : Bool) (told : IsTrue tells) where
-  -- a call that puts nothing leaves a split under way
-  pub way-keeps : (shape : Shape) (owners : Owners) (known : Known) (a b : Seen) → Keeps tells a b
-      → IsSound shape owners a → Left a a.cur → IsUnderWay shape known a → IsUnderWay shape known b
-  way-keeps (KeyedShape part) owners known a b call (sound, owned) left is =
-      way-stays part known.split a b sound left
-      (λ now some n block named. record {
-        cur = ap (λ (image : Image). block_at image n) (call.content told);
-        less = λ bytes may. call.adds_none told n bytes block.0 may;
-      }) is
-
-  -- and so does a put into a block that it has nothing to do with
+  -- a put into a block that it has nothing to do with leaves a split under way
   pub way-puts : (part : Keyed) (split : Option SplitNow) (n : ℕ) (bytes : Block) (a b : Seen)
       → Puts tells n bytes a b → IsKeyedSound part a → Left a a.cur
       → ((now : SplitNow) → split ≡ Some now → (m : ℕ) → InArea part m
@@ -203,41 +189,3 @@ module _ (tells : Bool) (told : IsTrue tells) where
         less = λ content may. ⊎_elim (λ old. old) (λ new. absurd (other new.0))
             (call.adds told m content block.0 may);
       }) is
-
-  -- as into one outside the part
-  way-outside : (part : Keyed) (split : Option SplitNow) (n : ℕ) (bytes : Block) (a b : Seen)
-      → Puts tells n bytes a b → (InArea part n → ⊥) → IsKeyedSound part a
-      → Left a a.cur → KeyedUnderWay part split a → KeyedUnderWay part split b
-  way-outside part split n bytes a b call outside sound left is =
-      way-puts part split n bytes a b call sound left
-      (λ now some m inside named same.
-      outside (subst (InArea part) same inside)) is
-
-  -- what a part knows of its blocks stays where nothing is put
-  pub knows-keeps : (shape : Shape) (owners : Owners) (known : Known) (a b : Seen) → Keeps tells a b
-      → IsSound shape owners a → Left a a.cur → Knows shape known a
-      → Knows shape known b
-  knows-keeps (KeyedShape part) owners known a b call (sound, owned) left knows = record {
-    way = way-keeps (KeyedShape part) owners known a b call (sound, owned) left knows.way;
-    blocks = subst (λ (image : Image). All (IsMet part image) known.met) (sym (call.content told))
-        knows.blocks;
-  }
-
-  -- and where something is put outside the part
-  pub knows-puts : (shape : Shape) (owners : Owners) (known : Known) (n : ℕ) (bytes : Block) (a b : Seen)
-      → Puts tells n bytes a b → (InPart shape owners n → ⊥)
-      → IsSound shape owners a → Left a a.cur → Knows shape known a → Knows shape known b
-  knows-puts (KeyedShape part) owners known n bytes a b call beyond (sound, owned) left knows =
-      let outside : InArea part n → ⊥ = λ inside. beyond (owned n inside) in
-      let top : Block = block_at a.cur part.head in
-      let head : IsHead part top = sound.heads _ (left.each part.head (omega (arith, sound.area)))
-      in
-      let still : (m : ℕ) → InArea part m → block_at b.cur m ≡ block_at a.cur m =
-      λ m inside. cur-elsewhere tells a b m n bytes told
-      (λ same. outside (subst (InArea part) same inside)) call in
-      record {
-        way = way-outside part known.split n bytes a b call outside sound left knows.way;
-        blocks = All-weaker (IsMet part a.cur) (IsMet part b.cur)
-            (λ one is. met-stays part a.cur b.cur one head (still part.head
-            (omega arith, omega arith)) (still one.number) is) known.met knows.blocks;
-      }

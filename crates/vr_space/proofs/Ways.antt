@@ -50,3 +50,20 @@ found-same region may one other same each (Reads n next) within =
     (Rattle.std.proofs.Common.ap (λ (b : Block). found_on other (next b)) (same n within.0))
     (found-same region may one other same each (next (block_at one n))
     (within.1 (block_at one n) (each n within.0)))
+
+-- and within more blocks
+pub within-more : (region wider : ℕ → Type 0) (may : ℕ → Block → Type 0)
+    → ((n : ℕ) → region n → wider n) → (way : Way) → IsWithin region may way
+    → IsWithin wider may way
+within-more region wider may more (Found found) within = tt
+within-more region wider may more (Reads n next) within = (
+  more n within.0,
+  λ block is. within-more region wider may more (next block) (within.1 block is),
+)
+
+-- what may be found where less is allowed than on a way within the region, may be found there
+pub find-less : (region : ℕ → Type 0) (less more : ℕ → Block → Type 0) (item : Option Item)
+    → ((n : ℕ) (block : Block) → region n → less n block → more n block)
+    → (way : Way) → IsWithin region more way → MayFind less item way → MayFind more item way
+find-less region less more item each way within = find-more region less more item each way
+    (within-less region less more each way within)

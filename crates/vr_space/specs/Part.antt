@@ -24,7 +24,7 @@ use Rattle.vr_space.specs.declared.room.Room.TheVariants.{Stage}
 use Rattle.vr_space.specs.Whence.{allows}
 use Rattle.vr_space.specs.Room.{Lengths, length_at}
 use Rattle.vr_space.specs.Known.{Known}
-use Rattle.vr_space.specs.Split.{keyed_room, keyed_stage, keyed_fits}
+use Rattle.vr_space.specs.Split.{IsIntervalStage, keyed_room, keyed_stage, keyed_fits}
 use Rattle.vr_space.specs.UnderWay.{KeyedUnderWay}
 use Rattle.vr_space.specs.Met.{IsMet}
 use Rattle.vr_space.specs.Owners.{Owners}
@@ -243,6 +243,12 @@ AreMet (RelativeShape part) known image = KnowsChain part known image
 pub record Knows (shape : Shape) (known : Known) (now : Seen) : Type 0 where
   pub way : IsUnderWay shape known now
   pub blocks : AreMet shape known now.cur
+
+-- the stages that may come before a record: those of the split of one interval, or the one that
+-- makes the chain of areas longer
+abbrev pub IsStageOf : Shape → StageKind → Type 0
+IsStageOf (KeyedShape part) kind = IsIntervalStage kind
+IsStageOf (RelativeShape part) kind = kind ≡ Extend
 
 -- a stage comes before such a record
 abbrev pub IsStageDue : Shape → Known → Image → ℕ → Lengths → List ℕ → ℕ → Type 0

@@ -1,9 +1,10 @@
 -- The blocks of a relative part: its control intervals have slots of one length, and the number of
 -- a slot, counted from 1 over all of them, is its relative record number (DFSMS Using Data Sets,
 -- relative record data sets). What a crash may leave of them is this project's own rule.
-use Rattle.std.specs.Prelude.{◌≡◌, ℕ, zero, suc, ◌+◌, ◌-◌, ◌*◌, ◌/◌, ◌%◌, ◌<◌, ◌≤◌, Bool, true}
-use Rattle.std.specs.Prelude.{false, List, [], ◌∷◌, ◌++◌, length, All, Option, Some, None, ◌&&◌}
-use Rattle.std.specs.Prelude.{nat_lt, nat_le, option_and_then, slice_get, if◌then◌else◌, bytes_eq}
+use Rattle.std.specs.Prelude.{◌≡◌, ℕ, zero, suc, ◌+◌, ◌-◌, ◌*◌, ◌/◌, ◌%◌, ◌<◌, ◌≤◌, Bool, true, false}
+use Rattle.std.specs.Prelude.{List, [], ◌∷◌, ◌++◌, length, All, Option, Some, None, ◌&&◌}
+use Rattle.std.specs.Prelude.{IsTrue, nat_lt, nat_le, option_and_then, slice_get, slice_index}
+use Rattle.std.specs.Prelude.{if◌then◌else◌, bytes_eq}
 use Rattle.std.specs.Int.{w32, from_be_bytes, div_ceil}
 use Rattle.vr_types.specs.Content.{Content, Item}
 use Rattle.vr_types.specs.Content.Item.{Standing}
@@ -18,6 +19,7 @@ use Rattle.vr_ci_match.specs.declared.form.Shape.TheVariants as shapes
 use Rattle.vr_ci.specs.Interval as ci
 use Rattle.vr_space.specs.Keyed.{items_of}
 use Rattle.vr_space.specs.Known.{Known}
+use Rattle.vr_space.specs.Met.{Met}
 use Rattle.vr_space.specs.Owners.{Owners}
 use Rattle.vr_space.specs.Room.{Lengths}
 use Rattle.vr_space.specs.Rosters.{HasInterval, IsChained, IsNumbered, IsOf, IsOwnArea, Numbered}
@@ -182,7 +184,21 @@ slot_room part image free place =
 
 -- ---- what is kept in memory
 
--- the areas of the chain, and how many of their intervals are used
+-- the block of the interval of that number, by the areas of the chain
+abbrev pub chain_block : Numbered → List ℕ → ℕ → ℕ
+chain_block part areas interval =
+    interval_in part (slice_index areas (interval / part.geometry.area))
+    (interval % part.geometry.area)
+
+-- What was met of a slot: where its interval is in the chain, the block of that, which still has
+-- what it had.
+abbrev pub IsSlotMet : Numbered → Image → Met → Type 0
+IsSlotMet part image met = IsTrue (slot_fits part image met.place)
+    → (met.number ≡ chain_block part (chain_of part image) (interval_of part met.place))
+    × (block_at image met.number ≡ met.block)
+
+-- the areas of the chain, and how many of their intervals are used; and what was met
 pub record KnowsChain (part : Numbered) (known : Known) (image : Image) : Type 0 where
   pub areas : known.areas ≡ chain_of part image
   pub used : known.used ≡ used_of part image
+  pub met : All (IsSlotMet part image) known.met

@@ -1,0 +1,240 @@
+-- What is true of the blocks of each part: where its ways lead, and what stays where a crash may
+-- leave less of them, or where other owners leave it the blocks that it has.
+use Rattle.std.proofs.Common.{◌≡◌, ◌≢◌, ◌<◌, ℕ, Bool, IsTrue, true, false, List, Option, Some}
+use Rattle.std.proofs.Common.{None, sym, ap, subst, ⊎_elim, ◌∙◌, arith, if◌then◌else◌}
+use Rattle.vr_types.specs.Blocks.{Keeps, Puts}
+use Rattle.vr_types.specs.Content.{Item}
+use Rattle.vr_types.specs.Geometry.{area_count}
+use Rattle.vr_types.specs.Image.{Block, Image, block_at}
+use Rattle.vr_types.specs.Seen.{Seen}
+use Rattle.vr_types.proofs.CallerLemmas.{cur-elsewhere}
+use Rattle.vr_space.specs.Keyed.{InArea, keyed_way}
+use Rattle.vr_space.specs.Owners.{Owners}
+use Rattle.vr_space.specs.Part.{InFirstArea, InPart, IsAtRest, IsQuiet, IsSound, KeyedShape, MayHold}
+use Rattle.vr_space.specs.Part.{RelativeShape, Shape, way_to}
+use Rattle.vr_space.specs.Rosters.{IsInArea, IsOwnArea, Numbered, interval_way, roster_block}
+use Rattle.vr_space.specs.Slots.{AreSlotsAtRest, AreSlotsSound, IsNumberedOn, IsRestingArea, IsSlots}
+use Rattle.vr_space.specs.Slots.{interval_of, is_slot_place, slot_in, slot_read, slot_way}
+use Rattle.vr_space.specs.Way.{Found, IsWithin}
+use Rattle.vr_space.proofs.Chains.{area-below, chain-both, chain-here, chain-less, chain-within}
+use Rattle.vr_space.proofs.Chains.{roster-inside}
+use Rattle.vr_space.proofs.KeyedSound.{IsBlock, keyed-less, keyed-within}
+use Rattle.vr_space.proofs.Ways.{find-less, within-more}
+
+-- the blocks of the part that are there
+abbrev pub IsPartBlock : Shape → Owners → Seen → ℕ → Type 0
+IsPartBlock shape owners now n = (n < now.count) × InPart shape owners n
+
+-- ---- where its ways lead
+
+-- the blocks of an area of the part's own are there
+pub area-owned : (part : Numbered) (owners : Owners) (now : Seen) → IsNumberedOn part now
+    → (area : ℕ) → IsOwnArea part owners area → (n : ℕ) → IsInArea part area n
+    → IsPartBlock (RelativeShape part) owners now n
+area-owned part owners now on area own n inside =
+    (omega (arith, area-below part area n own.there inside, on.blocks), own.owned n inside)
+
+slots-within : (part : Numbered) (owners : Owners) (now : Seen) → AreSlotsSound part owners now
+    → (place : List ℕ)
+    → IsWithin (IsPartBlock (RelativeShape part) owners now) now.may (slot_way part place)
+slots-within part owners now sound place = by_test (is_slot_place place)
+  where
+    by_test : (test : Bool) → IsWithin (IsPartBlock (RelativeShape part) owners now) now.may
+        (if test then interval_way part (slot_read (slot_in part place)) (interval_of part place)
+        else Found None)
+    by_test true = chain-within part (IsOwnArea part owners) (IsSlots part)
+        (IsPartBlock (RelativeShape part) owners now) now.may (slot_read (slot_in part place))
+        (area-owned part owners now sound.on) (λ n is. (is, λ block may. tt))
+        (area_count part.geometry) (interval_of part place) part.first sound.chain
+    by_test false = tt
+
+-- A way to a place reads blocks of the part alone.
+pub way-within : (shape : Shape) (owners : Owners) (now : Seen) → IsSound shape owners now
+    → (place : List ℕ) → IsWithin (IsPartBlock shape owners now) now.may (way_to shape place)
+way-within (KeyedShape part) owners now (sound, owned) place = within-more (IsBlock part now)
+    (IsPartBlock (KeyedShape part) owners now) now.may (λ n is. (is.0, owned n is.1))
+    (keyed_way part place) (keyed-within part now sound place)
+way-within (RelativeShape part) owners now sound place = slots-within part owners now sound place
+
+-- So a place may hold no more where no more is allowed of the part's blocks.
+pub holds-less : (shape : Shape) (owners : Owners) (now : Seen) (less : ℕ → Block → Type 0)
+    → IsSound shape owners now
+    → ((n : ℕ) (block : Block) → IsPartBlock shape owners now n → less n block → now.may n block)
+    → (place : List ℕ) (item : Option Item) → MayHold shape less place item
+    → MayHold shape now.may place item
+holds-less shape owners now less sound each place item = find-less (IsPartBlock shape owners now)
+    less now.may item each (way_to shape place) (way-within shape owners now sound place)
+
+-- the blocks of the first area are the part's own
+pub first-owned : (shape : Shape) (owners : Owners) (now : Seen) → IsSound shape owners now
+    → (n : ℕ) → InFirstArea shape n → InPart shape owners n
+first-owned (KeyedShape part) owners now (sound, owned) n inside = owned n inside
+first-owned (RelativeShape part) owners now sound n inside =
+    (chain-here part (IsOwnArea part owners) (IsSlots part) now.may (area_count part.geometry)
+    part.first sound.chain).owned n inside
+
+-- what is at rest is sound
+pub rest-sound : (shape : Shape) (owners : Owners) (now : Seen) → IsAtRest shape owners now
+    → IsSound shape owners now
+rest-sound (KeyedShape part) owners now (rests, owned) = (rests.sound, owned)
+rest-sound (RelativeShape part) owners now rests = record {
+  on = rests.on;
+  chain = chain-less part (IsRestingArea part owners now) (IsOwnArea part owners) (IsSlots part)
+      now.may now.may (λ area is. is.own) (λ area is n inside block may. may)
+      (area_count part.geometry) part.first rests.chain;
+}
+
+-- ---- where less is left of its blocks
+
+-- the part's blocks have what they had, and a crash may leave no more of them
+pub record StaysPart (shape : Shape) (owners : Owners) (a b : Seen) : Type 0 where
+  pub count : b.count ≡ a.count
+  pub size : b.size ≡ a.size
+  pub same : (n : ℕ) → InPart shape owners n → block_at b.cur n ≡ block_at a.cur n
+  pub fewer : (n : ℕ) (block : Block) → n < a.count → InPart shape owners n
+      → b.may n block → a.may n block
+
+-- a call that puts nothing leaves them so
+module _ (tells : Bool) (told : IsTrue tells) (a b : Seen) where
+  pub stays-keeps : Keeps tells a b → (shape : Shape) (owners : Owners) → StaysPart shape owners a b
+  stays-keeps call shape owners = record {
+    count = call.count_same;
+    size = call.size_same;
+    same = λ n inside. ap (λ (image : Image). block_at image n) (call.content told);
+    fewer = λ n block below inside may. call.adds_none told n block below may;
+  }
+
+  -- and so does a put outside the part
+  pub stays-puts : (shape : Shape) (owners : Owners) (n : ℕ) (bytes : Block)
+      → Puts tells n bytes a b → (InPart shape owners n → ⊥) → StaysPart shape owners a b
+  stays-puts shape owners n bytes call beyond =
+      let other : (m : ℕ) → InPart shape owners m → m ≢ n =
+      λ m inside same. beyond (subst (InPart shape owners) same inside) in
+      record {
+        count = call.count_same;
+        size = call.size_same;
+        same = λ m inside. cur-elsewhere tells a b m n bytes told (other m inside) call;
+        fewer = λ m block below inside may. ⊎_elim (λ old. old)
+            (λ new. absurd (other m inside new.0)) (call.adds told m block below may);
+      }
+
+-- the blocks of the volume are as many, and as long
+pub on-less : (part : Numbered) (a b : Seen) → b.count ≡ a.count → b.size ≡ a.size
+    → IsNumberedOn part a → IsNumberedOn part b
+on-less part a b count size on = record {
+  part_is = on.part_is;
+  blocks = omega (arith, on.blocks, count);
+  size = size ∙ on.size;
+}
+
+module _ (a b : Seen) where
+  -- A part stays sound where a crash may leave no more of its blocks,
+  pub sound-less : (shape : Shape) (owners : Owners) → b.count ≡ a.count → b.size ≡ a.size
+      → ((n : ℕ) (block : Block) → IsPartBlock shape owners a n → b.may n block → a.may n block)
+      → IsSound shape owners a → IsSound shape owners b
+  sound-less (KeyedShape part) owners count size less (sound, owned) = (
+    keyed-less part a b count size (λ n block is may. less n block (is.0, owned n is.1) may) sound,
+    owned,
+  )
+  sound-less (RelativeShape part) owners count size less sound = record {
+    on = on-less part a b count size sound.on;
+    chain = chain-less part (IsOwnArea part owners) (IsOwnArea part owners) (IsSlots part) b.may
+        a.may (λ area own. own)
+        (λ area own n inside block may. less n block
+        (area-owned part owners a sound.on area own n inside) may)
+        (area_count part.geometry) part.first sound.chain;
+  }
+
+  -- and stays at rest where they have what they had.
+  pub rest-stays : (shape : Shape) (owners : Owners) → StaysPart shape owners a b
+      → IsAtRest shape owners a → IsAtRest shape owners b
+  rest-stays (KeyedShape part) owners stays (rests, owned) =
+      let less : (n : ℕ) (block : Block) → IsBlock part a n → b.may n block → a.may n block =
+      λ n block is. stays.fewer n block is.0 (owned n is.1) in
+      let here : InArea part part.head = (omega arith, omega arith) in (
+        record {
+          sound = keyed-less part a b stays.count stays.size less rests.sound;
+          one_head = λ top may. rests.one_head top
+              (less part.head top (omega (arith, rests.sound.area), here) may)
+              ∙ sym (stays.same part.head (owned part.head here));
+        },
+        owned,
+      )
+  rest-stays (RelativeShape part) owners stays rests =
+      let there : (area : ℕ) → IsOwnArea part owners area → (n : ℕ) → IsInArea part area n
+      → IsPartBlock (RelativeShape part) owners a n = area-owned part owners a rests.on in record {
+        on = on-less part a b stays.count stays.size rests.on;
+        chain = chain-less part (IsRestingArea part owners a) (IsRestingArea part owners b)
+            (IsSlots part) b.may a.may
+            (λ area is.
+            let top = there area is.own (roster_block part area) (roster-inside part area) in
+            record {
+              own = is.own;
+              roster = λ block may. is.roster block
+                  (stays.fewer (roster_block part area) block top.0 top.1 may)
+                  ∙ sym (stays.same (roster_block part area) top.1);
+            })
+            (λ area is n inside block may. stays.fewer n block (there area is.own n inside).0
+            (is.own.owned n inside) may)
+            (area_count part.geometry) part.first rests.chain;
+      }
+
+-- ---- other owners
+
+-- an area of the part's own is so by owners who leave it the blocks that it has
+area-grows : (part : Numbered) (owners grown : Owners)
+    → ((n other : ℕ) → owners n ≡ Some other → grown n ≡ Some other)
+    → (area : ℕ) → IsOwnArea part owners area → IsOwnArea part grown area
+area-grows part owners grown leaves area own = record {
+  there = own.there;
+  owned = λ n inside. leaves n part.part (own.owned n inside);
+}
+
+module _ (owners grown : Owners) (now : Seen)
+    (leaves : (n part : ℕ) → owners n ≡ Some part → grown n ≡ Some part) where
+  -- By owners who leave each part the blocks that it has, a part stays sound,
+  pub sound-grows : (shape : Shape) → IsSound shape owners now → IsSound shape grown now
+  sound-grows (KeyedShape part) (sound, owned) =
+      (sound, λ n inside. leaves n part.part (owned n inside))
+  sound-grows (RelativeShape part) sound = record {
+    on = sound.on;
+    chain = chain-less part (IsOwnArea part owners) (IsOwnArea part grown) (IsSlots part) now.may
+        now.may (area-grows part owners grown leaves) (λ area own n inside block may. may)
+        (area_count part.geometry) part.first sound.chain;
+  }
+
+  -- and at rest.
+  pub rest-grows : (shape : Shape) → IsAtRest shape owners now → IsAtRest shape grown now
+  rest-grows (KeyedShape part) (rests, owned) =
+      (rests, λ n inside. leaves n part.part (owned n inside))
+  rest-grows (RelativeShape part) rests = record {
+    on = rests.on;
+    chain = chain-less part (IsRestingArea part owners now) (IsRestingArea part grown now)
+        (IsSlots part) now.may now.may
+        (λ area is. record {
+          own = area-grows part owners grown leaves area is.own;
+          roster = is.roster;
+        })
+        (λ area is n inside block may. may) (area_count part.geometry) part.first rests.chain;
+  }
+
+slots-quiet : (part : Numbered) (owners other : Owners) (now : Seen)
+    → AreSlotsAtRest part other now → AreSlotsSound part owners now
+    → AreSlotsAtRest part owners now
+slots-quiet part owners other now rests sound = record {
+  on = sound.on;
+  chain = chain-less part
+      (λ area. IsRestingArea part other now area × IsOwnArea part owners area)
+      (IsRestingArea part owners now) (IsSlots part) now.may now.may
+      (λ area both. record { own = both.1; roster = both.0.roster })
+      (λ area both n inside block may. may) (area_count part.geometry) part.first
+      (chain-both part (IsRestingArea part other now) (IsOwnArea part owners) (IsSlots part) now.may
+      (area_count part.geometry) part.first rests.chain sound.chain);
+}
+
+-- A part that is at rest by some owners is so by those by which it is sound.
+pub rest-of-quiet : (shape : Shape) (owners : Owners) (now : Seen) → IsQuiet shape now
+    → IsSound shape owners now → IsAtRest shape owners now
+rest-of-quiet (KeyedShape part) owners now quiet sound = (quiet.1.0, sound.1)
+rest-of-quiet (RelativeShape part) owners now quiet sound =
+    slots-quiet part owners quiet.0 now quiet.1 sound
