@@ -52,3 +52,5 @@ pub use Rattle.vr_space.proofs.ChainWays.{AreChained, UsedBetween, are-chained, 
 pub use Rattle.vr_space.proofs.ChainWays.{count-from}
 pub use Rattle.vr_space.proofs.SlotReads.{SlotIsThere, place-is, place-tested, read-used, slot-past}
 pub use Rattle.vr_space.proofs.SlotReads.{slot-place, slot-there, slot_block, way-there}
+pub use Rattle.vr_space.proofs.SlotReads.{found-place}
+pub use Rattle.vr_space.proofs.SlotOrder.{four_of, four_of-is, higher-after, lower-before}

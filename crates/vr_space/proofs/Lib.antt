@@ -2,6 +2,7 @@ pub mod Ways
 pub mod Chains
 pub mod Places
 pub mod SlotNumbers
+pub mod SlotOrder
 pub mod ChainWays
 pub mod SlotContent
 pub mod SlotReads
