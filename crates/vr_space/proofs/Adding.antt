@@ -1,7 +1,7 @@
 -- What calls of a part add to what its places may hold, one after another, and what a force leaves.
 use Rattle.std.proofs.Common.{◌≡◌, ◌⊎◌, inl, inr, ⊎_elim, ◌<◌, ℕ, Bool, IsTrue, true, false, List}
-use Rattle.std.proofs.Common.{[], Option, Some, None, refl, sym, ap, subst, ◌∙◌, arith, length}
-use Rattle.std.proofs.Common.{◌≤◌, cond, nat_le}
+use Rattle.std.proofs.Common.{[], Option, Some, None, refl, sym, ap, subst, ◌∙◌, arith, length, ◌≤◌}
+use Rattle.std.proofs.Common.{cond, nat_le}
 use Rattle.vr_types.specs.Content.{Content, Item, item_at}
 use Rattle.vr_types.specs.Geometry.{area_count}
 use Rattle.vr_types.specs.Image.{Block, Image, block_at}
@@ -19,11 +19,11 @@ use Rattle.vr_space.specs.Split.{SplitNow, keyed_stage, keyed_fits, room_after, 
 use Rattle.vr_space.specs.Split.{room_by_split, free_interval}
 use Rattle.vr_space.specs.Keyed.{entries_of}
 use Rattle.vr_space.specs.Owners.{Owners}
-use Rattle.vr_space.specs.Part.{Shape, KeyedShape, RelativeShape, InPart, StandsFor, Stands, HasOnly}
-use Rattle.vr_space.specs.Part.{MayHold, MayAlsoHold, Nothing, AddsTo, IsSound, IsAtRest}
-use Rattle.vr_space.specs.Part.{IsLengthOf, IsOn, IsRecordOf, StaysIn}
-use Rattle.vr_space.specs.Part.{way_to, item_of, left_by, SameRecords, SetsOne, IsDueTo, DueMore, IsFirm}
-use Rattle.vr_space.specs.Part.{CanSet, room_of, stage_of, fits_at}
+use Rattle.vr_space.specs.Part.{Shape, KeyedShape, RelativeShape, InPart, StandsFor, Stands}
+use Rattle.vr_space.specs.Part.{HasOnly, MayHold, MayAlsoHold, Nothing, AddsTo, IsSound, IsAtRest}
+use Rattle.vr_space.specs.Part.{IsLengthOf, IsOn, IsRecordOf, StaysIn, way_to, item_of, left_by}
+use Rattle.vr_space.specs.Part.{SameRecords, SetsOne, IsDueTo, DueMore, IsFirm, CanSet, room_of}
+use Rattle.vr_space.specs.Part.{stage_of, fits_at}
 use Rattle.vr_space.specs.Rosters.{IsInArea, IsOf, IsOwnArea, Numbered}
 use Rattle.vr_space.specs.Slots.{AreSlotsSound, IsSlots, SlotsStayIn, areas_short, interval_of}
 use Rattle.vr_space.specs.Slots.{slot_fits, slot_room_by, slots_from}
@@ -50,7 +50,8 @@ only-weaken shape owners O P wider image has = record {
 }
 
 -- what is allowed may be allowed more widely
-pub adds-weaken : (shape : Shape) (owners : Owners) (A C : List ℕ → Option Item → Type 0) (a b : Seen)
+pub adds-weaken : (shape : Shape) (owners : Owners) (A C : List ℕ → Option Item → Type 0)
+    (a b : Seen)
     → AddsTo shape owners A a b
     → ((place : List ℕ) (item : Option Item) → A place item → C place item)
     → AddsTo shape owners C a b
@@ -66,7 +67,8 @@ adds-weaken shape owners A C a b call wider =
     }
 
 -- two calls add what each allows
-pub adds-then : (shape : Shape) (owners : Owners) (A C : List ℕ → Option Item → Type 0) (a b c : Seen)
+pub adds-then : (shape : Shape) (owners : Owners) (A C : List ℕ → Option Item → Type 0)
+    (a b c : Seen)
     → AddsTo shape owners A a b → AddsTo shape owners C b c
     → AddsTo shape owners (λ place item. A place item ⊎ C place item) a c
 adds-then shape owners A C a b c first second =
@@ -81,15 +83,18 @@ adds-then shape owners A C a b c first second =
     record {
       touches = touches-then (InPart shape owners) _ a b c
           (touches-weaken (InPart shape owners) _ _ a b first.touches
-          (only-weaken shape owners (MayAlsoHold shape a.may A) (MayAlsoHold shape a.may both) early))
+          (only-weaken shape owners (MayAlsoHold shape a.may A) (MayAlsoHold shape a.may both)
+          early))
           (touches-weaken (InPart shape owners) _ _ b c second.touches
-          (only-weaken shape owners (MayAlsoHold shape b.may C) (MayAlsoHold shape a.may both) late));
+          (only-weaken shape owners (MayAlsoHold shape b.may C) (MayAlsoHold shape a.may both)
+          late));
       rest = λ place item holds. late place item (second.rest place item holds);
       sound = second.sound;
     }
 
 -- a call that adds nothing, and then another
-pub nothing-then : (shape : Shape) (owners : Owners) (A : List ℕ → Option Item → Type 0) (a b c : Seen)
+pub nothing-then : (shape : Shape) (owners : Owners) (A : List ℕ → Option Item → Type 0)
+    (a b c : Seen)
     → AddsTo shape owners Nothing a b → AddsTo shape owners A b c
     → AddsTo shape owners A a c
 nothing-then shape owners A a b c first second =
@@ -97,7 +102,8 @@ nothing-then shape owners A a b c first second =
     (λ place item. ⊎_elim (λ none. absurd none) (λ new. new))
 
 -- and the other way round
-pub then-nothing : (shape : Shape) (owners : Owners) (A : List ℕ → Option Item → Type 0) (a b c : Seen)
+pub then-nothing : (shape : Shape) (owners : Owners) (A : List ℕ → Option Item → Type 0)
+    (a b c : Seen)
     → AddsTo shape owners A a b → AddsTo shape owners Nothing b c
     → AddsTo shape owners A a c
 then-nothing shape owners A a b c first second =
@@ -217,7 +223,8 @@ module _ (tells : Bool) (told : IsTrue tells) where
       )) (same-keeps shape a b call place) due
 
   -- a force of the blocks that something else might stand in
-  pub forced-firm : (shape : Shape) (owners : Owners) (listed place : List ℕ) (a b : Seen) → Keeps tells a b
+  pub forced-firm : (shape : Shape) (owners : Owners) (listed place : List ℕ) (a b : Seen)
+      → Keeps tells a b
       → Forced listed a.cur b.may → IsSound shape owners a
       → IsDueTo shape listed a place → IsFirm shape b place
   forced-firm shape owners listed place a b call forced sound =

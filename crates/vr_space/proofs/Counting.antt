@@ -26,7 +26,8 @@ module _ (part : Keyed) (kept : Lengths) (place : List ℕ) (n : ℕ) (image : I
     -- what is kept besides takes no room in the interval of an entry
     abbrev pub Counts : Range × Entry → Type 0
     Counts found =
-        lengths_of part (with_length kept place n) found.0 (block_at image (entry_block part found.1))
+        lengths_of part (with_length kept place n) found.0
+        (block_at image (entry_block part found.1))
         ≡ lengths_of part kept found.0 (block_at image (entry_block part found.1))
 
     counts-out : (range : Range) (block : Block) → is_in range place ≡ false
@@ -111,7 +112,8 @@ module _ (part : Keyed) (kept : Lengths) (place : List ℕ) (n : ℕ) (image : I
             → IfSome (cond reaches (Some (range_of low entry, entry))
             (entry_for (Some entry.high) entries other)) Counts
         by_test true further = counts-by (range_of low entry)
-            (block_at image (entry_block part entry)) (is_in (range_of low entry) place) refl holds.0
+            (block_at image (entry_block part entry))
+            (is_in (range_of low entry) place) refl holds.0
             (λ inside. found (range_of low entry, entry)
             (ap (λ (reaches : Bool). cond reaches (Some (range_of low entry, entry))
             (entry_for (Some entry.high) entries place))

@@ -345,7 +345,8 @@ places-fewer P any fewer kept less all = All-from_recursion P fewer
     (places-among P any fewer kept less (recursion_from_All P kept all))
 
 -- Where less is kept there is room too.
-pub fewer-room : (shape : Shape) (owners : Owners) (fewer kept : Lengths) (now : Seen) → Under fewer kept
+pub fewer-room : (shape : Shape) (owners : Owners) (fewer kept : Lengths) (now : Seen)
+    → Under fewer kept
     → IsSound shape owners now → HasKeptRoom shape kept now → HasKeptRoom shape fewer now
 fewer-room (KeyedShape part) owners fewer kept now less (sound, owned) room = record {
   places = places-fewer (λ (entry : List ℕ × ℕ). length entry.0 ≡ part.key)

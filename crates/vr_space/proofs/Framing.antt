@@ -110,13 +110,15 @@ module _ (a b : Seen) where
       (λ fits. inl (subst IsTrue (sym (same (length bytes))) fits))
       (λ kept-there. inr kept-there) has
 
-  pub can-stays : (shape : Shape) (owners : Owners) (known : Known) (kept : Lengths) (place : List ℕ)
+  pub can-stays : (shape : Shape) (owners : Owners) (known : Known) (kept : Lengths)
+      (place : List ℕ)
       (item : Option (List ℕ)) → StaysPart shape owners a b
       → IsSound shape owners a → Left a a.cur → CanSet shape known a.cur kept place item
       → CanSet shape known b.cur kept place item
   can-stays (KeyedShape part) owners known kept place item part-stays (sound, owned) left can =
       let stays = area-stays part owners a b owned part-stays in record {
-        no_stage = ap (λ (top : Block). stage_in known.split (entry_for None (entries_of top) place))
+        no_stage = ap
+            (λ (top : Block). stage_in known.split (entry_for None (entries_of top) place))
             (stays.same part.head (omega arith, omega arith)) ∙ can.no_stage;
         room = room-for (KeyedShape part) kept place item
             (λ n. fits-same part kept place n stays
@@ -145,11 +147,13 @@ module _ (tells : Bool) (told : IsTrue tells) where
       knows-stays a b shape owners known (stays-keeps tells told a b call shape owners)
 
   -- what is put outside the part leaves what it knows of them, too
-  pub knows-puts : (shape : Shape) (owners : Owners) (known : Known) (n : ℕ) (bytes : Block) (a b : Seen)
+  pub knows-puts : (shape : Shape) (owners : Owners) (known : Known) (n : ℕ) (bytes : Block)
+      (a b : Seen)
       → Puts tells n bytes a b → (InPart shape owners n → ⊥)
       → IsSound shape owners a → Left a a.cur → Knows shape known a → Knows shape known b
   knows-puts shape owners known n bytes a b call beyond =
-      knows-stays a b shape owners known (stays-puts tells told a b shape owners n bytes call beyond)
+      knows-stays a b shape owners known
+      (stays-puts tells told a b shape owners n bytes call beyond)
 
 -- ---- owners
 

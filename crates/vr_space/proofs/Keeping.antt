@@ -206,8 +206,8 @@ none-above : (part : Keyed) (items : List ci.Item) (place : List ℕ)
     → item_at (map (placed part) items) place ≡ None
 none-above part [] place all = refl
 none-above part (item ∷ items) place all =
-    ap (λ (order : Ordering). found_by order (Some (Standing item.bytes)) (item_at (map (placed part) items)
-    place)) all.0
+    ap (λ (order : Ordering). found_by order (Some (Standing item.bytes))
+    (item_at (map (placed part) items) place)) all.0
     ∙ none-above part items place all.1
 
 all-more : (low place : List ℕ) (keys : List (List ℕ)) → place_cmp low place ≡ Less
@@ -220,7 +220,8 @@ all-more low place (key ∷ keys) less all = (
 )
 
 -- a record that is read in a range has its length there
-pub holds-read : (part : Keyed) (range : Range) (items : List ci.Item) (place bytes : List ℕ) (n : ℕ)
+pub holds-read : (part : Keyed) (range : Range) (items : List ci.Item) (place bytes : List ℕ)
+    (n : ℕ)
     → IsStrictlySortedBy place_cmp (map (λ (item : ci.Item). key_of part item.bytes) items)
     → is_in range place ≡ true → item_at (map (placed part) items) place ≡ Some (Standing bytes)
     → n ≤ length bytes
@@ -238,7 +239,8 @@ holds-read part range (item ∷ items) place bytes n sorted inside reads most =
     above = sorted_head place_cmp (key_of part item.bytes)
         (map (λ (other : ci.Item). key_of part other.bytes) items) sorted
 
-    here : place ≡ key_of part item.bytes → Some (Standing item.bytes) ≡ Some (Standing bytes) → (inside-key : Bool)
+    here : place ≡ key_of part item.bytes → Some (Standing item.bytes) ≡ Some (Standing bytes)
+        → (inside-key : Bool)
         → is_in range (key_of part item.bytes) ≡ inside-key
         → Holds (map length_of (cond inside-key
         (placed part item ∷ filter (λ (entry : Placed). is_in range entry.0)
@@ -429,7 +431,8 @@ places-kept P any kept place n one all = All-from_recursion P (with_length kept 
 -- ---- the law
 
 -- The record that a crash leaves at a place may be kept, where it is the only one.
-pub keep-room : (shape : Shape) (owners : Owners) (kept : Lengths) (place : List ℕ) (n : ℕ) (now : Seen)
+pub keep-room : (shape : Shape) (owners : Owners) (kept : Lengths) (place : List ℕ) (n : ℕ)
+    (now : Seen)
     → IsPlaceOf shape place → IsSound shape owners now → HasKeptRoom shape kept now
     → ((item : Option Item) → MayHold shape now.may place item
     → (bytes : List ℕ) × (item ≡ Some (Standing bytes)) × (n ≤ length bytes))

@@ -1,7 +1,7 @@
 -- What is true of the blocks of each part: where its ways lead, and what stays where a crash may
 -- leave less of them, or where other owners leave it the blocks that it has.
-use Rattle.std.proofs.Common.{◌≡◌, ◌≢◌, ◌<◌, ℕ, Bool, IsTrue, true, false, List, Option, Some}
-use Rattle.std.proofs.Common.{None, sym, ap, subst, ⊎_elim, ◌∙◌, arith, if◌then◌else◌}
+use Rattle.std.proofs.Common.{◌≡◌, ◌≢◌, ◌<◌, ℕ, Bool, IsTrue, true, false, List, Option, Some, None}
+use Rattle.std.proofs.Common.{sym, ap, subst, ⊎_elim, ◌∙◌, arith, if◌then◌else◌}
 use Rattle.vr_types.specs.Blocks.{Keeps, Puts}
 use Rattle.vr_types.specs.Content.{Item}
 use Rattle.vr_types.specs.Geometry.{area_count}
@@ -10,11 +10,11 @@ use Rattle.vr_types.specs.Seen.{Seen}
 use Rattle.vr_types.proofs.CallerLemmas.{cur-elsewhere}
 use Rattle.vr_space.specs.Keyed.{InArea, keyed_way}
 use Rattle.vr_space.specs.Owners.{Owners}
-use Rattle.vr_space.specs.Part.{InFirstArea, InPart, IsAtRest, IsQuiet, IsSound, KeyedShape, MayHold}
-use Rattle.vr_space.specs.Part.{RelativeShape, Shape, way_to}
+use Rattle.vr_space.specs.Part.{InFirstArea, InPart, IsAtRest, IsQuiet, IsSound, KeyedShape}
+use Rattle.vr_space.specs.Part.{MayHold, RelativeShape, Shape, way_to}
 use Rattle.vr_space.specs.Rosters.{IsInArea, IsOwnArea, Numbered, interval_way, roster_block}
-use Rattle.vr_space.specs.Slots.{AreSlotsAtRest, AreSlotsSound, IsNumberedOn, IsRestingArea, IsSlots}
-use Rattle.vr_space.specs.Slots.{interval_of, is_slot_place, slot_in, slot_read, slot_way}
+use Rattle.vr_space.specs.Slots.{AreSlotsAtRest, AreSlotsSound, IsNumberedOn, IsRestingArea}
+use Rattle.vr_space.specs.Slots.{IsSlots, interval_of, is_slot_place, slot_in, slot_read, slot_way}
 use Rattle.vr_space.specs.Way.{Found, IsWithin}
 use Rattle.vr_space.proofs.Chains.{area-below, chain-both, chain-here, chain-less, chain-within}
 use Rattle.vr_space.proofs.Chains.{roster-inside}

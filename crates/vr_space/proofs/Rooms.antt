@@ -81,7 +81,8 @@ room-image (RelativeShape part) owners kept now sound room image left =
     (left.each (roster_block part area) there.0 there.1)) sound.chain room
 
 -- and so has that of each moment of a call that puts nothing
-pub keeps-rooms : (tells : Bool) → IsTrue tells → (shape : Shape) (owners : Owners) (kept : Lengths) (a b : Seen)
+pub keeps-rooms : (tells : Bool) → IsTrue tells → (shape : Shape) (owners : Owners)
+    (kept : Lengths) (a b : Seen)
     → Keeps tells a b → IsSound shape owners a → HasKeptRoom shape kept a
     → Touches (InPart shape owners) (HasRoom shape kept) a b
 keeps-rooms tells told shape owners kept a b call sound room =

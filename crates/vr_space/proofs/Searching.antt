@@ -202,7 +202,8 @@ module _ (part : Keyed) (place : List ℕ) (all old left : List ci.Item) (i : �
         let kept : All (IsKept part) (item ∷ left) = subst (All (IsKept part)) cut search.kept in
         record {
           kept = All-tail (IsKept part) item left kept;
-          same = sym (by_other (place_cmp place (key_of part item.bytes)) (Some (Standing item.bytes))
+          same = sym
+              (by_other (place_cmp place (key_of part item.bytes)) (Some (Standing item.bytes))
               (item_at (map (placed part) left) place)
               (λ equal. other (All-head (IsKept part) item left kept)
               (sym (same_place place (key_of part item.bytes) equal))))

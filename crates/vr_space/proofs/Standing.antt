@@ -9,7 +9,8 @@ use Rattle.vr_types.specs.Content.Item.{Standing}
 use Rattle.vr_types.specs.Image.{Image, block_at}
 use Rattle.vr_ci.specs.Interval as ci
 use Rattle.vr_seqset.specs.Entry.{Entry}
-use Rattle.vr_space.specs.Keyed.{Keyed, entries_of, entry_block, entry_for, items_of, placed, way_in}
+use Rattle.vr_space.specs.Keyed.{Keyed, entries_of, entry_block, entry_for, items_of, placed}
+use Rattle.vr_space.specs.Keyed.{way_in}
 use Rattle.vr_space.specs.Part.{KeyedShape, RelativeShape, Shape, item_of, left_by, record_read}
 use Rattle.vr_space.specs.Room.{Range}
 use Rattle.vr_space.specs.Way.{found_on}

@@ -1,5 +1,5 @@
--- What a part keeps in memory of its blocks. Above the part nobody reads what is in it. The rules are
--- this project's own.
+-- What a part keeps in memory of its blocks. Above the part nobody reads what is in it. The rules
+-- are this project's own.
 use Rattle.std.specs.Prelude.{ℕ, List, map, Contains, Option}
 use Rattle.vr_space.specs.Met.{Met}
 use Rattle.vr_space.specs.Split.{SplitNow}

@@ -1,7 +1,7 @@
 -- A part of a volume on its blocks: what they stand for, which items each place may hold in the
 -- images that a crash may leave, and what a call adds to that. The rules are this project's own.
-use Rattle.std.specs.Prelude.{◌≡◌, ◌≢◌, ◌⊎◌, ◌<◌, ◌≤◌, ◌+◌, ℕ, Bool, List, Option, Some, None}
-use Rattle.std.specs.Prelude.{All, Contains, length, option_and_then}
+use Rattle.std.specs.Prelude.{◌≡◌, ◌≢◌, ◌⊎◌, ◌<◌, ◌≤◌, ◌+◌, ℕ, Bool, List, Option, Some, None, All}
+use Rattle.std.specs.Prelude.{Contains, length, option_and_then}
 use Rattle.std.specs.Option.{option_map}
 use Rattle.vr_types.specs.Content.{Content, Item, item_at, record_of}
 use Rattle.vr_types.specs.Content.Item.{Standing}
@@ -28,8 +28,8 @@ use Rattle.vr_space.specs.Split.{IsIntervalStage, keyed_room, keyed_stage, keyed
 use Rattle.vr_space.specs.UnderWay.{KeyedUnderWay}
 use Rattle.vr_space.specs.Met.{IsMet}
 use Rattle.vr_space.specs.Owners.{Owners}
-use Rattle.vr_space.specs.Keyed.{InArea, IsOwned, Keyed, keyed_way, KeyedStandsFor, IsKeyedSound, IsKeyedAtRest}
-use Rattle.vr_space.specs.Keyed.{KeepsRoom, HaveRooms, IsValid, entries_of, key_of}
+use Rattle.vr_space.specs.Keyed.{InArea, IsOwned, Keyed, keyed_way, KeyedStandsFor, IsKeyedSound}
+use Rattle.vr_space.specs.Keyed.{IsKeyedAtRest, KeepsRoom, HaveRooms, IsValid, entries_of, key_of}
 use Rattle.vr_space.specs.Rosters.{IsInArea, IsOf, Numbered}
 use Rattle.vr_space.specs.Slots.{AreSlotsAtRest, AreSlotsSound, IsNumberedOn, IsSlotPlace}
 use Rattle.vr_space.specs.Slots.{IsSlotRecord, KeepsSlots, KnowsChain, SlotsStandFor, SlotsStayIn}
@@ -93,7 +93,8 @@ abbrev pub way_to : Shape → List ℕ → Way
 way_to (KeyedShape part) place = keyed_way part place
 way_to (RelativeShape part) place = slot_way part place
 
--- every content that a crash may leave of a block is in order, and leads to blocks of the part alone
+-- every content that a crash may leave of a block is in order, and leads to blocks of the part
+-- alone
 abbrev pub IsSound : Shape → Owners → Seen → Type 0
 IsSound (KeyedShape part) owners now = IsKeyedSound part now × IsOwned part owners
 IsSound (RelativeShape part) owners now = AreSlotsSound part owners now

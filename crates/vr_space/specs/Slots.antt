@@ -1,8 +1,8 @@
 -- The blocks of a relative part: its control intervals have slots of one length, and the number of
 -- a slot, counted from 1 over all of them, is its relative record number (DFSMS Using Data Sets,
 -- relative record data sets). What a crash may leave of them is this project's own rule.
-use Rattle.std.specs.Prelude.{◌≡◌, ℕ, zero, suc, ◌+◌, ◌-◌, ◌*◌, ◌/◌, ◌%◌, ◌<◌, ◌≤◌, Bool, true, false}
-use Rattle.std.specs.Prelude.{List, [], ◌∷◌, ◌++◌, length, All, Option, Some, None, ◌&&◌}
+use Rattle.std.specs.Prelude.{◌≡◌, ℕ, zero, suc, ◌+◌, ◌-◌, ◌*◌, ◌/◌, ◌%◌, ◌<◌, ◌≤◌, Bool, true}
+use Rattle.std.specs.Prelude.{false, List, [], ◌∷◌, ◌++◌, length, All, Option, Some, None, ◌&&◌}
 use Rattle.std.specs.Prelude.{IsTrue, nat_lt, nat_le, option_and_then, slice_get, slice_index}
 use Rattle.std.specs.Prelude.{if◌then◌else◌, bytes_eq}
 use Rattle.std.specs.Int.{w32, from_be_bytes, div_ceil}

@@ -32,7 +32,8 @@ pub fn content_is_read()
 /// no room.
 pub fn kept_takes_no_room<B: Blocks>(blocks: &B)
     ensures { (shape : Shape) (kept : Lengths) (place : List ℕ) (n : ℕ) → IsPlaceOf shape place
-        → (owners : Owners) → IsSound shape owners (B.seen blocks.now) → HasKeptRoom shape kept (B.seen blocks.now)
+        → (owners : Owners) → IsSound shape owners (B.seen blocks.now)
+        → HasKeptRoom shape kept (B.seen blocks.now)
         → ((item : Option Item) → MayHold shape (B.seen blocks.now).may place item
         → (bytes : List ℕ) × (item ≡ Some (Standing bytes)) × (n ≤ length bytes))
         → HasKeptRoom shape (with_length kept place n) (B.seen blocks.now) }
