@@ -5,14 +5,10 @@ ghost use Rattle.std.specs.Prelude.{List, OnOk, Option, is_some, option_map};
 ghost use Rattle.vr_types.specs.Blocks.{Keeps};
 ghost use Rattle.vr_types.specs.Content.{Standing};
 ghost use Rattle.vr_types.specs.Faults.{HasCause};
-ghost use Rattle.vr_types.specs.Locks.{same_unit};
 ghost use Rattle.vr_types.specs.Moments.{Guards};
 ghost use Rattle.vr_types.specs.declared.fault.DeviceFault.TheVariants.{Read, Write};
-ghost use Rattle.vr_types.specs.declared.unit.Unit.{Unit as UnitOfRecovery};
 ghost use Rattle.vr_space.specs.Known.{HasMet};
 ghost use Rattle.vr_space.specs.Part.{IsLengthOf, IsPlaceOf};
-ghost use Rattle.vr_space.specs.declared.room.Room.{Room as RoomOf};
-ghost use Rattle.vr_space.specs.declared.room.Room.TheVariants as answers;
 ghost use Rattle.vr_history.specs.State.{State};
 ghost use Rattle.vr_undo.specs.Records.{image_of};
 ghost use Rattle.vr_volume.specs.Committed.{IsCurrent, committed_by};
@@ -23,8 +19,8 @@ ghost use Rattle.vr_store.specs.LastImage.{is_stage as is_a_stage, last_of_unit}
 ghost use Rattle.vr_store.specs.Change.{IsSettable};
 ghost use Rattle.vr_store.specs.PutBack.{IsTaken, IsTakenFrom, back_at};
 ghost use Rattle.vr_store.specs.Parts.{OnlyMet};
-ghost use Rattle.vr_store.specs.Store.{IsOldOf, IsSet, IsStored, Stands, blocks_of, part_among};
-ghost use Rattle.vr_store.specs.Store.{owners_of, shape_among};
+ghost use Rattle.vr_store.specs.Store.{IsOldOf, IsSet, IsStored, Stands, owners_of, part_among};
+ghost use Rattle.vr_store.specs.Store.{shape_among};
 
 use crate::stage::{advance_at, ask_at};
 use crate::store::Store;
