@@ -1,8 +1,7 @@
 -- Ways over a chain of rosters in an image: which interval they reach, and where they end.
 use Rattle.std.proofs.Common.{◌≡◌, ◌⊎◌, inl, inr, ◌+◌, ◌-◌, ◌*◌, ◌/◌, ◌%◌, ◌<◌, ◌≤◌, ℕ, zero, suc}
 use Rattle.std.proofs.Common.{Bool, true, false, List, [], ◌∷◌, length, Option, Some, None, refl}
-use Rattle.std.proofs.Common.{sym}
-use Rattle.std.proofs.Common.{ap, subst, ◌∙◌, arith}
+use Rattle.std.proofs.Common.{sym, ap, subst, ◌∙◌, arith}
 use Rattle.std.specs.Prelude.{◌≢◌, All, cond, nat_lt, slice_index}
 use Rattle.std.proofs.Math.Nat.{div-eq-sub-div, div-eq_of_lt, mod-eq-sub-mod, mod-eq_of_lt}
 use Rattle.std.proofs.lemmas.List.Elements.{All-cons, All-nil}
@@ -181,6 +180,7 @@ owns-from part Own Interval image (suc k) area chain =
     by_next None rule more = All-nil Own
     by_next (Some after) rule more = more after rule.1
 
+-- and there are no more than it may have
 pub count-from : (part : Numbered) (image : Image) (k area : ℕ)
     → length (areas_from part image k area) ≤ k
 count-from part image zero area = omega arith

@@ -44,28 +44,29 @@ AreSlotsOf most from to (entry ∷ content) =
     (number : ℕ) × IsSlotEntry most number entry × (from ≤ number) × (number < to)
     × AreSlotsOf most (suc number) to content
 
-pub slots-from : (most less from to : ℕ) (content : Content) → less ≤ from
+-- their bounds may be wider
+slots-lower : (most less from to : ℕ) (content : Content) → less ≤ from
     → AreSlotsOf most from to content → AreSlotsOf most less to content
-slots-from most less from to [] most_from all = tt
-slots-from most less from to (entry ∷ content) most_from (number, is, least, below, more) =
+slots-lower most less from to [] most_from all = tt
+slots-lower most less from to (entry ∷ content) most_from (number, is, least, below, more) =
     (number, is, omega (arith, least, most_from), below, more)
 
-pub slots-to : (most from to more : ℕ) (content : Content) → to ≤ more
+slots-upper : (most from to more : ℕ) (content : Content) → to ≤ more
     → AreSlotsOf most from to content → AreSlotsOf most from more content
-slots-to most from to more [] up all = tt
-slots-to most from to more (entry ∷ content) up (number, is, least, below, further) = (
+slots-upper most from to more [] up all = tt
+slots-upper most from to more (entry ∷ content) up (number, is, least, below, further) = (
   number,
   is,
   least,
   omega (arith, below, up),
-  slots-to most (suc number) to more content up further,
+  slots-upper most (suc number) to more content up further,
 )
 
 slots-append : (most from middle to : ℕ) (xs ys : Content) → from ≤ middle → middle ≤ to
     → AreSlotsOf most from middle xs → AreSlotsOf most middle to ys
     → AreSlotsOf most from to (xs ++ ys)
 slots-append most from middle to [] ys least up left right =
-    slots-from most from middle to ys least right
+    slots-lower most from middle to ys least right
 slots-append most from middle to (entry ∷ xs) ys least up (number, is, first, below, more) right = (
   number,
   is,
@@ -101,7 +102,7 @@ records-slots : (most number : ℕ) (items : List ci.Item) → AreWhole most ite
 records-slots most number [] whole = tt
 records-slots most number (item ∷ items) whole =
     by_live item.live
-    (slots-to most (suc number) (suc number + length items) (number + length (item ∷ items))
+    (slots-upper most (suc number) (suc number + length items) (number + length (item ∷ items))
     (records_from (suc number) items) (omega arith)
     (records-slots most (suc number) items whole.1))
   where
@@ -120,7 +121,7 @@ records-slots most number (item ∷ items) whole =
       omega arith,
       more,
     )
-    by_live false more = slots-from most number (suc number) to rest (omega arith) more
+    by_live false more = slots-lower most number (suc number) to rest (omega arith) more
 
 -- the content has at a slot's place what the slot has
 records-item : (most number : ℕ) (items : List ci.Item) (slot n : ℕ) → AreWhole most items
@@ -224,7 +225,7 @@ over-slots part image number n (suc count) each =
     (records_from number (items_of (block_at image n)))
     (records_over part image middle (suc n) count) (omega arith) (omega arith)
     (interval-slots part number (block_at image n) (first-interval part image n count each))
-    (slots-to part.most middle (middle + count * slots_of part)
+    (slots-upper part.most middle (middle + count * slots_of part)
     (number + suc count * slots_of part) (records_over part image middle (suc n) count)
     (omega arith)
     (over-slots part image middle (suc n) count (later-intervals part image n count each)))
@@ -285,11 +286,11 @@ here-intervals part Own image k area chain i below =
     ((chained-here part Own (IsSlots part) image k area chain).intervals i below
     (block_at image (interval_in part area i)) refl)
 
--- an area has no more of them than it has intervals
-used-most : (part : Numbered) (Own : ℕ → Type 0) (image : Image) (k area : ℕ)
+-- an area has no more used slots than slots
+slots-most : (part : Numbered) (Own : ℕ → Type 0) (image : Image) (k area : ℕ)
     → Chains part Own (IsSlots part) (IsOf image) (suc k) area
     → (roster_at part image area).used * slots_of part ≤ part.geometry.area * slots_of part
-used-most part Own image k area chain =
+slots-most part Own image k area chain =
     mul-le-mul_right (slots_of part)
     (chained-here part Own (IsSlots part) image k area chain).roster.spelled.rules.used
 
@@ -306,7 +307,7 @@ rest-slots part Own image k number used (Some after) (whole, chain) each =
     let past = number + used * slots_of part in
     let same : used * slots_of part ≡ part.geometry.area * slots_of part =
     ap (λ (count : ℕ). count * slots_of part) whole in
-    slots-to part.most past (past + slots_up part k) (number + slots_up part (suc k))
+    slots-upper part.most past (past + slots_up part k) (number + slots_up part (suc k))
     (slots_from part image k past after) (omega (arith, same)) (each past after chain)
 
 -- the slots of a chain, from a number on
@@ -320,7 +321,7 @@ chain-slots part Own image (suc k) number area chain =
     slots-append part.most number past (number + slots_up part (suc k))
     (records_over part image number (interval_in part area 0) top.used)
     (after_next [] (slots_from part image k past) top.next)
-    (omega arith) (omega (arith, used-most part Own image k area chain))
+    (omega arith) (omega (arith, slots-most part Own image k area chain))
     (over-slots part image number (interval_in part area 0) top.used
     (here-intervals part Own image k area chain))
     (rest-slots part Own image k number top.used top.next
@@ -340,7 +341,7 @@ item-here part Own image k number area interval slot place chain fits room less 
     let top = roster_at part image area in
     let past = number + top.used * slots_of part in
     let later = after_next [] (slots_from part image k past) top.next in
-    let end : past ≤ 2 ^ 32 = omega (arith, fits, used-most part Own image k area chain) in
+    let end : past ≤ 2 ^ 32 = omega (arith, fits, slots-most part Own image k area chain) in
     let spread : suc interval * slots_of part ≤ top.used * slots_of part =
     mul-le-mul_right (slots_of part) within in
     let same : interval_in part area 0 + interval ≡ interval_in part area interval =
@@ -377,7 +378,7 @@ item-after part Own image k number area interval slot place chain fits room is b
     (slots-none part.most number past here
     (over-slots part image number (interval_in part area 0) top.used
     (here-intervals part Own image k area chain))
-    (omega (arith, fits, used-most part Own image k area chain)) place room
+    (omega (arith, fits, slots-most part Own image k area chain)) place room
     (inr (omega (arith, is, spread))))
 
 -- a chain of at most so many areas has at a slot's place what the way over it leads to

@@ -42,6 +42,7 @@ four-below : (n : ℕ) → number_of (four n) < 2 ^ 32
 unfolding four
 four-below n = omega arith
 
+-- it has room in them
 pub number-below : (place : List ℕ) → place ≡ four (number_of place) → number_of place < 2 ^ 32
 number-below place spelled =
     subst (λ (p : List ℕ). number_of p < 2 ^ 32) (sym spelled) (four-below (number_of place))

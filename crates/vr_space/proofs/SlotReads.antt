@@ -41,6 +41,7 @@ slot-place n some below = record {
   some = omega (arith, number-four n below, some);
 }
 
+-- the test decides it
 pub place-tested : (place : List ℕ) → IsSlotPlace place → is_slot_place place ≡ true
 place-tested place is =
     and_from (bytes_eq place (four (number_of place))) (nat_lt 0 (number_of place))
