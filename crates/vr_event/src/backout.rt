@@ -1,6 +1,6 @@
 //! BACKOUT: the before-images that a unit of recovery keeps are put back, the last one first, and then
 //! the unit ends.
-ghost use Rattle.std.specs.Prelude.{◌≡◌, ◌≢◌, ◌<◌, ◌≤◌, ◌-◌, ◌+◌, ◌^◌, ℕ, [], IsTrue, OnOk, None};
+ghost use Rattle.std.specs.Prelude.{◌≡◌, ◌≢◌, ◌<◌, ◌≤◌, ◌-◌, ◌+◌, ◌^◌, [], IsTrue, OnOk, None};
 ghost use Rattle.std.specs.Prelude.{IfOk, IfSome, true, false};
 ghost use Rattle.std.specs.Option.{option_map_or};
 ghost use Rattle.vr_types.specs.Blocks.{Keeps};

@@ -1,6 +1,6 @@
 //! The end of a unit of recovery on a volume: the blocks that it changed are forced, a few at a time,
 //! and then its end is logged and entered.
-ghost use Rattle.std.specs.Prelude.{◌≡◌, ◌≢◌, ◌<◌, ◌≤◌, ◌-◌, ◌+◌, ◌^◌, ℕ, List, [], IsTrue, OnOk};
+ghost use Rattle.std.specs.Prelude.{◌≡◌, ◌<◌, ◌≤◌, ◌-◌, ◌+◌, ◌^◌, [], IsTrue, OnOk};
 ghost use Rattle.std.specs.Prelude.{IfOk, None, OnErr, false, length, min, take, true};
 ghost use Rattle.vr_types.specs.Blocks.{Keeps};
 ghost use Rattle.vr_types.specs.Faults.{HasWriteCause};

@@ -1,5 +1,4 @@
 //! A volume: its blocks, what it has in memory beside them, and its record file.
-ghost use Rattle.std.specs.Prelude.{◌≡◌, ℕ, IsTrue, None, OnOk};
 
 use std::marker::Model;
 use vr_record_file::RecordFile;

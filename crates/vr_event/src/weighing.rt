@@ -17,7 +17,6 @@ ghost use Rattle.vr_answer.specs.Here.{base_here};
 ghost use Rattle.vr_answer.specs.InHand.{InEach, IsLookedAt};
 ghost use Rattle.vr_answer.specs.Tried.{file_refusals};
 ghost use Rattle.vr_record_file.specs.Now.{IsStateOf, state_now};
-ghost use Rattle.vr_volume.specs.Laid.{shape_in};
 ghost use Rattle.vr_event.specs.Cause.{HasReplyCause, is_fault as faults, is_faulted};
 ghost use Rattle.vr_event.specs.Lacking as lacking;
 ghost use Rattle.vr_event.specs.Looking.{InEachLogged, InEachWith};

@@ -21,7 +21,7 @@ use Rattle.vr_volume.specs.Crashes.{RecoversTo}
 use Rattle.vr_event.specs.Acting.{IsActed}
 use Rattle.vr_store.specs.Change.{IsMadeOf}
 use Rattle.vr_event.specs.Putting.{IsChanging, IsReadyFor, need_at}
-use Rattle.vr_store.specs.Store.{PartNow, StoreNow, part_among}
+use Rattle.vr_store.specs.Store.{StoreNow, part_among}
 use Rattle.vr_event.specs.Volume.{IsHeld, IsWhole, VolumeNow}
 use Rattle.vr_event.specs.declared.act.Act.TheVariants as acts
 use Rattle.vr_store.specs.declared.no.LookNo.TheVariants.{Fault}
