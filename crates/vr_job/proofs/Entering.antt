@@ -1,28 +1,29 @@
 -- What an event adds to a deck's part of the history of a volume.
-use Rattle.std.proofs.Common.{◌≡◌, ◌∙◌, inr, ⊎_elim, ℕ, ◌==◌, Bool, true, false, List, []}
-use Rattle.std.proofs.Common.{◌∷◌, ◌++◌, Result, Ok, Err, ap, eq-eqb, map, refl, subst, sym}
+use Rattle.std.proofs.Common.{◌≡◌, ◌∙◌, inl, inr, ⊎_elim, ℕ, ◌==◌, Bool, true, false, List, []}
+use Rattle.std.proofs.Common.{◌∷◌, ◌++◌, Result, Ok, Err, ap, arith, eq-eqb, map, max, refl, subst}
+use Rattle.std.proofs.Common.{sym}
 use Rattle.std.specs.Prelude.{◌⊎◌, All, IsTrue, if◌then◌else◌}
 use Rattle.std.specs.Result.{IsErrAnd}
 use Rattle.std.proofs.lemmas.List.{append-nil}
-use Rattle.std.proofs.lemmas.List.Elements.{All-cons, All-nil}
+use Rattle.std.proofs.lemmas.List.Elements.{All-cons, All-nil, All-weaker, Contains-append_right}
 use Rattle.vr_types.specs.declared.bound.Bound.{Bound}
 use Rattle.vr_types.specs.declared.request.Request.{Request}
 use Rattle.vr_types.specs.declared.unit.Unit.{Unit as UnitOfRecovery}
 use Rattle.vr_history.specs.Legal.{is_backout}
-use Rattle.vr_history.specs.Merged.{asked_by, part_of_deck, request_in}
+use Rattle.vr_history.specs.Merged.{asked_by, last_stamp, part_of_deck, request_in}
 use Rattle.vr_history.specs.declared.entry.Entry.{Entry}
 use Rattle.vr_history.specs.declared.entry.What.{What}
 use Rattle.vr_ledger.proofs.CallerLemmas.{entries_of-more}
 use Rattle.vr_ledger.specs.Entries.{IsOf}
 use Rattle.vr_record_file.specs.Now.{FileNow}
-use Rattle.vr_event.specs.Made.{HasMade, IsStepFor, MadeBy}
+use Rattle.vr_event.specs.Made.{AreNext, HasMade, IsStepFor, MadeBy}
 use Rattle.vr_event.specs.declared.act.Act.{Act}
 use Rattle.vr_event.specs.declared.act.Act.TheVariants.{Again, Done}
 use Rattle.vr_trace.specs.Laws.{deck_entries}
 use Rattle.vr_trace.specs.Numbering.{with_volume}
 use Rattle.vr_worker.specs.Asked as asked
-use Rattle.vr_worker.specs.Asked.{HasEntered, MayAsk, MayGoOn, bound_to, if_done, undoes}
-use Rattle.vr_worker.specs.Asked.{undoes_from}
+use Rattle.vr_worker.specs.Asked.{FollowsOne, HasEntered, IsNext, MayAsk, MayGoOn, bound_to}
+use Rattle.vr_worker.specs.Asked.{if_done, undoes, undoes_from}
 use Rattle.vr_worker.specs.declared.no.RunNo.{RunNo}
 use Rattle.vr_job.specs.Serving.{is_done}
 
@@ -132,6 +133,22 @@ made-goes (Again given) asking line request made own is may = ⊎_elim
 
 -- ---- what is entered
 
+-- each of its stamps comes next
+next-each : (before : ℕ) (made : List Entry) → AreNext before made
+    → All (λ (entry : Entry). IsNext before entry ⊎ FollowsOne made entry) made
+next-each before [] next = All-nil (λ (entry : Entry). IsNext before entry ⊎ FollowsOne [] entry)
+next-each before (first ∷ made) next = All-cons
+    (λ (entry : Entry). IsNext before entry ⊎ FollowsOne (first ∷ made) entry) first made
+    (inl next.0)
+    (All-weaker (λ (entry : Entry). IsNext first.stamp entry ⊎ FollowsOne made entry)
+    (λ (entry : Entry). IsNext before entry ⊎ FollowsOne (first ∷ made) entry)
+    (λ entry is. inr (⊎_elim (λ after. (first, (0, omega arith, refl), after))
+    (λ follows. (
+      follows.0,
+      Contains-append_right (first ∷ []) made follows.0 follows.1,
+      follows.2,
+    )) is)) made (next-each first.stamp made next.1))
+
 -- an event enters what it made
 pub event-entered : (act : Act) (number after : ℕ) (asking : UnitOfRecovery) (line : ℕ)
     (request : Request) (old new : FileNow) → HasMade act after asking line request old new
@@ -142,6 +159,7 @@ event-entered act number after asking line request old new is may = record {
   entries = is.entries;
   own = own;
   stamped = is.stamped;
+  next = next-each (max (last_stamp 0 old.entries) after) is.made is.next;
   answers = made-answers act number asking line request is.made is.by;
   goes_on = subst (MayGoOn (is_done act) request)
       (sym (ap (deck_entries asking.deck) is.entries
@@ -161,6 +179,8 @@ none-entered number deck line request after old new same may = record {
   entries = same ∙ sym (append-nil old);
   own = All-nil (IsOf deck);
   stamped = tt;
+  next = All-nil (λ (entry : Entry). IsNext (max (last_stamp 0 old) after) entry
+      ⊎ FollowsOne [] entry);
   answers = refl;
   goes_on = subst (MayAsk request) (ap (deck_entries deck) (sym same)) may;
 }

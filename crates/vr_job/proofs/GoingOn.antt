@@ -2,6 +2,7 @@
 use Rattle.std.proofs.Common.{◌≡◌, ◌≢◌, inl, inr, ⊎_elim, ◌∙◌, ℕ, Bool, true, List, [], ◌∷◌, ◌++◌}
 use Rattle.std.proofs.Common.{Option, Some, None, refl, sym, ap, subst, ◌≤◌, ◌⊎◌, append_assoc, arith}
 use Rattle.std.proofs.Common.{length, max}
+use Rattle.std.specs.List.{AllByRecursion}
 use Rattle.std.proofs.lemmas.List.{append-nil, append_cancel_left}
 use Rattle.vr_types.specs.declared.bound.Bound.{Bound}
 use Rattle.vr_types.specs.Faults.{Faults}
@@ -23,7 +24,7 @@ use Rattle.vr_history.specs.declared.entry.Entry.{Entry}
 use Rattle.vr_history.specs.declared.entry.What.{What}
 use Rattle.vr_history.specs.declared.entry.What.TheVariants.{Asked, Faulted}
 use Rattle.vr_record_file.specs.Now.{FileNow, asked_failing, entry_next, failed, has_deck, number_of}
-use Rattle.vr_record_file.specs.Now.{state_now}
+use Rattle.vr_record_file.specs.Now.{IsOfCluster, state_now}
 use Rattle.vr_record_file.specs.declared.numbers.DeckNumber.{DeckNumber}
 use Rattle.vr_event.specs.Acting.{IsActed, IsLeftIn}
 use Rattle.vr_event.specs.Made.{HasMade, MadeBy}
@@ -34,6 +35,7 @@ use Rattle.vr_event.proofs.CallerLemmas.{acted_made}
 use Rattle.vr_volume.specs.Crashes.{RecoversTo}
 use Rattle.vr_worker.proofs.CallerLemmas.{stamped-above}
 use Rattle.vr_worker.specs.Asked.{bound_to}
+use Rattle.vr_job.specs.Committed.{KeepTheCatalog}
 use Rattle.vr_job.specs.Crash.{HaveDoneCommit, IsCommit, IsDoneCommit, IsLeftBy}
 use Rattle.vr_job.specs.Events.{FaultsFollow, HasStopped, IsLeftWhile, IsOfEvents, LeavesAtRest}
 use Rattle.vr_job.specs.Events.{requests_in}
@@ -43,6 +45,7 @@ use Rattle.vr_job.specs.Serving.{IsServing, StaysServing}
 use Rattle.vr_job.proofs.Crashing.{held-left, left-more}
 use Rattle.vr_job.proofs.Entering.{step-none}
 use Rattle.vr_job.proofs.Faultless.{NoFault, acted-faultless}
+use Rattle.vr_job.proofs.Keeping.{event-keeps}
 use Rattle.vr_job.proofs.ReadFaults.{acted-reads}
 use Rattle.vr_job.proofs.Stopping.{commit-first, commit-went, faults-follow, going-on, stop-of}
 use Rattle.vr_job.proofs.Stopping.{stopped-more}
@@ -348,10 +351,25 @@ module _ {B : Type 0} (seen : B → Seen) (faults : B → Faults) (old new : Vol
               going-not : old.file.stopped ≢ None
               going-not none = some-none stamp (sym is ∙ none)
 
+      -- no entry of it changes the catalog
+      keeps-on : IsHeld seen opening new
+          → KeepTheCatalog old.file.geometry opening new.file.entries
+      keeps-on held = subst (KeepTheCatalog old.file.geometry opening) (sym made-in.entries)
+          (event-keeps old.file.geometry opening old.file.entries act unit line request made-in.made
+          made-in.by run.held.file.now.of_clusters
+          (subst (λ (es : List Entry).
+          AllByRecursion IsOfCluster (state_of old.file.geometry opening es).befores)
+          made-in.entries
+          (subst (λ (g : Geometry).
+          AllByRecursion IsOfCluster (state_of g opening new.file.entries).befores)
+          made-in.geometry held.file.now.of_clusters)) run.keeps_catalog)
+
       -- and where it does: what a crash leaves at each moment, event by event
       pub event-run : IsWhole seen new → IsHeld seen opening new → HasRun seen opening first new
       event-run whole-new held = record {
         held = held;
+        keeps_catalog = subst (λ (g : Geometry). KeepTheCatalog g opening new.file.entries)
+            (sym made-in.geometry) (keeps-on held);
         events = subst (λ (n : ℕ). IsOfEvents seen new.file.geometry n opening first new.blocks
             new.file.entries) (sym number)
             (subst (λ (g : Geometry). IsOfEvents seen g old.number opening first new.blocks
@@ -381,6 +399,8 @@ module _ {B : Type 0} (seen : B → Seen) (old mid : VolumeNow B) (numbers : Lis
       → HasRun seen opening first old → HasRun seen opening first mid
   stays-run opening first held run = record {
     held = held;
+    keeps_catalog = subst (λ (v : VolumeNow B). KeepTheCatalog v.file.geometry opening
+        v.file.entries) (sym same) run.keeps_catalog;
     left = subst (λ (v : VolumeNow B). Guards (seen first) (seen v.blocks)
         (IsLeftBy v.file.geometry v.number opening v.file.entries)) (sym same) run.left;
     events = subst (λ (v : VolumeNow B). IsOfEvents seen v.file.geometry v.number opening first

@@ -7,6 +7,10 @@ pub mod Crashing
 pub mod Entering
 pub mod Undoing
 pub mod GoingOn
+pub mod Effects
+pub mod Committed
+pub mod Keeping
+pub mod RunCommitted
 pub mod Faultless
 pub mod Stopping
 pub mod ReadFaults

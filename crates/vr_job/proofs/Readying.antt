@@ -51,6 +51,7 @@ use Rattle.vr_volume.specs.Crashes.{RecoversTo}
 use Rattle.vr_volume.specs.Safe.{IsSafe}
 use Rattle.vr_event.specs.Volume.{IsHeld, IsWhole, VolumeNow}
 use Rattle.vr_store.proofs.CallerLemmas.{idle-guards}
+use Rattle.vr_job.specs.Committed.{KeepTheCatalog}
 use Rattle.vr_job.specs.Going.{HasRun}
 use Rattle.vr_job.specs.Crash.{IsLeftBy}
 use Rattle.vr_job.specs.Opened.{IsReady, IsReadyFrom, opened_now}
@@ -450,6 +451,7 @@ pub opening-run : {B : Type 0} (seen : B → Seen) (opening : State) (volume : V
     → Left (seen volume.blocks) image) → HasRun seen opening volume.blocks volume
 opening-run seen opening volume none going whole held may = record {
   held = held;
+  keeps_catalog = subst (KeepTheCatalog volume.file.geometry opening) (sym none) tt;
   left = guards-weaken now now (RecoversTo volume.store.log.geometry volume.number state [])
       (IsLeftBy volume.file.geometry volume.number opening volume.file.entries)
       (idle-guards volume.number volume.store state now (held.stored going) may)

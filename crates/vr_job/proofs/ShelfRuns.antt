@@ -2,8 +2,9 @@
 use Rattle.std.proofs.Common.{◌≡◌, ◌∙◌, ◌<◌, ◌≤◌, ◌+◌, ◌^◌, inl, inr, ⊎_elim, ℕ, zero, suc, Bool}
 use Rattle.std.proofs.Common.{List, [], ◌∷◌, ◌++◌, Result, Ok, Err, Some, None, Option, arith, refl}
 use Rattle.std.proofs.Common.{sym, ap, subst, get_or, length, map}
-use Rattle.std.specs.Prelude.{Contains, IsErr, IsOk, IsTrue, is_ok, slice_get}
+use Rattle.std.specs.Prelude.{All, Contains, IsErr, IsOk, IsTrue, is_ok, slice_get}
 use Rattle.std.proofs.lemmas.List.{append-nil, map-append}
+use Rattle.std.proofs.lemmas.List.Elements.{All-cons, All-nil}
 use Rattle.vr_types.specs.Faults.{Faults}
 use Rattle.vr_types.specs.Seen.{Seen}
 use Rattle.vr_catalog.specs.declared.entry.CatEntry.{CatEntry}
@@ -13,7 +14,9 @@ use Rattle.vr_job_text.specs.declared.text.Step.{Step}
 use Rattle.vr_event.specs.Volume.{VolumeNow}
 use Rattle.vr_recover.specs.declared.open_no.OpenNo.{OpenNo}
 use Rattle.vr_recover.specs.declared.open_no.OpenNo.TheVariants as opens
-use Rattle.vr_worker.specs.Steps.{AreOfSteps, AreSinceSteps, ComeInSteps, HasAsked, IsSinceSteps}
+use Rattle.vr_worker.specs.Steps.{AreGapless, AreOfSteps, AreSinceSteps, ComeInSteps, HasAsked}
+use Rattle.vr_worker.specs.Steps.{IsSinceSteps}
+use Rattle.vr_worker.proofs.CallerLemmas.{gapless-none}
 use Rattle.vr_job_ends.specs.declared.job_end.End.{End}
 use Rattle.vr_job_ends.specs.declared.job_end.End.TheVariants.{Line, Ran, Unsynced}
 use Rattle.vr_trace.specs.Laws.{AreRising, entry_of, of_deck}
@@ -551,6 +554,13 @@ module _ {D : Type 0} (tells : Bool) (seen : D → Seen) (faults : D → Faults)
   none-in-steps volumes empty = subst (λ them. AreOfSteps steps (map entry_of (in_order them)))
       (sym (none-numbered 0 volumes empty)) (of-none steps)
 
+  -- nor is a stamp left out
+  each-empty : (volumes : List (VolumeOf D)) → AreEmpty volumes
+      → All (λ (one : VolumeOf D). one.entries ≡ []) volumes
+  each-empty [] empty = All-nil (λ (one : VolumeOf D). one.entries ≡ [])
+  each-empty (volume ∷ volumes) empty = All-cons (λ (one : VolumeOf D). one.entries ≡ []) volume
+      volumes empty.0 (each-empty volumes empty.1)
+
   -- ---- the whole
 
   module _ (devices unopened shelf : List D) (volumes ran : List (VolumeNow D))
@@ -614,6 +624,8 @@ module _ {D : Type 0} (tells : Bool) (seen : D → Seen) (faults : D → Faults)
             (subst (HasAsked (map catalog_of volumes) steps by) ran-entries has_run.asked));
         in_steps = subst (ComeInSteps steps) (sym kept-are)
             (subst (ComeInSteps steps) ran-entries has_run.in_steps);
+        gapless = subst (AreGapless steps) (sym kept-are)
+            (subst (AreGapless steps) ran-entries has_run.gapless);
         stamps = λ used.
             let shown = has_run.stamps (stamps used) in
             let there = subst (λ (them : List (VolumeNow D)). Contains them shown.volume)
@@ -695,6 +707,8 @@ module _ {D : Type 0} (tells : Bool) (seen : D → Seen) (faults : D → Faults)
       asked = subst (HasAsked (map (λ (one : VolumeOf D). one.catalog) all) steps lacks)
           (sym kept-are) (none-asked all all-empty);
       in_steps = subst (ComeInSteps steps) (sym kept-are) (none-in-steps all all-empty);
+      gapless = subst (AreGapless steps) (sym kept-are)
+          (gapless-none (λ (one : VolumeOf D). one.entries) steps all (each-empty all all-empty));
       stamps = λ used. absurd (open-line-stamps (length openings) fault.line.0
           (sym fault.line.1 ∙ line-is end StampsUsedUp used));
       ends = ByOpening (length openings) one end

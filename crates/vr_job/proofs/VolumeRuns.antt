@@ -224,6 +224,7 @@ module _ {D : Type 0} (tells : Bool) (seen : D → Seen) (faults : D → Faults)
       owners_are = subst (λ (g : Geometry). AreOwners g volume.file.catalog held.owners)
           (sym same-geometry) held.owners_are;
       legal = run.held.file.legal;
+      keeps_catalog = run.keeps_catalog;
       moments = guards-keeps tells old (seen end.blocks) (seen device) MayLeave each-moment
           ended.closed.keeps told;
       opened = volume.blocks;

@@ -9,6 +9,7 @@ use Rattle.vr_history.specs.State.{State}
 use Rattle.vr_history.specs.declared.entry.Entry.{Entry}
 use Rattle.vr_record_file.specs.Now.{has_deck}
 use Rattle.vr_event.specs.Volume.{IsHeld, IsWhole, VolumeNow}
+use Rattle.vr_job.specs.Committed.{KeepTheCatalog}
 use Rattle.vr_job.specs.Crash.{IsLeftBy}
 use Rattle.vr_job.specs.Events.{HasStopped, IsOfEvents}
 use Rattle.vr_job.specs.Faultless.{AreFaultless}
@@ -37,11 +38,12 @@ pub record GoesOn {B : Type 0} (seen : B → Seen) (faults : B → Faults) (old 
       → AreFaultless old.file.entries → AreFaultless new.file.entries
 
 -- What goes on where it does, from an opening and the blocks as they were then: the history is
--- legal and gives what the volume has, each image at each moment since is left by the history, and
+-- legal, gives what the volume has, and leaves the catalog as it is; each image at each moment since is left by the history, and
 -- so it is event by event; and where the volume has stopped, by the event in which it did.
 pub record HasRun {B : Type 0} (seen : B → Seen) (opening : State) (first : B)
     (volume : VolumeNow B) : Type 0 where
   pub held : IsHeld seen opening volume
+  pub keeps_catalog : KeepTheCatalog volume.file.geometry opening volume.file.entries
   pub left : Guards (seen first) (seen volume.blocks)
       (IsLeftBy volume.file.geometry volume.number opening volume.file.entries)
   pub events : IsOfEvents seen volume.file.geometry volume.number opening first volume.blocks

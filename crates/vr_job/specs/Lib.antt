@@ -1,5 +1,6 @@
 pub mod Crash
 pub mod Events
+pub mod Committed
 pub mod Faultless
 pub mod ReadFaults
 pub mod Going

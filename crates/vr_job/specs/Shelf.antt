@@ -9,7 +9,7 @@ use Rattle.vr_catalog.specs.declared.entry.CatEntry.{CatEntry}
 use Rattle.vr_history.specs.declared.entry.Entry.{Entry}
 use Rattle.vr_event.specs.Volume.{VolumeNow}
 use Rattle.vr_job_text.specs.declared.text.Step.{Step}
-use Rattle.vr_worker.specs.Steps.{AreSinceSteps, ComeInSteps, HasAsked}
+use Rattle.vr_worker.specs.Steps.{AreGapless, AreSinceSteps, ComeInSteps, HasAsked}
 use Rattle.vr_trace.specs.declared.ending.EndLine.{EndLine}
 use Rattle.vr_job_ends.specs.declared.job_end.End.{End}
 use Rattle.vr_job_ends.specs.declared.job_end.End.TheVariants.{Line, Ran, Unsynced}
@@ -96,6 +96,7 @@ pub record HaveRun {D : Type 0} (tells : Bool) (seen : D → Seen) (faults : D �
     pub since : AreSinceSteps entries_on (Follows tells seen faults) steps old new
     pub asked : HasAsked (map catalog_of old) steps result (map entries_on new)
     pub in_steps : ComeInSteps steps (map entries_on new)
+    pub gapless : AreGapless steps (map entries_on new)
     pub stamps : IsErrOf result nos.Stamps → HasUsedUp entries_on new
 
 -- So they were where all are open; else they are as they were.

@@ -8,7 +8,7 @@ use Rattle.vr_catalog.specs.declared.entry.CatEntry.{CatEntry}
 use Rattle.vr_history.specs.Merged.{last_stamp}
 use Rattle.vr_history.specs.declared.entry.Entry.{Entry}
 use Rattle.vr_job_text.specs.declared.text.Step.{Step}
-use Rattle.vr_worker.specs.Steps.{ComeInSteps, HasAsked}
+use Rattle.vr_worker.specs.Steps.{AreGapless, ComeInSteps, HasAsked}
 use Rattle.vr_job_ends.specs.declared.job_end.End.{End}
 use Rattle.vr_job_ends.specs.declared.job_end.End.TheVariants.{Line, Ran, Unsynced}
 use Rattle.vr_trace.specs.declared.ending.EndLine.{EndLine}
@@ -82,9 +82,9 @@ pub data IsShelfEnd {D : Type 0} (tells : Bool) (seen : D → Seen) (faults : D 
       → AreEmpty volumes → IsShelfEnd tells seen faults volumes by end
 
 -- The decks of the job asked what they request by the catalogs of the volumes; over all volumes the
--- entries of one step come before those of the next; each volume was run; as many devices come
--- back, each at its place, and so does the history of each volume; stamps were used up only where a
--- history shows it; and so the job ended.
+-- entries of one step come before those of the next, and no stamp is left out; each volume was run;
+-- as many devices come back, each at its place, and so does the history of each volume; stamps were
+-- used up only where a history shows it; and so the job ended.
 pub record IsShelfRun {D : Type 0} (tells : Bool) (seen : D → Seen) (faults : D → Faults)
     (steps : List Step) (end : End) (histories : List (List Entry)) (old new : List D) : Type 0
   where
@@ -96,6 +96,7 @@ pub record IsShelfRun {D : Type 0} (tells : Bool) (seen : D → Seen) (faults : 
     pub by : Result (Unit {0}) RunNo
     pub asked : HasAsked (map (λ (volume : VolumeOf D). volume.catalog) volumes) steps by histories
     pub in_steps : ComeInSteps steps histories
+    pub gapless : AreGapless steps histories
     pub stamps : end ≡ Line StampsUsedUp
         → (number : ℕ) × (volume : VolumeOf D) × IsAt number volume volumes
         × (2 ^ 62 ≤ last_stamp 0 volume.entries)

@@ -15,7 +15,7 @@ use Rattle.vr_catalog.specs.Catalog.{entries_in}
 use Rattle.vr_catalog.specs.declared.entry.CatEntry.{CatEntry}
 use Rattle.vr_history.specs.Legal.{IsLegal, state_of}
 use Rattle.vr_history.specs.Merged.{IsStamped}
-use Rattle.vr_history.specs.State.{opening_state}
+use Rattle.vr_history.specs.State.{State, opening_state}
 use Rattle.vr_history.specs.declared.entry.Entry.{Entry}
 use Rattle.vr_job_text.specs.declared.text.Step.{Step}
 use Rattle.vr_event.specs.Opening.{owned_in}
@@ -29,6 +29,7 @@ use Rattle.vr_trace.specs.declared.ending.EndLine.{EndLine}
 use Rattle.vr_trace.specs.declared.ending.EndLine.TheVariants.{DeviceFault}
 use Rattle.vr_volume.specs.Crashes.{RecoversTo}
 use Rattle.vr_volume.specs.Volume.{Recovers}
+use Rattle.vr_job.specs.Committed.{KeepTheCatalog}
 use Rattle.vr_job.specs.Crash.{IsLeftBy}
 use Rattle.vr_job.specs.Events.{HasStopped, IsOfEvents}
 use Rattle.vr_job.specs.Faultless.{AreFaultless}
@@ -39,10 +40,14 @@ use Rattle.vr_job.specs.Opened.{IsOpenHeld}
 
 -- ---- what a run says of a volume
 
+-- a volume as it is opened with these contents, in which these parts own the areas
+abbrev pub opening_of : (ℕ → Content) → List (Option PartNo) → State
+opening_of contents owners = opening_state contents (owned_in owners)
+
 -- The volume was opened: the blocks were one's of this number, which recovered to contents with
 -- this catalog; an area is owned by the part that the catalog lays in it, and by no other, and else
--- it is free; the history is legal from its opening; and each image of each moment is one that a
--- crash left before, or is left by the history. From the end of its opening on the run is events,
+-- it is free; the history is legal from its opening, and no entry of it changes the catalog; and each
+-- image of each moment is one that a crash left before, or is left by the history. From the end of its opening on the run is events,
 -- in each of which an image recovers to what is committed by the history before it, perhaps with
 -- the unit whose COMMIT it enters; so it came to what the requests left, and then nothing more is
 -- put. As long as the device counted no write that failed, the volume wasn't stopped, and each
@@ -60,6 +65,7 @@ pub record IsRun {D : Type 0} (tells : Bool) (seen : D → Seen) (faults : D →
   pub catalog_is : catalog ≡ entries_in (contents 0)
   pub owners_are : AreOwners geometry catalog owners
   pub legal : IsLegal geometry (opening_state contents (owned_in owners)) entries
+  pub keeps_catalog : KeepTheCatalog geometry (opening_state contents (owned_in owners)) entries
   pub moments : Guards (seen old) (seen new) (λ image. Left (seen old) image
       ⊎ IsLeftBy geometry number (opening_state contents (owned_in owners)) entries image)
   pub opened : D

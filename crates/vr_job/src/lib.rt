@@ -7,12 +7,14 @@
 //! once and in order, or the first of it where stamps or memory run out; that each volume's history is
 //! legal from its opening; and that each image that a crash may leave of a volume at each moment is one
 //! that might be left before, or recovers to what is committed by the first entries of its history,
-//! perhaps with the unit that is in its commit.
+//! perhaps with the unit that is in its commit. A law says so of each record, by `committed` of the
+//! history (`leaves_what_is_committed`).
 #![tactic(auto)]
 
 mod done;
 mod formatting;
 mod job;
+mod laws;
 mod numbering;
 mod opening;
 mod serving;
@@ -20,6 +22,7 @@ mod shelf_run;
 mod volume_run;
 
 pub use job::run_job;
+pub use laws::leaves_what_is_committed;
 pub use opening::open;
 pub use shelf_run::{ShelfEnd, run_volumes};
 pub use vr_job_ends::{End, JobEnd, Trace};

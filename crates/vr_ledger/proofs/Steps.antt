@@ -1,6 +1,6 @@
 -- Each step of a ledger's table keeps the rule.
 use Rattle.std.proofs.Common.{◌≡◌, ◌≢◌, ◌⊎◌, ℕ, zero, suc, ◌<◌, List, [], ◌∷◌, ◌++◌, length}
-use Rattle.std.proofs.Common.{eqb, get_or, set, sym, refl, ap, ◌∙◌, subst, inl, inr, ⊎_elim, arith}
+use Rattle.std.proofs.Common.{append-nil, append_assoc, eqb, get_or, set, sym, refl, ap, ◌∙◌, subst, inl, inr, ⊎_elim, arith}
 use Rattle.std.specs.Prelude.{All}
 use Rattle.std.proofs.lemmas.Option.{none-some}
 use mathlib.Core.Option.{some, none, some-injective, some-ne-none}
@@ -19,12 +19,12 @@ use Rattle.vr_ledger.specs.declared.view.Whole.{Whole}
 use Rattle.vr_ledger.specs.declared.view.View.{View}
 use Rattle.vr_ledger.specs.declared.view.View.TheVariants.{OfLedger, OfTurn, Spent}
 use Rattle.vr_ledger.specs.Decks.{times}
-use Rattle.vr_ledger.specs.Entries.{IsOf, entries_of}
+use Rattle.vr_ledger.specs.Entries.{HasGrown, IsOf, entries_of}
 use Rattle.vr_ledger.specs.Views.{IsAllOf, whole_in, part_in, part_joined, HasTurnIn}
 use Rattle.vr_ledger.specs.Views.{first_view, admitted, taken_in, grown, settled, handed_out}
 use Rattle.vr_ledger.specs.Views.{with_turn, without_turn, turn_of}
 use Rattle.vr_ledger.specs.Rule.{HasView, IsKeptAt, IsKept}
-use Rattle.vr_ledger.specs.Plays.{Admits, Grows, Settles}
+use Rattle.vr_ledger.specs.Plays.{Admits, Grows, Looks, Settles}
 use Rattle.vr_ledger.proofs.Counts.{times-cons, one_if-same, times-without_same}
 use Rattle.vr_ledger.proofs.Counts.{times-without_other}
 use Rattle.vr_ledger.proofs.OwnEntries.{entries_of-kept}
@@ -81,6 +81,17 @@ turn_before views seat turn next known there = ⊎_elim
     (ledger_no_turn next known here.1))
     (λ (else : (turn ≢ seat) × (get_elem? views turn ≡ some (OfTurn known))). else.1)
     (at_set views seat turn (OfLedger next) (OfTurn known) there)
+
+-- a history that goes on by nothing, and by more
+not-grown : (history : List Entry) → HasGrown history history
+not-grown history = ([], sym (append-nil history))
+
+grown-then : (old now after made : List Entry) → after ≡ now ++ made → HasGrown old now
+    → HasGrown old after
+grown-then old now after made goes grew = (
+  grew.0 ++ made,
+  goes ∙ ap (λ (them : List Entry). them ++ made) grew.1 ∙ append_assoc old grew.0 made,
+)
 
 -- what is owed of a turn
 abbrev IsTurnOf : Whole → Part → Type 0
@@ -165,7 +176,7 @@ module _ (slots id count : ℕ) (view : View) (carried : List (ℕ × Said)) (is
         tt,
         goes_on state id now held (admitted deck now) (set state.words 0 count)
             (counted_words state id now held count ∙ ap (λ (n : ℕ). n ∷ []) counted)
-            (λ known turn. turn) (λ joined. (refl, free)),
+            (λ known turn. turn) (λ joined. ((refl, not-grown now.history), free)),
         refl,
       ))
       (λ miss. absurd (miss (found_word state id now held ∙ sym counted)))
@@ -189,8 +200,11 @@ module _ (slots id count : ℕ) (view : View) (carried : List (ℕ × Said)) (is
         free,
         subst (λ (deck : ℕ). 0 < times deck now.out) (sym same) turn.1,
       ) in (
-        turn.0 ∙ (sym (entries_of-kept other.deck known.deck now.history made apart all)
-            ∙ ap (entries_of other.deck) (sym goes)),
+        (
+          turn.0.0 ∙ (sym (entries_of-kept other.deck known.deck now.history made apart all)
+              ∙ ap (entries_of other.deck) (sym goes)),
+          grown-then other.history now.history after made goes turn.0.1,
+        ),
         turn.1,
       ) in
       exchanged (get_or state.words 0 0) count more (Goes state then)
@@ -200,10 +214,29 @@ module _ (slots id count : ℕ) (view : View) (carried : List (ℕ × Said)) (is
         tt,
         goes_on state id now held (grown after now) (set state.words 0 more)
             (counted_words state id now held more ∙ ap (λ (n : ℕ). n ∷ []) long)
-            others (λ is_in. (refl, free)),
+            others (λ is_in. ((refl, not-grown after), free)),
         (refl, λ is_in. (held.joined is_in).0),
       ))
       (λ miss. absurd (miss (found_word state id now held ∙ sym counted)))
+
+  -- the turn that is in shows what it knows
+  pub looks : Allows IsKept slots id (view, carried) 0 (λ word. word)
+      (Looks (step slots 0 0 0 none) (view, carried))
+  looks state kept wide at small =
+      let held = held_now state kept at in (
+        view,
+        keeps,
+        tt,
+        subst (λ (seen : View). IsKept (record {
+          words = set state.words 0 (get_or state.words 0 0);
+          homes = state.homes;
+          views = set state.views id seen;
+        })) (sym is) (goes_on state id now held now (set state.words 0 (get_or state.words 0 0))
+            (counted_words state id now held (get_or state.words 0 0)
+            ∙ ap (λ (n : ℕ). n ∷ []) (found_word state id now held))
+            (λ known turn. turn) held.joined),
+        (refl, λ joined. (held.joined joined).0),
+      )
 
   -- the turn that is in ends
   pub settles : Allows IsKept slots id (view, carried) 0 (λ word. word)

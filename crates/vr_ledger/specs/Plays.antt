@@ -45,6 +45,10 @@ Grows made old found new =
     (new ≡ (OfLedger (grown (history_said made.said) (whole_in old.0)), old.1))
     × TellsAll (whole_in old.0)
 
+-- the turn that is in shows what it knows, and nothing changes
+abbrev pub Looks : Step Said → Me Said View → ℕ → Me Said View → Type 0
+Looks made old found new = (new ≡ old) × TellsAll (whole_in old.0)
+
 -- the turn that is in ends
 abbrev pub Settles : Step Said → Me Said View → ℕ → Me Said View → Type 0
 Settles made old found new =

@@ -13,6 +13,8 @@ pub record TurnNow : Type 0 where
   pub ledger : TableId
   -- what the deck knows of its own entries, in order
   pub entries : List Entry
+  -- the volume's history as the deck last saw it
+  pub history : List Entry
 
 abbrev pub turn_now : ℕ → Badge View → TurnNow
 turn_now deck badge =
@@ -20,8 +22,10 @@ turn_now deck badge =
       deck = deck;
       ledger = badge.table_id;
       entries = (known_in badge.views).entries;
+      history = (known_in badge.views).history;
     }
 
 -- the badge is that of a seat, which knows entries of the deck
 abbrev pub IsTurn : ℕ → Badge View → Type 0
-IsTurn deck badge = badge.views ≡ OfTurn (part deck (known_in badge.views).entries) ∷ []
+IsTurn deck badge = badge.views
+    ≡ OfTurn (part deck (known_in badge.views).entries (known_in badge.views).history) ∷ []

@@ -7,20 +7,22 @@ use Rattle.vr_ledger.specs.declared.view.Whole.{Whole}
 use Rattle.vr_ledger.specs.declared.view.View.{View}
 use Rattle.vr_ledger.specs.declared.view.View.TheVariants.{OfLedger, OfTurn, Spent}
 use Rattle.vr_ledger.specs.Decks.{without}
-use Rattle.vr_ledger.specs.Entries.{entries_of}
+use Rattle.vr_ledger.specs.Entries.{HasGrown, entries_of}
 
-abbrev pub part : ℕ → List Entry → Part
-part deck entries = record { deck = deck; entries = entries }
+abbrev pub part : ℕ → List Entry → List Entry → Part
+part deck entries history = record { deck = deck; entries = entries; history = history }
 
 abbrev pub whole : List Entry → List ℕ → Option Part → Whole
 whole history out joined = record { history = history; out = out; joined = joined }
 
--- what is known of a deck is all that the history has of it
+-- what is known of a deck is all that the history has of it, and the history went on from the one
+-- that the deck saw
 abbrev pub IsAllOf : List Entry → Part → Type 0
-IsAllOf history known = known.entries ≡ entries_of known.deck history
+IsAllOf history known = (known.entries ≡ entries_of known.deck history)
+    × HasGrown known.history history
 
 abbrev pub all_of : ℕ → List Entry → Part
-all_of deck history = part deck (entries_of deck history)
+all_of deck history = part deck (entries_of deck history) history
 
 -- the view of the ledger's seat as the table begins: no turn is out
 abbrev pub first_view : List Entry → View
@@ -33,13 +35,13 @@ whole_in (OfTurn known) = whole [] [] None
 whole_in Spent = whole [] [] None
 
 abbrev pub part_in : View → Part
-part_in (OfLedger now) = part 0 []
+part_in (OfLedger now) = part 0 [] []
 part_in (OfTurn known) = known
-part_in Spent = part 0 []
+part_in Spent = part 0 [] []
 
 -- what a badge has, where it is of a turn's seat
 abbrev pub known_in : List View → Part
-known_in [] = part 0 []
+known_in [] = part 0 [] []
 known_in (view ∷ views) = part_in view
 
 abbrev pub IsOfTurn : List View → Type 0
@@ -47,7 +49,7 @@ IsOfTurn views = views ≡ OfTurn (known_in views) ∷ []
 
 -- what the turn knows that is in, where one is
 abbrev pub part_within : Option Part → Part
-part_within None = part 0 []
+part_within None = part 0 [] []
 part_within (Some known) = known
 
 abbrev pub part_joined : Whole → Part

@@ -33,7 +33,7 @@ impl Ledger {
     ghost use Rattle.std.specs.Prelude.{List, [], ◌∷◌, ◌++◌, IfOk, All};
     ghost use Rattle.vr_history.specs.declared.entry.Entry.{Entry};
     ghost use Rattle.vr_ledger.specs.Decks.{times, without};
-    ghost use Rattle.vr_ledger.specs.Entries.{entries_of, IsOf};
+    ghost use Rattle.vr_ledger.specs.Entries.{entries_of, HasGrown, IsOf};
 
     /// The ledger of a history, with no turn out. Fails only if memory runs out.
     pub fn new(alloc: Global, history: &History) -> Result<Ledger, OutOfMemory>
@@ -53,6 +53,7 @@ impl Ledger {
               deck = deck;
               ledger = self.old.table;
               entries = entries_of deck self.old.history;
+              history = self.old.history;
             } }
         ensures ledger { self.new ≡ record self.old { out = deck ∷ self.old.out } }
     {
@@ -69,8 +70,12 @@ impl Ledger {
             × (history.now.entries ≡ self.old.history ++ made)
             × All (IsOf turn.old.deck) made }
         ensures told { turn.old.entries ≡ entries_of turn.old.deck self.old.history }
+        ensures grown { HasGrown turn.old.history self.old.history }
         ensures turn { turn.new
-            ≡ record turn.old { entries = entries_of turn.old.deck history.now.entries } }
+            ≡ record turn.old {
+              entries = entries_of turn.old.deck history.now.entries;
+              history = history.now.entries;
+            } }
         ensures history { self.new.history ≡ history.now.entries }
         ensures table { self.new.table ≡ self.old.table }
         ensures out { self.new.out ≡ turn.old.deck ∷ without turn.old.deck self.old.out }
@@ -81,10 +86,28 @@ impl Ledger {
         turn.badge = self.seat.hand_out();
     }
 
+    /// What a turn knows is what the history has of its deck, and the history went on from the one that
+    /// the deck saw. Nothing changes.
+    pub fn tell(&mut self, turn: &mut Turn)
+        requires own_ledger { turn.old.ledger ≡ self.old.table }
+        ensures told { turn.old.entries ≡ entries_of turn.old.deck self.old.history }
+        ensures grown { HasGrown turn.old.history self.old.history }
+        ensures turn { turn.new ≡ turn.old }
+        ensures history { self.new.history ≡ self.old.history }
+        ensures table { self.new.table ≡ self.old.table }
+        ensures out { self.new.out ≡ turn.old.deck ∷ without turn.old.deck self.old.out }
+    {
+        let known = mem::replace(&mut turn.badge, Badge::blank());
+        self.seat.take_in(known);
+        self.seat.look();
+        turn.badge = self.seat.hand_out();
+    }
+
     /// Ends a turn. What it knew is what the history has of its deck.
     pub fn leave(&mut self, turn: Turn)
         requires own_ledger { turn.ledger ≡ self.old.table }
         ensures told { turn.entries ≡ entries_of turn.deck self.old.history }
+        ensures grown { HasGrown turn.history self.old.history }
         ensures history { self.new.history ≡ self.old.history }
         ensures table { self.new.table ≡ self.old.table }
         ensures out { self.new.out ≡ without turn.deck self.old.out }

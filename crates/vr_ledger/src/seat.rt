@@ -3,7 +3,7 @@ ghost use Rattle.std.specs.Prelude.{◌≡◌, [], length};
 ghost use Rattle.vr_ledger.specs.declared.view.View.TheVariants.{OfLedger};
 ghost use Rattle.vr_ledger.specs.Views.{whole_in};
 
-use crate::view::{Admit, EachItsOwn, Grow, HandOut, Said, Settle, TakeIn, View};
+use crate::view::{Admit, EachItsOwn, Grow, HandOut, Look, Said, Settle, TakeIn, View};
 use atomic_table::{Badge, Seat, Table};
 use std::alloc::Global;
 use std::snapshot::Snapshot;
@@ -95,6 +95,17 @@ impl LedgerSeat {
             .shared
             .compare_exchange_with::<Grow>(seat, 0, *entries, more, &said);
         *entries = more;
+    }
+
+    /// The turn that is in knows all that the history has of its deck.
+    pub(crate) fn look(&mut self)
+        requires in_turn { HasTurnIn (whole_of self.old) }
+        ensures told { IsAllOf (whole_of self.old).history (part_joined (whole_of self.old)) }
+        ensures whole { whole_of self.new ≡ whole_of self.old }
+        ensures table { table_of self.new ≡ table_of self.old }
+    {
+        let LedgerSeat { table, seat, .. } = self;
+        table.shared.load::<Look>(seat, 0);
     }
 
     /// The turn that is in ends.

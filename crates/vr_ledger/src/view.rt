@@ -5,10 +5,11 @@ use std::collections::LinkedList;
 use std::snapshot::Snapshot;
 use vr_history::{Entry, History};
 
-/// A deck, and its entries in the history.
+/// A deck, its entries in the history, and the history as the deck last saw it.
 pub struct Part {
     pub deck: u32,
     pub entries: LinkedList<Entry>,
+    pub history: LinkedList<Entry>,
 }
 
 /// What the ledger's own seat knows.
@@ -65,6 +66,15 @@ impl Play<Said, View> for Grow {
     ghost use Rattle.vr_ledger.specs.Plays.{Grows};
 
     ghost then = { Grows };
+}
+
+/// The turn that is in shows what it knows.
+pub struct Look;
+
+impl Play<Said, View> for Look {
+    ghost use Rattle.vr_ledger.specs.Plays.{Looks};
+
+    ghost then = { Looks };
 }
 
 /// The turn that is in ends.

@@ -1,24 +1,29 @@
 -- What the decks of a step asked, by the volumes that come back.
 use Rattle.std.proofs.Common.{◌≡◌, ◌∙◌, ◌<◌, ◌==◌, ℕ, List, [], ◌∷◌, ◌++◌, All, Result, Ok, Err}
-use Rattle.std.proofs.Common.{ap, arith, false, inl, inr, get_or, length, map, subst, sym, take}
+use Rattle.std.proofs.Common.{◌+◌, ◌⊎◌, ap, arith, eq-eqb, false, inl, inr, get_or, length, map, refl, subst, sym, take, true}
 use Rattle.std.specs.List.{filter}
 use Rattle.std.specs.Prelude.{Contains, OnOk}
 use Rattle.std.proofs.lemmas.Bool.{cases_lt}
 use Rattle.std.proofs.lemmas.List.{get_or-map, get_or_past, length-map}
-use Rattle.std.proofs.lemmas.List.Elements.{All-filter, All-map, Contains-get_or, filter-append}
+use Rattle.std.proofs.lemmas.Bool.Decides.{Decides-eqb}
+use Rattle.std.proofs.lemmas.List.Elements.{All-contains, All-filter, All-map, Contains-get_or}
+use Rattle.std.proofs.lemmas.List.Elements.{filter-append, filter_passes}
 use Rattle.vr_history.specs.Merged.{IsStamped, Numbered, merged, part_of_deck}
 use Rattle.vr_history.specs.declared.entry.Entry.{Entry}
+use Rattle.vr_ledger.specs.Entries.{HasGrown}
 use Rattle.vr_ledger.specs.Ledger.{LedgerNow}
 use Rattle.vr_ledger.specs.Turn.{TurnNow}
 use Rattle.vr_trace.proofs.CallerLemmas.{deck_asked}
 use Rattle.vr_trace.proofs.CallerLemmas.{requests_of_deck}
 use Rattle.vr_trace.specs.Laws.{AreRising, deck_entries, entries_on, entry_of, history_at, is_on}
 use Rattle.vr_trace.specs.Laws.{of_deck}
-use Rattle.vr_worker.specs.Asked.{undoes}
-use Rattle.vr_worker.specs.Deck.{IsRunSeat}
-use Rattle.vr_worker.specs.Decks.{AreAbove, AreNew, AreSince, HasAsked, gained}
-use Rattle.vr_worker.specs.Decks.{numbers_of}
-use Rattle.vr_worker.specs.Latched.{IsSince}
+use Rattle.vr_trace.specs.Numbering.{with_volume}
+use Rattle.vr_worker.specs.Asked.{FollowsOne, IsNext, undoes}
+use Rattle.vr_worker.specs.Deck.{IsNextOn, IsRunSeat}
+use Rattle.vr_worker.specs.Decks.{AreAbove, AreNew, AreSince, ComeNext, FollowsOneOf, HasAsked}
+use Rattle.vr_worker.specs.Decks.{IsEntered, gained, greatest_last, numbers_of}
+use Rattle.vr_worker.specs.Latched.{ComesNext, IsSince}
+use Rattle.vr_worker.specs.Latched.ComesNext.{AfterLast, AfterOwn, AfterVolume}
 use Rattle.vr_worker.specs.Ready.{AreTold, IsBegun, IsDone, IsReady, IsToldAt, deck_of, decks_of}
 use Rattle.vr_worker.specs.Ready.{HaveRun, history_of, table_at, turn_at}
 use Rattle.vr_worker.specs.declared.deck.DeckRun.{DeckRun}
@@ -26,6 +31,8 @@ use Rattle.vr_worker.specs.declared.deck.Seat.{Seat}
 use Rattle.vr_worker.specs.declared.no.RunNo.{RunNo}
 use Rattle.vr_worker.specs.declared.no.RunNo.TheVariants.{Memory}
 use Rattle.vr_worker.proofs.Laters.{above-stamped, all-of-decks, gained-is}
+use Rattle.vr_worker.proofs.Kept.{contains-kept, contains-map, kept-contains, map-contains}
+use Rattle.vr_worker.proofs.Nexts.{next-more, not-grown}
 use Rattle.vr_worker.proofs.Places.{all-unmapped}
 use Rattle.vr_worker.proofs.Taken.{stamped-above}
 use Rattle.vr_worker.proofs.Volumes.{as-many, history-there, table-there}
@@ -90,7 +97,7 @@ told-at entries (volume ∷ volumes) seat told place near =
 
 -- some turn, and some ledger
 no-turn : TurnNow
-no-turn = record { deck = 0; ledger = table_at [] 0; entries = [] }
+no-turn = record { deck = 0; ledger = table_at [] 0; entries = []; history = [] }
 
 no-ledger : LedgerNow
 no-ledger = record { table = table_at [] 0; history = []; out = [] }
@@ -113,16 +120,23 @@ module _ {V : Type 0} (entries : V → List Entry) (volumes : List V) (ledgers :
 
     -- what it knows of each volume is all that the history has of it
     pub first-told : AreTold entries volumes seat
-    first-told place volume near turn =
-        ap (λ (it : TurnNow). it.entries) (turn-there place turn no-ledger near)
-        ∙ ap (deck_entries seat.deck)
-        (history-there entries volumes ledgers same place no-ledger volume near)
+    first-told place volume near = record {
+      entries = λ turn.
+          ap (λ (it : TurnNow). it.entries) (turn-there place turn no-ledger near)
+          ∙ ap (deck_entries seat.deck)
+          (history-there entries volumes ledgers same place no-ledger volume near);
+      grown = λ turn. subst (HasGrown (get_or seat.turns.items place turn).history)
+          (ap (λ (it : TurnNow). it.history) (turn-there place turn no-ledger near)
+          ∙ history-there entries volumes ledgers same place no-ledger volume near)
+          (not-grown (get_or seat.turns.items place turn).history);
+    }
 
     -- which is nothing, where it is new
     pub first-none : All (λ (volume : V). deck_entries seat.deck (entries volume) ≡ []) volumes
         → (place : ℕ) (turn : TurnNow) → place < length volumes
         → (get_or seat.turns.items place turn).entries ≡ []
-    first-none fresh place turn near = told-at entries volumes seat first-told place near turn
+    first-none fresh place turn near =
+        (told-at entries volumes seat first-told place near).entries turn
         ∙ fresh-at entries volumes seat.deck fresh place
 
     -- so it may run
@@ -161,10 +175,10 @@ module _ {V : Type 0} (entries : V → List Entry) (volumes : List V) (ledgers :
       | inl near ↦
           let within : volume < length old.turns.items =
           omega (arith, turns-many old begun, near) in
-          sym (ap (λ (it : TurnNow). it.entries) (run.ran.turns.each volume no-turn within)
+          sym (ap (λ (it : TurnNow). it.entries) (run.ran.turns.each volume no-turn within).turn
           ∙ ap (λ (them : List Entry). them ++ entries_on volume run.ran.made)
           (first-none old begun fresh volume no-turn near))
-          ∙ told-at entries result new told volume (omega (arith, count, near)) no-turn
+          ∙ (told-at entries result new told volume (omega (arith, count, near))).entries no-turn
           ∙ ap (λ (deck : ℕ). deck_entries deck (history_at (map entries result) volume)) run.deck
       | inr far ↦ run.ran.turns.within volume (omega (arith, turns-many old begun, far))
           ∙ sym (ap (deck_entries old.deck) (get_or_past (map entries result) volume []
@@ -188,6 +202,103 @@ module _ {V : Type 0} (entries : V → List Entry) (volumes : List V) (ledgers :
         (All-filter (is_on volume) (λ (this : Numbered). start < this.entry.stamp) run.ran.made
         (all-unmapped entry_of (λ (entry : Entry). start < entry.stamp) run.ran.made
         (above-stamped start (map entry_of run.ran.made) made-stamped))))
+
+    -- what it entered is on its volumes, and its own
+    module _ (this : Numbered) (there : Contains run.ran.made this) where
+      on-own : Contains (deck_entries old.deck (history_at (map entries result) this.volume))
+          this.entry
+      on-own = subst (λ (them : List Entry). Contains them this.entry) (made-on this.volume)
+          (contains-map entry_of (filter (is_on this.volume) run.ran.made) this
+          (contains-kept (is_on this.volume) run.ran.made this there
+          (eq-eqb this.volume this.volume refl)))
+
+      made-entered : IsEntered (map entries result) this
+      made-entered = kept-contains (λ (entry : Entry). entry.unit.deck == old.deck)
+          (history_at (map entries result) this.volume) this.entry on-own
+
+      made-own : this.entry.unit.deck ≡ old.deck
+      made-own = (Decides-eqb this.entry.unit.deck old.deck).0
+          (All-contains (λ (entry : Entry). (entry.unit.deck == old.deck) ≡ true)
+          (deck_entries old.deck (history_at (map entries result) this.volume)) this.entry
+          (filter_passes (λ (entry : Entry). entry.unit.deck == old.deck)
+          (history_at (map entries result) this.volume)) on-own)
+
+    -- and has the stamp that comes next
+    module _ (volume : ℕ) (near : volume < length volumes) where
+      known-here : HasGrown (get_or new.turns.items volume no-turn).history
+          (history_at (map entries result) volume)
+      known-here = (told-at entries result new told volume (omega (arith, count, near))).grown
+          no-turn
+
+      abbrev IsNextHere : Entry → Type 0
+      IsNextHere entry = ComesNext start (map entry_of run.ran.made)
+          (history_at (map entries result) volume) entry
+
+      next-here : (this : Numbered) → is_on volume this ≡ true
+          → IsNextOn old.last run.ran.made new.turns.items this → IsNextHere this.entry
+      next-here this on next =
+          let here : this.volume ≡ volume = (Decides-eqb this.volume volume).0 on in
+          let within : this.volume < length new.turns.items = omega (
+            arith,
+            run.ran.turns.count,
+            turns-many old begun,
+            near,
+            here,
+          ) in
+          subst (λ (last : ℕ). ComesNext last (map entry_of run.ran.made)
+          (history_at (map entries result) volume) this.entry) begun.last
+          (next-more old.last (map entry_of run.ran.made) (map entry_of run.ran.made)
+          (get_or new.turns.items volume no-turn).history (history_at (map entries result) volume)
+          this.entry (λ other has. has) known-here
+          (subst (λ (place : ℕ). ComesNext old.last (map entry_of run.ran.made)
+          (get_or new.turns.items place no-turn).history this.entry) here (next no-turn within)))
+
+      made-next : All IsNextHere (deck_entries old.deck (history_at (map entries result) volume))
+      made-next = subst (All IsNextHere) (made-on volume)
+          (All-map IsNextHere entry_of (filter (is_on volume) run.ran.made)
+          (λ k this inside.
+          let it : Numbered = get_or (filter (is_on volume) run.ran.made) k this in
+          next-here it (filter_passes (is_on volume) run.ran.made k this inside)
+          (All-filter (is_on volume) (IsNextOn old.last run.ran.made new.turns.items)
+          run.ran.made run.ran.next k this inside)))
+
+      -- so no stamp is left out before it
+      follows-own : (entry : Entry) → entry.unit.deck ≡ old.deck
+          → FollowsOne (map entry_of run.ran.made) entry
+          → FollowsOneOf (map entries result) (with_volume volume entry)
+      follows-own entry own (other, has, next) =
+          let from = map-contains entry_of run.ran.made other has in
+          let this : Numbered = from.0 in record {
+            other = this;
+            entered = made-entered this from.1;
+            next = next ∙ ap (λ (one : Entry). one.stamp + 1) (sym from.2);
+            shares = inr (made-own this from.1 ∙ sym own);
+          }
+
+      follows-volume : (entry : Entry) → FollowsOne (history_at (map entries result) volume) entry
+          → FollowsOneOf (map entries result) (with_volume volume entry)
+      follows-volume entry (other, has, next) = record {
+        other = with_volume volume other;
+        entered = has;
+        next = next;
+        shares = inl refl;
+      }
+
+      pub next-or-start : (entry : Entry) → entry.unit.deck ≡ old.deck → IsNextHere entry
+          → IsNext start entry ⊎ FollowsOneOf (map entries result) (with_volume volume entry)
+      next-or-start entry own (AfterLast is) = inl is
+      next-or-start entry own (AfterOwn follows) = inr (follows-own entry own follows)
+      next-or-start entry own (AfterVolume follows) = inr (follows-volume entry follows)
+
+      pub all-next-here : All (λ (entry : Entry). IsNext start entry
+          ⊎ FollowsOneOf (map entries result) (with_volume volume entry))
+          (deck_entries old.deck (history_at (map entries result) volume))
+      all-next-here k entry inside =
+          let history : List Entry = history_at (map entries result) volume in
+          let it : Entry = get_or (deck_entries old.deck history) k entry in
+          next-or-start it ((Decides-eqb it.unit.deck old.deck).0
+          (filter_passes (λ (one : Entry). one.unit.deck == old.deck) history k entry inside))
+          (made-next k entry inside)
 
     pub has-asked : (end : Result (Unit {0}) RunNo) → OnOk end (IsDone new)
         → HasAsked end (map entries result) (deck_of old)
@@ -281,6 +392,27 @@ module _ {V : Type 0} (entries : V → List Entry) (volumes : List V) (ledgers :
           (begun k seat inside) (ran.each k seat inside) (fresh-seat k seat inside) result
           since.count (told k seat (omega (arith, ran.count, inside))) place)
 
+      -- and none of its stamps is left out
+      abbrev IsNextThere : Entry → Type 0
+      IsNextThere entry = IsNext start entry
+          ⊎ FollowsOneOf (map entries result) (with_volume place entry)
+
+      each-next : All (λ (seat : Seat). All IsNextThere (deck_entries seat.deck it.more)) seats
+      each-next k seat inside = subst (All IsNextThere)
+          (ap (deck_entries (get_or seats k seat).deck) here ∙ entered-there k seat inside)
+          (all-next-here entries volumes ledgers same start (get_or seats k seat)
+          (get_or new k seat) (begun k seat inside) (ran.each k seat inside)
+          (fresh-seat k seat inside) result since.count
+          (told k seat (omega (arith, ran.count, inside))) place near)
+
+      gain-next : All IsNextThere (gained was now)
+      gain-next = subst (All IsNextThere) (sym (gained-is was now it.more it.grew))
+          (all-of-decks IsNextThere (numbers_of (decks_of seats)) it.more it.own
+          (All-map (λ (deck : ℕ). All IsNextThere (deck_entries deck it.more))
+          (λ (deck : DeckRun). deck.number) (decks_of seats)
+          (All-map (λ (deck : DeckRun). All IsNextThere (deck_entries deck.number it.more)) deck_of
+          seats each-next)))
+
       pub gain-above : AreAbove start (gained was now)
       gain-above = subst (AreAbove start) (sym (gained-is was now it.more it.grew))
           (all-of-decks (λ (entry : Entry). start < entry.stamp) (numbers_of (decks_of seats))
@@ -288,3 +420,9 @@ module _ {V : Type 0} (entries : V → List Entry) (volumes : List V) (ledgers :
           (λ (deck : DeckRun). deck.number) (decks_of seats)
           (All-map (λ (deck : DeckRun). AreAbove start (deck_entries deck.number it.more)) deck_of
           seats each-above)))
+
+    pub come-next : start ≡ greatest_last entries volumes → ComeNext entries volumes result
+    come-next is place volume entry near has = subst (λ (stamp : ℕ). IsNext stamp entry
+        ⊎ FollowsOneOf (map entries result) (with_volume place entry)) is (All-contains (IsNextThere place volume near)
+        (gained (was place volume near) (now place volume near)) entry
+        (gain-next place volume near) has)

@@ -91,7 +91,7 @@ module _ {V : Type 0} (entries : V → List Entry) where
 -- ---- the entries of decks
 
 -- what is so of all that a test keeps is so of one that it keeps
-one-kept : {X : Type 0} (p : X → Bool) (P : X → Type 0) (xs : List X) → All P (filter p xs)
+pub one-kept : {X : Type 0} (p : X → Bool) (P : X → Type 0) (xs : List X) → All P (filter p xs)
     → (k : ℕ) (x : X) → k < length xs → p (get_or xs k x) ≡ true → P (get_or xs k x)
 one-kept p P [] all k x near is = absurd (omega (arith, near))
 one-kept p P (y ∷ xs) all zero x near is = All-head P y (filter p xs)

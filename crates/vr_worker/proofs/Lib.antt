@@ -1,4 +1,5 @@
 pub mod CallerLemmas
+pub mod Nexts
 pub mod Taken
 pub mod Parts
 pub mod Runs
@@ -15,5 +16,7 @@ pub mod Numbering
 pub mod RunLists
 pub mod Grown
 pub mod Laters
+pub mod Kept
 pub mod Merging
+pub mod Gapless
 pub mod Sequences

@@ -2,19 +2,24 @@
 use Rattle.std.proofs.Common.{◌≡◌, ◌∙◌, ◌<◌, ◌+◌, ℕ, zero, suc, List, [], ◌∷◌, ◌++◌}
 use Rattle.std.proofs.Common.{Result, Ok, Err, map, ap, refl, subst, sym, arith, get_or, length}
 use Rattle.std.proofs.Common.{min, take}
-use Rattle.std.specs.Prelude.{OnOk, set}
+use Rattle.std.specs.Prelude.{Contains, OnOk, set}
 use Rattle.std.specs.Result.{IsErrAnd}
+use Rattle.std.proofs.lemmas.Grind.{get_or-set_at}
 use Rattle.std.proofs.lemmas.List.{map-append, take_more}
+use Rattle.std.proofs.lemmas.List.Elements.{All-append, All-map, All-nil, All-weaker}
+use Rattle.std.proofs.lemmas.List.Elements.{Contains-append_left}
 use Rattle.vr_types.specs.declared.bound.Bound.{Bound}
-use Rattle.vr_history.specs.Merged.{IsStamped, last_stamp, part_of_deck}
+use Rattle.vr_history.specs.Merged.{IsStamped, Numbered, last_stamp, part_of_deck}
+use Rattle.vr_history.specs.declared.entry.Entry.{Entry}
 use Rattle.vr_ledger.specs.Turn.{TurnNow}
 use Rattle.vr_trace.specs.Laws.{entry_of}
 use Rattle.vr_trace.specs.Numbering.{with_volume}
 use Rattle.vr_trace.proofs.CallerLemmas.{entries_again}
 use Rattle.vr_worker.specs.Asked.{if_done, is_ok}
-use Rattle.vr_worker.specs.Deck.{AreCalm, HasRun}
-use Rattle.vr_worker.specs.Latched.{HasTaken}
+use Rattle.vr_worker.specs.Deck.{AreCalm, HasRun, IsNextOn}
+use Rattle.vr_worker.specs.Latched.{ComesNext, HasTaken}
 use Rattle.vr_worker.specs.declared.no.RunNo.{RunNo}
+use Rattle.vr_worker.proofs.Nexts.{next-after, next-more}
 use Rattle.vr_worker.proofs.Parts.{part-both}
 use Rattle.vr_worker.proofs.Stamps.{last_stamp-both, stamped-both}
 use Rattle.vr_worker.proofs.Turns.{grown-none, grown-one, grown-then}
@@ -54,6 +59,7 @@ run-none deck last turns requests result whole = record {
   made = [];
   turns = grown-none turns;
   stamped = tt;
+  next = All-nil (IsNextOn last [] turns);
   last_is = refl;
   count = 0;
   answers = refl;
@@ -76,6 +82,17 @@ run-one deck last last' bound result turns old new at own taken = record {
   made = map (with_volume bound.volume) taken.made;
   turns = grown-one turns bound.volume old new taken.made at taken.turn;
   stamped = subst (IsStamped last) (sym again) taken.stamped;
+  next = All-map (IsNextOn last (map (with_volume bound.volume) taken.made)
+      (set turns bound.volume new)) (with_volume bound.volume) taken.made
+      (All-weaker (ComesNext last taken.made new.history)
+      (λ (entry : Entry). IsNextOn last (map (with_volume bound.volume) taken.made)
+      (set turns bound.volume new) (with_volume bound.volume entry))
+      (λ entry next turn near. subst
+      (λ (own : List Entry). ComesNext last own
+      (get_or (set turns bound.volume new) bound.volume turn).history entry) (sym again)
+      (subst (λ (it : TurnNow). ComesNext last taken.made it.history entry)
+      (sym (get_or-set_at turns bound.volume bound.volume new turn refl at)) next))
+      taken.made taken.next);
   last_is = taken.last_is ∙ sym (ap (last_stamp last) again);
   count = answered result;
   answers = ap (λ own. part_of_deck own (map (with_volume bound.volume) taken.made)) (sym own)
@@ -107,6 +124,11 @@ run-then deck last mid last' one more result a b c first second = record {
   stamped = subst (IsStamped last) (sym entries)
       (stamped-both last (map entry_of first.made) (map entry_of second.made) first.stamped
       (subst (λ n. IsStamped n (map entry_of second.made)) first.last_is second.stamped));
+  next = All-append (IsNextOn last (first.made ++ second.made) c) first.made second.made
+      (All-weaker (IsNextOn last first.made b) (IsNextOn last (first.made ++ second.made) c)
+      first-next first.made first.next)
+      (All-weaker (IsNextOn mid second.made c) (IsNextOn last (first.made ++ second.made) c)
+      second-next second.made second.next);
   last_is = second.last_is ∙ ap (λ n. last_stamp n (map entry_of second.made)) first.last_is
       ∙ sym (ap (last_stamp last) entries
       ∙ last_stamp-both last (map entry_of first.made) (map entry_of second.made));
@@ -121,6 +143,23 @@ run-then deck last mid last' one more result a b c first second = record {
     entries : map entry_of (first.made ++ second.made)
         ≡ map entry_of first.made ++ map entry_of second.made
     entries = map-append entry_of first.made second.made
+
+    first-next : (this : Numbered) → IsNextOn last first.made b this
+        → IsNextOn last (first.made ++ second.made) c this
+    first-next this next turn near =
+        let inside : this.volume < length b = omega (arith, second.turns.count, near) in
+        next-more last (map entry_of first.made) (map entry_of (first.made ++ second.made))
+        (get_or b this.volume turn).history (get_or c this.volume turn).history this.entry
+        (λ other has. subst (λ (them : List Entry). Contains them other) (sym entries)
+        (Contains-append_left (map entry_of first.made) (map entry_of second.made) other has))
+        (second.turns.each this.volume turn inside).history (next turn inside)
+
+    second-next : (this : Numbered) → IsNextOn mid second.made c this
+        → IsNextOn last (first.made ++ second.made) c this
+    second-next this next turn near = subst (λ (own : List Entry). ComesNext last own
+        (get_or c this.volume turn).history this.entry) (sym entries)
+        (next-after last mid (map entry_of first.made) (map entry_of second.made)
+        (get_or c this.volume turn).history this.entry first.last_is (next turn near))
 
     by_result : (result : Result (Unit {0}) RunNo)
         → OnOk result (take second.count more ≡ more)
@@ -144,6 +183,7 @@ run-failed deck last last' n requests fault result old new is run = record {
   made = run.made;
   turns = run.turns;
   stamped = run.stamped;
+  next = run.next;
   last_is = run.last_is;
   count = min run.count n;
   answers = run.answers ∙ take-within run.count n requests;

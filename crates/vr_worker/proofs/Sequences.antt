@@ -14,13 +14,14 @@ use Rattle.vr_history.specs.declared.entry.Entry.{Entry}
 use Rattle.vr_job_text.specs.Numbers.{AreNumbered}
 use Rattle.vr_job_text.specs.declared.text.Step.{Step}
 use Rattle.vr_trace.specs.Laws.{AreRising, deck_entries, entry_of, of_deck}
-use Rattle.vr_worker.specs.Decks.{ArePlaced, AreSince}
+use Rattle.vr_worker.specs.Decks.{ArePlaced, AreSince, ComeNext}
 use Rattle.vr_worker.specs.Latched.{IsSince}
 use Rattle.vr_worker.specs.declared.no.RunNo.{RunNo}
 use Rattle.vr_worker.specs.Asks.{step_asks, steps_ask}
 use Rattle.vr_worker.specs.Runs.{AreFresh, HaveAsked, StayRising, WentOn, deck_numbers}
-use Rattle.vr_worker.specs.Steps.{AreOfSteps, AreSinceSteps, ComeInSteps, HasAsked, IsOfStep}
-use Rattle.vr_worker.specs.Steps.{IsSinceSteps}
+use Rattle.vr_worker.specs.Steps.{AreGapless, AreOfSteps, AreSinceSteps, ComeInSteps, HasAsked}
+use Rattle.vr_worker.specs.Steps.{IsOfStep, IsSinceSteps}
+use Rattle.vr_worker.proofs.Gapless.{gapless-more, gapless-none, gapless-then}
 use Rattle.vr_worker.proofs.Grown.{no-part, none-rising, same-mapped}
 use Rattle.vr_worker.proofs.Merging.{none-merged}
 use Rattle.vr_worker.proofs.Numbering.{step-fresh}
@@ -157,6 +158,7 @@ pub record HaveDone {V : Type 0} (number : V → ℕ) (entries : V → List Entr
       ≡ steps_ask catalogs steps deck
   pub rising : (deck : ℕ) → AreRising (of_deck deck (merged (map entries now)))
   pub in_steps : ComeInSteps steps (map entries now)
+  pub gapless : AreGapless steps (map entries now)
 
 module _ {V : Type 0} (number : V → ℕ) (entries : V → List Entry) (follows : V → V → Type 0)
     (stays : (volume : V) → follows volume volume)
@@ -174,6 +176,7 @@ module _ {V : Type 0} (number : V → ℕ) (entries : V → List Entry) (follows
     rising = λ deck. none-rising entries deck first
         (λ place volume near. ap (deck_entries deck) (begins place volume near));
     in_steps = ap (map entry_of) (none-merged entries first begins);
+    gapless = gapless-none entries [] first begins;
   }
 
   module _ (steps : List Step) (i : ℕ) (step : Step) (near : i < length steps)
@@ -203,6 +206,19 @@ module _ {V : Type 0} (number : V → ℕ) (entries : V → List Entry) (follows
           (take-append-drop (i + 1) steps)
           (of-more (take (i + 1) steps) (drop (i + 1) steps)
           (map entry_of (merged (map entries now))) steps-next)
+
+    -- no stamp is left out
+    module _ (next : ComeNext entries mid now) where
+      gapless-next : AreGapless (take (i + 1) steps) (map entries now)
+      gapless-next = subst (λ (them : List Step). AreGapless them (map entries now))
+          (sym (step-more steps i step near at))
+          (gapless-then entries follows (take i steps) step first mid now done.since since
+          done.gapless next)
+
+      pub failed-gapless : AreGapless steps (map entries now)
+      failed-gapless = subst (λ (them : List Step). AreGapless them (map entries now))
+          (take-append-drop (i + 1) steps)
+          (gapless-more (take (i + 1) steps) (drop (i + 1) steps) (map entries now) gapless-next)
 
     -- what the step's decks asked, by the catalogs that there were at first
     module _ {E : Type 0} (result : Result (Unit {0}) E)
@@ -243,8 +259,9 @@ module _ {V : Type 0} (number : V → ℕ) (entries : V → List Entry) (follows
       -- and where it didn't, all
       pub done-next : ((P : Type 0) → OnOk result P → P) → ArePlaced number now
           → WentOn (deck_numbers step.decks) (map entries mid) (map entries now)
+          → ComeNext entries mid now
           → HaveDone number entries follows (map catalog first) (take (i + 1) steps) first now
-      done-next ok placed later = record {
+      done-next ok placed later next = record {
         placed = placed;
         since = since-next;
         asked = λ deck. asked-next deck
@@ -258,6 +275,7 @@ module _ {V : Type 0} (number : V → ℕ) (entries : V → List Entry) (follows
             (sym (step-more steps i step near at));
         rising = λ deck. stay deck (done.rising deck);
         in_steps = steps-next later;
+        gapless = gapless-next next;
       }
 
     pub failed-since : AreSinceSteps entries follows steps first now

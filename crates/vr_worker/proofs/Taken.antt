@@ -1,18 +1,21 @@
 -- What an event under a latch leaves of the deck's turn and last stamp, and of what the latch guards.
 use Rattle.std.proofs.Common.{◌≡◌, ◌∙◌, ℕ, ◌<◌, ◌≤◌, List, [], ◌∷◌, ◌++◌, All, Contains, Option, Some, None}
-use Rattle.std.proofs.Common.{Bool, refl, sym, ap, subst, arith, map, max, append_assoc}
-use Rattle.std.specs.Prelude.{IfSome}
-use Rattle.std.proofs.lemmas.List.Elements.{All-append}
+use Rattle.std.proofs.Common.{Bool, refl, sym, ap, subst, arith, inl, inr, map, max, append_assoc}
+use Rattle.std.specs.Prelude.{◌⊎◌, IfSome}
+use Rattle.std.proofs.lemmas.Bool.{cases_lt}
+use Rattle.std.proofs.lemmas.List.Elements.{All-append, All-weaker, Contains-append_right}
 use Rattle.vr_types.specs.declared.request.Request.{Request}
 use Rattle.vr_history.specs.Merged.{IsStamped, last_stamp, part_of_deck}
 use Rattle.vr_history.specs.declared.entry.Entry.{Entry}
 use Rattle.vr_ledger.proofs.CallerLemmas.{entries_of-all, entries_of-append}
-use Rattle.vr_ledger.specs.Entries.{IsOf}
+use Rattle.vr_ledger.specs.Entries.{HasGrown, IsOf}
 use Rattle.vr_ledger.specs.Turn.{TurnNow}
 use Rattle.vr_trace.specs.Laws.{deck_entries}
 use Rattle.vr_trace.specs.Numbering.{with_volume}
-use Rattle.vr_worker.specs.Asked.{HasEntered, MayGoOn, bound_to, if_done}
-use Rattle.vr_worker.specs.Latched.{HasTaken, IsOfOne, IsSince}
+use Rattle.vr_worker.specs.Asked.{FollowsOne, HasEntered, IsNext, MayGoOn, bound_to, if_done}
+use Rattle.vr_worker.specs.Latched.{ComesNext, HasTaken, IsOfOne, IsSince}
+use Rattle.vr_worker.specs.Latched.ComesNext.{AfterLast, AfterVolume}
+use Rattle.vr_worker.proofs.Nexts.{follows-more, grown-on, last-entry, still-there}
 
 -- stamps above one are above a lesser one
 pub stamped-above : (low high : ℕ) (entries : List Entry) → low ≤ high → IsStamped high entries
@@ -86,17 +89,51 @@ module _ (number deck line : ℕ) (request : Request) (after : ℕ) (done : Bool
   last-else before now was is stayed = last-stayed (last_stamp 0 old) after entered.made above-volume
       (omega (arith, was, is, grown-last, stayed))
 
+  went-on : HasGrown old new
+  went-on = (entered.made, entered.entries)
+
+  -- the stamps come next after the deck's last one, or after those of the volume
+  next-entered : (entry : Entry)
+      → IsNext (max (last_stamp 0 old) after) entry ⊎ FollowsOne entered.made entry
+      → ComesNext after entered.made new entry
+  next-entered entry (inl is) = elim (cases_lt after (last_stamp 0 old)) [
+    | inl above ↦ elim (last-entry 0 old) [
+      | inl none ↦ absurd (omega (arith, above, none))
+      | inr (other, has, last) ↦ AfterVolume
+          (other, still-there old new other went-on has, omega (arith, is, above, last))
+    ]
+    | inr below ↦ AfterLast (omega (arith, is, below))
+  ]
+  next-entered entry (inr follows) = AfterVolume (follows-more entered.made new entry
+      (λ other has. subst (λ (them : List Entry). Contains them other) (sym entered.entries)
+      (Contains-append_right old entered.made other has)) follows)
+
+  all-next : All (ComesNext after entered.made new) entered.made
+  all-next = All-weaker (λ (entry : Entry). IsNext (max (last_stamp 0 old) after) entry
+      ⊎ FollowsOne entered.made entry) (ComesNext after entered.made new) next-entered
+      entered.made entered.next
+
   -- what the turn learned
   pub taken-by : (last' : ℕ) (turn turn' : TurnNow) → deck ≡ turn.deck
-      → turn.entries ≡ deck_entries turn.deck old
-      → turn' ≡ record turn { entries = deck_entries turn.deck new }
+      → turn.entries ≡ deck_entries turn.deck old → HasGrown turn.history old
+      → turn' ≡ record turn { entries = deck_entries turn.deck new; history = new }
       → last' ≡ last_stamp after entered.made
       → HasTaken number line request done after last' turn turn'
-  taken-by last' turn turn' own told is last = record {
+  taken-by last' turn turn' own told saw is last = record {
     made = entered.made;
-    turn = is ∙ ap (λ (them : List Entry). record turn { entries = them }) learned;
+    turn = record {
+      turn = is
+          ∙ ap (λ (them : List Entry). record turn { entries = them; history = new }) learned
+          ∙ ap (λ (them : List Entry). record turn {
+            entries = turn.entries ++ entered.made;
+            history = them;
+          }) (sym known);
+      history = subst (HasGrown turn.history) (sym known) (grown-on turn.history old new saw went-on);
+    };
     stamped = stamped-above after (max (last_stamp 0 old) after) entered.made (omega arith)
         entered.stamped;
+    next = subst (λ (them : List Entry). All (ComesNext after entered.made them) entered.made)
+        (sym known) all-next;
     last_is = last;
     answers = subst (λ (d : ℕ). part_of_deck d (map (with_volume number) entered.made)
         ≡ if_done done (bound_to number line request)) own entered.answers;
@@ -105,6 +142,9 @@ module _ (number deck line : ℕ) (request : Request) (after : ℕ) (done : Bool
         entered.goes_on;
   }
     where
+      known : turn'.history ≡ new
+      known = ap (λ (t : TurnNow). t.history) is
+
       mine : All (IsOf turn.deck) entered.made
       mine = subst (λ (d : ℕ). All (IsOf d) entered.made) own entered.own
 

@@ -1,9 +1,14 @@
 -- What decks have once their threads have ended, and what they learn of the volumes then.
 use Rattle.std.proofs.Common.{◌≡◌, ◌∙◌, ◌<◌, ◌++◌, ◌∷◌, ℕ, List, [], All, ap, arith, get_or, length}
 use Rattle.std.proofs.Common.{refl, subst, sym}
-use Rattle.std.specs.Prelude.{OnOk, Result}
+use Rattle.std.specs.Prelude.{OnOk, Result, set}
+use Rattle.std.proofs.lemmas.Grind.{get_or-set_at}
+use Rattle.std.proofs.lemmas.List.{get_or_default, get_or-set_other, length-set}
+use mathlib.Core.Logic.{dite}
+use native.Mathlib.Decide.{ℕ_discrete}
 use Rattle.atomic_table.specs.Seated.{TableId}
 use Rattle.vr_history.specs.declared.entry.Entry.{Entry}
+use Rattle.vr_ledger.specs.Entries.{HasGrown}
 use Rattle.vr_ledger.specs.Turn.{TurnNow}
 use Rattle.vr_trace.specs.Laws.{deck_entries}
 use Rattle.vr_worker.specs.Ready.{AreSameSeats, AreTold, HasTurnAt, HasTurns, HaveRun}
@@ -30,11 +35,30 @@ all-same-then first second = record {
       (second.each place seat (omega (arith, first.count)));
 }
 
+-- the one at a place has what it had
+pub same-set : (old now : List Seat) (k : ℕ) (d next : Seat) → k < length now
+    → AreSameSeats old now → IsSameSeat (get_or now k d) next → AreSameSeats old (set now k next)
+same-set old now k d next near same one = record {
+  count = length-set now k next ∙ same.count;
+  each = λ place seat within. dite (ℕ_discrete place k)
+      (λ here. same-then (same.each place seat within)
+      (subst (IsSameSeat (get_or now place seat))
+      (sym (get_or-set_at now k place next seat here near))
+      (subst (λ (it : Seat). IsSameSeat it next)
+      (get_or_default now k d seat near ∙ ap (λ n. get_or now n seat) (sym here)) one)))
+      (λ apart. subst (IsSameSeat (get_or old place seat))
+      (sym (get_or-set_other now k place next seat apart)) (same.each place seat within));
+}
+
 told-stays : (place : ℕ) (entries : List Entry) {old new : Seat} → IsSameSeat old new
     → IsToldAt place entries old → IsToldAt place entries new
-told-stays place entries {old = old} {new = new} same told = λ turn.
-    ap (λ (turns : List TurnNow). (get_or turns place turn).entries) same.turns ∙ told turn
-    ∙ ap (λ (deck : ℕ). deck_entries deck entries) (sym same.deck)
+told-stays place entries {old = old} {new = new} same told = record {
+  entries = λ turn.
+      ap (λ (turns : List TurnNow). (get_or turns place turn).entries) same.turns
+      ∙ told.entries turn ∙ ap (λ (deck : ℕ). deck_entries deck entries) (sym same.deck);
+  grown = λ turn. subst (λ (turns : List TurnNow). HasGrown (get_or turns place turn).history entries)
+      (sym same.turns) (told.grown turn);
+}
 
 -- a deck has the same turn
 turn-stays : (tables : ℕ → TableId) (place : ℕ) {old new : Seat} → IsSameSeat old new

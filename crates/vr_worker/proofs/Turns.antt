@@ -1,11 +1,11 @@
 -- The turns of a deck, which learn of what the deck entered.
 use Rattle.std.proofs.Common.{◌≡◌, ◌≢◌, ◌∙◌, ◌<◌, ◌==◌, ℕ, Bool, true, false, List, [], ◌++◌}
-use Rattle.std.proofs.Common.{Result, Ok, Err, map, ap, refl, sym, arith, append_assoc}
+use Rattle.std.proofs.Common.{Result, Ok, Err, map, ap, refl, subst, sym, arith}
 use Rattle.std.proofs.Common.{get_or, length}
 use Rattle.std.specs.Prelude.{OnOk, set}
 use Rattle.std.proofs.lemmas.Bool.Decides.{nat_tests}
 use Rattle.std.proofs.lemmas.Grind.{get_or-set_at}
-use Rattle.std.proofs.lemmas.List.{append-nil, get_or_default, get_or-set_other, length-set}
+use Rattle.std.proofs.lemmas.List.{get_or_default, get_or-set_other, length-set}
 use Rattle.atomic_table.specs.Seated.{TableId}
 use Rattle.vr_types.specs.declared.request.Request.{Request}
 use Rattle.vr_history.specs.declared.entry.Entry.{Entry}
@@ -14,18 +14,17 @@ use Rattle.vr_ledger.specs.Turn.{TurnNow}
 use Rattle.vr_trace.specs.Laws.{entries_on}
 use Rattle.vr_trace.specs.Numbering.{with_volume}
 use Rattle.vr_worker.specs.Asked.{is_ok, undoes}
-use Rattle.vr_worker.specs.Deck.{AreCalm, AreTurns, HaveGrown, with_more}
-use Rattle.vr_worker.specs.Latched.{HasTaken}
+use Rattle.vr_worker.specs.Deck.{AreCalm, AreTurns, HaveGrown}
+use Rattle.vr_worker.specs.Latched.{HasLearned, HasTaken}
 use Rattle.vr_worker.specs.declared.no.RunNo.{RunNo}
+use Rattle.vr_worker.proofs.Nexts.{learned-none, learned-then}
 use Rattle.vr_worker.proofs.Parts.{on-both, on-other, on-same}
 
 -- nothing yet
 pub grown-none : (turns : List TurnNow) → HaveGrown turns turns []
 grown-none turns = record {
   count = refl;
-  each = λ volume turn inside. ap (λ entries. record (get_or turns volume turn) {
-    entries = entries;
-  }) (sym (append-nil (get_or turns volume turn).entries));
+  each = λ volume turn inside. learned-none (get_or turns volume turn);
   within = λ volume outside. refl;
 }
 
@@ -35,14 +34,11 @@ pub grown-then : (a b c : List TurnNow) (one more : List Numbered) → HaveGrown
 grown-then a b c one more first second = record {
   count = second.count ∙ first.count;
   each = λ volume turn inside.
-      let old = get_or a volume turn in
-      let on_first = entries_on volume one in
-      let on_second = entries_on volume more in
-      second.each volume turn (omega (arith, first.count, inside))
-      ∙ ap (with_more on_second) (first.each volume turn inside)
-      ∙ ap (λ entries. record old { entries = entries })
-      (append_assoc old.entries on_first on_second
-      ∙ ap (λ entries. old.entries ++ entries) (sym (on-both volume one more)));
+      subst (λ (them : List Entry). HasLearned them (get_or a volume turn) (get_or c volume turn))
+      (sym (on-both volume one more))
+      (learned-then (entries_on volume one) (entries_on volume more) (get_or a volume turn)
+      (get_or b volume turn) (get_or c volume turn) (first.each volume turn inside)
+      (second.each volume turn (omega (arith, first.count, inside))));
   within = λ volume outside.
       on-both volume one more
       ∙ ap (λ entries. entries ++ entries_on volume more) (first.within volume outside)
@@ -55,10 +51,10 @@ pub turns-grown : (ledgers : ℕ → TableId) (deck : ℕ) (old new : List TurnN
     → AreTurns ledgers deck new
 turns-grown ledgers deck old new made grown turns volume turn inside =
     let in_old : volume < length old = omega (arith, grown.count, inside) in
-    let same = sym (grown.each volume turn in_old) in
+    let same = (grown.each volume turn in_old).turn in
     let was = turns volume turn in_old in (
-      ap (λ (now : TurnNow). now.ledger) (sym same) ∙ was.0,
-      ap (λ (now : TurnNow). now.deck) (sym same) ∙ was.1,
+      ap (λ (now : TurnNow). now.ledger) same ∙ was.0,
+      ap (λ (now : TurnNow). now.deck) same ∙ was.1,
     )
 
 -- ---- one of them
@@ -74,7 +70,7 @@ differ_below v w below = grind (arith, nat_tests, below)
 
 -- the turn on one volume learned of entries there
 pub grown-one : (turns : List TurnNow) (place : ℕ) (old new : TurnNow) (made : List Entry)
-    → place < length turns → new ≡ with_more made (get_or turns place old)
+    → place < length turns → HasLearned made (get_or turns place old) new
     → HaveGrown turns (set turns place new) (map (with_volume place) made)
 grown-one turns place old new made at is = record {
   count = length-set turns place new;
@@ -84,21 +80,23 @@ grown-one turns place old new made at is = record {
 }
   where
     by_test : (volume : ℕ) (turn : TurnNow) (b : Bool) → (place == volume) ≡ b
-        → get_or (set turns place new) volume turn
-        ≡ with_more (entries_on volume (map (with_volume place) made)) (get_or turns volume turn)
+        → HasLearned (entries_on volume (map (with_volume place) made)) (get_or turns volume turn)
+        (get_or (set turns place new) volume turn)
     by_test volume turn true same =
         let there = equal place volume same in
-        get_or-set_at turns place volume new turn there at
-        ∙ is
-        ∙ ap (with_more made) (get_or_default turns place old turn at
-        ∙ ap (λ n. get_or turns n turn) (sym there))
-        ∙ ap (λ entries. with_more entries (get_or turns volume turn))
+        let was : TurnNow = get_or turns volume turn in
+        subst (HasLearned (entries_on volume (map (with_volume place) made)) was)
+        (sym (get_or-set_at turns place volume new turn there at))
+        (subst (λ (them : List Entry). HasLearned them was new)
         (sym (on-same place volume made same))
+        (subst (λ (it : TurnNow). HasLearned made it new)
+        (get_or_default turns place old turn at ∙ ap (λ n. get_or turns n turn) (sym there)) is))
     by_test volume turn false differ =
-        let there : TurnNow = get_or turns volume turn in
-        get_or-set_other turns place volume new turn (unequal place volume differ)
-        ∙ ap (λ entries. record there { entries = entries }) (sym (append-nil there.entries))
-        ∙ ap (λ entries. with_more entries there) (sym (on-other place volume made differ))
+        let was : TurnNow = get_or turns volume turn in
+        subst (HasLearned (entries_on volume (map (with_volume place) made)) was)
+        (sym (get_or-set_other turns place volume new turn (unequal place volume differ)))
+        (subst (λ (them : List Entry). HasLearned them was was)
+        (sym (on-other place volume made differ)) (learned-none was))
 
 -- where its unit hasn't begun to undo, none of the deck has
 calm-set : (turns : List TurnNow) (place : ℕ) (new : TurnNow) → place < length turns

@@ -1,6 +1,6 @@
 -- What one event of a deck's request adds to the history of a volume. The rules are this project's own.
-use Rattle.std.specs.Prelude.{◌≡◌, ◌⊎◌, ℕ, Bool, true, false, cond, IsTrue, List, [], ◌∷◌}
-use Rattle.std.specs.Prelude.{◌++◌, All, Result, Ok, Err, map, max}
+use Rattle.std.specs.Prelude.{◌≡◌, ◌⊎◌, ◌+◌, ℕ, Bool, true, false, cond, IsTrue, List, [], ◌∷◌}
+use Rattle.std.specs.Prelude.{◌++◌, All, Contains, Result, Ok, Err, map, max}
 use Rattle.vr_types.specs.declared.bound.Bound.{Bound}
 use Rattle.vr_types.specs.declared.request.Request.{Request}
 use Rattle.vr_history.specs.Legal.{is_backout}
@@ -54,14 +54,24 @@ bound_to volume line request = record { volume = volume; line = line; request = 
 abbrev pub if_done : Bool → Bound → List Bound
 if_done done bound = cond done (bound ∷ []) []
 
--- The entries of the event are the deck's, at stamps above its own last one and the volume's, and
--- answer the request where it is done, and none where it isn't.
+-- the stamp of an entry comes next after this one
+abbrev pub IsNext : ℕ → Entry → Type 0
+IsNext stamp entry = entry.stamp ≡ stamp + 1
+
+-- or next after that of one of these entries
+abbrev pub FollowsOne : List Entry → Entry → Type 0
+FollowsOne entries entry = (other : Entry) × Contains entries other × IsNext other.stamp entry
+
+-- The entries of the event are the deck's, at the stamps that come next after the greater of its own
+-- last one and the volume's, and answer the request where it is done, and none where it isn't.
 pub record HasEntered (number deck line : ℕ) (request : Request) (after : ℕ) (done : Bool)
     (old new : List Entry) : Type 0 where
   pub made : List Entry
   pub entries : new ≡ old ++ made
   pub own : All (IsOf deck) made
   pub stamped : IsStamped (max (last_stamp 0 old) after) made
+  pub next : All (λ (entry : Entry). IsNext (max (last_stamp 0 old) after) entry
+      ⊎ FollowsOne made entry) made
   pub answers : part_of_deck deck (map (with_volume number) made)
       ≡ if_done done (bound_to number line request)
   pub goes_on : MayGoOn done request (deck_entries deck new)

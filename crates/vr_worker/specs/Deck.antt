@@ -1,13 +1,13 @@
 -- A deck as its thread runs it. The rules are this project's own.
-use Rattle.std.specs.Prelude.{◌≡◌, ◌<◌, ◌≤◌, ℕ, List, [], ◌++◌, Result, OnOk, get_or, length}
+use Rattle.std.specs.Prelude.{◌≡◌, ◌<◌, ◌≤◌, ℕ, List, [], All, Result, OnOk, get_or, length}
 use Rattle.std.specs.Prelude.{map, take, false}
 use Rattle.atomic_table.specs.Seated.{TableId}
 use Rattle.vr_types.specs.declared.bound.Bound.{Bound}
 use Rattle.vr_history.specs.Merged.{IsStamped, Numbered, last_stamp, part_of_deck}
-use Rattle.vr_history.specs.declared.entry.Entry.{Entry}
 use Rattle.vr_ledger.specs.Turn.{TurnNow}
 use Rattle.vr_trace.specs.Laws.{entries_on, entry_of}
 use Rattle.vr_worker.specs.Asked.{undoes}
+use Rattle.vr_worker.specs.Latched.{ComesNext, HasLearned}
 use Rattle.vr_worker.specs.declared.deck.Seat.{Seat}
 use Rattle.vr_worker.specs.declared.no.RunNo.{RunNo}
 
@@ -25,16 +25,18 @@ abbrev pub AreCalm : List TurnNow → Type 0
 AreCalm turns = (volume : ℕ) (turn : TurnNow) → volume < length turns
     → undoes (get_or turns volume turn).entries ≡ false
 
--- a turn that learned of more entries
-abbrev pub with_more : List Entry → TurnNow → TurnNow
-with_more more turn = record turn { entries = turn.entries ++ more }
-
 -- each turn learned of those of these entries that are on its volume
 pub record HaveGrown (old new : List TurnNow) (made : List Numbered) : Type 0 where
   pub count : length new ≡ length old
   pub each : (volume : ℕ) (turn : TurnNow) → volume < length old
-      → get_or new volume turn ≡ with_more (entries_on volume made) (get_or old volume turn)
+      → HasLearned (entries_on volume made) (get_or old volume turn) (get_or new volume turn)
   pub within : (volume : ℕ) → length old ≤ volume → entries_on volume made ≡ []
+
+-- An entry of a deck on one of its volumes has the stamp that comes next: after this one, after that
+-- of another of the deck's, or after that of one that is known of its volume.
+abbrev pub IsNextOn : ℕ → List Numbered → List TurnNow → Numbered → Type 0
+IsNextOn last made turns this = (turn : TurnNow) → this.volume < length turns
+    → ComesNext last (map entry_of made) (get_or turns this.volume turn).history this.entry
 
 -- The first of a deck's requests were answered, each once and in order: all of them, where the
 -- thread is done. `made` is what the deck entered on all volumes, in the order in which it did,
@@ -44,6 +46,7 @@ pub record HasRun (deck : ℕ) (requests : List Bound) (result : Result (Unit {0
   pub made : List Numbered
   pub turns : HaveGrown old new made
   pub stamped : IsStamped last (map entry_of made)
+  pub next : All (IsNextOn last made new) made
   pub last_is : last' ≡ last_stamp last (map entry_of made)
   pub count : ℕ
   pub answers : part_of_deck deck made ≡ take count requests

@@ -3,7 +3,7 @@ use Rattle.std.specs.Prelude.{◌≡◌, ◌<◌, ◌==◌, ℕ, suc, zero, List
 use Rattle.std.specs.Prelude.{Contains, IfSome, Option, Some, None, Ok, Err, get_or, length, map}
 use Rattle.atomic_table.specs.Seated.{TableId}
 use Rattle.vr_history.specs.declared.entry.Entry.{Entry}
-use Rattle.vr_ledger.specs.Entries.{entries_of}
+use Rattle.vr_ledger.specs.Entries.{HasGrown, entries_of}
 use Rattle.vr_ledger.specs.Ledger.{LedgerNow}
 use Rattle.vr_ledger.specs.Turn.{TurnNow}
 use Rattle.vr_trace.specs.Laws.{deck_entries}
@@ -38,6 +38,7 @@ turn_at deck ledger = record {
   deck = deck;
   ledger = ledger.table;
   entries = entries_of deck ledger.history;
+  history = ledger.history;
 }
 
 -- the thread of a deck didn't run yet
@@ -114,10 +115,12 @@ pub record HaveRun (old new : List Seat) : Type 0 where
   pub each : (place : ℕ) (seat : Seat) → place < length old
       → IsRunSeat (get_or old place seat) (get_or new place seat)
 
--- what a deck knows of this volume is all that its history has of the deck
-abbrev pub IsToldAt : ℕ → List Entry → Seat → Type 0
-IsToldAt place entries seat = (turn : TurnNow)
-    → (get_or seat.turns.items place turn).entries ≡ deck_entries seat.deck entries
+-- what a deck knows of this volume is all that its history has of the deck, and the history went on
+-- from the one that the deck saw
+pub record IsToldAt (place : ℕ) (history : List Entry) (seat : Seat) : Type 0 where
+  pub entries : (turn : TurnNow)
+      → (get_or seat.turns.items place turn).entries ≡ deck_entries seat.deck history
+  pub grown : (turn : TurnNow) → HasGrown (get_or seat.turns.items place turn).history history
 
 -- and so it is of each volume
 abbrev pub AreTold : {V : Type 0} → (V → List Entry) → List V → Seat → Type 0

@@ -1,15 +1,17 @@
 -- What the steps of a job leave of the volumes, and what their decks asked. The rules are this
 -- project's own.
-use Rattle.std.specs.Prelude.{◌≡◌, ◌<◌, ℕ, List, [], ◌∷◌, ◌++◌, All, Contains, Result, OnOk}
+use Rattle.std.specs.Prelude.{◌≡◌, ◌⊎◌, ◌<◌, ℕ, List, [], ◌∷◌, ◌++◌, All, Contains, Result, OnOk}
 use Rattle.std.specs.Prelude.{drop, get_or, length, map, take}
 use Rattle.vr_types.specs.declared.bound.Bound.{Bound}
 use Rattle.vr_catalog.specs.declared.entry.CatEntry.{CatEntry}
-use Rattle.vr_history.specs.Merged.{merged, part_of_deck}
+use Rattle.vr_history.specs.Merged.{Numbered, merged, part_of_deck}
 use Rattle.vr_history.specs.declared.entry.Entry.{Entry}
 use Rattle.vr_job_text.specs.declared.text.Deck.{Deck}
 use Rattle.vr_job_text.specs.declared.text.Step.{Step}
 use Rattle.vr_trace.specs.Laws.{AreRising, entry_of, of_deck}
+use Rattle.vr_worker.specs.Asked.{IsNext}
 use Rattle.vr_worker.specs.Asks.{IsPrefixOf, steps_ask}
+use Rattle.vr_worker.specs.Decks.{IsEntered}
 
 -- the numbers of the decks of a step
 abbrev pub numbers_in : Step → List ℕ
@@ -57,3 +59,26 @@ pub record HasAsked {E : Type 0} (catalogs : List (List CatEntry)) (steps : List
 -- before an entry of a step before it.
 abbrev pub ComeInSteps : List Step → List (List Entry) → Type 0
 ComeInSteps steps histories = AreOfSteps steps (map entry_of (merged histories))
+
+-- an entry is of one of these steps
+abbrev pub IsOfOneStep : List Step → Entry → Type 0
+IsOfOneStep steps entry = (step : Step) × Contains steps step × IsOfStep step entry
+
+-- the first entry is of a step before that of the second
+abbrev pub IsOfEarlier : List Step → Entry → Entry → Type 0
+IsOfEarlier steps other entry = (before : List Step) × (after : List Step)
+    × (steps ≡ before ++ after) × IsOfOneStep before other × IsOfOneStep after entry
+
+-- The first entry has the stamp before that of the second, and is of the same volume, of the same
+-- deck, or of an earlier step.
+pub record ComesBefore (steps : List Step) (other this : Numbered) : Type 0 where
+  pub next : IsNext other.entry.stamp this.entry
+  pub of : (other.volume ≡ this.volume) ⊎ ((other.entry.unit.deck ≡ this.entry.unit.deck)
+      ⊎ IsOfEarlier steps other.entry this.entry)
+
+-- No stamp is left out: that of each entry of the histories is 1, or there is an entry with the stamp
+-- before it, of its volume, of its deck, or of an earlier step.
+abbrev pub AreGapless : List Step → List (List Entry) → Type 0
+AreGapless steps histories = (this : Numbered) → IsEntered histories this
+    → IsNext 0 this.entry
+    ⊎ ((other : Numbered) × IsEntered histories other × ComesBefore steps other this)

@@ -1,7 +1,7 @@
 //! The decks of a step, each on a thread of its own.
 ghost use Rattle.std.specs.Prelude.{◌≡◌, ◌^◌, All, IsErrOf, IsTrue, Ok, OnOk, map};
-ghost use Rattle.vr_worker.specs.Decks.{AreNew, ArePlaced, AreSince, AreUpTo, ComeLater, HasAsked};
-ghost use Rattle.vr_worker.specs.Decks.{HasUsedUp, greatest_last, numbers_of};
+ghost use Rattle.vr_worker.specs.Decks.{AreNew, ArePlaced, AreSince, AreUpTo, ComeLater, ComeNext};
+ghost use Rattle.vr_worker.specs.Decks.{HasAsked, HasUsedUp, greatest_last, numbers_of};
 ghost use Rattle.vr_worker.specs.Ready.{IsBegun, IsDone, decks_of, history_of};
 ghost use Rattle.vr_worker.specs.declared.no.RunNo.TheVariants.{Stamps};
 
@@ -88,6 +88,7 @@ fn run_ready<R: Threads + Wait + Sync, V: Served + Send, G: Gate + Sync>(
     ensures since { AreSince V.entries V.follows (numbers_of (decks_of seats.old)) volumes.items
         result.volumes.items }
     ensures later { ComeLater V.entries volumes.items result.volumes.items }
+    ensures next { ComeNext V.entries volumes.items result.volumes.items }
     ensures asked { All (HasAsked result.result (map V.entries result.volumes.items))
         (decks_of seats.old) }
     ensures stamps { IsErrOf result.result Stamps → HasUsedUp V.entries result.volumes.items }
@@ -113,6 +114,7 @@ pub fn run_decks<R: Threads + Wait + Sync, V: Served + Send, G: Gate + Sync>(
     ensures since { AreSince V.entries V.follows (numbers_of decks.items) volumes.items
         result.volumes.items }
     ensures later { ComeLater V.entries volumes.items result.volumes.items }
+    ensures next { ComeNext V.entries volumes.items result.volumes.items }
     ensures asked { All (HasAsked result.result (map V.entries result.volumes.items)) decks.items }
     ensures stamps { IsErrOf result.result Stamps → HasUsedUp V.entries result.volumes.items }
 {

@@ -2,6 +2,7 @@
 ghost use Rattle.std.specs.Prelude.{◌≡◌, ◌==◌, ℕ, List, Option, Contains, IfSome, Some, false};
 ghost use Rattle.std.specs.Prelude.{None, []};
 ghost use Rattle.atomic_table.specs.Seated.{TableId};
+ghost use Rattle.vr_ledger.specs.Entries.{HasGrown};
 ghost use Rattle.vr_trace.specs.Laws.{deck_entries};
 ghost use Rattle.vr_worker.specs.Asked.{MayAsk, is_done};
 ghost use Rattle.vr_worker.specs.Latched.{HasTaken, IsLatched, IsSince};
@@ -81,10 +82,11 @@ impl<V: Served, N: Names<V>> Latched<V, N> {
     pub fn tell(&mut self, turn: &mut Turn)
         requires own_ledger { turn.old.ledger ≡ N.ledgers (V.number self.old.volume) }
         ensures told { turn.old.entries ≡ deck_entries turn.old.deck (V.entries self.old.volume) }
+        ensures grown { HasGrown turn.old.history (V.entries self.old.volume) }
         ensures turn { turn.new ≡ turn.old }
         ensures volume { self.new.volume ≡ self.old.volume }
     {
-        self.ledger.record(turn, self.volume.history());
+        self.ledger.tell(turn);
     }
 
     /// One event of a request of the turn's deck, whose last stamp is `last`: whether the request was

@@ -3,8 +3,8 @@ ghost use Rattle.std.specs.Prelude.{◌≡◌, ◌<◌, ◌^◌, [], All, IfOk, 
 ghost use Rattle.vr_job_text.specs.Numbers.{AreNumbered};
 ghost use Rattle.vr_worker.specs.Runs.{AreFresh, AreRuns, HaveAsked, StayRising, WentOn};
 ghost use Rattle.vr_worker.specs.Runs.{deck_numbers};
-ghost use Rattle.vr_worker.specs.Steps.{AreSinceSteps, ComeInSteps, HasAsked};
-ghost use Rattle.vr_worker.specs.Decks.{ArePlaced, AreSince, HasUsedUp};
+ghost use Rattle.vr_worker.specs.Steps.{AreGapless, AreSinceSteps, ComeInSteps, HasAsked};
+ghost use Rattle.vr_worker.specs.Decks.{ArePlaced, AreSince, ComeNext, HasUsedUp};
 ghost use Rattle.vr_worker.specs.declared.no.RunNo.TheVariants.{Stamps};
 
 use crate::cataloged::Cataloged;
@@ -86,6 +86,7 @@ fn run_step<R: Threads + Wait + Sync, V: Cataloged + Send, G: Gate + Sync>(
         (map V.entries volumes.new.items) }
     ensures later { WentOn (deck_numbers step.now.decks) (map V.entries volumes.old.items)
         (map V.entries volumes.new.items) }
+    ensures next { ComeNext V.entries volumes.old.items volumes.new.items }
     ensures stamps { IsErrOf result Stamps → HasUsedUp V.entries volumes.new.items }
 {
     let runs = bind_step(alloc, step, volumes.as_slice())?;
@@ -114,6 +115,7 @@ pub fn run_steps<R: Threads + Wait + Sync, V: Cataloged + Send, G: Gate + Sync>(
     ensures since { AreSinceSteps V.entries V.follows steps.now volumes.old.items
         volumes.new.items }
     ensures in_steps { ComeInSteps steps.now (map V.entries volumes.new.items) }
+    ensures gapless { AreGapless steps.now (map V.entries volumes.new.items) }
     ensures asked { HasAsked (map V.catalog volumes.old.items) steps.now result
         (map V.entries volumes.new.items) }
     ensures stamps { IsErrOf result Stamps → HasUsedUp V.entries volumes.new.items }

@@ -1,7 +1,9 @@
 -- What an event of a plain volume adds to its history.
-use Rattle.std.proofs.Common.{◌≡◌, ◌∙◌, ◌<◌, ℕ, Bool, true, false, List, [], ◌∷◌, ◌++◌}
-use Rattle.std.proofs.Common.{ap, eq-eqb, map, max, refl, subst, sym}
+use Rattle.std.proofs.Common.{◌≡◌, ◌∙◌, ◌+◌, ℕ, Bool, true, false, List, [], ◌∷◌, ◌++◌}
+use Rattle.std.proofs.Common.{Err, Ok, Result, ap, append-nil, arith, eq-eqb, inl, map, max, refl}
+use Rattle.std.proofs.Common.{subst, sym}
 use Rattle.std.specs.Prelude.{◌⊎◌, All, IsTrue, if◌then◌else◌}
+use Rattle.std.specs.Result.{IsErrAnd}
 use Rattle.std.proofs.lemmas.List.Elements.{All-cons, All-nil}
 use Rattle.vr_types.specs.declared.request.Request.{Request}
 use Rattle.vr_history.specs.Legal.{is_backout}
@@ -11,8 +13,9 @@ use Rattle.vr_ledger.proofs.CallerLemmas.{entries_of-more}
 use Rattle.vr_ledger.specs.Entries.{IsOf}
 use Rattle.vr_trace.specs.Laws.{deck_entries}
 use Rattle.vr_trace.specs.Numbering.{with_volume}
-use Rattle.vr_worker.specs.Asked.{HasEntered, MayAsk, MayGoOn, bound_to, if_done, undoes}
-use Rattle.vr_worker.specs.Asked.{undoes_from, undoing_after}
+use Rattle.vr_worker.specs.Asked.{FollowsOne, HasEntered, IsNext, MayAsk, MayGoOn, bound_to, if_done, undoes}
+use Rattle.vr_worker.specs.Asked.{is_done, undoes_from, undoing_after}
+use Rattle.vr_worker.specs.declared.no.RunNo.{RunNo}
 use Rattle.vr_worker_cases.specs.Event.{event_of, what_of}
 
 undoes-append : (before : Bool) (own : List Entry) (entry : Entry)
@@ -50,16 +53,41 @@ module _ (number deck line stamp : ℕ) (request : Request) where
       (λ (undone : Bool). (undone ≡ false) ⊎ IsTrue (is_backout request))
       (sym (undoes-then false old new grew)) may
 
-  -- one entry of the deck, at a stamp above both last ones
+  -- one entry of the deck, at the stamp that comes next after both last ones
   pub entered-one : (after : ℕ) (done : Bool) (old new : List Entry)
-      → max (last_stamp 0 old) after < stamp → new ≡ old ++ made done
+      → stamp ≡ max (last_stamp 0 old) after + 1 → new ≡ old ++ made done
       → MayAsk request (deck_entries deck old)
       → HasEntered number deck line request after done old new
-  entered-one after done old new rises grew may = record {
+  entered-one after done old new next grew may = record {
     made = made done;
     entries = grew;
     own = all-own done;
-    stamped = (rises, tt);
+    stamped = (omega (arith, next), tt);
+    next = All-cons (λ (entry : Entry). IsNext (max (last_stamp 0 old) after) entry
+        ⊎ FollowsOne (made done) entry) (event_of deck line stamp done request) [] (inl next)
+        (All-nil (λ (entry : Entry). IsNext (max (last_stamp 0 old) after) entry
+        ⊎ FollowsOne (made done) entry));
     answers = answers-one done;
     goes_on = goes-on done old new grew may;
   }
+
+-- where memory is refused, nothing is entered
+pub entered-none : (number deck line : ℕ) (request : Request) (after : ℕ) (old new : List Entry)
+    → new ≡ old → MayAsk request (deck_entries deck old)
+    → HasEntered number deck line request after false old new
+entered-none number deck line request after old new same may = record {
+  made = [];
+  entries = same ∙ sym (append-nil old);
+  own = All-nil (IsOf deck);
+  stamped = tt;
+  next = All-nil (λ (entry : Entry). IsNext (max (last_stamp 0 old) after) entry
+      ⊎ FollowsOne [] entry);
+  answers = refl;
+  goes_on = subst (MayAsk request) (ap (deck_entries deck) (sym same)) may;
+}
+
+-- and the request isn't answered
+pub err-undone : (result : Result Bool RunNo) (Q : RunNo → Type 0) → IsErrAnd result Q
+    → is_done result ≡ false
+err-undone (Ok done) Q is = absurd is
+err-undone (Err fault) Q is = refl

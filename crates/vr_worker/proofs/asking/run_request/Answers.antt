@@ -1,7 +1,11 @@
 use Rattle.std.proofs.Common.{Bool, false, true, subst, sym}
 use Rattle.vr_worker.specs.Latched.{HasTaken}
-use Rattle.vr_worker.proofs.Takings.{err-ok, taken-then}
+use Rattle.vr_worker.proofs.Takings.{err-ok, taken-none, taken-then}
 use Rattle.vr_worker.proofs.asking.run_request.Goals as goal
+
+pub loop-init : goal.loop-init
+loop-init g c = taken-none c.args.volume c.args.line c.args.request.now c.args.last.now
+    c.args.turn.now c.requires.may_ask
 
 pub returns-in_err-event : goal.returns-in_err-event
 returns-in_err-event g c =

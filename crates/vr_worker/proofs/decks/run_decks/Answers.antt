@@ -1,6 +1,7 @@
 use Rattle.std.proofs.Common.{List, All, get_or, subst}
 use Rattle.vr_worker.proofs.Asks.{none-asked}
 use Rattle.vr_worker.proofs.Laters.{none-later}
+use Rattle.vr_worker.proofs.Gapless.{none-next}
 use Rattle.vr_worker.proofs.Volumes.{since-themselves}
 use Rattle.vr_worker.specs.Decks.{AreUpTo, greatest_last, numbers_of}
 use Rattle.vr_worker.proofs.decks.run_decks.Goals as goal
@@ -17,6 +18,9 @@ returns-in-Err-clause-later g c =
     none-later entries c.args.volumes.items (subst (λ (them : List g.row.V.Denot).
     All (λ (volume : g.row.V.Denot). AreUpTo (greatest_last entries them) (entries volume)) them)
     c.as_slice.ensures.value c.make_ready.ensures.had)
+
+pub returns-in-Err-clause-next : goal.returns-in-Err-clause-next
+returns-in-Err-clause-next g c = none-next g.V.Served.entries c.args.volumes.items
 
 pub returns-in-Err-clause-asked : goal.returns-in-Err-clause-asked
 returns-in-Err-clause-asked g c = λ k deck near. none-asked g.V.Served.entries

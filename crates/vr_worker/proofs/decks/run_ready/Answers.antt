@@ -1,4 +1,5 @@
-use Rattle.vr_worker.proofs.Asks.{all-asked, all-ready, all-told, gain-above}
+use Rattle.std.proofs.Common.{refl}
+use Rattle.vr_worker.proofs.Asks.{all-asked, all-ready, all-told, come-next, gain-above}
 use Rattle.vr_worker.proofs.Volumes.{first-later, first-latched, since-all}
 use Rattle.vr_worker.specs.Decks.{greatest_last, numbers_of}
 use Rattle.vr_worker.specs.Ready.{decks_of}
@@ -49,6 +50,18 @@ returns-clause-later g c =
           c.run_named-volumes.result.items c.run_named-volumes.ensures.count
           c.run_named-volumes.ensures.later) c.run_named-volumes.ensures.told;
     }
+
+pub returns-clause-next : goal.returns-clause-next
+returns-clause-next g c =
+    let V = g.V.Served in
+    come-next V.entries c.args.volumes.items c.args.ledgers.items
+    c.requires.histories (greatest_last V.entries c.args.volumes.items) c.args.seats.now
+    c.requires.begun c.requires.decks V.follows c.run_named-volumes.new.seats
+    c.run_named-volumes.result.items c.run_named-volumes.ensures.ran
+    (since-all V.number V.entries V.follows V.stays
+    (numbers_of (decks_of c.args.seats.now)) c.args.volumes.items c.requires.placed
+    c.run_named-volumes.result.items c.run_named-volumes.ensures.count
+    c.run_named-volumes.ensures.later) c.run_named-volumes.ensures.told refl
 
 pub returns-clause-asked : goal.returns-clause-asked
 returns-clause-asked g c = all-asked g.V.Served.entries c.args.volumes.items

@@ -1,6 +1,6 @@
 use Rattle.std.proofs.Common.{List, Vec, map, subst, sym}
 use Rattle.std.specs.Global.{Global}
-use Rattle.vr_worker.specs.Decks.{AreNew, AreSince, ComeLater, numbers_of}
+use Rattle.vr_worker.specs.Decks.{AreNew, AreSince, ComeLater, ComeNext, numbers_of}
 use Rattle.vr_worker.specs.Runs.{AreRuns, deck_numbers}
 use Rattle.vr_worker.proofs.Grown.{have-asked, since-decks, stay-rising}
 use Rattle.vr_worker.proofs.Merging.{went-on}
@@ -56,6 +56,13 @@ returns-clause-later g c =
     c.run_decks-end.ensures.asked) (subst (λ (them : Vec g.row.V.Denot Global).
     ComeLater V.entries them.items end.volumes.items) c.replace-taken.ensures.value
     c.run_decks-end.ensures.later)
+
+pub returns-clause-next : goal.returns-clause-next
+returns-clause-next g c =
+    let V = g.V.Served in
+    let end = c.run_decks-end.result in
+    subst (λ (them : Vec g.row.V.Denot Global). ComeNext V.entries them.items end.volumes.items)
+    c.replace-taken.ensures.value c.run_decks-end.ensures.next
 
 pub returns-clause-rising : goal.returns-clause-rising
 returns-clause-rising g c =

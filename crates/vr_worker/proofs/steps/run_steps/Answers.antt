@@ -1,7 +1,9 @@
-use Rattle.std.proofs.Common.{◌≡◌}
+use Rattle.std.proofs.Common.{◌≡◌, List, map, subst}
 use Rattle.std.proofs.lemmas.List.{take_all}
+use Rattle.vr_job_text.specs.declared.text.Step.{Step}
+use Rattle.vr_worker.specs.Steps.{AreGapless}
 use Rattle.vr_worker.proofs.Sequences.{all-asked, done-next, done-none, failed-asked, failed-since}
-use Rattle.vr_worker.proofs.Sequences.{failed-steps, next-fresh}
+use Rattle.vr_worker.proofs.Sequences.{failed-gapless, failed-steps, next-fresh}
 use Rattle.vr_worker.proofs.steps.run_steps.Given.{Over}
 use Rattle.vr_worker.proofs.steps.run_steps.Goals as goal
 
@@ -41,6 +43,15 @@ returns-in_err-run_step-clause-in_steps g c =
     c.run_step.new.volumes.items c.loop-step.invariant c.in_err-run_step.ensures.since
     c.in_err-run_step.ensures.later
 
+pub returns-in_err-run_step-clause-gapless : goal.returns-in_err-run_step-clause-gapless
+returns-in_err-run_step-clause-gapless g c =
+    let V = g.V.Served in
+    failed-gapless V.number V.entries V.follows V.stays V.goes_on g.V.Cataloged.catalog
+    (same g) c.args.volumes.now.items c.args.steps.now c.loop-step.step-index
+    c.step-item.result c.loop-step-test.true c.step-item.is c.loop-step.volumes.items
+    c.run_step.new.volumes.items c.loop-step.invariant c.in_err-run_step.ensures.since
+    c.in_err-run_step.ensures.next
+
 pub returns-in_err-run_step-clause-asked : goal.returns-in_err-run_step-clause-asked
 returns-in_err-run_step-clause-asked g c =
     let V = g.V.Served in
@@ -59,7 +70,7 @@ loop-step-preserved g c =
     c.step-item.result c.loop-step-test.true c.step-item.is c.loop-step.volumes.items
     c.run_step.new.volumes.items c.loop-step.invariant c.in_ok-run_step.ensures.since
     _ c.in_ok-run_step.ensures.asked c.in_ok-run_step.ensures.rising (λ P has. has)
-    c.in_ok-run_step.ensures.placed c.in_ok-run_step.ensures.later
+    c.in_ok-run_step.ensures.placed c.in_ok-run_step.ensures.later c.in_ok-run_step.ensures.next
 
 pub returns-clause-asked : goal.returns-clause-asked
 returns-clause-asked g c =
@@ -69,3 +80,10 @@ returns-clause-asked g c =
     c.loop-step.volumes.items
     (take_all c.loop-step.step-index c.args.steps.now c.loop-step-test.false)
     c.loop-step.invariant
+
+pub returns-clause-gapless : goal.returns-clause-gapless
+returns-clause-gapless g c =
+    let V = g.V.Served in
+    subst (λ (them : List Step). AreGapless them (map V.entries c.loop-step.volumes.items))
+    (take_all c.loop-step.step-index c.args.steps.now c.loop-step-test.false)
+    c.loop-step.invariant.gapless

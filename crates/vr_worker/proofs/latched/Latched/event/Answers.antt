@@ -2,6 +2,7 @@ use Rattle.std.proofs.Common.{◌≡◌, ◌∙◌, ℕ, List, ap, arith, subst,
 use Rattle.std.specs.Prelude.{IfSome}
 use Rattle.vr_history.specs.Merged.{last_stamp}
 use Rattle.vr_history.specs.declared.entry.Entry.{Entry}
+use Rattle.vr_ledger.specs.Entries.{HasGrown}
 use Rattle.vr_trace.specs.Laws.{deck_entries}
 use Rattle.vr_worker.specs.Asked.{is_done}
 use Rattle.vr_worker.specs.Latched.{HasTaken, IsSince, LatchedNow}
@@ -63,7 +64,9 @@ returns g c =
     c.record.new.turn c.deck.ensures
     (c.requires.told ∙ ap (λ (v : g.row.V.Denot). deck_entries c.args.turn.now.deck (V.entries v))
     seen)
+    (subst (HasGrown c.args.turn.now.history) c.self.invariant.history c.record.ensures.grown)
     (c.record.ensures.turn ∙ ap (λ (them : List Entry). record c.args.turn.now {
       entries = deck_entries c.args.turn.now.deck them;
+      history = them;
     }) c.history-3.ensures)
     last)

@@ -1,0 +1,188 @@
+-- What an entry of a history leaves of the contents, the before-images and the units of its state.
+use Rattle.std.proofs.Common.{◌≡◌, ◌∙◌, ◌+◌, ◌==◌, ℕ, Bool, true, false, cond}
+use Rattle.std.proofs.Common.{if◌then◌else◌, List, [], ◌∷◌, ◌++◌, Option, Some, None}
+use Rattle.std.proofs.Common.{filter, refl, subst, sym}
+use Rattle.std.specs.Option.{option_map_or}
+use Rattle.vr_types.specs.declared.geometry.Geometry.{Geometry}
+use Rattle.vr_types.specs.declared.position.Stand.{Stand}
+use Rattle.vr_types.specs.declared.position.Stand.TheVariants.{None as Nowhere}
+use Rattle.vr_types.specs.declared.reply.Reply.{Reply}
+use Rattle.vr_types.specs.declared.reply.Reply.TheVariants.{Done, Refused}
+use Rattle.vr_types.specs.declared.request.FileRef.{FileRef}
+use Rattle.vr_types.specs.declared.request.Find.{Find}
+use Rattle.vr_types.specs.declared.request.Request.{Request}
+use Rattle.vr_types.specs.declared.request.Request.TheVariants.{Get, Point, Add, Update, Erase}
+use Rattle.vr_types.specs.declared.request.Request.TheVariants.{EndReq, Commit, Backout}
+use Rattle.vr_types.specs.declared.unit.Integrity.{Integrity}
+use Rattle.vr_types.specs.declared.unit.Integrity.TheVariants.{Nri, Cr, Cre}
+use Rattle.vr_types.specs.declared.unit.Mode.TheVariants.{Shared, Exclusive}
+use Rattle.vr_types.specs.declared.unit.Unit.{Unit as UnitOfRecovery}
+use Rattle.vr_history.specs.Case.{Case, file_of}
+use Rattle.vr_history.specs.Change.{Change, change_of}
+use Rattle.vr_history.specs.Effects.{drops_held, ends_unit, holding, image_kept, is_other}
+use Rattle.vr_history.specs.Effects.{is_utility_live, locks, moves_file, with_change, without_unit}
+use Rattle.vr_history.specs.Names.{lock_names}
+use Rattle.vr_history.specs.State.{BeforeImage, State, is_kept}
+use Rattle.vr_history.specs.Step.{after_asked, case_of, holds, makes}
+use Rattle.vr_history.specs.Step.{stands_in}
+
+-- these stay
+pub record Stays (old new : State) : Type 0 where
+  pub contents : new.contents ≡ old.contents
+  pub befores : new.befores ≡ old.befores
+  pub numbers : new.numbers ≡ old.numbers
+
+-- one change is made, and the unit's first one of its place is kept
+pub record IsMade (unit : UnitOfRecovery) (change : Change) (old new : State) : Type 0 where
+  pub contents : new.contents ≡ with_change change old.contents
+  pub image : BeforeImage
+  pub image_unit : image.unit ≡ unit
+  pub image_part : image.part ≡ change.part
+  pub befores : new.befores
+      ≡ cond (is_kept old unit change.part change.place) old.befores (old.befores ++ image ∷ [])
+  pub numbers : new.numbers ≡ old.numbers
+
+-- the number of the unit's deck is the next one
+abbrev pub raised : UnitOfRecovery → (ℕ → ℕ) → ℕ → ℕ
+raised unit numbers deck = if deck == unit.deck then numbers deck + 1 else numbers deck
+
+-- a unit ends, and its before-images go
+pub record IsEnded (unit : UnitOfRecovery) (old new : State) : Type 0 where
+  pub catalog : new.contents 0 ≡ old.contents 0
+  pub befores : new.befores ≡ filter (λ (kept : BeforeImage). is_other unit kept.unit) old.befores
+  pub numbers : new.numbers ≡ raised unit old.numbers
+
+-- ---- what moves positions and takes locks
+
+stays-none : (state : State) → Stays state state
+stays-none state = record { contents = refl; befores = refl; numbers = refl }
+
+stays-then : (a b c : State) → Stays a b → Stays b c → Stays a c
+stays-then a b c first second = record {
+  contents = second.contents ∙ first.contents;
+  befores = second.befores ∙ first.befores;
+  numbers = second.numbers ∙ first.numbers;
+}
+
+stays-stand : (deck : ℕ) (file : Option FileRef) (stand : Option Stand) (state : State)
+    → Stays state (stands_in deck file stand state)
+stays-stand deck None stand state = stays-none state
+stays-stand deck (Some file) None state = stays-none state
+stays-stand deck (Some file) (Some stand) state =
+    record { contents = refl; befores = refl; numbers = refl }
+
+stays-drop : (deck : ℕ) (file : Option FileRef) (state : State)
+    → Stays state (drops_held deck file state)
+stays-drop deck None state = stays-none state
+stays-drop deck (Some file) state = record { contents = refl; befores = refl; numbers = refl }
+
+stays-hold : (deck slot : ℕ) (place : Option (List ℕ)) (state : State)
+    → Stays state (option_map_or (λ at. moves_file deck slot (holding at) state) place state)
+stays-hold deck slot None state = stays-none state
+stays-hold deck slot (Some place) state =
+    record { contents = refl; befores = refl; numbers = refl }
+
+-- ---- a request that is done
+
+module _ (geometry : Geometry) (state : State) (unit : UnitOfRecovery) where
+  abbrev after-done : Request → Reply → State
+  after-done request reply = after_asked (case_of geometry state unit request) reply
+
+  pub refused-stays : (request : Request) (reply : Reply) (refusal : _) → reply ≡ Refused refusal
+      → Stays state (after-done request reply)
+  refused-stays request reply refusal is = subst
+      (λ (r : Reply). Stays state (after-done request r)) (sym is)
+      (stays-then state (drops_held unit.deck (file_of request) state) _
+      (stays-drop unit.deck (file_of request) state)
+      (stays-stand unit.deck (file_of request) _ (drops_held unit.deck (file_of request) state)))
+
+  read-stays : (file : FileRef) (find : Find) (update : Bool) (integrity : Integrity) (feedback : ℕ)
+      (place bytes : Option (List ℕ))
+      → Stays state (after-done (Get file find update integrity) (Done feedback place bytes))
+  read-stays file find true integrity feedback place bytes =
+      let case : Case = case_of geometry state unit (Get file find true integrity) in
+      let dropped : State = drops_held unit.deck (Some file) state in
+      let locked : State = locks unit Exclusive (lock_names case case.request) dropped in
+      stays-then state dropped _ (stays-drop unit.deck (Some file) state)
+      (stays-then dropped locked _ (record { contents = refl; befores = refl; numbers = refl })
+      (stays-then locked (holds case locked) _ (stays-hold unit.deck file.slot _ locked)
+      (stays-stand unit.deck (Some file) _ (holds case locked))))
+  read-stays file find false Nri feedback place bytes =
+      let dropped : State = drops_held unit.deck (Some file) state in
+      stays-then state dropped _ (stays-drop unit.deck (Some file) state)
+      (stays-stand unit.deck (Some file) _ dropped)
+  read-stays file find false Cr feedback place bytes =
+      let dropped : State = drops_held unit.deck (Some file) state in
+      stays-then state dropped _ (stays-drop unit.deck (Some file) state)
+      (stays-stand unit.deck (Some file) _ dropped)
+  read-stays file find false Cre feedback place bytes =
+      let case : Case = case_of geometry state unit (Get file find false Cre) in
+      let dropped : State = drops_held unit.deck (Some file) state in
+      let locked : State = locks unit Shared (lock_names case case.request) dropped in
+      stays-then state dropped _ (stays-drop unit.deck (Some file) state)
+      (stays-then dropped locked _ (record { contents = refl; befores = refl; numbers = refl })
+      (stays-stand unit.deck (Some file) _ locked))
+
+  -- a change is made, or there is none
+  pub data MadeOr (request : Request) (new : State) : Type 0 where
+    NoChange : change_of (case_of geometry state unit request) ≡ None → Stays state new
+        → MadeOr request new
+    OneChange : (change : Change) → change_of (case_of geometry state unit request) ≡ Some change
+        → IsMade unit change state new → MadeOr request new
+
+  pub make-or : (request : Request) (file : FileRef) (change : Option Change)
+      → change_of (case_of geometry state unit request) ≡ change
+      → MadeOr request (option_map_or
+      (λ change. makes (case_of geometry state unit request) change
+      (drops_held unit.deck (Some file) state)) change (drops_held unit.deck (Some file) state))
+  make-or request file None is = NoChange is (stays-drop unit.deck (Some file) state)
+  make-or request file (Some change) is = OneChange change is (record {
+    contents = refl;
+    image = image_kept (locks unit Exclusive
+        (lock_names (case_of geometry state unit request) request)
+        (drops_held unit.deck (Some file) state)) unit change;
+    image_unit = refl;
+    image_part = refl;
+    befores = refl;
+    numbers = refl;
+  })
+
+  -- what a request leaves that is done
+  pub data IsDone (request : Request) (new : State) : Type 0 where
+    DoneNothing : Stays state new → IsDone request new
+    DoneChange : MadeOr request new → IsDone request new
+    DoneEnd : IsEnded unit state new → IsDone request new
+
+  either-ended : (b : Bool) (one other : State) → IsEnded unit state one
+      → IsEnded unit state other → IsEnded unit state (cond b one other)
+  either-ended true one other is instead = is
+  either-ended false one other is instead = instead
+
+  pub ends : IsEnded unit state (ends_unit unit state)
+  ends = either-ended (is_utility_live (without_unit unit state)) (without_unit unit state) _
+      (record { catalog = refl; befores = refl; numbers = refl })
+      (record { catalog = refl; befores = refl; numbers = refl })
+
+  pub done-is : (request : Request) (feedback : ℕ) (place bytes : Option (List ℕ))
+      → IsDone request (after-done request (Done feedback place bytes))
+  done-is (Get file find update integrity) feedback place bytes =
+      DoneNothing (read-stays file find update integrity feedback place bytes)
+  done-is (Point file find) feedback place bytes = DoneNothing
+      (stays-then state (drops_held unit.deck (Some file) state) _
+      (stays-drop unit.deck (Some file) state)
+      (stays-stand unit.deck (Some file) _ (drops_held unit.deck (Some file) state)))
+  done-is (EndReq file) feedback place bytes = DoneNothing
+      (stays-then state (drops_held unit.deck (Some file) state) _
+      (stays-drop unit.deck (Some file) state)
+      (stays-stand unit.deck (Some file) (Some Nowhere)
+      (drops_held unit.deck (Some file) state)))
+  done-is (Add file named record_bytes) feedback place bytes = DoneChange
+      (make-or (Add file named record_bytes) file
+      (change_of (case_of geometry state unit (Add file named record_bytes))) refl)
+  done-is (Update file record_bytes) feedback place bytes = DoneChange
+      (make-or (Update file record_bytes) file
+      (change_of (case_of geometry state unit (Update file record_bytes))) refl)
+  done-is (Erase file) feedback place bytes = DoneChange
+      (make-or (Erase file) file (change_of (case_of geometry state unit (Erase file))) refl)
+  done-is Commit feedback place bytes = DoneEnd ends
+  done-is Backout feedback place bytes = DoneEnd ends

@@ -1,0 +1,60 @@
+-- What a run leaves of a volume is what its history committed.
+use Rattle.std.proofs.Common.{◌≡◌, ◌++◌, ◌∷◌, ℕ, List, [], subst}
+use Rattle.vr_types.specs.Content.{Content}
+use Rattle.vr_types.specs.Image.{Image}
+use Rattle.vr_types.specs.declared.geometry.Geometry.{Geometry}
+use Rattle.vr_catalog.specs.Catalog.{entries_in}
+use Rattle.vr_catalog.specs.declared.entry.CatEntry.{CatEntry}
+use Rattle.vr_history.specs.Legal.{AreSteps}
+use Rattle.vr_history.specs.State.{Owned, State, opening_state}
+use Rattle.vr_history.specs.Step.{state_after}
+use Rattle.vr_history.specs.declared.entry.Entry.{Entry}
+use Rattle.vr_job.specs.Committed.{IsCommittedBy, IsCommittedWhile, KeepTheCatalog}
+use Rattle.vr_job.specs.Crash.{IsLeftBy}
+use Rattle.vr_job.specs.Events.{IsLeftWhile}
+use Rattle.vr_job.proofs.Committed.{has-committed}
+use Rattle.vr_job.proofs.Keeping.{keep-first}
+
+-- the first entries of legal steps are legal steps
+steps-first : (geometry : Geometry) (state : State) (entries more : List Entry)
+    → AreSteps geometry state (entries ++ more) → AreSteps geometry state entries
+steps-first geometry state [] more steps = tt
+steps-first geometry state (entry ∷ entries) more steps =
+    (steps.0, steps-first geometry (state_after geometry state entry) entries more steps.1)
+
+module _ (geometry : Geometry) (number : ℕ) (catalog : List CatEntry) (contents : ℕ → Content)
+    (owned : List Owned) (is : catalog ≡ entries_in (contents 0)) (entries : List Entry)
+    (steps : AreSteps geometry (opening_state contents owned) entries)
+    (keep : KeepTheCatalog geometry (opening_state contents owned) entries) where
+  -- what the history leaves
+  pub left-committed : (image : Image)
+      → IsLeftBy geometry number (opening_state contents owned) entries image
+      → IsCommittedBy geometry number catalog (opening_state contents owned) entries image
+  left-committed image left = record {
+    before = left.before;
+    after = left.after;
+    is = left.is;
+    counted = left.counted;
+    commits = left.commits;
+    has = has-committed geometry contents owned left.before
+        (steps-first geometry (opening_state contents owned) left.before left.after
+        (subst (AreSteps geometry (opening_state contents owned)) left.is steps)) number catalog is
+        (keep-first geometry (opening_state contents owned) left.before left.after
+        (subst (KeepTheCatalog geometry (opening_state contents owned)) left.is keep))
+        left.counted image left.recovers;
+  }
+
+  -- and what is left while an event goes on
+  pub while-committed : (before more made : List Entry) (image : Image) → entries ≡ before ++ more
+      → IsLeftWhile geometry number (opening_state contents owned) before made image
+      → IsCommittedWhile geometry number catalog (opening_state contents owned) before made image
+  while-committed before more made image both left = record {
+    counted = left.counted;
+    commits = left.commits;
+    has = has-committed geometry contents owned before
+        (steps-first geometry (opening_state contents owned) before more
+        (subst (AreSteps geometry (opening_state contents owned)) both steps)) number catalog is
+        (keep-first geometry (opening_state contents owned) before more
+        (subst (KeepTheCatalog geometry (opening_state contents owned)) both keep))
+        left.counted image left.recovers;
+  }
