@@ -4,9 +4,7 @@ ghost use Rattle.std.specs.Option.{ForSome, option_copied};
 
 use crate::answers::Stop;
 use crate::search::{found, sees_kept};
-use crate::small::{
-    Ask, DataSet, Keeps, Key, Name, OneLock, Small, Sought, Stands, next_place,
-};
+use crate::small::{Ask, DataSet, Keeps, Key, Name, OneLock, Small, Sought, Stands, next_place};
 use std::alloc::Global;
 use vr_answer::{Case, Looked, answer, place_looked_at};
 use vr_catalog::{CatEntry, Catalog, EntryKind, FreeSpace, ShareOptions, SpaceUnit};

@@ -66,12 +66,7 @@ fn is_place(data_set: DataSet, place: &Option<Place>, wanted: Option<Key>) -> bo
 }
 
 /// The record that a read shows.
-fn is_record(
-    data_set: DataSet,
-    bytes: &Option<Bytes>,
-    at: Option<Key>,
-    wanted: bool,
-) -> bool {
+fn is_record(data_set: DataSet, bytes: &Option<Bytes>, at: Option<Key>, wanted: bool) -> bool {
     match (bytes, at) {
         (None, _) => !wanted,
         (Some(bytes), Some(key)) => wanted && bytes.as_slice() == standing(data_set, key),

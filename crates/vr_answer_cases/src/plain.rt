@@ -32,12 +32,20 @@ fn is_in_the_way(case: &Small, key: Key, exclusively: bool) -> bool {
 
 /// The bytes of a before record of a place that has no record: 20 and the place.
 fn bare_need(case: &Small) -> u32 {
-    if case.data_set == DataSet::Keyed { 21 } else { 24 }
+    if case.data_set == DataSet::Keyed {
+        21
+    } else {
+        24
+    }
 }
 
 /// The bytes of a record that stands.
 fn standing_length(case: &Small) -> u32 {
-    if case.data_set == DataSet::Relative { 3 } else { 2 }
+    if case.data_set == DataSet::Relative {
+        3
+    } else {
+        2
+    }
 }
 
 /// The log for a change of a place, over a record or none.
@@ -45,7 +53,11 @@ fn need(case: &Small, replaces: bool) -> u32 {
     let record = if replaces { standing_length(case) } else { 0 };
     let before = bare_need(case).saturating_add(record);
     let place = if case.logged { 0 } else { before };
-    if case.live { place } else { place.saturating_add(9) }
+    if case.live {
+        place
+    } else {
+        place.saturating_add(9)
+    }
 }
 
 fn refused(code: u32) -> PlainReply {
@@ -152,7 +164,13 @@ fn point_of(case: &Small, length: u32) -> PlainReply {
 }
 
 fn is_valid(case: &Small, length: u32) -> bool {
-    length <= 3 && length >= if case.data_set == DataSet::Relative { 3 } else { 1 }
+    length <= 3
+        && length
+            >= if case.data_set == DataSet::Relative {
+                3
+            } else {
+                1
+            }
 }
 
 /// An add whose form is right: in an entry-sequenced data set it goes to the end.
@@ -196,7 +214,11 @@ fn add_bare(case: &Small) -> PlainReply {
 fn update_refused(case: &Small, held: Key, key: Key, length: u32) -> u32 {
     match case.data_set {
         DataSet::Keyed => if held == key { 0 } else { 96 },
-        DataSet::Entry => if length == standing_length(case) { 0 } else { 100 },
+        DataSet::Entry => if length == standing_length(case) {
+            0
+        } else {
+            100
+        },
         DataSet::Relative => 0,
     }
 }

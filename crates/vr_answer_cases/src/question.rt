@@ -21,8 +21,8 @@ pub fn answer(alloc: Global, catalog: &Catalog, line: &str, out: &mut String) ->
 }
 
 /// The request and its state: `get A`, `ge A`, `next`, `place LENGTH`, `point A`, `pointge A`,
-/// `pointnext`, `pointplace LENGTH`, `add A`, `addat LENGTH`, `addbare`, `update A`, `erase`, `endreq`, `commit` or `backout`, and then words that
-/// change it.
+/// `pointnext`, `pointplace LENGTH`, `add A`, `addat LENGTH`, `addbare`, `update A`, `erase`,
+/// `endreq`, `commit` or `backout`, and then words that change it.
 fn case_of(verb: &str, rest: &str) -> Result<Small, Stop> {
     let (first, words) = parted(rest);
     match verb {

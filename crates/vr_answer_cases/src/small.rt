@@ -1,7 +1,7 @@
 //! A small state and a request: a data set of one of three kinds, two places in it and one further
 //! on, the unit 1.1 that asks and another, a record at each of the two places or none, one that the
-//! other unit may bring back, or one that was withdrawn, or none, one lock or none, what a file holds,
-//! where it stands, and the areas that there are.
+//! other unit may bring back, or one that was withdrawn, or none, one lock or none, what a file
+//! holds, where it stands, and the areas that there are.
 
 /// What the data set is.
 #[derive(Clone, Copy, PartialEq, Eq)]
@@ -33,8 +33,8 @@ pub enum Sought {
 }
 
 /// A request. A record begins with its key, where it has room for it, and then has zeros. An add
-/// names its slot in a relative data set, and in an entry-sequenced one it goes where the next record
-/// goes.
+/// names its slot in a relative data set, and in an entry-sequenced one it goes where the next
+/// record goes.
 #[derive(Clone, Copy, PartialEq, Eq)]
 pub enum Ask {
     Get {
@@ -189,8 +189,9 @@ pub fn next_place(case: &Small) -> Key {
 /// How many requests there are.
 const ASKS: u32 = 64;
 
-/// The request with a number: 12 direct reads, 8 adds and 9 updates of which some have a length that
-/// isn't valid, those that don't read, those that name a place of another form, and those that search.
+/// The request with a number: 12 direct reads, 8 adds and 9 updates of which some have a length
+/// that isn't valid, those that don't read, those that name a place of another form, and those that
+/// search.
 fn ask_of(n: u32) -> Ask {
     match n % ASKS {
         0..=11 => Ask::Get {

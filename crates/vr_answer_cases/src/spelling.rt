@@ -1,10 +1,11 @@
-//! Words of a line: `entry` and `relative`, the kind of the data set; `update`, `cr` and `cre` of a read; `length:3` of a record; `has:A` a record of
-//! two bytes at the key A; `kept:A` one that the other unit may bring back; `lock:A:own:S` and
-//! `lock:A:other:X` a lock; `held:A` what the file holds for update; `start`, `at:A`, `after:A`,
-//! `end` and `nowhere`, where it stands; `unknown`, `path` and `changing`, why it can't be opened;
-//! `stopped`; `withdrawn:A` the address of a record that was added and backed out; `areas:1` and
-//! `free:2`, the areas of the data set and those that no part has; `used:464` the bytes of the log in use, of 496; `logged` and `live`, what the log has
-//! of the unit.
+//! Words of a line: `entry` and `relative`, the kind of the data set; `update`, `cr` and `cre` of a
+//! read; `length:3` of a record; `has:A` a record at the place A; `kept:A` one that the other unit
+//! may bring back; `withdrawn:A` the address of one that was added and backed out; `lock:A:own:S`
+//! and `lock:A:other:X` a lock; `held:A` what the file holds for update; `start`, `at:A`,
+//! `after:A`, `end` and `nowhere`, where it stands; `unknown`, `path` and `changing`, why it can't be opened;
+//! `stopped`; `areas:1` and `free:2`, the areas of the data set and those that no part has;
+//! `used:464` the bytes of the log in use, of 496; `logged` and `live`, what the log has of the
+//! unit.
 
 use crate::answers::{Answer, Stop, say, say_number};
 use crate::small::{Ask, DataSet, Keeps, Key, Name, OneLock, Small, Stands};
