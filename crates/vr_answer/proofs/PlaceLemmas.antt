@@ -93,8 +93,8 @@ module _ (case : CaseInHand) (state : State) (is : IsCaseOf case state) where
       → (bytes : List ℕ) → Addressed (kind_in (as_opened definition)) (Add file named bytes)
       → option_map (λ known. place_added w known named bytes)
       (definition_in (as_opened definition))
-      ≡ option_and_then (λ known. added_by known.kind known (option_copied case.address) named bytes)
-      definition
+      ≡ option_and_then
+      (λ known. added_by known.kind known (option_copied case.address) named bytes) definition
   added_place None file named bytes address = refl
   added_place (Some definition) file named bytes address =
       added_kind definition.kind definition file named bytes address

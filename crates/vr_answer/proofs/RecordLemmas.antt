@@ -10,7 +10,6 @@ use Rattle.vr_types.specs.declared.reply.Refusal.{Refusal}
 use Rattle.vr_types.specs.declared.reply.Refusal.TheVariants.{Duplicate, KeyChanged, LengthChanged}
 use Rattle.vr_types.specs.declared.reply.Refusal.TheVariants.{NotFound}
 use Rattle.vr_types.specs.declared.request.Find.{Find}
-use Rattle.vr_types.specs.declared.request.Find.TheVariants.{Next, Equal, AtLeast}
 use Rattle.vr_types.specs.declared.request.Request.{Request}
 use Rattle.vr_types.specs.declared.request.Request.TheVariants.{Get, Point, Add, Update, Erase}
 use Rattle.vr_types.specs.declared.request.Request.TheVariants.{EndReq, Commit, Backout}

@@ -110,7 +110,8 @@ module _ (request : Request) (direct : IsDirect request) where
       → Stays (option_and_then
       (λ place. refused_if (is_slot_zero (Cluster definition) place) BadSlot) o)
   slot_stays definition None = refl
-  slot_stays definition (Some place) = stays_if (is_slot_zero (Cluster definition) place) BadSlot refl
+  slot_stays definition (Some place) =
+      stays_if (is_slot_zero (Cluster definition) place) BadSlot refl
 
   form_stays : (o : Option Definition) (r : Request)
       → Stays (option_and_then (λ known. form_by (Some known) r) o)

@@ -140,7 +140,11 @@ fn new_record(request: &Request) -> Option<&[u8]>
 fn areas_here(case: &Case) -> Option<u64>
     ensures { result ≡ here.areas_here case.now }
 {
-    match (definition(case), changed_here(case), new_record(case.request)) {
+    match (
+        definition(case),
+        changed_here(case),
+        new_record(case.request),
+    ) {
         (Some(definition), Some(place), Some(bytes)) => areas_at(case, &definition, place, bytes),
         _ => None,
     }

@@ -233,8 +233,8 @@ fn named_wrong(definition: &Definition, request: &Request) -> Option<Refusal>
     }
 }
 
-/// The request doesn't go with the kind of the data set, or names slot 0, or a record or a key has a
-/// length that isn't valid.
+/// The request doesn't go with the kind of the data set, or names slot 0, or a record or a key has
+/// a length that isn't valid.
 fn form_of(definition: &Definition, request: &Request) -> Option<Refusal>
     ensures { result ≡ here.form_by (Some definition.now) request.now }
 {

@@ -1,12 +1,12 @@
 //! The crate beside the plain program, over the small states.
 
 use crate::answers::{Answer, Stop, say_number};
-use crate::desk::{answer_of, letter, unit_of};
+use crate::desk::{answer_of, letter, part_of, standing, unit_of};
 use crate::plain::{PlainReply, plain};
-use crate::small::{Key, SMALL, Small, small_of};
+use crate::small::{DataSet, Key, SMALL, Small, small_of};
 use std::alloc::Global;
 use vr_catalog::Catalog;
-use vr_types::{Bytes, LockName, Mode, PartNo, Place, Refusal, Reply};
+use vr_types::{Bytes, LockName, Mode, Place, Refusal, Reply};
 
 /// Asks the states whose numbers are multiples of `step`, and writes how many differ.
 pub fn judge(alloc: Global, catalog: &Catalog, step: u32, out: &mut String) -> Answer {
@@ -39,33 +39,37 @@ fn is_same(case: &Small, reply: &Reply, wanted: PlainReply) -> bool {
             feedback,
             place,
             bytes,
-        } => *feedback == 0 && is_done(place, bytes, wanted),
+        } => *feedback == 0 && is_done(case.data_set, place, bytes, wanted),
         Reply::Refused(refusal) => is_refused(case, refusal, wanted),
     }
 }
 
-fn is_done(place: &Option<Place>, bytes: &Option<Bytes>, wanted: PlainReply) -> bool {
+fn is_done(
+    data_set: DataSet,
+    place: &Option<Place>,
+    bytes: &Option<Bytes>,
+    wanted: PlainReply,
+) -> bool {
     match wanted {
-        PlainReply::Done { place: at, record } => is_place(place, at)
-            && is_record(bytes, at, record),
-        PlainReply::Refused { .. } | PlainReply::Full { .. } => false,
+        PlainReply::Done { place: at, record } => is_place(data_set, place, at)
+            && is_record(data_set, bytes, at, record),
+        PlainReply::Refused { .. } | PlainReply::Full { .. } | PlainReply::Lacking { .. } => false,
     }
 }
 
-fn is_place(place: &Option<Place>, wanted: Option<Key>) -> bool {
+fn is_place(data_set: DataSet, place: &Option<Place>, wanted: Option<Key>) -> bool {
     match (place, wanted) {
         (None, None) => true,
-        (Some(place), Some(key)) => place.as_slice() == letter(key),
+        (Some(place), Some(key)) => place.as_slice() == letter(data_set, key),
         _ => false,
     }
 }
 
-/// The record that a read shows: its key, and a 1.
-fn is_record(bytes: &Option<Bytes>, at: Option<Key>, wanted: bool) -> bool {
+/// The record that a read shows.
+fn is_record(data_set: DataSet, bytes: &Option<Bytes>, at: Option<Key>, wanted: bool) -> bool {
     match (bytes, at) {
         (None, _) => !wanted,
-        (Some(bytes), Some(Key::A)) => wanted && bytes.as_slice() == b"A1".as_slice(),
-        (Some(bytes), Some(Key::B)) => wanted && bytes.as_slice() == b"B1".as_slice(),
+        (Some(bytes), Some(key)) => wanted && bytes.as_slice() == standing(data_set, key),
         (Some(_), None) => false,
     }
 }
@@ -82,8 +86,9 @@ fn is_refused(case: &Small, refusal: &Refusal, wanted: PlainReply) -> bool {
                 && is_lock(case, name, *mode)
         }
         Refusal::Duplicate { part } => {
-            wanted == PlainReply::Refused { code: 8 } && *part == PartNo(1)
+            wanted == PlainReply::Refused { code: 8 } && *part == part_of(case.data_set)
         }
+        Refusal::NoSpace { need, free } => *free == case.free && is_lacking(wanted, *need),
         Refusal::Stopped { stamp } => wanted == PlainReply::Refused { code: 903 } && *stamp == 7,
         other => {
             wanted
@@ -98,6 +103,15 @@ fn is_full(wanted: PlainReply, shown: u64) -> bool {
     match wanted {
         PlainReply::Full { need } => shown == u64::from(need),
         PlainReply::Done { .. } | PlainReply::Refused { .. } => false,
+        PlainReply::Lacking { .. } => false,
+    }
+}
+
+fn is_lacking(wanted: PlainReply, shown: u64) -> bool {
+    match wanted {
+        PlainReply::Lacking { need } => shown == u64::from(need),
+        PlainReply::Done { .. } | PlainReply::Refused { .. } => false,
+        PlainReply::Full { .. } => false,
     }
 }
 
@@ -105,8 +119,8 @@ fn is_full(wanted: PlainReply, shown: u64) -> bool {
 fn is_lock(case: &Small, name: &LockName, mode: Mode) -> bool {
     match (case.lock, name) {
         (Some(lock), LockName::Record { part, place }) => {
-            *part == PartNo(1)
-                && place.as_slice() == letter(lock.key)
+            *part == part_of(case.data_set)
+                && place.as_slice() == letter(case.data_set, lock.key)
                 && lock.exclusive == (mode == Mode::Exclusive)
         }
         _ => false,

@@ -17,12 +17,12 @@ pub fn answer(alloc: Global, catalog: &Catalog, line: &str, out: &mut String) ->
     }
     let case = case_of(verb, rest)?;
     let reply = answer_of(alloc, catalog, &case)?;
-    say_reply(out, &reply)
+    say_reply(out, case.data_set, &reply)
 }
 
 /// The request and its state: `get A`, `ge A`, `next`, `place LENGTH`, `point A`, `pointge A`,
-/// `pointnext`, `add A`, `update A`, `erase`, `endreq`, `commit` or `backout`, and then words that
-/// change it.
+/// `pointnext`, `pointplace LENGTH`, `add A`, `addat LENGTH`, `addbare`, `update A`, `erase`,
+/// `endreq`, `commit` or `backout`, and then words that change it.
 fn case_of(verb: &str, rest: &str) -> Result<Small, Stop> {
     let (first, words) = parted(rest);
     match verb {
@@ -30,12 +30,9 @@ fn case_of(verb: &str, rest: &str) -> Result<Small, Stop> {
         "ge" => with_words(get_case(Sought::AtLeast(key_of(first)?)), words),
         "point" => with_words(point_case(Sought::Equal(key_of(first)?)), words),
         "pointge" => with_words(point_case(Sought::AtLeast(key_of(first)?)), words),
-        "place" => with_words(
-            small_case(Ask::GetOf {
-                length: number_of(first)?,
-            }),
-            words,
-        ),
+        "place" | "pointplace" | "addat" => {
+            with_words(small_case(of_length(verb, number_of(first)?)), words)
+        }
         "add" => with_words(
             small_case(Ask::Add {
                 key: key_of(first)?,
@@ -51,6 +48,15 @@ fn case_of(verb: &str, rest: &str) -> Result<Small, Stop> {
             words,
         ),
         other => bare_case(other, rest),
+    }
+}
+
+/// A request that names a place of that many bytes.
+fn of_length(verb: &str, length: u32) -> Ask {
+    match verb {
+        "place" => Ask::GetOf { length },
+        "pointplace" => Ask::PointOf { length },
+        _ => Ask::AddAt { length },
     }
 }
 
@@ -70,6 +76,7 @@ fn bare_case(verb: &str, words: &str) -> Result<Small, Stop> {
     match verb {
         "next" => with_words(get_case(Sought::Next), words),
         "pointnext" => with_words(point_case(Sought::Next), words),
+        "addbare" => with_words(small_case(Ask::AddBare), words),
         "erase" => with_words(small_case(Ask::Erase), words),
         "endreq" => with_words(small_case(Ask::EndReq), words),
         "commit" => with_words(small_case(Ask::Commit), words),

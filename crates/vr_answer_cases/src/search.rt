@@ -7,25 +7,27 @@ pub fn sees_kept(update: bool, keeps: Keeps) -> bool {
     update || keeps != Keeps::Nothing
 }
 
-/// A record stands at a key, or one may be brought back there, where the read sees it.
+/// A record stands at a place, or one may be brought back there, where the read sees it.
 fn has(case: &Small, key: Key, kept: bool) -> bool {
     let stands = match key {
         Key::A => case.has_a,
         Key::B => case.has_b,
+        Key::Far => false,
     };
     stands || (kept && case.kept == Some(key))
 }
 
-/// Whether a sequential read may come to a key from where its file stands.
+/// Whether a sequential read may come to a place from where its file stands.
 fn is_ahead(stands: Stands, key: Key) -> bool {
     match stands {
         Stands::Unused | Stands::Start | Stands::At(Key::A) => true,
         Stands::At(Key::B) | Stands::After(Key::A) => key == Key::B,
-        Stands::After(Key::B) | Stands::End | Stands::Nowhere => false,
+        Stands::At(Key::Far) | Stands::After(Key::B) | Stands::After(Key::Far) => false,
+        Stands::End | Stands::Nowhere => false,
     }
 }
 
-/// Whether a read asks for a key.
+/// Whether a read asks for a place.
 fn is_asked(case: &Small, sought: Sought, key: Key) -> bool {
     match sought {
         Sought::Next => is_ahead(case.stands, key),
@@ -34,7 +36,7 @@ fn is_asked(case: &Small, sought: Sought, key: Key) -> bool {
     }
 }
 
-/// The key that a read comes to: the one that it names, or the first that it asks for.
+/// The place that a read comes to: the one that it names, or the first that it asks for.
 pub fn found(case: &Small, sought: Sought, kept: bool) -> Option<Key> {
     if let Sought::Equal(key) = sought {
         return Some(key);

@@ -1,12 +1,27 @@
-//! A small state and a request: two keys of one byte, the unit 1.1 that asks and another, a record
-//! of two bytes at each key or none, one that the other unit may bring back or none, one lock or
-//! none, what a file holds, and where it stands.
+//! A small state and a request: a data set of one of three kinds, two places in it and one further
+//! on, the unit 1.1 that asks and another, a record at each of the two places or none, one that the
+//! other unit may bring back, or one that was withdrawn, or none, one lock or none, what a file
+//! holds, where it stands, and the areas that there are.
 
-/// A key.
+/// What the data set is.
+#[derive(Clone, Copy, PartialEq, Eq)]
+pub enum DataSet {
+    /// Key-sequenced, with keys of one byte.
+    Keyed,
+    /// Entry-sequenced.
+    Entry,
+    /// Relative, of records of three bytes.
+    Relative,
+}
+
+/// A place: a key, an address or a slot.
 #[derive(Clone, Copy, PartialEq, Eq)]
 pub enum Key {
     A,
     B,
+    /// Past the other two, where no record stands: the key F, the address after two records of two
+    /// bytes, or slot 500, in the third area.
+    Far,
 }
 
 /// Which record a read asks for.
@@ -17,7 +32,9 @@ pub enum Sought {
     AtLeast(Key),
 }
 
-/// A request. A record is its key, where it has room for it, and then zeros.
+/// A request. A record begins with its key, where it has room for it, and then has zeros. An add
+/// names its slot in a relative data set, and in an entry-sequenced one it goes where the next
+/// record goes.
 #[derive(Clone, Copy, PartialEq, Eq)]
 pub enum Ask {
     Get {
@@ -28,7 +45,11 @@ pub enum Ask {
     Point {
         sought: Sought,
     },
-    /// GET of a place that has this many bytes.
+    /// POINT to such a place.
+    PointOf {
+        length: u32,
+    },
+    /// GET of a place that has this many bytes, which are `A` of a key and else 0.
     GetOf {
         length: u32,
     },
@@ -36,6 +57,12 @@ pub enum Ask {
         key: Key,
         length: u32,
     },
+    /// An add of a record of three bytes with the key A that names a place of this many zeros.
+    AddAt {
+        length: u32,
+    },
+    /// The same that names no place.
+    AddBare,
     Update {
         key: Key,
         length: u32,
@@ -86,9 +113,15 @@ pub enum Stands {
 /// A state and a request.
 #[derive(Clone, Copy, PartialEq, Eq)]
 pub struct Small {
+    pub data_set: DataSet,
     pub ask: Ask,
     pub has_a: bool,
     pub has_b: bool,
+    /// The place of a record that was added and backed out, in an entry-sequenced data set.
+    pub withdrawn: Option<Key>,
+    /// The areas that the data set has, and those that no part has.
+    pub areas: u32,
+    pub free: u32,
     pub lock: Option<OneLock>,
     pub held: Option<Key>,
     pub stands: Stands,
@@ -109,9 +142,13 @@ pub struct Small {
 /// A request on an empty volume.
 pub fn small_case(ask: Ask) -> Small {
     Small {
+        data_set: DataSet::Keyed,
         ask,
         has_a: false,
         has_b: false,
+        withdrawn: None,
+        areas: 1,
+        free: 2,
         lock: None,
         held: None,
         stands: Stands::Unused,
@@ -137,11 +174,23 @@ fn keeps_of(n: u32) -> Keeps {
     }
 }
 
-/// How many requests there are.
-const ASKS: u32 = 55;
+/// Where the next record of an entry-sequenced data set goes: after the last one, standing or
+/// withdrawn. An address before that of a record without a record is of a withdrawn one.
+pub fn next_place(case: &Small) -> Key {
+    if case.has_b || case.withdrawn == Some(Key::B) {
+        Key::Far
+    } else if case.has_a || case.withdrawn == Some(Key::A) {
+        Key::B
+    } else {
+        Key::A
+    }
+}
 
-/// The request with a number: 12 direct reads, 2 reads of places with another length, 8 adds and 6
-/// updates of which some have a length that isn't valid, the others that don't read, and those that
+/// How many requests there are.
+const ASKS: u32 = 64;
+
+/// The request with a number: 12 direct reads, 8 adds and 9 updates of which some have a length
+/// that isn't valid, those that don't read, those that name a place of another form, and those that
 /// search.
 fn ask_of(n: u32) -> Ask {
     match n % ASKS {
@@ -150,42 +199,58 @@ fn ask_of(n: u32) -> Ask {
             update: n / 2 % 2 == 1,
             keeps: keeps_of(n / 4),
         },
-        12 => Ask::GetOf { length: 0 },
-        13 => Ask::GetOf { length: 2 },
-        14..=21 => Ask::Add {
+        12..=19 => Ask::Add {
             key: key_of(n),
             length: n / 2 % 5,
         },
-        22..=27 => Ask::Update {
+        20..=28 => Ask::Update {
             key: key_of(n),
-            length: (n / 2 + 2) % 5,
+            length: n / 2 % 5,
         },
-        28 => Ask::Erase,
-        29 => Ask::EndReq,
-        30 => Ask::Commit,
-        31 => Ask::Backout,
+        29 => Ask::Erase,
+        30 => Ask::EndReq,
+        31 => Ask::Commit,
+        32 => Ask::Backout,
+        33..=40 => form_of(n),
         other => search_of(other),
     }
 }
 
-/// A request that searches: 6 sequential reads, 12 reads of a key at least the one given, and 5
+/// A request that names a place of another form, or none, or one that is far.
+fn form_of(n: u32) -> Ask {
+    match n {
+        33 => Ask::GetOf { length: 0 },
+        34 => Ask::GetOf { length: 2 },
+        35 => Ask::GetOf { length: 4 },
+        36 => Ask::PointOf { length: 4 },
+        37 => Ask::AddAt { length: 3 },
+        38 => Ask::AddAt { length: 4 },
+        39 => Ask::AddBare,
+        _ => Ask::Add {
+            key: Key::Far,
+            length: 3,
+        },
+    }
+}
+
+/// A request that searches: 6 sequential reads, 12 reads of a place at least the one given, and 5
 /// POINTs.
 fn search_of(n: u32) -> Ask {
     match n {
-        32..=37 => Ask::Get {
+        41..=46 => Ask::Get {
             sought: Sought::Next,
             update: n % 2 == 1,
             keeps: keeps_of(n / 2),
         },
-        38..=49 => Ask::Get {
+        47..=58 => Ask::Get {
             sought: Sought::AtLeast(key_of(n)),
             update: n / 2 % 2 == 1,
             keeps: keeps_of(n / 4),
         },
-        50..=51 => Ask::Point {
+        59..=60 => Ask::Point {
             sought: Sought::Equal(key_of(n)),
         },
-        52..=53 => Ask::Point {
+        61..=62 => Ask::Point {
             sought: Sought::AtLeast(key_of(n)),
         },
         _ => Ask::Point {
@@ -250,20 +315,45 @@ fn with_volume(case: Small, n: u32) -> Small {
     case
 }
 
+/// The kind of the data set, and for places that are numbers the areas that there are.
+fn with_kind(case: Small, n: u32) -> Small {
+    match n % 7 {
+        0 => case,
+        1 => with_areas(case, DataSet::Entry, 1, 2),
+        2 => with_areas(case, DataSet::Entry, 0, 0),
+        3 => with_areas(case, DataSet::Entry, 0, 1),
+        4 => with_areas(case, DataSet::Relative, 1, 2),
+        5 => with_areas(case, DataSet::Relative, 0, 0),
+        _ => with_areas(case, DataSet::Relative, 1, 1),
+    }
+}
+
+fn with_areas(case: Small, data_set: DataSet, areas: u32, free: u32) -> Small {
+    let mut case = case;
+    case.data_set = data_set;
+    case.areas = areas;
+    case.free = free;
+    case
+}
+
 /// How many small states with a request there are. Where a file stands and what may be brought
 /// back, which reads alone look at, goes with where the log stands, which changes alone look at.
-pub const SMALL: u32 = ASKS * 4 * 9 * 3 * 6 * 6 * 4;
+pub const SMALL: u32 = ASKS * 4 * 9 * 3 * 6 * 6 * 4 * 7;
 
 /// The one with a number.
 pub fn small_of(number: u32) -> Small {
     let n = number / ASKS;
-    let mut case = small_case(ask_of(number % ASKS));
+    let mut case = with_kind(small_case(ask_of(number % ASKS)), n / 15_552);
     case.has_a = n % 2 == 1;
     case.has_b = n / 2 % 2 == 1;
     case.lock = lock_of(n / 4);
     case.held = some_key(n / 36);
     case.stands = stands_of(n / 108);
-    case.kept = some_key(n / 864);
+    if case.data_set == DataSet::Entry {
+        case.withdrawn = some_key(n / 864);
+    } else {
+        case.kept = some_key(n / 864);
+    }
     case.used = used_of(n / 108);
     case.logged = n / 648 % 2 == 1;
     case.live = n / 1296 % 2 == 1;

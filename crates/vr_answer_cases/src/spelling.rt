@@ -1,12 +1,14 @@
-//! Words of a line: `update`, `cr` and `cre` of a read; `length:3` of a record; `has:A` a record of
-//! two bytes at the key A; `kept:A` one that the other unit may bring back; `lock:A:own:S` and
-//! `lock:A:other:X` a lock; `held:A` what the file holds for update; `start`, `at:A`, `after:A`,
-//! `end` and `nowhere`, where it stands; `unknown`, `path` and `changing`, why it can't be opened;
-//! `stopped`; `used:464` the bytes of the log in use, of 496; `logged` and `live`, what the log has
-//! of the unit.
+//! Words of a line: `entry` and `relative`, the kind of the data set; `update`, `cr` and `cre` of a
+//! read; `length:3` of a record; `has:A` a record at the place A; `kept:A` one that the other unit
+//! may bring back; `withdrawn:A` the address of one that was added and backed out; `lock:A:own:S`
+//! and `lock:A:other:X` a lock; `held:A` what the file holds for update; `start`, `at:A`,
+//! `after:A`, `end` and `nowhere`, where it stands; `unknown`, `path` and `changing`, why it can't be opened;
+//! `stopped`; `areas:1` and `free:2`, the areas of the data set and those that no part has;
+//! `used:464` the bytes of the log in use, of 496; `logged` and `live`, what the log has of the
+//! unit.
 
 use crate::answers::{Answer, Stop, say, say_number};
-use crate::small::{Ask, Keeps, Key, Name, OneLock, Small, Stands};
+use crate::small::{Ask, DataSet, Keeps, Key, Name, OneLock, Small, Stands};
 use vr_text::number;
 use vr_types::{LockName, Mode, Place, Refusal, Reply, Unit};
 
@@ -28,6 +30,7 @@ pub fn key_of(word: &str) -> Result<Key, Stop> {
     match word {
         "A" => Ok(Key::A),
         "B" => Ok(Key::B),
+        "F" => Ok(Key::Far),
         _ => Err(Stop::Line),
     }
 }
@@ -56,7 +59,11 @@ fn with_value(case: Small, what: &str, value: &str) -> Result<Small, Stop> {
         "has" => match key_of(value)? {
             Key::A => case.has_a = true,
             Key::B => case.has_b = true,
+            Key::Far => return Err(Stop::Line),
         },
+        "withdrawn" => case.withdrawn = Some(key_of(value)?),
+        "areas" => case.areas = number_of(value)?,
+        "free" => case.free = number_of(value)?,
         "lock" => case.lock = Some(lock_of(value)?),
         "held" => case.held = Some(key_of(value)?),
         "kept" => case.kept = Some(key_of(value)?),
@@ -80,6 +87,8 @@ fn with_length(ask: Ask, length: u32) -> Ask {
 fn with_fact(case: Small, word: &str) -> Result<Small, Stop> {
     let mut case = case;
     match word {
+        "entry" => case.data_set = DataSet::Entry,
+        "relative" => case.data_set = DataSet::Relative,
         "start" => case.stands = Stands::Start,
         "end" => case.stands = Stands::End,
         "nowhere" => case.stands = Stands::Nowhere,
@@ -120,12 +129,12 @@ fn keeps_of(keeps: Keeps, word: &str) -> Keeps {
 
 /// Writes a reply: `done`, with the place and the record, or the number of a refusal with what it
 /// shows.
-pub fn say_reply(out: &mut String, reply: &Reply) -> Answer {
+pub fn say_reply(out: &mut String, data_set: DataSet, reply: &Reply) -> Answer {
     match reply {
         Reply::Done { place, bytes, .. } => {
             say(out, "done")?;
             if let Some(place) = place {
-                say_text(out, place.as_slice())?;
+                say_place(out, data_set, place)?;
             }
             if let Some(bytes) = bytes {
                 say_text(out, bytes.as_slice())?;
@@ -134,7 +143,7 @@ pub fn say_reply(out: &mut String, reply: &Reply) -> Answer {
         }
         Reply::Refused(refusal) => {
             say_number(out, "", u64::from(refusal.code()))?;
-            say_shown(out, refusal)
+            say_shown(out, data_set, refusal)
         }
     }
 }
@@ -148,20 +157,32 @@ fn say_text(out: &mut String, bytes: &[u8]) -> Answer {
     }
 }
 
+/// Writes a key as a text, and an address or a slot as a number.
+fn say_place(out: &mut String, data_set: DataSet, place: &Place) -> Answer {
+    match (data_set, place.as_slice()) {
+        (DataSet::Entry | DataSet::Relative, [a, b, c, d]) => {
+            say_number(out, " ", u64::from(u32::from_be_bytes([*a, *b, *c, *d])))
+        }
+        (_, bytes) => say_text(out, bytes),
+    }
+}
+
 fn say_unit(out: &mut String, unit: Unit) -> Answer {
     say_number(out, " ", u64::from(unit.deck))?;
     say_number(out, ".", u64::from(unit.number))
 }
 
-fn say_place(out: &mut String, place: &Place) -> Answer {
-    say_text(out, place.as_slice())
-}
-
-fn say_held(out: &mut String, holder: Unit, name: &LockName, mode: Mode) -> Answer {
+fn say_held(
+    out: &mut String,
+    data_set: DataSet,
+    holder: Unit,
+    name: &LockName,
+    mode: Mode,
+) -> Answer {
     say_unit(out, holder)?;
     match name {
-        LockName::Record { place, .. } => say_place(out, place)?,
-        LockName::Unique { key, .. } => say_place(out, key)?,
+        LockName::Record { place, .. } => say_place(out, data_set, place)?,
+        LockName::Unique { key, .. } => say_place(out, data_set, key)?,
     }
     say(
         out,
@@ -173,11 +194,15 @@ fn say_held(out: &mut String, holder: Unit, name: &LockName, mode: Mode) -> Answ
 }
 
 /// Writes what a refusal shows beside its number.
-fn say_shown(out: &mut String, refusal: &Refusal) -> Answer {
+fn say_shown(out: &mut String, data_set: DataSet, refusal: &Refusal) -> Answer {
     match refusal {
         Refusal::Duplicate { part } => say_number(out, " part ", u64::from(part.0)),
         Refusal::BadLength { length } => say_number(out, " length ", u64::from(*length)),
-        Refusal::Held { holder, name, mode } => say_held(out, *holder, name, *mode),
+        Refusal::Held { holder, name, mode } => say_held(out, data_set, *holder, name, *mode),
+        Refusal::NoSpace { need, free } => {
+            say_number(out, " need ", *need)?;
+            say_number(out, " free ", u64::from(*free))
+        }
         Refusal::LogFull { used, need, size } => {
             say_number(out, " used ", *used)?;
             say_number(out, " need ", *need)?;

@@ -213,8 +213,7 @@ module _ (opening : State) (file : FileNow) (is : IsStateOf opening file) (case 
   case_is_going going = subst (λ (l : List Lock). IsCaseOf case (record state { locks = l }))
       (is.now.locks going) case_is
 
--- the catalog in memory is that of the state, so that its clusters are all key-sequenced where those
--- of the catalog are
+-- the catalog in memory is that of the state, whose clusters are all key-sequenced where its are
 pub keyed_now : (opening : State) (file : FileNow) → IsStateOf opening file
     → AreKeyedClusters file.catalog → HasKeyedAlone (state_now opening file)
 keyed_now opening file is keyed = subst AreKeyedClusters is.now.catalog keyed
