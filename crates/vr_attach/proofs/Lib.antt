@@ -4,4 +4,5 @@ pub mod Intervals
 pub mod Walks
 pub mod Passing
 pub mod Owning
+pub mod Claiming
 pub mod CallerLemmas

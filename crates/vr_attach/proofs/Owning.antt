@@ -8,7 +8,7 @@ use Rattle.std.specs.Option.{option_and_then, option_map}
 use Rattle.std.proofs.lemmas.Bool.{true≢false, leb-true, leb-false, le-leb}
 use Rattle.std.proofs.lemmas.Bool.Decides.{Decides-eqb, eqb_tells}
 use Rattle.std.proofs.lemmas.Nat.{div-mul-add}
-use Rattle.vr_types.specs.Geometry.{head_block}
+use Rattle.vr_types.specs.Geometry.{area_count, head_block}
 use Rattle.vr_types.specs.Image.{Image}
 use Rattle.vr_types.specs.declared.geometry.Geometry.{Geometry}
 use Rattle.vr_types.specs.declared.unit.AreaNo.{AreaNo}
@@ -16,12 +16,17 @@ use Rattle.vr_types.specs.declared.unit.Kind.{Kind}
 use Rattle.vr_types.specs.declared.unit.Kind.TheVariants as kinds
 use Rattle.vr_types.specs.declared.unit.PartNo.{PartNo}
 use Rattle.vr_catalog.specs.Catalog.{cluster_definition, entry_with_part, parts_in}
+use Rattle.vr_catalog.specs.Definition.{catalog_definition}
 use Rattle.vr_catalog.specs.declared.definition.Definition.{Definition}
 use Rattle.vr_catalog.specs.declared.entry.CatEntry.{CatEntry}
 use Rattle.vr_space.specs.Owners.{Owners}
-use Rattle.vr_space.specs.Part.{InFirstArea, InPart, KeyedShape, Shape, StaysIn, part_no}
-use Rattle.vr_attach.specs.Laid.{AreApart, catalog_shape, shape_by_kind, shape_from, shape_in}
-use Rattle.vr_attach.specs.Laid.{shape_of}
+use Rattle.vr_space.specs.Part.{InFirstArea, InPart, KeyedShape, RelativeShape, Shape, StaysIn}
+use Rattle.vr_space.specs.Part.{part_no}
+use Rattle.vr_space.specs.Rosters.{IsOf, IsOwnArea}
+use Rattle.vr_space.specs.Slots.{IsSlots}
+use Rattle.vr_space.proofs.CallerLemmas.{chain-here}
+use Rattle.vr_attach.specs.Laid.{AreApart, catalog_shape, keyed_shape, shape_by_kind, shape_from}
+use Rattle.vr_attach.specs.Laid.{shape_in, shape_of}
 use Rattle.vr_attach.specs.Owning.{IsPastLog, owner_of}
 
 -- ---- by the owners of areas
@@ -48,35 +53,53 @@ area-of geometry area n from to =
     ap (λ (m : ℕ). m / (geometry.area + 1)) is
     ∙ div-mul-add area (geometry.area + 1) more (omega (arith, from, to))
 
--- each block of an area is of the area's owner
-pub area-owned : (geometry : Geometry) (areas : List (Option PartNo)) (area : ℕ) (part : PartNo)
-    → get_or areas area None ≡ Some part → (n : ℕ) → head_block geometry area ≤ n
-    → n ≤ head_block geometry area + geometry.area
-    → owner_of geometry areas n ≡ Some part.0
-area-owned geometry areas area part owns n from to =
+-- the owner of each block of an area is the area's, if it has one
+pub area-owner : (geometry : Geometry) (areas : List (Option PartNo)) (area n : ℕ)
+    → head_block geometry area ≤ n → n ≤ head_block geometry area + geometry.area
+    → owner_of geometry areas n
+    ≡ option_map (λ (owner : PartNo). owner.0) (get_or areas area None)
+area-owner geometry areas area n from to =
     ap (λ (before : Bool). cond before None
     (option_map (λ (owner : PartNo). owner.0)
     (get_or areas ((n - 1 - geometry.log) / (geometry.area + 1)) None)))
     (past (nat_le n geometry.log) refl)
     ∙ ap (λ (a : ℕ). option_map (λ (owner : PartNo). owner.0) (get_or areas a None))
     (area-of geometry area n from to)
-    ∙ ap (option_map (λ (owner : PartNo). owner.0)) owns
   where
     past : (before : Bool) → nat_le n geometry.log ≡ before → before ≡ false
     past true is = absurd (omega (arith, leb-true n geometry.log is, from))
     past false is = refl
 
+-- so each block of an area that has an owner is of this one
+pub area-owned : (geometry : Geometry) (areas : List (Option PartNo)) (area : ℕ) (part : PartNo)
+    → get_or areas area None ≡ Some part → (n : ℕ) → head_block geometry area ≤ n
+    → n ≤ head_block geometry area + geometry.area
+    → owner_of geometry areas n ≡ Some part.0
+area-owned geometry areas area part owns n from to = area-owner geometry areas area n from to
+    ∙ ap (option_map (λ (owner : PartNo). owner.0)) owns
+
 -- ---- where a part is laid
 
--- a shape of this number, past the log
+-- a shape of this number, past the log and of one area: it stays in its own blocks where those of
+-- its first area are
 pub record IsLaidAs (geometry : Geometry) (part : ℕ) (shape : Shape) : Type 0 where
   pub number : (part_no shape).0 ≡ part
   pub past : (n : ℕ) → InFirstArea shape n → geometry.log < n
+  pub stays : (owners : Owners) (image : Image)
+      → ((n : ℕ) → InFirstArea shape n → InPart shape owners n) → StaysIn shape owners image
+
+-- a keyed part is, wherever it is laid
+as-keyed : (geometry : Geometry) (part area : ℕ) (definition : Definition)
+    → IsLaidAs geometry part (keyed_shape geometry part area definition)
+as-keyed geometry part area definition = record {
+  number = refl;
+  past = λ n inside. omega (arith, inside.0);
+  stays = λ owners image owned. owned;
+}
 
 as-kind : (geometry : Geometry) (part area : ℕ) (definition : Definition) (kind : Kind)
     → IfSome (shape_by_kind geometry part area definition kind) (IsLaidAs geometry part)
-as-kind geometry part area definition kinds.Keyed =
-    record { number = refl; past = λ n inside. omega (arith, inside.0) }
+as-kind geometry part area definition kinds.Keyed = as-keyed geometry part area definition
 as-kind geometry part area definition kinds.Entry = tt
 as-kind geometry part area definition kinds.Relative = tt
 
@@ -119,14 +142,13 @@ as-by : (geometry : Geometry) (entries : List CatEntry) (part : ℕ) (catalog : 
     → (part == 0) ≡ catalog
     → IfSome (cond catalog (Some (catalog_shape geometry))
     (option_and_then (shape_of geometry) (entry_with_part entries part))) (IsLaidAs geometry part)
-as-by geometry entries part true is = record {
-  number = sym ((Decides-eqb part 0).0 is);
-  past = λ n inside. omega (arith, inside.0);
-}
+as-by geometry entries part true is =
+    subst (λ (p : ℕ). IsLaidAs geometry p (catalog_shape geometry))
+    (sym ((Decides-eqb part 0).0 is)) (as-keyed geometry 0 0 catalog_definition)
 as-by geometry entries part false is =
     as-entry geometry part (entry_with_part entries part) (found-part entries part)
 
--- a part that is laid has its number, and is past the log
+-- a part that is laid has its number, is past the log, and is of one area
 pub laid-as : (geometry : Geometry) (entries : List CatEntry) (part : ℕ) (shape : Shape)
     → shape_in geometry entries part ≡ Some shape → IsLaidAs geometry part shape
 laid-as geometry entries part shape is =
@@ -139,6 +161,8 @@ laid-as geometry entries part shape is =
 abbrev is_at : Option Shape → ℕ → Bool
 is_at None n = false
 is_at (Some (KeyedShape part)) n = nat_le part.head n && nat_le n (part.head + part.area)
+is_at (Some (RelativeShape part)) n = nat_le (head_block part.geometry part.first) n
+    && nat_le n (head_block part.geometry part.first + part.geometry.area)
 
 both-true : (one other : Bool) → (one && other) ≡ true → (one ≡ true) × (other ≡ true)
 both-true true other both = (refl, both)
@@ -153,11 +177,25 @@ at-inside (Some (KeyedShape part)) n is =
       refl,
       (leb-true part.head n both.0, leb-true n (part.head + part.area) both.1),
     )
+at-inside (Some (RelativeShape part)) n is =
+    let top : ℕ = head_block part.geometry part.first in
+    let both = both-true (nat_le top n) (nat_le n (top + part.geometry.area)) is in (
+      RelativeShape part,
+      refl,
+      record {
+        from = leb-true top n both.0;
+        to = leb-true n (top + part.geometry.area) both.1;
+      },
+    )
 
 inside-at : (shape : Shape) (n : ℕ) → InFirstArea shape n → is_at (Some shape) n ≡ true
 inside-at (KeyedShape part) n inside =
     ap (λ (b : Bool). b && nat_le n (part.head + part.area)) (le-leb part.head n inside.0)
     ∙ le-leb n (part.head + part.area) inside.1
+inside-at (RelativeShape part) n inside =
+    let top : ℕ = head_block part.geometry part.first in
+    ap (λ (b : Bool). b && nat_le n (top + part.geometry.area)) (le-leb top n inside.from)
+    ∙ le-leb n (top + part.geometry.area) inside.to
 
 -- the first of the parts whose first area has the block
 abbrev owner_among : (ℕ → Option Shape) → List ℕ → Owners
@@ -240,15 +278,12 @@ laid-among geometry entries part shape laid = by_test (part == 0) refl laid
     by_test true is laid = inl (sym ((Decides-eqb part 0).0 is))
     by_test false is laid = inr (found-among geometry entries part shape laid)
 
--- a part stays in its own blocks where those of its first area are
-pub first-stays : (shape : Shape) (owners : Owners) (image : Image)
-    → ((n : ℕ) → InFirstArea shape n → InPart shape owners n) → StaysIn shape owners image
-first-stays (KeyedShape part) owners image owned = owned
-
--- and they are
+-- the blocks of the first area of a part that stays in its own are its own
 pub stays-owned : (shape : Shape) (owners : Owners) (image : Image) → StaysIn shape owners image
     → (n : ℕ) → InFirstArea shape n → InPart shape owners n
 stays-owned (KeyedShape part) owners image stays = stays
+stays-owned (RelativeShape part) owners image stays = (chain-here part (IsOwnArea part owners)
+    (IsSlots part) (IsOf image) (area_count part.geometry) part.first stays).owned
 
 -- parts that have no block in common have owners
 pub apart-owned : (geometry : Geometry) (entries : List CatEntry)
@@ -263,11 +298,11 @@ apart-owned geometry entries apart =
       λ n part is.
           let at = at-inside (shapes part) n (among-at shapes n part parts is) in
           (laid-as geometry entries part at.0 at.1).past n at.2,
-      λ part shape laid image. first-stays shape (owner_among shapes parts) image
-          (λ n inside.
+      λ part shape laid image.
+          let mine = laid-as geometry entries part shape laid in
+          mine.stays (owner_among shapes parts) image (λ n inside.
           among-owned shapes apart part shape laid n inside parts
-          (laid-among geometry entries part shape laid)
-          ∙ ap Some (sym (laid-as geometry entries part shape laid).number)),
+          (laid-among geometry entries part shape laid) ∙ ap Some (sym mine.number)),
     )
 
 -- and the other way round

@@ -1,7 +1,7 @@
 -- Where the keyed parts of a volume are on its blocks: the catalog, which is part 0, in area 0, and
 -- each key-sequenced cluster in the area that its entry names. There are clusters of one area yet.
 -- The rules are this project's own.
-use Rattle.std.specs.Prelude.{◌≡◌, ◌≢◌, ℕ, List, Option, Some, None, if◌then◌else◌, ◌==◌}
+use Rattle.std.specs.Prelude.{◌≡◌, ◌≢◌, ◌+◌, ◌<◌, ℕ, List, Option, Some, None, if◌then◌else◌, ◌==◌}
 use Rattle.std.specs.Option.{option_and_then}
 use Rattle.vr_types.specs.Content.{Content}
 use Rattle.vr_types.specs.Geometry.{head_block}
@@ -14,7 +14,8 @@ use Rattle.vr_catalog.specs.Definition.{catalog_definition}
 use Rattle.vr_catalog.specs.declared.definition.Definition.{Definition}
 use Rattle.vr_catalog.specs.declared.entry.CatEntry.{CatEntry}
 use Rattle.vr_space.specs.Keyed.{Keyed}
-use Rattle.vr_space.specs.Part.{Shape, KeyedShape, InFirstArea}
+use Rattle.vr_space.specs.Part.{Shape, KeyedShape, RelativeShape, InFirstArea}
+use Rattle.vr_space.specs.Rosters.{IsNumbered}
 
 -- a keyed part of this definition, whose first area is this one
 abbrev pub keyed_part : Geometry → ℕ → ℕ → Definition → Keyed
@@ -59,6 +60,12 @@ shape_in geometry entries part =
 -- by a content of part 0
 abbrev pub shape_by : Geometry → Content → ℕ → Option Shape
 shape_by geometry catalog part = shape_in geometry (entries_in catalog) part
+
+-- a part is on blocks that the volume has, with their size
+abbrev pub IsInside : Geometry → Shape → Type 0
+IsInside geometry (KeyedShape part) =
+    (part.head + part.area < geometry.blocks) × (part.size ≡ geometry.size)
+IsInside geometry (RelativeShape part) = IsNumbered part × (part.geometry ≡ geometry)
 
 -- no block is in the first areas of two parts
 abbrev pub AreApart : (ℕ → Option Shape) → Type 0
