@@ -1,6 +1,6 @@
-//! One event of a volume: a request that is answered under one hold of its latch. It stands on what a
-//! volume has in memory of its blocks (vr_store), and on the record file in memory (vr_record_file)
-//! with its answers (vr_answer).
+//! One event of a volume: a request that is answered under one hold of its latch. It stands on what
+//! a volume has in memory of its blocks (vr_store), and on the record file in memory
+//! (vr_record_file) with its answers (vr_answer).
 #![tactic(auto)]
 
 mod act;
