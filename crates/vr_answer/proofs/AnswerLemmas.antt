@@ -24,7 +24,7 @@ use Rattle.vr_history.specs.State.{State, is_live}
 use Rattle.vr_answer.specs.declared.case.Case.{Case as CaseInHand}
 use Rattle.vr_answer.specs.Here.{answer_here, asked_here, before_here, done_here, file_here}
 use Rattle.vr_answer.specs.Here.{full_here, record_here}
-use Rattle.vr_answer.specs.InHand.{InEach, IsCaseOf, is_place_logged, whole}
+use Rattle.vr_answer.specs.InHand.{InEachFile, IsCaseOf, IsFileOf, is_place_logged, whole}
 use Rattle.vr_answer.specs.Looked.{place_looked_at, record_looked_at}
 use Rattle.vr_answer.specs.Opening.{as_opened, definition_here}
 use Rattle.vr_answer.specs.Tried.{file_refusals, record_refusals}
@@ -55,13 +55,13 @@ module _ (case : CaseInHand) (state : State) (is : IsCaseOf case state) where
   feedback_of_read : read_feedback w ≡ 0
   feedback_of_read =
       ap (λ (o : Opened). feedback_if (option_map_or (has_later o w) (found w) false))
-      (opened_is case state is)
+      (opened_is case state is.file)
       ∙ ap feedback_if (no_later definition w (found w))
 
   feedback_of_change : change_feedback w ≡ 0
   feedback_of_change =
       ap (λ (moves : List PairMove). feedback_if (list_any (is_shared w) moves))
-      (moves_none w is.alone)
+      (moves_none w is.file.alone)
 
   module _ (at present : Option (List ℕ)) (looked : at ≡ place_looked_at w)
       (there : present ≡ record_looked_at w) where
@@ -102,7 +102,7 @@ module _ (case : CaseInHand) (state : State) (is : IsCaseOf case state) where
         let done = done_here case.request.now at present in
         ap (λ (o : Option Refusal). refused_or (option_or o
         (option_or (record_here case at present)
-        (full_here case present logged live))) done) (file_is case state is)
+        (full_here case present logged live))) done) (file_is case state is.file)
         ∙ ap (λ (o : Option Refusal). refused_or (option_or (first_of (file_refusals w))
         (option_or o (full_here case present logged live))) done)
         (record_is case state is at looked present there)
@@ -112,17 +112,18 @@ module _ (case : CaseInHand) (state : State) (is : IsCaseOf case state) where
         ∙ ap (λ (o : Option Refusal). refused_or o done) (sym (first_in_order w))
         ∙ ap (λ (reply : Reply). refused_or (first_of (all_refusals w)) reply) done_is
 
-  pub lacks_is : IsTrue (may_want case.request.now) → file_here case ≡ None
-      → LacksMemory w (Refused Memory)
-  lacks_is may none = (
-    sym (before_is case state is) ∙ none_first (before_here case) (asked_here case) none,
-    may,
-    refl,
-  )
-
 -- where memory runs out
+pub lacks_is : (case : CaseInHand) (state : State) → IsFileOf case state
+    → IsTrue (may_want case.request.now) → file_here case ≡ None
+    → LacksMemory (whole case state) (Refused Memory)
+lacks_is case state is may none = (
+  sym (before_is case state is) ∙ none_first (before_here case) (asked_here case) none,
+  may,
+  refl,
+)
+
 pub lacks_each : (case : CaseInHand) (answer : Result Reply OutOfMemory)
     → OnErr answer (IsTrue (may_want case.request.now)) → OnErr answer (file_here case ≡ None)
-    → OnErr answer (InEach case (λ w. LacksMemory w (Refused Memory)))
+    → OnErr answer (InEachFile case (λ w. LacksMemory w (Refused Memory)))
 lacks_each case (Ok reply) may none = tt
 lacks_each case (Err memory) may none = λ state is. lacks_is case state is may none

@@ -22,7 +22,7 @@ use Rattle.vr_history.specs.State.{State}
 use Rattle.vr_answer.specs.declared.case.Case.{Case as CaseInHand}
 use Rattle.vr_answer.specs.Here.{asked_here, before_here, file_here, form_by, no_file_here}
 use Rattle.vr_answer.specs.Here.{no_get_here, no_position_here, placed_here, slot_by, stopped_here}
-use Rattle.vr_answer.specs.InHand.{IsCaseOf, whole}
+use Rattle.vr_answer.specs.InHand.{IsFileOf, whole}
 use Rattle.vr_answer.specs.Opening.{as_opened, definition_here}
 use Rattle.vr_answer.specs.Tried.{file_refusals}
 use Rattle.vr_answer.proofs.OpeningLemmas.{opened_is}
@@ -94,7 +94,7 @@ by_definition : (definition : Option Definition) (changing : Bool) (request : Re
 by_definition None changing request stop rest = after_unknown changing request stop rest
 by_definition (Some definition) changing request stop rest = refl
 
-module _ (case : CaseInHand) (state : State) (is : IsCaseOf case state) where
+module _ (case : CaseInHand) (state : State) (is : IsFileOf case state) where
   abbrev w : Case
   w = whole case state
 

@@ -24,7 +24,7 @@ use Rattle.vr_history.specs.Change.{move_of, moves_at, moves_key, pair_moves, pl
 use Rattle.vr_history.specs.Opened.{base_of, catalog_of, opened, opened_base, opened_file}
 use Rattle.vr_history.specs.State.{State}
 use Rattle.vr_answer.specs.declared.case.Case.{Case as CaseInHand}
-use Rattle.vr_answer.specs.InHand.{IsCaseOf, whole}
+use Rattle.vr_answer.specs.InHand.{IsFileOf, whole}
 use Rattle.vr_answer.specs.Opening.{as_opened, definition_here, reached}
 use Rattle.vr_answer.specs.Numbered.{AreNumbersOf, IsNumbered, kind_of}
 use Rattle.vr_answer.specs.Scope.{AreClusters, AreKeyedClusters, HasClustersAlone, HasKeyedAlone}
@@ -144,7 +144,7 @@ by_file : (state : State) → HasClustersAlone state → (o : Option FileRef)
 by_file state alone None = refl
 by_file state alone (Some file) = file_reached state alone file
 
-pub opened_is : (case : CaseInHand) (state : State) → IsCaseOf case state
+pub opened_is : (case : CaseInHand) (state : State) → IsFileOf case state
     → opened (whole case state) ≡ as_opened (definition_here case)
 opened_is case state is =
     by_file state is.alone (file_of case.request.now)
@@ -174,7 +174,7 @@ keyed_by_file entries are (Some file) =
     (keyed_if (definition_of entries file.base.0)
     (λ definition there. definition_keyed entries file.base.0 definition are there))
 
-pub keyed_here : (case : CaseInHand) (state : State) → IsCaseOf case state
+pub keyed_here : (case : CaseInHand) (state : State) → IsFileOf case state
     → HasKeyedAlone state → IsKeyed (definition_here case)
 keyed_here case state is keyed =
     keyed_by_file case.catalog.now (subst AreKeyedClusters (sym is.catalog) keyed)

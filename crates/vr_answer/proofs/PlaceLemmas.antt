@@ -25,7 +25,7 @@ use Rattle.vr_answer.specs.declared.case.Case.{Case as CaseInHand}
 use Rattle.vr_answer.specs.Here.{added_by, asks_lock, changed_by, changed_here, looked_here}
 use Rattle.vr_answer.specs.Here.{name_here, name_of}
 use Rattle.vr_answer.specs.Here.{names_in, read_by, read_here}
-use Rattle.vr_answer.specs.InHand.{IsCaseOf, whole}
+use Rattle.vr_answer.specs.InHand.{IsCaseOf, IsFileOf, whole}
 use Rattle.vr_answer.specs.Looked.{place_looked_at}
 use Rattle.vr_answer.specs.Numbered.{address_added, kind_of}
 use Rattle.vr_answer.specs.Opening.{as_opened, definition_here}
@@ -59,6 +59,13 @@ pub append_none : {A : Type 0} (l : List A) → l ++ [] ≡ l
 append_none [] = refl
 append_none (x ∷ l) = ap (λ (rest : List _). x ∷ rest) (append_none l)
 
+pub read_is : (case : CaseInHand) (state : State) → IsFileOf case state
+    → IsDirect case.request.now → place_read (whole case state) ≡ read_here case
+read_is case state is direct =
+    ap (λ (o : Opened). option_and_then (λ find. place_in o find (found (whole case state)))
+    (find_of case.request.now)) (opened_is case state is)
+    ∙ read_cases case.request.now direct (definition_here case) (found (whole case state))
+
 module _ (case : CaseInHand) (state : State) (is : IsCaseOf case state) where
   abbrev w : Case
   w = whole case state
@@ -70,12 +77,6 @@ module _ (case : CaseInHand) (state : State) (is : IsCaseOf case state) where
   abbrev pub read_asked : Request → Option (List ℕ)
   read_asked request =
       option_and_then (λ find. place_in (opened w) find (found w)) (find_of request)
-
-  pub read_is : IsDirect case.request.now → place_read w ≡ read_here case
-  read_is direct =
-      ap (λ (o : Opened). option_and_then (λ find. place_in o find (found w))
-      (find_of case.request.now)) (opened_is case state is)
-      ∙ read_cases case.request.now direct (definition_here case) (found w)
 
   -- the address that an added record gets is the one that is handed in, where it gets one
   abbrev Addressed : Option Kind → Request → Type 0
@@ -104,11 +105,11 @@ module _ (case : CaseInHand) (state : State) (is : IsCaseOf case state) where
       ≡ changed_by request (definition_here case) held (option_copied case.address)
   changed_cases (Add file place bytes) address =
       ap (λ (o : Opened). option_map (λ known. place_added w known place bytes) (definition_in o))
-      (opened_is case state is)
+      (opened_is case state is.file)
       ∙ added_place (definition_here case) file place bytes
-      (λ entry. address (ap kind_in (opened_is case state is) ∙ entry))
-  changed_cases (Update file bytes) address = sym is.held
-  changed_cases (Erase file) address = sym is.held
+      (λ entry. address (ap kind_in (opened_is case state is.file) ∙ entry))
+  changed_cases (Update file bytes) address = sym is.file.held
+  changed_cases (Erase file) address = sym is.file.held
   changed_cases (Get file find update integrity) address = refl
   changed_cases (Point file find) address = refl
   changed_cases (EndReq file) address = refl
@@ -120,7 +121,7 @@ module _ (case : CaseInHand) (state : State) (is : IsCaseOf case state) where
 
   pub looked_is : IsDirect case.request.now → looked_here case ≡ place_looked_at w
   looked_is direct = sym
-      (ap (λ (o : Option (List ℕ)). option_or o (place_changed w)) (read_is direct)
+      (ap (λ (o : Option (List ℕ)). option_or o (place_changed w)) (read_is case state is.file direct)
       ∙ ap (λ (o : Option (List ℕ)). option_or (read_here case) o) changed_is)
 
   -- a request that changes nothing comes to the place that it reads, and one that reads nothing to
@@ -150,7 +151,7 @@ module _ (case : CaseInHand) (state : State) (is : IsCaseOf case state) where
   change_named o changed =
       ap (λ (moves : List PairMove). map (record_name w) (option_to_list (place_changed w))
       ++ flat_map keys_moved (filter (λ move. move.alternate.unique) moves))
-      (moves_none w is.alone)
+      (moves_none w is.file.alone)
       ∙ append_none (map (record_name w) (option_to_list (place_changed w)))
       ∙ ap (λ (at : Option (List ℕ)). map (record_name w) (option_to_list at)) changed
       ∙ one_name o

@@ -60,7 +60,7 @@ module _ (case : CaseInHand) (state : State) (is : IsCaseOf case state) where
   held_place = option_copied case.held
 
   known : {A : Type 0} (f : Opened → A) → f (opened w) ≡ f (as_opened definition)
-  known f = ap f (opened_is case state is)
+  known f = ap f (opened_is case state is.file)
 
   -- the record at the place that is changed, or read, is the one at the place that is looked at
   abbrev there : Bool
@@ -108,7 +108,7 @@ module _ (case : CaseInHand) (state : State) (is : IsCaseOf case state) where
   key_cases (Update file bytes) =
       known (λ o. option_map_or (λ place. changes_key w o place bytes) (dropped w) false)
       ∙ ap (λ (o : Option (List ℕ)). option_map_or
-      (λ place. changes_key w (as_opened definition) place bytes) o false) (sym is.held)
+      (λ place. changes_key w (as_opened definition) place bytes) o false) (sym is.file.held)
       ∙ key_kept definition bytes held_place
   key_cases (Get file find update integrity) = refl
   key_cases (Point file find) = refl
@@ -216,7 +216,7 @@ module _ (case : CaseInHand) (state : State) (is : IsCaseOf case state) where
   duplicate_key_is =
       ap (λ (moves : List PairMove). option_map (λ move. Duplicate (record {
         0 = move.alternate.part;
-      })) (find (λ move. move.alternate.unique && is_taken w move) moves)) (moves_none w is.alone)
+      })) (find (λ move. move.alternate.unique && is_taken w move) moves)) (moves_none w is.file.alone)
 
   abbrev areas_in : ℕ → Definition → List ℕ → List ℕ → Option ℕ
   areas_in areas d place bytes = option_map (areas_needed w.geometry.area areas)

@@ -25,23 +25,31 @@ whole case state = record {
       case.request.now;
 }
 
--- What is in memory is what the state has, and requests on its catalog are answered here.
-pub record IsCaseOf (case : CaseInHand) (state : State) : Type 0 where
+-- What is in memory of the catalog, of the request's file and of the stop is what the state has, and
+-- requests on its catalog are answered here.
+pub record IsFileOf (case : CaseInHand) (state : State) : Type 0 where
   pub catalog : case.catalog.now ≡ catalog_of state
-  pub locks : case.locks.now ≡ state.locks
   -- the place that the request's file holds for update
   pub held : option_copied case.held ≡ dropped (whole case state)
   -- where it stands
   pub stand : stand_here case ≡ stand_of (whole case state)
   pub stopped : case.stopped ≡ state.stopped
-  pub free : case.free ≡ free_areas (whole case state)
-  pub used : case.used ≡ state.used
-  -- what depends on places that are numbers
-  pub numbers : AreNumbersOf (option_copied case.address) case.areas (whole case state)
   pub changing : case.catalog_changing ≡ is_catalog_changing (whole case state)
   pub alone : HasClustersAlone state
 
--- a fact of each state that what is in memory agrees with
+-- All that is in memory is: the locks too, the space that is left, and what is known of a data set
+-- whose places are numbers.
+pub record IsCaseOf (case : CaseInHand) (state : State) : Type 0 where
+  pub file : IsFileOf case state
+  pub locks : case.locks.now ≡ state.locks
+  pub free : case.free ≡ free_areas (whole case state)
+  pub used : case.used ≡ state.used
+  pub numbers : AreNumbersOf (option_copied case.address) case.areas (whole case state)
+
+-- a fact of each state that has this of the request's file, and of each that has all
+abbrev pub InEachFile : CaseInHand → (Case → Type 0) → Type 0
+InEachFile case fact = (state : State) → IsFileOf case state → fact (whole case state)
+
 abbrev pub InEach : CaseInHand → (Case → Type 0) → Type 0
 InEach case fact = (state : State) → IsCaseOf case state → fact (whole case state)
 

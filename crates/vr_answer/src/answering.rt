@@ -5,7 +5,7 @@ ghost use Rattle.vr_types.specs.declared.reply.Refusal.TheVariants as refusals;
 ghost use Rattle.vr_types.specs.declared.reply.Reply.TheVariants as shown;
 ghost use Rattle.vr_history.specs.Replies as replies;
 ghost use Rattle.vr_answer.specs.Here as here;
-ghost use Rattle.vr_answer.specs.InHand.{InEach, InEachLogged, InEachWith};
+ghost use Rattle.vr_answer.specs.InHand.{InEachFile, InEachLogged, InEachWith};
 
 use crate::by_file::file_here;
 use crate::by_record::record_here;
@@ -155,7 +155,7 @@ pub fn answer(
     requires { ForSome (option_copied looked.present) (λ bytes. length bytes < 2 ^ 32) }
     ensures value { IfOk result (λ reply. InEachLogged case.now looked.entry logged live
         (λ whole. reply ≡ replies.answer_of whole)) }
-    ensures memory { OnErr result (InEach case.now (λ whole.
+    ensures memory { OnErr result (InEachFile case.now (λ whole.
         replies.LacksMemory whole (shown.Refused refusals.Memory))) }
 {
     answer_here(alloc, case, looked, logged, live)

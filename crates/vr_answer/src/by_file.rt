@@ -6,7 +6,7 @@ ghost use Rattle.vr_history.specs.RefusedFile as refusals;
 ghost use Rattle.vr_history.specs.RefusedRecord as positions;
 ghost use Rattle.vr_history.specs.Replies as replies;
 ghost use Rattle.vr_answer.specs.Here as here;
-ghost use Rattle.vr_answer.specs.InHand.{InEach};
+ghost use Rattle.vr_answer.specs.InHand.{InEachFile};
 ghost use Rattle.vr_answer.specs.Opening.{as_opened};
 ghost use Rattle.vr_history.specs.Step.{stand_refused};
 ghost use Rattle.vr_answer.specs.Scope.{IsDirect};
@@ -330,7 +330,7 @@ pub(crate) fn file_here(case: &Case) -> Option<Refusal>
 /// It takes no memory.
 #[tactic(auto, using(crate::proofs::FileLemmas::before_is))]
 pub fn refused_before_all(case: &Case) -> Option<Refusal>
-    ensures { InEach case.now (λ whole. result ≡ replies.first_of (replies.before_all whole)) }
+    ensures { InEachFile case.now (λ whole. result ≡ replies.first_of (replies.before_all whole)) }
 {
     before_here(case)
 }
@@ -339,7 +339,7 @@ pub fn refused_before_all(case: &Case) -> Option<Refusal>
 /// of slot 0, `BadLength`, `NoPosition` where a sequential GET finds its file nowhere, and `NoGet` where an
 /// update or an erase finds nothing held. It takes no memory, and moves no file.
 pub fn refused_by_file(case: &Case) -> Option<Refusal>
-    ensures value { InEach case.now (λ whole.
+    ensures value { InEachFile case.now (λ whole.
         result ≡ replies.first_of (tried.file_refusals whole)) }
     ensures stays { IsDirect case.now.request.now
         → option_and_then (stand_refused case.now.request.now) result ≡ None }

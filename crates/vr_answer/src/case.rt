@@ -5,7 +5,7 @@ ghost use Rattle.vr_types.specs.declared.unit.Kind.TheVariants.{Keyed};
 ghost use Rattle.vr_history.specs.Case as cases;
 ghost use Rattle.vr_history.specs.Opened as files;
 ghost use Rattle.vr_answer.specs.Here as here;
-ghost use Rattle.vr_answer.specs.InHand.{InEach};
+ghost use Rattle.vr_answer.specs.InHand.{InEachFile};
 ghost use Rattle.vr_answer.specs.Opening.{as_opened, definition_here};
 ghost use Rattle.vr_answer.specs.Scope.{HasKeyedAlone};
 
@@ -85,9 +85,9 @@ pub(crate) fn definition(case: &Case) -> Option<Definition>
 /// The definition of the cluster that the request's file is on; None where there is no file, or
 /// nothing that can be opened by its name.
 pub fn opened(case: &Case) -> Option<Definition>
-    ensures value { InEach case.now (λ whole. files.opened whole ≡ as_opened result) }
+    ensures value { InEachFile case.now (λ whole. files.opened whole ≡ as_opened result) }
     // and the cluster is key-sequenced, where all are
-    ensures keyed { InEach case.now (λ whole. HasKeyedAlone whole.state
+    ensures keyed { InEachFile case.now (λ whole. HasKeyedAlone whole.state
         → IfSome result (λ known. known.kind ≡ Keyed)) }
 {
     definition(case)

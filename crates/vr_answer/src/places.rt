@@ -5,7 +5,7 @@ ghost use Rattle.vr_catalog.specs.Definition.{key_of};
 ghost use Rattle.vr_history.specs.Change as changes;
 ghost use Rattle.vr_history.specs.Found as founds;
 ghost use Rattle.vr_answer.specs.Here as here;
-ghost use Rattle.vr_answer.specs.InHand.{InEach};
+ghost use Rattle.vr_answer.specs.InHand.{InEach, InEachFile};
 ghost use Rattle.vr_answer.specs.Looked as looked;
 ghost use Rattle.vr_answer.specs.Scope.{IsDirect};
 
@@ -93,7 +93,7 @@ pub(crate) fn looked_here<'a>(case: &Case<'a>) -> Option<&'a [u8]>
 #[tactic(auto, using(crate::proofs::PlaceLemmas::read_is))]
 pub fn place_read<'a>(case: &Case<'a>) -> Option<&'a [u8]>
     ensures { IsDirect case.now.request.now
-        → InEach case.now (λ whole. option_copied result ≡ founds.place_read whole) }
+        → InEachFile case.now (λ whole. option_copied result ≡ founds.place_read whole) }
 {
     read_here(case)
 }

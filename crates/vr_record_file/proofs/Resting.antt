@@ -22,7 +22,7 @@ use Rattle.vr_history.specs.RefusedRoom.{free_areas}
 use Rattle.vr_history.specs.State.{Logged, Owned, State, opening_state}
 use Rattle.vr_history.specs.Step.{case_of}
 use Rattle.vr_answer.specs.Here.{or_start}
-use Rattle.vr_answer.specs.InHand.{IsCaseOf}
+use Rattle.vr_answer.specs.InHand.{IsCaseOf, IsFileOf}
 use Rattle.vr_answer.specs.Numbered.{AreNumbersOf}
 use Rattle.vr_answer.specs.Scope.{AreClusters, AreKeyedClusters, HasKeyedAlone}
 use Rattle.vr_answer.specs.declared.case.Case.{Case as CaseInHand}
@@ -156,19 +156,13 @@ start_unset : (o : Option Position)
 start_unset None = refl
 start_unset (Some position) = refl
 
--- a request with what is in memory
+-- a request with what is in memory of its file
 module _ (opening : State) (file : FileNow) (is : IsStateOf opening file) (case : CaseInHand)
-    (catalog : case.catalog.now ≡ file.catalog) (locks : case.locks.now ≡ file.locks)
+    (catalog : case.catalog.now ≡ file.catalog)
     (held : option_copied case.held ≡ held_in file.files case.unit.deck (file_of case.request.now))
     (stand : option_copied case.stand
     ≡ stand_in file.files case.unit.deck (file_of case.request.now))
-    (stopped : case.stopped ≡ file.stopped) (geometry : case.geometry ≡ file.geometry)
-    (changing : case.catalog_changing ≡ false)
-    (used : case.used ≡ (state_now opening file).used)
-    (free : case.free ≡ free_areas (case_of file.geometry (state_now opening file) case.unit
-    case.request.now))
-    (numbers : AreNumbersOf (option_copied case.address) case.areas
-    (case_of file.geometry (state_now opening file) case.unit case.request.now)) where
+    (stopped : case.stopped ≡ file.stopped) (changing : case.catalog_changing ≡ false) where
   abbrev state : State
   state = state_now opening file
 
@@ -188,30 +182,49 @@ module _ (opening : State) (file : FileNow) (is : IsStateOf opening file) (case 
       ∙ start_unset (position_at file.files deck on.slot)
       ∙ ap (λ (p : Position). p.stand) (is.now.positions deck on.slot))
 
-  numbers_are : AreNumbersOf (option_copied case.address) case.areas
-      (case_of case.geometry state case.unit case.request.now)
-  numbers_are = subst (λ g. AreNumbersOf (option_copied case.address) case.areas
-      (case_of g state case.unit case.request.now)) (sym geometry) numbers
-
-  pub case_is : IsCaseOf case (record state { locks = file.locks })
-  case_is = record {
+  pub file_is : IsFileOf case state
+  file_is = record {
     catalog = catalog ∙ is.now.catalog;
-    locks = locks;
     held = held ∙ held_is case.unit.deck (file_of case.request.now);
     stand = stand_is case.unit.deck (file_of case.request.now) (option_copied case.stand) stand;
     stopped = stopped ∙ is.now.stopped;
-    free = free ∙ sym (ap (λ g. free_areas (case_of g state case.unit case.request.now)) geometry);
-    used = used;
-    numbers = record { address = numbers_are.address; areas = numbers_are.areas };
     changing = changing ∙ sym (ap (λ (b : Bool). not (case.unit.deck == 0)
         && (is_none state.stopped && b)) (none_changes state.logged is.now.of_decks)
         ∙ and_false (not (case.unit.deck == 0)) (is_none state.stopped));
     alone = is.now.alone;
   }
 
-  pub case_is_going : file.stopped ≡ None → IsCaseOf case state
-  case_is_going going = subst (λ (l : List Lock). IsCaseOf case (record state { locks = l }))
-      (is.now.locks going) case_is
+  -- and of all else
+  module _ (locks : case.locks.now ≡ file.locks) (geometry : case.geometry ≡ file.geometry)
+      (used : case.used ≡ state.used)
+      (free : case.free ≡ free_areas (case_of file.geometry state case.unit case.request.now))
+      (numbers : AreNumbersOf (option_copied case.address) case.areas
+      (case_of file.geometry state case.unit case.request.now)) where
+    numbers_are : AreNumbersOf (option_copied case.address) case.areas
+        (case_of case.geometry state case.unit case.request.now)
+    numbers_are = subst (λ g. AreNumbersOf (option_copied case.address) case.areas
+        (case_of g state case.unit case.request.now)) (sym geometry) numbers
+
+    pub case_is : IsCaseOf case (record state { locks = file.locks })
+    case_is = record {
+      file = record {
+        catalog = file_is.catalog;
+        held = file_is.held;
+        stand = file_is.stand;
+        stopped = file_is.stopped;
+        changing = file_is.changing;
+        alone = file_is.alone;
+      };
+      locks = locks;
+      free =
+          free ∙ sym (ap (λ g. free_areas (case_of g state case.unit case.request.now)) geometry);
+      used = used;
+      numbers = record { address = numbers_are.address; areas = numbers_are.areas };
+    }
+
+    pub case_is_going : file.stopped ≡ None → IsCaseOf case state
+    case_is_going going = subst (λ (l : List Lock). IsCaseOf case (record state { locks = l }))
+        (is.now.locks going) case_is
 
 -- the catalog in memory is that of the state, whose clusters are all key-sequenced where its are
 pub keyed_now : (opening : State) (file : FileNow) → IsStateOf opening file

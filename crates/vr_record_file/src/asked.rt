@@ -6,7 +6,7 @@ ghost use Rattle.vr_history.specs.Case as cases;
 ghost use Rattle.vr_history.specs.RefusedRoom.{free_areas};
 ghost use Rattle.vr_history.specs.State.{State};
 ghost use Rattle.vr_history.specs.Step.{case_of};
-ghost use Rattle.vr_answer.specs.InHand.{IsCaseOf};
+ghost use Rattle.vr_answer.specs.InHand.{IsCaseOf, IsFileOf};
 ghost use Rattle.vr_answer.specs.Numbered.{AreNumbersOf};
 ghost use Rattle.vr_record_file.specs.Now.{IsStateOf, held_in, state_now};
 
@@ -37,9 +37,10 @@ impl RecordFile {
 
     /// A request of a deck, with what is in memory, the number of free areas and the bytes of the
     /// log in use; and of a data set whose places are numbers, the address that an added record
-    /// gets and how many areas there are, None and 0 of others. It agrees with the state that the
-    /// history gives (`going`); once the volume has stopped, with the state that has the locks that
-    /// are in memory (`always`), which no answer looks at then.
+    /// gets and how many areas there are, None and 0 of others. What is in memory of the file agrees
+    /// with the state that the history gives (`file`), and so does all, where what is handed in does
+    /// (`going`); once the volume has stopped, with the state that has the locks that are in memory
+    /// (`always`), which no answer looks at then.
     pub fn case<'a>(
         &'a self,
         unit: Unit,
@@ -49,6 +50,8 @@ impl RecordFile {
         address: Option<&'a [u8]>,
         areas: u32,
     ) -> Case<'a>
+        ensures file { (opening : State) → IsStateOf opening self.now
+            → IsFileOf result (state_now opening self.now) }
         ensures going { (opening : State) → IsStateOf opening self.now → self.now.stopped ≡ None
             → (unit.deck == 0) ≡ false
             → used ≡ (state_now opening self.now).used
@@ -65,6 +68,8 @@ impl RecordFile {
             → AreNumbersOf (option_copied address.entry) areas
             (case_of self.now.geometry (state_now opening self.now) unit request.now)
             → IsCaseOf result (record (state_now opening self.now) { locks = self.now.locks }) }
+        ensures catalog { result.catalog.now ≡ self.now.catalog }
+        ensures stopped { result.stopped ≡ self.now.stopped }
         ensures asked { result.request.now ≡ request.now }
         ensures unit { result.unit ≡ unit }
         ensures geometry { result.geometry ≡ self.now.geometry }
