@@ -19,7 +19,7 @@ use Rattle.vr_history.specs.Case.{Case, file_of}
 use Rattle.vr_history.specs.Opened.{Opened, Unknown, Cluster, ByPath, opened}
 use Rattle.vr_history.specs.RefusedFile.{find_length_wrong, has_length}
 use Rattle.vr_history.specs.RefusedFile.{key_length_wrong, length_wrong}
-use Rattle.vr_history.specs.RefusedFile.{record_wrong, refused_if, shown_length, slot_named, stopped}
+use Rattle.vr_history.specs.RefusedFile.{record_wrong, refused_if, shown_length, slot_named}
 use Rattle.vr_history.specs.Replies.{first_of}
 use Rattle.vr_history.specs.Step.{stand_refused}
 use Rattle.vr_answer.specs.Tried.{file_refusals}

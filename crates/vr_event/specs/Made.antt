@@ -1,6 +1,6 @@
 -- What an event of a request adds to the history of its volume, and what it leaves of the rest that
 -- the record file has in memory. The rules are this project's own.
-use Rattle.std.specs.Prelude.{◌≡◌, ◌⊎◌, ◌+◌, ◌≤◌, ◌==◌, ℕ, IsTrue, true, false, List, [], ◌∷◌, ◌++◌, max}
+use Rattle.std.specs.Prelude.{◌≡◌, ◌⊎◌, ◌+◌, ◌≤◌, ◌==◌, ℕ, IsTrue, false, List, [], ◌∷◌, ◌++◌, max}
 use Rattle.std.specs.Prelude.{Some}
 use Rattle.vr_types.specs.declared.fault.DeviceFault.TheVariants.{Write}
 use Rattle.vr_types.specs.declared.reply.Refusal.TheVariants.{WriteFault}

@@ -1,6 +1,6 @@
 //! One event of a request: it is refused by what is in memory, or served.
-ghost use Rattle.std.specs.Prelude.{◌≡◌, ◌≢◌, ◌==◌, ◌<◌, ◌≤◌, ◌-◌, ◌+◌, ◌^◌, IsTrue, None, Some};
-ghost use Rattle.std.specs.Prelude.{List, false, true, ℕ};
+ghost use Rattle.std.specs.Prelude.{◌≡◌, ◌≢◌, ◌<◌, ◌≤◌, ◌-◌, ◌+◌, ◌^◌, IsTrue, None, Some};
+ghost use Rattle.std.specs.Prelude.{List, true, ℕ};
 ghost use Rattle.vr_types.specs.Moments.{Guards};
 ghost use Rattle.vr_types.specs.declared.reply.Refusal.TheVariants.{NoSpace};
 ghost use Rattle.vr_types.specs.declared.reply.Reply.TheVariants.{Refused};

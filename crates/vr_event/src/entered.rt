@@ -1,5 +1,5 @@
 //! What is decided of a request, entered.
-ghost use Rattle.std.specs.Prelude.{◌≡◌, ◌<◌, ◌-◌, ◌^◌, ℕ, IsSome, IsTrue, List, None, OnErr, OnOk};
+ghost use Rattle.std.specs.Prelude.{◌≡◌, ◌<◌, ◌-◌, ◌^◌, IsSome, IsTrue, None, OnErr, OnOk};
 ghost use Rattle.vr_types.specs.declared.reply.Refusal.TheVariants.{WriteFault};
 ghost use Rattle.vr_types.specs.declared.reply.Reply.TheVariants as replies;
 ghost use Rattle.vr_types.specs.declared.request.FileRef as files;

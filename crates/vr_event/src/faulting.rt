@@ -1,7 +1,6 @@
 //! Faults of the device while an event goes on.
 ghost use Rattle.std.specs.Prelude.{◌≡◌, ◌<◌, ◌≤◌, ◌-◌, ◌^◌, IsTrue, None};
 ghost use Rattle.vr_types.specs.Faults.{Faults};
-ghost use Rattle.vr_types.specs.declared.fault.DeviceFault.TheVariants.{Read, Write};
 ghost use Rattle.vr_types.specs.declared.reply.Refusal.TheVariants.{ReadFault, WriteFault};
 ghost use Rattle.vr_types.specs.declared.reply.Reply.TheVariants.{Refused};
 ghost use Rattle.vr_history.specs.Merged.{last_stamp};

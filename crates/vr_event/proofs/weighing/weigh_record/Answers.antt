@@ -33,7 +33,7 @@ returns-in-Ok-Some-clause-may g c told volume state is at stored asked =
     (c.has_logged-logged.ensures
     ∙ ap (λ (l : List Logged). is_logged_in c.args.case.now.unit c.args.part.0 c.args.place l)
     stored.logged ∙ logs-here w c.args.part.0 c.args.place asked)
-    (c.has_live-live.ensures ∙ stored.volume.logged.live c.args.case.now.unit)
+    (c.is_live-live.ensures ∙ stored.volume.logged.live c.args.case.now.unit)
     (asks-change w w.request c.args.place asked.place_is)))
 
 pub returns-in-Ok-Some-clause-fits : goal.returns-in-Ok-Some-clause-fits
@@ -59,7 +59,7 @@ returns-in-Some-clause-may g c told volume state is at stored asked =
     (c.has_logged-logged.ensures
     ∙ ap (λ (l : List Logged). is_logged_in c.args.case.now.unit c.args.part.0 c.args.place l)
     stored.logged ∙ logs-here w c.args.part.0 c.args.place asked)
-    (c.has_live-live.ensures ∙ stored.volume.logged.live c.args.case.now.unit)
+    (c.is_live-live.ensures ∙ stored.volume.logged.live c.args.case.now.unit)
     (asks-change w w.request c.args.place asked.place_is))))
 
 pub returns-in-None-clause-may : goal.returns-in-None-clause-may
@@ -83,5 +83,5 @@ returns-in-Ok-Some-clause-lacks g c told volume state is at stored asked none =
     (c.has_logged-logged.ensures
     ∙ ap (λ (l : List Logged). is_logged_in c.args.case.now.unit c.args.part.0 c.args.place l)
     stored.logged ∙ logs-here w c.args.part.0 c.args.place asked)
-    (c.has_live-live.ensures ∙ stored.volume.logged.live c.args.case.now.unit)
+    (c.is_live-live.ensures ∙ stored.volume.logged.live c.args.case.now.unit)
     (asks-change w w.request c.args.place asked.place_is) none))
