@@ -69,6 +69,7 @@ impl RecordFile {
             (case_of self.now.geometry (state_now opening self.now) unit request.now)
             → IsCaseOf result (record (state_now opening self.now) { locks = self.now.locks }) }
         ensures catalog { result.catalog.now ≡ self.now.catalog }
+        ensures stopped { result.stopped ≡ self.now.stopped }
         ensures asked { result.request.now ≡ request.now }
         ensures unit { result.unit ≡ unit }
         ensures geometry { result.geometry ≡ self.now.geometry }
