@@ -11,7 +11,7 @@ use Rattle.vr_types.specs.Seen.{Left, Seen}
 use Rattle.vr_types.specs.declared.geometry.Geometry.{Geometry}
 use Rattle.vr_types.proofs.CallerLemmas.{during-weaken}
 use Rattle.vr_space.specs.Owners.{Owners}
-use Rattle.vr_space.specs.Part.{AddsTo, HasKeptRoom, HasOnly, HasRoom, InPart, IsSound}
+use Rattle.vr_space.specs.Part.{AddsTo, HasKeptRoom, HasOnly, HasRoom, InPart}
 use Rattle.vr_space.specs.Part.{IsAtRest, IsQuiet, Just, MayAlsoHold, Nothing, Shape, part_no}
 use Rattle.vr_attach.specs.Owning.{IsPastLog}
 use Rattle.vr_space.specs.Room.{Lengths}

@@ -1,6 +1,6 @@
 -- What forcing blocks that were changed leaves of a volume at rest.
-use Rattle.std.proofs.Common.{◌≡◌, ⊎_elim, ◌<◌, ℕ, Bool, IsTrue, List, []}
-use Rattle.std.proofs.Common.{refl, sym, ap, subst, ◌∙◌, arith, take}
+use Rattle.std.proofs.Common.{⊎_elim, ℕ, Bool, IsTrue, List, []}
+use Rattle.std.proofs.Common.{refl, sym, ap, subst, ◌∙◌, take}
 use Rattle.std.proofs.Common.{drop}
 use Rattle.std.specs.List.{Contains}
 use Rattle.std.proofs.lemmas.List.{take-append-drop}

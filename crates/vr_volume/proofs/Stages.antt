@@ -11,8 +11,8 @@ use Rattle.vr_types.specs.declared.unit.StageKind.{StageKind}
 use Rattle.vr_space.specs.Known.{Known}
 use Rattle.vr_space.specs.Owners.{Owners}
 use Rattle.vr_space.specs.Part.{AddsTo, DueMore, HasKeptRoom, HasRoom, InPart, IsAtRest, IsSound}
-use Rattle.vr_space.specs.Part.{IsUnderWay, Knows, MayGrow, Nothing, OwnersAfter, SameRecords, Shape}
-use Rattle.vr_space.specs.Part.{part_no, room_of}
+use Rattle.vr_space.specs.Part.{IsUnderWay, Knows, MayGrow, Nothing, OwnersAfter, SameRecords}
+use Rattle.vr_space.specs.Part.{Shape, part_no, room_of}
 use Rattle.vr_space.specs.Room.{Lengths}
 use Rattle.vr_space.specs.declared.room.Room.TheVariants.{Stage}
 use Rattle.vr_space.proofs.CallerLemmas.{StaysPart, due-stays, rest-sound, room-stage, sound-less}

@@ -1,7 +1,7 @@
 -- What the blocks of a whole volume stand for: its log, and a content of each part. And what they
 -- recover to: the contents with the before-images of units that haven't ended put back. The rules
 -- are this project's own.
-use Rattle.std.specs.Prelude.{◌≡◌, ◌+◌, ◌<◌, ℕ, [], All, IfSome, Option, Some, None}
+use Rattle.std.specs.Prelude.{◌≡◌, ℕ, [], All, IfSome, Option, Some, None}
 use Rattle.std.specs.Option.{option_and_then}
 use Rattle.vr_types.specs.Content.{Content as ContentOf, record_of}
 use Rattle.vr_types.specs.Image.{Image, block_at}
@@ -17,7 +17,6 @@ use Rattle.vr_volume.specs.CatalogRules.{IsCatalog}
 use Rattle.vr_volume.specs.Header.{header_block}
 use Rattle.vr_volume.specs.Laid.{shape_by}
 use Rattle.vr_volume.specs.PutBack.{AreAlone, images_of, put_back, lengths_kept}
-
 pub use Rattle.vr_attach.specs.Laid.{IsInside}
 
 -- the content of part 0 once the before-images are put back: it says which parts there are

@@ -1,4 +1,3 @@
-use Rattle.std.proofs.Common.{ℕ}
 use Rattle.vr_types.specs.Space.{free_count}
 use Rattle.vr_space.specs.Part.{Nothing, part_no}
 use Rattle.vr_attach.specs.Owning.{claimed_by, owner_of}
