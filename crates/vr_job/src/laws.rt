@@ -1,12 +1,16 @@
-//! A law of what a run leaves of its volumes, the contract of a function that does nothing.
-ghost use Rattle.std.specs.Prelude.{◌≡◌, ◌≢◌, ◌⊎◌, [], ℕ, List, None};
+//! Laws of what a run leaves of its volumes, each the contract of a function that does nothing.
+ghost use Rattle.std.specs.Prelude.{◌≡◌, ◌≢◌, ◌≤◌, ◌⊎◌, [], ℕ, List, None};
 ghost use Rattle.vr_types.specs.Image.{Image};
 ghost use Rattle.vr_types.specs.Moments.{Guards};
 ghost use Rattle.vr_types.specs.Seen.{Left};
 ghost use Rattle.vr_catalog.specs.declared.entry.CatEntry.{CatEntry};
 ghost use Rattle.vr_history.specs.Legal.{state_of};
+ghost use Rattle.vr_history.specs.Merged.{Numbered};
 ghost use Rattle.vr_history.specs.declared.entry.Entry.{Entry};
 ghost use Rattle.vr_job_ends.specs.declared.job_end.End.{End};
+ghost use Rattle.vr_job_text.specs.declared.text.Step.{Step};
+ghost use Rattle.vr_worker.specs.Decks.{IsEntered};
+ghost use Rattle.vr_worker.specs.Steps.{AreGapless};
 ghost use Rattle.vr_job.specs.Committed.{HasCommitted, IsCommittedBy, IsCommittedWhile};
 ghost use Rattle.vr_job.specs.VolumeRun.{IsRun, opening_of};
 
@@ -39,4 +43,13 @@ pub fn leaves_what_is_committed<D: BlockDevice>()
         ≢ None) → (image : Image) → Left (D.seen new) image
         → IsCommittedWhile run.geometry number catalog (opening_of run.contents run.owners)
         (run.stopped stops).before (run.stopped stops).made image }
+{}
+
+/// Where no stamp is left out, each one from 1 up to that of an entry is that of an entry, on one
+/// volume or another: so stamps are used up by entries alone.
+pub fn each_stamp_is_taken()
+    ensures { (steps : List Step) (histories : List (List Entry)) → AreGapless steps histories
+        → (this : Numbered) → IsEntered histories this → (stamp : ℕ) → 1 ≤ stamp
+        → stamp ≤ this.entry.stamp
+        → (other : Numbered) × IsEntered histories other × (other.entry.stamp ≡ stamp) }
 {}
