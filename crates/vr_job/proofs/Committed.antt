@@ -24,7 +24,8 @@ use Rattle.vr_log.specs.declared.record.EndKind.TheVariants.{Committed}
 use Rattle.vr_log.specs.declared.record.LogRecord.{LogRecord}
 use Rattle.vr_log.specs.declared.record.LogRecord.TheVariants.{End}
 use Rattle.vr_history.specs.Change.{Change}
-use Rattle.vr_history.specs.Committed.{changed, commits, committed, counted_entry, is_counted, left_at_end}
+use Rattle.vr_history.specs.Committed.{changed, commits, committed, counted_entry, is_counted}
+use Rattle.vr_history.specs.Committed.{left_at_end}
 use Rattle.vr_history.specs.Effects.{changes, has_part, is_other, keeps_other, last_kept}
 use Rattle.vr_history.specs.Effects.{placed_in, takes_out, with_change, without_last}
 use Rattle.vr_history.specs.Laws.{HasPartThroughout, record_now}

@@ -224,8 +224,8 @@ module _ {B : Type 0} (seen : B → Seen) (faults : B → Faults) (old new : Vol
         (inr (ap (λ (r : Request). Asked r (Refused WriteFault)) commit.0)) commit.2)
         commit.1) is
 
-    module _ (first : B) (run : HasRun seen faults opening first old) (number : new.number ≡ old.number)
-        (whole : IsWhole seen old)
+    module _ (first : B) (run : HasRun seen faults opening first old)
+        (number : new.number ≡ old.number) (whole : IsWhole seen old)
         (moments : old.file.stopped ≡ None → Guards (seen old.blocks) (seen new.blocks)
         (IsLeftIn old.store.log.geometry old.number (state_now opening old.file) after unit line
         request old.file new.file))

@@ -1,5 +1,6 @@
 -- That no event changes the catalog: the before-images that it leaves are of clusters alone.
-use Rattle.std.proofs.Common.{◌≡◌, ◌∙◌, ◌==◌, ◌&&◌, ◌||◌, ⊎_elim, ℕ, Bool, true, false, cond, List, []}
+use Rattle.std.proofs.Common.{◌≡◌, ◌∙◌, ◌==◌, ◌&&◌, ◌||◌, ⊎_elim, ℕ, Bool, true, false, cond, List}
+use Rattle.std.proofs.Common.{[]}
 use Rattle.std.proofs.Common.{◌∷◌, ◌++◌, Option, Some, None, ap, bytes_eq, refl, subst, sym}
 use Rattle.std.specs.Prelude.{option_map, option_to_list}
 use Rattle.std.specs.List.{AllByRecursion, list_any}
@@ -87,7 +88,8 @@ module _ (geometry : Geometry) (state : State) (unit : UnitOfRecovery)
     (before : AllByRecursion IsOfCluster state.befores) where
   changed-off : (request : Request) (new : State) → MadeOr geometry state unit request new
       → AllByRecursion IsOfCluster new.befores
-      → AllByRecursion IsOffCatalog (option_to_list (change_of (case_of geometry state unit request)))
+      → AllByRecursion IsOffCatalog
+      (option_to_list (change_of (case_of geometry state unit request)))
   changed-off request new (NoChange none stays) after = subst
       (λ (it : Option Change). AllByRecursion IsOffCatalog (option_to_list it)) (sym none) tt
   changed-off request new (OneChange change is made) after = subst
@@ -104,8 +106,8 @@ module _ (geometry : Geometry) (state : State) (unit : UnitOfRecovery)
   )
 
   done-off : (request : Request) (feedback stamp : ℕ) (place bytes : Option (List ℕ))
-      → AllByRecursion IsOfCluster
-      (after_what geometry state unit stamp (Asked request (DoneReply feedback place bytes))).befores
+      → AllByRecursion IsOfCluster (after_what geometry state unit stamp
+      (Asked request (DoneReply feedback place bytes))).befores
       → AllByRecursion IsOffCatalog
       (place_changes geometry state unit (Asked request (DoneReply feedback place bytes)))
   done-off (Add file named added) feedback stamp place bytes after =

@@ -11,6 +11,7 @@ pub mod Effects
 pub mod Committed
 pub mod Keeping
 pub mod RunCommitted
+pub mod Stamps
 pub mod Faultless
 pub mod Stopping
 pub mod ReadFaults

@@ -228,6 +228,7 @@ module _ {D : Type 0} (tells : Bool) (seen : D → Seen) (faults : D → Faults)
       moments = guards-keeps tells old (seen end.blocks) (seen device) MayLeave each-moment
           ended.closed.keeps told;
       opened = volume.blocks;
+      quiet = opens_so.quiet;
       opens = guards-weaken old (seen volume.blocks) (λ (image : Image). Left old image
           ⊎ Recovers volume.file.geometry number image held.contents) (λ (image : Image).
           Left old image ⊎ Recovers end.file.geometry end.number image held.contents) opened

@@ -1,4 +1,5 @@
--- An event that stops its volume is one in which a write failed: any other enters one entry at most.
+-- An event that stops its volume is one in which a write failed: any other enters one entry at
+-- most.
 use Rattle.std.proofs.Common.{◌≡◌, ◌<◌, ◌∙◌, ⊎_elim, ℕ, List, [], ◌∷◌, ◌++◌, None, refl, sym, ap}
 use Rattle.std.proofs.Common.{arith, length}
 use Rattle.std.proofs.lemmas.List.{append-nil, append_cancel_left}

@@ -1,5 +1,5 @@
--- What is committed of a volume, record by record, as its history says it. The rules are this project's
--- own.
+-- What is committed of a volume, record by record, as its history says it. The rules are this
+-- project's own.
 use Rattle.std.specs.Prelude.{◌≡◌, ◌==◌, ℕ, true, false, List, [], ◌∷◌, ◌++◌}
 use Rattle.std.specs.List.{AllByRecursion}
 use Rattle.vr_types.specs.Content.{Content}
@@ -44,8 +44,8 @@ pub record HasCommitted (geometry : Geometry) (number : ℕ) (catalog : List Cat
       → record_now recovered part place
       ≡ record_now (committed geometry opening entries counted) part place
 
--- The image recovers to what some first entries of a history committed, perhaps with the unit that is
--- in its commit then.
+-- The image recovers to what some first entries of a history committed, perhaps with the unit that
+-- is in its commit then.
 pub record IsCommittedBy (geometry : Geometry) (number : ℕ) (catalog : List CatEntry)
     (opening : State) (entries : List Entry) (image : Image) : Type 0 where
   pub before : List Entry

@@ -1,6 +1,7 @@
 -- The events of a run on a volume, one after another: what a crash leaves while each goes on, and once
 -- it is over. The rules are this project's own.
-use Rattle.std.specs.Prelude.{◌≡◌, ◌⊎◌, ◌<◌, ◌≤◌, ◌+◌, ℕ, List, [], ◌∷◌, ◌++◌, None, flat_map, length}
+use Rattle.std.specs.Prelude.{◌≡◌, ◌⊎◌, ◌<◌, ◌≤◌, ◌+◌, ℕ, List, [], ◌∷◌, ◌++◌, None, flat_map}
+use Rattle.std.specs.Prelude.{length}
 use Rattle.vr_types.specs.Faults.{Faults}
 use Rattle.vr_types.specs.Image.{Image}
 use Rattle.vr_types.specs.Moments.{Guards}
@@ -74,10 +75,11 @@ abbrev pub FaultsFollow : List Entry → Type 0
 FaultsFollow made = IsStop made ⊎ AreFaultless made
 
 -- An event, with the blocks and the history as it left them: it answered one request at most; it
--- touched no block, or each image at each moment of it is as above; and it leaves the volume at rest. A
--- fault is entered after a request alone that was answered 905. Where a COMMIT was answered 0, its unit
--- is in every image that a crash may leave from then on. A request is answered 904 only where a read
--- failed in its event, and 905, so that the volume stops, only where a write or a sync failed in it.
+-- touched no block, or each image at each moment of it is as above; and it leaves the volume at
+-- rest. A fault is entered after a request alone that was answered 905. Where a COMMIT was answered
+-- 0, its unit is in every image that a crash may leave from then on. A request is answered 904 only
+-- where a read failed in its event, and 905, so that the volume stops, only where a write or a sync
+-- failed in it.
 pub record IsEvent {B : Type 0} (seen : B → Seen) (counts : B → Faults) (geometry : Geometry)
     (number : ℕ) (opening : State) (event : Event B) (now : B) (entries : List Entry) : Type 0 where
   pub entries_are : entries ≡ event.entries ++ event.made

@@ -38,8 +38,9 @@ pub record GoesOn {B : Type 0} (seen : B → Seen) (faults : B → Faults) (old 
       → AreFaultless old.file.entries → AreFaultless new.file.entries
 
 -- What goes on where it does, from an opening and the blocks as they were then: the history is
--- legal, gives what the volume has, and leaves the catalog as it is; each image at each moment since is left by the history, and
--- so it is event by event; and where the volume has stopped, by the event in which it did.
+-- legal, gives what the volume has, and leaves the catalog as it is; each image at each moment
+-- since is left by the history, and so it is event by event; and where the volume has stopped, by
+-- the event in which it did.
 pub record HasRun {B : Type 0} (seen : B → Seen) (faults : B → Faults) (opening : State)
     (first : B) (volume : VolumeNow B) : Type 0 where
   pub held : IsHeld seen opening volume

@@ -46,16 +46,16 @@ opening_of contents owners = opening_state contents (owned_in owners)
 
 -- The volume was opened: the blocks were one's of this number, which recovered to contents with
 -- this catalog; an area is owned by the part that the catalog lays in it, and by no other, and else
--- it is free; the history is legal from its opening, and no entry of it changes the catalog; and each
--- image of each moment is one that a crash left before, or is left by the history. From the end of its opening on the run is events,
--- in each of which an image recovers to what is committed by the history before it, perhaps with
--- the unit whose COMMIT it enters; so it came to what the requests left, and then nothing more is
--- put. As long as the device counted no write that failed, the volume wasn't stopped, and each
--- image that a crash may leave at the end recovers to what is committed by all of the history; on a
--- volume that stopped, to what is committed by the history before the fault, with the unit in doubt
--- only where its COMMIT was answered 905.
--- Where the job came through, a crash leaves what is read, unless the volume had stopped: whatever
--- the device has counted.
+-- it is free; the history is legal from its opening, and no entry of it changes the catalog; and
+-- each image of each moment is one that a crash left before, or is left by the history. No fault
+-- came as it was opened. From the end of its opening on the run is events, in each of which an
+-- image recovers to what is committed by the history before it, perhaps with the unit whose COMMIT
+-- it enters; so it came to what the requests left, and then nothing more is put. As long as the
+-- device counted no write that failed, the volume wasn't stopped, and each image that a crash may
+-- leave at the end recovers to what is committed by all of the history; on a volume that stopped,
+-- to what is committed by the history before the fault, with the unit in doubt only where its
+-- COMMIT was answered 905. Where the job came through, a crash leaves what is read, unless the
+-- volume had stopped: whatever the device has counted.
 pub record IsRun {D : Type 0} (tells : Bool) (seen : D → Seen) (faults : D → Faults) (number : ℕ)
     (catalog : List CatEntry) (end : End) (entries : List Entry) (old ended new : D) : Type 0 where
   pub geometry : Geometry
@@ -69,6 +69,7 @@ pub record IsRun {D : Type 0} (tells : Bool) (seen : D → Seen) (faults : D →
   pub moments : Guards (seen old) (seen new) (λ image. Left (seen old) image
       ⊎ IsLeftBy geometry number (opening_state contents (owned_in owners)) entries image)
   pub opened : D
+  pub quiet : faults opened ≡ faults old
   pub opens : Guards (seen old) (seen opened) (λ image. Left (seen old) image
       ⊎ Recovers geometry number image contents)
   pub events : IsOfEvents seen faults geometry number (opening_state contents (owned_in owners))
@@ -143,7 +144,7 @@ pub record IsVolumeRun {D : Type 0} (tells : Bool) (seen : D → Seen) (faults :
 
 -- ---- what is known as it is opened, run and closed
 
--- A volume was opened on a device: it has no history yet and isn't stopped.
+-- A volume was opened on a device, which counted no fault: it has no history yet and isn't stopped.
 pub record IsOpen {D : Type 0} (tells : Bool) (seen : D → Seen) (faults : D → Faults) (number : ℕ)
     (device : D) (volume : VolumeNow D) : Type 0 where
   pub whole : IsWhole seen volume
@@ -151,6 +152,7 @@ pub record IsOpen {D : Type 0} (tells : Bool) (seen : D → Seen) (faults : D �
   pub begins : volume.file.entries ≡ []
   pub going : volume.file.stopped ≡ None
   pub never_fall : NeverFall (faults device) (faults volume.blocks)
+  pub quiet : faults volume.blocks ≡ faults device
   pub held : IsTrue tells → IsOpenHeld seen faults number (seen device) volume
   pub any_moment : IsTrue tells → (geometry : Geometry) (contents : ℕ → Content)
       → IsVolume number geometry contents (seen device)

@@ -87,6 +87,7 @@ fn open_whole<B: Blocks>(
     ensures unwritten { IsTrue B.tells → IsNoVolume number (B.seen blocks.old)
         → IfErr result (λ end. Keeps B.tells (B.seen blocks.old) (B.seen blocks.new)) }
     ensures faults { NeverFall (B.faults blocks.old) (B.faults blocks.new) }
+    ensures quiet { OnOk result (B.faults blocks.new ≡ B.faults blocks.old) }
     ensures cause { IfErr result
         (HasEndCause number (B.faults blocks.old) (B.faults blocks.new)) }
 {
@@ -122,6 +123,7 @@ fn open_parts<B: Blocks>(
     ensures unwritten { IsTrue B.tells → IsNoVolume number (B.seen blocks.old)
         → IfErr result (λ end. Keeps B.tells (B.seen blocks.old) (B.seen blocks.new)) }
     ensures faults { NeverFall (B.faults blocks.old) (B.faults blocks.new) }
+    ensures quiet { OnOk result (B.faults blocks.new ≡ B.faults blocks.old) }
     ensures cause { IfErr result
         (HasEndCause number (B.faults blocks.old) (B.faults blocks.new)) }
 {
@@ -198,6 +200,8 @@ pub fn open<B: Blocks + Drop>(
         → IfErr result (λ back. Keeps B.tells (B.seen blocks) (B.seen back.0)) }
     ensures faults { IfOk result (λ volume.
         NeverFall (B.faults blocks) (B.faults volume.blocks)) }
+    // No fault is hidden: a volume is opened only where none came.
+    ensures quiet { IfOk result (λ volume. B.faults volume.blocks ≡ B.faults blocks) }
     ensures faults_back { IfErr result (λ back. NeverFall (B.faults blocks) (B.faults back.0)) }
     ensures cause { IfErr result (λ back.
         HasEndCause number (B.faults blocks) (B.faults back.0) back.1) }

@@ -86,8 +86,8 @@ impl Ledger {
         turn.badge = self.seat.hand_out();
     }
 
-    /// What a turn knows is what the history has of its deck, and the history went on from the one that
-    /// the deck saw. Nothing changes.
+    /// What a turn knows is what the history has of its deck, and the history went on from the one
+    /// that the deck saw. Nothing changes.
     pub fn tell(&mut self, turn: &mut Turn)
         requires own_ledger { turn.old.ledger ≡ self.old.table }
         ensures told { turn.old.entries ≡ entries_of turn.old.deck self.old.history }

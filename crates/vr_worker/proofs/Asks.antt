@@ -1,6 +1,7 @@
 -- What the decks of a step asked, by the volumes that come back.
 use Rattle.std.proofs.Common.{◌≡◌, ◌∙◌, ◌<◌, ◌==◌, ℕ, List, [], ◌∷◌, ◌++◌, All, Result, Ok, Err}
-use Rattle.std.proofs.Common.{◌+◌, ◌⊎◌, ap, arith, eq-eqb, false, inl, inr, get_or, length, map, refl, subst, sym, take, true}
+use Rattle.std.proofs.Common.{◌+◌, ◌⊎◌, ap, arith, eq-eqb, false, inl, inr, get_or, length, map}
+use Rattle.std.proofs.Common.{refl, subst, sym, take, true}
 use Rattle.std.specs.List.{filter}
 use Rattle.std.specs.Prelude.{Contains, OnOk}
 use Rattle.std.proofs.lemmas.Bool.{cases_lt}
@@ -423,6 +424,7 @@ module _ {V : Type 0} (entries : V → List Entry) (volumes : List V) (ledgers :
 
     pub come-next : start ≡ greatest_last entries volumes → ComeNext entries volumes result
     come-next is place volume entry near has = subst (λ (stamp : ℕ). IsNext stamp entry
-        ⊎ FollowsOneOf (map entries result) (with_volume place entry)) is (All-contains (IsNextThere place volume near)
+        ⊎ FollowsOneOf (map entries result) (with_volume place entry)) is
+        (All-contains (IsNextThere place volume near)
         (gained (was place volume near) (now place volume near)) entry
         (gain-next place volume near) has)

@@ -128,7 +128,8 @@ module _ (number deck line : ℕ) (request : Request) (after : ℕ) (done : Bool
             entries = turn.entries ++ entered.made;
             history = them;
           }) (sym known);
-      history = subst (HasGrown turn.history) (sym known) (grown-on turn.history old new saw went-on);
+      history = subst (HasGrown turn.history) (sym known)
+          (grown-on turn.history old new saw went-on);
     };
     stamped = stamped-above after (max (last_stamp 0 old) after) entered.made (omega arith)
         entered.stamped;

@@ -56,7 +56,8 @@ told-stays place entries {old = old} {new = new} same told = record {
   entries = λ turn.
       ap (λ (turns : List TurnNow). (get_or turns place turn).entries) same.turns
       ∙ told.entries turn ∙ ap (λ (deck : ℕ). deck_entries deck entries) (sym same.deck);
-  grown = λ turn. subst (λ (turns : List TurnNow). HasGrown (get_or turns place turn).history entries)
+  grown = λ turn. subst
+      (λ (turns : List TurnNow). HasGrown (get_or turns place turn).history entries)
       (sym same.turns) (told.grown turn);
 }
 

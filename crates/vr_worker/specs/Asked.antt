@@ -62,8 +62,8 @@ IsNext stamp entry = entry.stamp ≡ stamp + 1
 abbrev pub FollowsOne : List Entry → Entry → Type 0
 FollowsOne entries entry = (other : Entry) × Contains entries other × IsNext other.stamp entry
 
--- The entries of the event are the deck's, at the stamps that come next after the greater of its own
--- last one and the volume's, and answer the request where it is done, and none where it isn't.
+-- The entries of the event are the deck's, at the stamps that come next after the greater of its
+-- own last one and the volume's, and answer the request where it is done, and none where it isn't.
 pub record HasEntered (number deck line : ℕ) (request : Request) (after : ℕ) (done : Bool)
     (old new : List Entry) : Type 0 where
   pub made : List Entry

@@ -32,8 +32,8 @@ pub record HaveGrown (old new : List TurnNow) (made : List Numbered) : Type 0 wh
       → HasLearned (entries_on volume made) (get_or old volume turn) (get_or new volume turn)
   pub within : (volume : ℕ) → length old ≤ volume → entries_on volume made ≡ []
 
--- An entry of a deck on one of its volumes has the stamp that comes next: after this one, after that
--- of another of the deck's, or after that of one that is known of its volume.
+-- An entry of a deck on one of its volumes has the stamp that comes next: after this one, after
+-- that of another of the deck's, or after that of one that is known of its volume.
 abbrev pub IsNextOn : ℕ → List Numbered → List TurnNow → Numbered → Type 0
 IsNextOn last made turns this = (turn : TurnNow) → this.volume < length turns
     → ComesNext last (map entry_of made) (get_or turns this.volume turn).history this.entry

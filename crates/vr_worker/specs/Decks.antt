@@ -1,5 +1,6 @@
 -- The decks of a step, and what they leave of the volumes. The rules are this project's own.
-use Rattle.std.specs.Prelude.{◌≡◌, ◌⊎◌, ◌<◌, ◌≤◌, ◌^◌, ◌==◌, ℕ, List, [], false, All, Contains, Result}
+use Rattle.std.specs.Prelude.{◌≡◌, ◌⊎◌, ◌<◌, ◌≤◌, ◌^◌, ◌==◌, ℕ, List, [], false, All, Contains}
+use Rattle.std.specs.Prelude.{Result}
 use Rattle.std.specs.Prelude.{OnOk, drop, get_or, length, map, take, count_by}
 use Rattle.vr_history.specs.Merged.{Numbered, last_stamp, merged, part_of_deck}
 use Rattle.vr_history.specs.declared.entry.Entry.{Entry}
@@ -75,11 +76,13 @@ pub record FollowsOneOf (histories : List (List Entry)) (this : Numbered) : Type
   pub next : IsNext other.entry.stamp this.entry
   pub shares : (other.volume ≡ this.volume) ⊎ (other.entry.unit.deck ≡ this.entry.unit.deck)
 
--- No stamp is left out: each entry that a volume gained has the one that comes next after the greatest
--- of the last stamps of the volumes as they were, or after that of an entry of its volume or its deck.
+-- No stamp is left out: each entry that a volume gained has the one that comes next after the
+-- greatest of the last stamps of the volumes as they were, or after that of an entry of its volume
+-- or its deck.
 abbrev pub ComeNext : {V : Type 0} → (V → List Entry) → List V → List V → Type 0
 ComeNext {V} entries old new = (place : ℕ) (volume : V) (entry : Entry) → place < length old
-    → Contains (gained (entries (get_or old place volume)) (entries (get_or new place volume))) entry
+    → Contains (gained (entries (get_or old place volume)) (entries (get_or new place volume)))
+    entry
     → IsNext (greatest_last entries old) entry
     ⊎ FollowsOneOf (map entries new) (with_volume place entry)
 

@@ -76,8 +76,8 @@ pub record ComesBefore (steps : List Step) (other this : Numbered) : Type 0 wher
   pub of : (other.volume ≡ this.volume) ⊎ ((other.entry.unit.deck ≡ this.entry.unit.deck)
       ⊎ IsOfEarlier steps other.entry this.entry)
 
--- No stamp is left out: that of each entry of the histories is 1, or there is an entry with the stamp
--- before it, of its volume, of its deck, or of an earlier step.
+-- No stamp is left out: that of each entry of the histories is 1, or there is an entry with the
+-- stamp before it, of its volume, of its deck, or of an earlier step.
 abbrev pub AreGapless : List Step → List (List Entry) → Type 0
 AreGapless steps histories = (this : Numbered) → IsEntered histories this
     → IsNext 0 this.entry

@@ -13,7 +13,8 @@ use Rattle.vr_ledger.proofs.CallerLemmas.{entries_of-more}
 use Rattle.vr_ledger.specs.Entries.{IsOf}
 use Rattle.vr_trace.specs.Laws.{deck_entries}
 use Rattle.vr_trace.specs.Numbering.{with_volume}
-use Rattle.vr_worker.specs.Asked.{FollowsOne, HasEntered, IsNext, MayAsk, MayGoOn, bound_to, if_done, undoes}
+use Rattle.vr_worker.specs.Asked.{FollowsOne, HasEntered, IsNext, MayAsk, MayGoOn, bound_to}
+use Rattle.vr_worker.specs.Asked.{if_done, undoes}
 use Rattle.vr_worker.specs.Asked.{is_done, undoes_from, undoing_after}
 use Rattle.vr_worker.specs.declared.no.RunNo.{RunNo}
 use Rattle.vr_worker_cases.specs.Event.{event_of, what_of}

@@ -10,7 +10,13 @@ loop-at-preserved g c =
     let have = c.loop-at.invariant in
     let next = c.tell_one.new.seat in
     let near : c.loop-at.at < length c.loop-at.seats =
-    omega (arith, c.loop-at-test.true, c.loop-at.auto.seats, c.loop-at.auto.at-end, have.seats.count) in
+    omega (
+      arith,
+      c.loop-at-test.true,
+      c.loop-at.auto.seats,
+      c.loop-at.auto.at-end,
+      have.seats.count,
+    ) in
     record {
       told = AllWithin-more_set c.loop-at.seats c.loop-at.at next near
           (IsToldAt c.args.place (entries c.args.latched.now.volume)) have.told
