@@ -128,7 +128,7 @@ module _ (case : CaseInHand) (state : State) (is : IsCaseOf case state)
   cluster-of : (on : FileRef) → file_of case.request.now ≡ Some on
       → (definition : Definition) × (opened w ≡ Cluster definition)
   cluster-of on file =
-      let opens = opened_is case state is in
+      let opens = opened_is case state is.file in
       let known : refused_if (is_unknown (opened w) || is_catalog_changing w) NoFile ≡ None =
       sym (ap (λ (o : Option FileRef). option_and_then (λ (file : FileRef).
       refused_if (is_unknown (opened w) || is_catalog_changing w) NoFile) o) file)
@@ -148,7 +148,7 @@ module _ (case : CaseInHand) (state : State) (is : IsCaseOf case state)
         record {
           on = cluster.1;
           ascends = ascends;
-          stands = sym is.stand ∙ ap (λ (o : Option FileRef).
+          stands = sym is.file.stand ∙ ap (λ (o : Option FileRef).
               option_map (λ (file : FileRef). or_start (option_copied case.stand)) o) file;
           finds = finds;
         },

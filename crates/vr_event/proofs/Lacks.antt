@@ -39,6 +39,7 @@ use Rattle.vr_history.specs.State.{State}
 use Rattle.vr_undo.specs.Records.{images_in}
 use Rattle.vr_volume.specs.PutBack.{lengths_kept}
 use Rattle.vr_answer.specs.InHand.{IsCaseOf, whole}
+use Rattle.vr_answer.specs.Scope.{AreKeyedClusters}
 use Rattle.vr_answer.specs.Tried.{file_refusals, record_refusals}
 use Rattle.vr_answer.specs.declared.case.Case.{Case as CaseInHand}
 use Rattle.vr_event.specs.Getting.{refusal_of}
@@ -253,10 +254,10 @@ keyed-none case definition on keyed =
     ∙ no-need case definition keyed (place_changed case) (new_record case.request))
 
 pub refused-else : (case : CaseInHand) (state : State) → IsCaseOf case state
-    → IsChange case.request.now → first_of (file_refusals (whole case state)) ≡ None
+    → AreKeyedClusters case.catalog.now → IsChange case.request.now → first_of (file_refusals (whole case state)) ≡ None
     → AreElse (first_of (record_refusals (whole case state)))
-refused-else case state is change none =
-    let on = on-keyed case state is change none in
+refused-else case state is keyed change none =
+    let on = on-keyed case state is keyed change none in
     record-else-by (whole case state) change
     (keyed-none (whole case state) on.definition on.on on.keyed)
 

@@ -1,7 +1,6 @@
 pub mod Like
 pub mod Entering
 pub mod Readings
-pub mod Early
 pub mod Ended
 pub mod Known
 pub mod Sought

@@ -18,7 +18,7 @@ use Rattle.vr_history.specs.Opened.{catalog_of}
 use Rattle.vr_history.specs.State.{BeforeImage, State}
 use Rattle.vr_history.specs.Step.{change_back, put_back, puts_back, withdrawn_by}
 use Rattle.vr_history.proofs.CallerLemmas.{state_of-append}
-use Rattle.vr_answer.specs.Scope.{HasClustersAlone}
+use Rattle.vr_answer.specs.Scope.{HasKeyedAlone}
 use Rattle.vr_answer.proofs.CallerLemmas.{definition_keyed}
 use Rattle.vr_record_file.specs.Now.{FileNow, IsStateOf, entry_next, state_now, with_event}
 use Rattle.vr_event.specs.Alike.{AreAlike}
@@ -95,7 +95,7 @@ none-withdrawn found None each = refl
 none-withdrawn found (Some definition) each =
     ap (λ (kind : Kind). withdrawn_by kind found) (each definition refl)
 
-back-item : (state : State) (last : BeforeImage) → HasClustersAlone state → (old : Option Item)
+back-item : (state : State) (last : BeforeImage) → HasKeyedAlone state → (old : Option Item)
     → put_back state last old ≡ old
 back-item state last alone (Some old) = refl
 back-item state last alone None =
@@ -104,7 +104,7 @@ back-item state last alone None =
     (λ definition there. definition_keyed (catalog_of state) last.part definition alone there)
 
 pub undone-in : (state : State) (unit : UnitOfRecovery) (last : BeforeImage)
-    → HasClustersAlone state → last_kept state unit ≡ Some last
+    → HasKeyedAlone state → last_kept state unit ≡ Some last
     → IsBackIn unit state (puts_back unit state)
 undone-in state unit last alone is =
     subst (λ (found : Option BeforeImage). IsBackIn unit state (option_map_or

@@ -24,6 +24,7 @@ use Rattle.vr_history.specs.Replies.{lacks_area, may_want}
 use Rattle.vr_history.specs.State.{State}
 use Rattle.vr_history.specs.Step.{stand_refused}
 use Rattle.vr_answer.specs.InHand.{IsCaseOf, whole}
+use Rattle.vr_answer.specs.Scope.{AreKeyedClusters}
 use Rattle.vr_answer.specs.Looked.{place_looked_at}
 use Rattle.vr_answer.specs.Opening.{as_opened, definition_here}
 use Rattle.vr_answer.specs.Scope.{IsDirect}
@@ -180,10 +181,11 @@ pub record IsOnKeyed (case : Case) : Type 0 where
   pub keyed : definition.kind ≡ Keyed
 
 pub on-keyed : (case : CaseInHand) (state : State) → IsCaseOf case state
-    → IsChange case.request.now → first_of (file_refusals (whole case state)) ≡ None
+    → AreKeyedClusters case.catalog.now → IsChange case.request.now → first_of (file_refusals (whole case state)) ≡ None
     → IsOnKeyed (whole case state)
-on-keyed case state is change none = by_found (definition_here case) (opened_is case state is)
-    (keyed_here case state is)
+on-keyed case state is keyed change none =
+    by_found (definition_here case) (opened_is case state is.file)
+    (keyed_here case state is.file (subst AreKeyedClusters is.file.catalog keyed))
     (or-first (is_unknown (opened (whole case state))) (is_catalog_changing (whole case state))
     (change-known case.request.now _ change
     (first-none (no_file (whole case state)) _ none)))
@@ -197,7 +199,7 @@ on-keyed case state is change none = by_found (definition_here case) (opened_is 
         record { definition = definition; on = on; keyed = keyed }
 
 module _ (case : CaseInHand) (state : State) (is : IsCaseOf case state)
-    (change : IsChange case.request.now)
+    (keyed : AreKeyedClusters case.catalog.now) (change : IsChange case.request.now)
     (no-record : first_of (record_refusals (whole case state)) ≡ None) where
   abbrev w : Case
   w = whole case state
@@ -205,7 +207,7 @@ module _ (case : CaseInHand) (state : State) (is : IsCaseOf case state)
   lacks : first_of (file_refusals w) ≡ None → (bytes : List ℕ)
       → new_record case.request.now ≡ Some bytes → LacksRoom w (Refused lacks_area)
   lacks none bytes new =
-      let on = on-keyed case state is change none in
+      let on = on-keyed case state is keyed change none in
       lacks_room w on.definition bytes none no-record on.on on.keyed new
 
   -- its part lacks an area

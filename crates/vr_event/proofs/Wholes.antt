@@ -22,6 +22,7 @@ use Rattle.vr_history.proofs.CallerLemmas.{state_of-append}
 use Rattle.vr_record_file.specs.Now.{FileNow, IsStateOf, MayBeAsked, asked_failing, entry_next}
 use Rattle.vr_record_file.specs.Now.{failed, state_now, with_event}
 use Rattle.vr_volume.specs.Laid.{shape_in}
+use Rattle.vr_answer.specs.Scope.{AreKeyedClusters}
 use Rattle.vr_event.specs.Alike.{AreAlike}
 use Rattle.vr_event.specs.Putting.{IsChanging}
 use Rattle.vr_store.specs.Store.{IsSet, IsStored, StoreNow, shape_among}
@@ -39,6 +40,7 @@ module _ {B : Type 0} (seen : B → Seen) where
       → (file.stopped ≡ None → IsSet store (seen blocks))
       → IsWhole seen (record volume { blocks = blocks; store = store; file = file })
   whole-of volume store blocks file whole was geometry catalog log parts set = record {
+    keyed = subst AreKeyedClusters (sym catalog) whole.keyed;
     geometry = λ going. log going ∙ whole.geometry (was going) ∙ sym geometry;
     laid = λ going n. parts going n ∙ whole.laid (was going) n
         ∙ sym (ap (λ (g : Geometry). shape_in g file.catalog n) geometry

@@ -7,6 +7,7 @@ use Rattle.vr_history.specs.RefusedRoom.{free_areas}
 use Rattle.vr_history.specs.State.{State}
 use Rattle.vr_history.specs.Step.{case_of}
 use Rattle.vr_types.specs.declared.request.Request.TheVariants.{Commit}
+use Rattle.vr_answer.specs.Scope.{AreKeyedClusters}
 use Rattle.vr_record_file.specs.Now.{FileNow, IsStateOf, state_now}
 use Rattle.vr_volume.specs.Laid.{shape_in}
 use Rattle.vr_store.specs.Store.{IsSet, IsStored, StoreNow, shape_among}
@@ -18,9 +19,11 @@ pub record VolumeNow (B : Type 0) : Type 0 where
   pub store : StoreNow
   pub file : FileNow
 
--- Whether or not the device reports its contents: as long as no write failed, the store is set, and
--- its parts are those of the catalog. Of a volume that stopped no call looks at the store.
+-- Whether or not the device reports its contents: all clusters are key-sequenced, and as long as no
+-- write failed, the store is set, and its parts are those of the catalog. Of a volume that stopped no
+-- call looks at the store.
 pub record IsWhole {B : Type 0} (seen : B → Seen) (volume : VolumeNow B) : Type 0 where
+  pub keyed : AreKeyedClusters volume.file.catalog
   pub geometry : volume.file.stopped ≡ None
       → volume.store.log.geometry ≡ volume.file.geometry
   pub laid : volume.file.stopped ≡ None → (part : ℕ) → shape_among volume.store.parts part

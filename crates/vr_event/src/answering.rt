@@ -20,7 +20,12 @@ impl<B: Blocks, P: Part> Volume<B, P> {
     /// `NotAllowed`, `BadLength`, `NoPosition` where a sequential GET finds its file nowhere, and
     /// `NoGet` where an update or an erase finds nothing held. None of them looks at locks or at the
     /// log, so neither is a parameter. It takes no memory, and the refusal moves no file.
-    pub fn refused_early(&self, alloc: Global, unit: Unit, request: &Request) -> Option<Refusal>
+    pub fn refused_early<'a>(
+        &'a self,
+        alloc: Global,
+        unit: Unit,
+        request: &'a Request,
+    ) -> Option<Refusal>
         ensures value { IsTrue B.tells → (opening : State) → IsHeld B.seen opening self.now
             → (unit.deck == 0) ≡ false
             → result ≡ first_of (file_refusals (case_of self.now.file.geometry
@@ -45,6 +50,8 @@ impl<B: Blocks, P: Part> Volume<B, P> {
             stopped: self.file.stopped(),
             free: self.store.free_areas(),
             used: 0,
+            address: None,
+            areas: 0,
             unit,
             request,
             catalog_changing: false,

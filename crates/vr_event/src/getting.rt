@@ -19,6 +19,7 @@ ghost use Rattle.vr_history.specs.State.{State};
 ghost use Rattle.vr_history.specs.Step.{case_of};
 ghost use Rattle.vr_answer.specs.Here.{base_here};
 ghost use Rattle.vr_answer.specs.InHand.{InEach};
+ghost use Rattle.vr_answer.specs.Scope.{AreKeyedClusters};
 ghost use Rattle.vr_answer.specs.Tried.{file_refusals, record_refusals};
 ghost use Rattle.vr_history.specs.declared.entry.What.TheVariants as whats;
 ghost use Rattle.vr_record_file.specs.Now.{CanSet, IsStateOf, MayBeAsked, state_now};
@@ -339,16 +340,17 @@ fn sought<B: Blocks, P: Part>(
 
 /// Decides what a read comes to that nothing in memory refuses, on a volume that has not stopped.
 /// Nothing is put.
-fn decide<B: Blocks, P: Part>(
+fn decide<'a, B: Blocks, P: Part>(
     alloc: Global,
     blocks: &mut B,
     store: &mut Store<P>,
-    file: &RecordFile,
+    file: &'a RecordFile,
     unit: Unit,
-    request: &Request,
+    request: &'a Request,
 ) -> Outcome
     requires set { IsSet store.old (B.seen blocks.old) }
     requires laid { AreLaidBy file.now.geometry file.now.catalog store.old.parts }
+    requires keyed { AreKeyedClusters file.now.catalog }
     requires stands { IsTrue B.tells → Stands store.old (B.seen blocks.old) }
     ensures ends { IsTrue B.tells → (volume : ℕ) (opening : State) → IsStateOf opening file.now
         → file.now.stopped ≡ None
@@ -361,7 +363,7 @@ fn decide<B: Blocks, P: Part>(
     ensures keeps { Keeps B.tells (B.seen blocks.old) (B.seen blocks.new) }
     ensures cause { HasReplyCause (B.faults blocks.old) (B.faults blocks.new) (reply_of result) }
 {
-    let case = file.case(unit, request, store.free_areas(), store.used());
+    let case = file.case(unit, request, store.free_areas(), store.used(), None, 0);
     sought(
         alloc,
         blocks,

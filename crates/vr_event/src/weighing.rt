@@ -15,6 +15,7 @@ ghost use Rattle.vr_history.specs.State.{State};
 ghost use Rattle.vr_history.specs.Step.{IsOfUnit, case_of, stand_refused};
 ghost use Rattle.vr_answer.specs.Here.{base_here};
 ghost use Rattle.vr_answer.specs.InHand.{InEach, IsLookedAt};
+ghost use Rattle.vr_answer.specs.Scope.{AreKeyedClusters};
 ghost use Rattle.vr_answer.specs.Tried.{file_refusals};
 ghost use Rattle.vr_record_file.specs.Now.{IsStateOf, state_now};
 ghost use Rattle.vr_event.specs.Cause.{HasReplyCause, is_fault as faults, is_faulted};
@@ -150,7 +151,8 @@ fn refused_in_memory(
     logged: bool,
     live: bool,
 ) -> Result<Option<Refusal>, OutOfMemory>
-    requires { ForSome (option_copied present) (λ bytes. length bytes < 2 ^ 32) }
+    requires short { ForSome (option_copied present) (λ bytes. length bytes < 2 ^ 32) }
+    requires keyed { AreKeyedClusters case.now.catalog.now }
     ensures value { IfOk result (λ refused. InEachLogged case.now (option_copied present.entry)
         logged live (λ whole. putting.IsChange whole.request
         → putting.IsRefusedBy whole refused)) }
@@ -226,6 +228,7 @@ fn crowded(
     place: Place,
     old: Option<Bytes>,
 ) -> Weighed
+    requires { AreKeyedClusters case.now.catalog.now }
     ensures may { InEachWith case.now old (λ whole. NoSpace need free ≡ replies.lacks_area
         → putting.IsReadyAt whole place old → putting.MayWeigh whole result) }
     ensures opens { (store : StoreNow) (image : Image) (part : ℕ)
@@ -265,6 +268,7 @@ fn weigh_room<B: Blocks, P: Part>(
     requires set { IsSet store.old (B.seen blocks.old) }
     requires stands { IsTrue B.tells → Stands store.old (B.seen blocks.old) }
     requires at { putting.HasPlace store.old.parts part.0 place }
+    requires keyed { AreKeyedClusters case.now.catalog.now }
     requires size { putting.FitsLength store.old.parts part.0 length }
     requires new_fits { putting.FitsItem store.old.parts part.0 place
         (cases.new_record case.now.request.now) }
@@ -311,6 +315,7 @@ fn weigh_record<B: Blocks, P: Part>(
     requires set { IsSet store.old (B.seen blocks.old) }
     requires stands { IsTrue B.tells → Stands store.old (B.seen blocks.old) }
     requires at { putting.HasPlace store.old.parts part.0 place }
+    requires keyed { AreKeyedClusters case.now.catalog.now }
     requires change { putting.IsChange case.now.request.now }
     requires size { IfSome length (λ n. putting.FitsLength store.old.parts part.0 n) }
     requires new_fits { IfSome length (λ n. putting.FitsItem store.old.parts part.0 place
@@ -366,6 +371,7 @@ fn weigh_looked<B: Blocks, P: Part>(
     requires set { IsSet store.old (B.seen blocks.old) }
     requires stands { IsTrue B.tells → Stands store.old (B.seen blocks.old) }
     requires at { putting.HasPlace store.old.parts part.0 place }
+    requires keyed { AreKeyedClusters case.now.catalog.now }
     requires laid { putting.AreLaidBy case.now.geometry catalog.now store.old.parts }
     requires change { putting.IsChange case.now.request.now }
     ensures may { IsTrue B.tells → (volume : ℕ) → InEachWith case.now old (λ whole.
@@ -411,6 +417,7 @@ fn weigh_at<B: Blocks, P: Part>(
     requires set { IsSet store.old (B.seen blocks.old) }
     requires stands { IsTrue B.tells → Stands store.old (B.seen blocks.old) }
     requires at { putting.HasPlace store.old.parts part.0 place }
+    requires keyed { AreKeyedClusters case.now.catalog.now }
     requires laid { putting.AreLaidBy case.now.geometry catalog.now store.old.parts }
     requires change { putting.IsChange case.now.request.now }
     ensures may { IsTrue B.tells → (volume : ℕ) → InEach case.now (λ whole.
@@ -467,18 +474,19 @@ fn may_change<P: Part>(
 }
 
 /// Decides what a PUT or an ERASE comes to on a volume that has not stopped. Nothing is put.
-pub(crate) fn weigh<B: Blocks, P: Part>(
+pub(crate) fn weigh<'a, B: Blocks, P: Part>(
     alloc: Global,
     blocks: &mut B,
     store: &mut Store<P>,
-    file: &RecordFile,
+    file: &'a RecordFile,
     unit: Unit,
-    request: &Request,
+    request: &'a Request,
     part: PartNo,
 ) -> Weighed
     requires set { IsSet store.old (B.seen blocks.old) }
     requires stands { IsTrue B.tells → Stands store.old (B.seen blocks.old) }
     requires laid { putting.AreLaidBy file.now.geometry file.now.catalog store.old.parts }
+    requires keyed { AreKeyedClusters file.now.catalog }
     requires change { putting.IsChange request.now }
     requires base { part.0 ≡ base_here request.now }
     ensures may { IsTrue B.tells → (volume : ℕ) (opening : State) → IsStateOf opening file.now
@@ -508,7 +516,7 @@ pub(crate) fn weigh<B: Blocks, P: Part>(
     ensures cause { HasReplyCause (B.faults blocks.old) (B.faults blocks.new)
         (putting.reply_to result) }
 {
-    let case = file.case(unit, request, store.free_areas(), store.used());
+    let case = file.case(unit, request, store.free_areas(), store.used(), None, 0);
     match place_asked(alloc, &case) {
         None => Weighed::Refused(Refusal::Memory),
         Some(place) => {

@@ -2,8 +2,11 @@ use Rattle.std.proofs.Common.{◌≡◌, None, subst, sym, ◌∙◌}
 use Rattle.vr_history.specs.Case.{Case}
 use Rattle.vr_history.specs.Replies.{first_of}
 use Rattle.vr_history.specs.State.{State}
+use Rattle.vr_history.specs.Step.{case_of}
 use Rattle.vr_answer.specs.InHand.{IsCaseOf}
 use Rattle.vr_answer.specs.Tried.{file_refusals}
+use Rattle.vr_answer.proofs.CallerLemmas.{numbers_keyed}
+use Rattle.vr_record_file.proofs.Resting.{keyed_now}
 use Rattle.vr_record_file.specs.Now.{state_now}
 use Rattle.vr_event.specs.Getting.{IsRead, MayEnd}
 use Rattle.vr_event.proofs.Known.{whole-is}
@@ -15,7 +18,9 @@ returns-clause-ends g c told volume opening is going stored deck read free none 
     let state : State = state_now opening file in
     let case = c.case-case.result in
     let agrees : IsCaseOf case state = c.case-case.ensures.going opening is going deck
-    (c.used.ensures ∙ stored.volume.logged.used) (c.free_areas.ensures ∙ free) in
+    (c.used.ensures ∙ stored.volume.logged.used) (c.free_areas.ensures ∙ free)
+    (numbers_keyed (case_of file.geometry state c.args.unit c.args.request.now)
+    (keyed_now opening file is c.requires.keyed) _ _) in
     let same = whole-is case state file.geometry c.args.unit c.args.request.now
     c.case-case.ensures.geometry c.case-case.ensures.unit c.case-case.ensures.asked in
     subst (λ (w : Case). MayEnd w c.sought.result) same

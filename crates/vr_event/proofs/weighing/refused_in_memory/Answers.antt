@@ -39,7 +39,8 @@ pub returns-in-Some-clause-lacks : goal.returns-in-Some-clause-lacks
 returns-in-Some-clause-lacks c = λ state is at logs lives change none.
     subst AreElse
     (sym (c.in_ok-refusal.ensures.value state is
-    (c.changed_at-looked.ensures.looked state is at change)) ∙ c.in-Some.is) (refused-else c.args.case.now state is change none)
+    (c.changed_at-looked.ensures.looked state is at change)) ∙ c.in-Some.is)
+    (refused-else c.args.case.now state is c.requires.keyed change none)
 
 pub returns-in-None-clause-lacks : goal.returns-in-None-clause-lacks
 returns-in-None-clause-lacks c = λ state is at logs lives change none.

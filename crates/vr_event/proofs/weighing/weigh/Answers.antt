@@ -9,7 +9,10 @@ use Rattle.vr_history.specs.Replies.{first_of}
 use Rattle.vr_history.specs.State.{State}
 use Rattle.vr_history.specs.Step.{case_of}
 use Rattle.vr_answer.specs.InHand.{IsCaseOf}
+use Rattle.vr_answer.specs.Scope.{AreKeyedClusters}
 use Rattle.vr_answer.specs.Tried.{file_refusals}
+use Rattle.vr_answer.proofs.CallerLemmas.{numbers_keyed}
+use Rattle.vr_record_file.proofs.Resting.{keyed_now}
 use Rattle.vr_record_file.specs.Now.{state_now}
 use Rattle.vr_event.specs.Lacking.{IfLacks, LacksRoomIn}
 use Rattle.vr_event.specs.Putting.{AreLaidBy, IsAskedAt, MayWeigh}
@@ -23,6 +26,10 @@ weigh_at-requires-clause-laid g c =
     (sym c.case-case.ensures.geometry)
     (subst (λ (entries : List CatEntry). AreLaidBy c.args.file.now.geometry entries
     c.args.store.now.parts) (sym c.catalog.ensures) c.requires.laid)
+
+pub weigh_at-requires-clause-keyed : goal.weigh_at-requires-clause-keyed
+weigh_at-requires-clause-keyed g c =
+    subst AreKeyedClusters (sym c.case-case.ensures.catalog) c.requires.keyed
 
 pub returns-in-None-clause-may : goal.returns-in-None-clause-may
 returns-in-None-clause-may g c told volume opening is going stored free =
@@ -51,7 +58,9 @@ returns-then-may_change-clause-may g c told volume opening is going stored free 
     let case = c.case-case.result in
     let deck = c.may_change.ensures.deck c.if-may_change.true in
     let agrees : IsCaseOf case state = c.case-case.ensures.going opening is going deck
-    (c.used.ensures ∙ stored.volume.logged.used) (c.free_areas.ensures ∙ free) in
+    (c.used.ensures ∙ stored.volume.logged.used) (c.free_areas.ensures ∙ free)
+    (numbers_keyed (case_of file.geometry state c.args.unit c.args.request.now)
+    (keyed_now opening file is c.requires.keyed) _ _) in
     let same = whole-is case state file.geometry c.args.unit c.args.request.now
     c.case-case.ensures.geometry c.case-case.ensures.unit c.case-case.ensures.asked in
     let asked : IsAskedAt (case_of file.geometry state c.args.unit c.args.request.now) c.args.part.0
@@ -74,7 +83,9 @@ returns-then-may_change-clause-lacks g c told volume opening is going stored fre
     let image = (g.B.Blocks.seen c.args.blocks.now).cur in
     let deck = c.may_change.ensures.deck c.if-may_change.true in
     let agrees : IsCaseOf case state = c.case-case.ensures.going opening is going deck
-    (c.used.ensures ∙ stored.volume.logged.used) (c.free_areas.ensures ∙ free) in
+    (c.used.ensures ∙ stored.volume.logged.used) (c.free_areas.ensures ∙ free)
+    (numbers_keyed (case_of file.geometry state c.args.unit c.args.request.now)
+    (keyed_now opening file is c.requires.keyed) _ _) in
     let same = whole-is case state file.geometry c.args.unit c.args.request.now
     c.case-case.ensures.geometry c.case-case.ensures.unit c.case-case.ensures.asked in
     let found : place_changed (case_of file.geometry state c.args.unit c.args.request.now)

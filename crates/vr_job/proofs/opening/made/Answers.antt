@@ -33,7 +33,8 @@ module _ (g : Rattle.vr_job.proofs.opening.made.Given.Over) (c : goal.After-new 
 
 pub returns-clause-whole : goal.returns-clause-whole
 returns-clause-whole g c =
-    c.new.ensures.whole (ready g c).set (ready g c).geometry_is (ready g c).laid
+    c.new.ensures.whole (ready g c).clusters (ready g c).set (ready g c).geometry_is
+    (ready g c).laid
 
 pub returns-clause-run : goal.returns-clause-run
 returns-clause-run g c told contents catalog opened =
@@ -45,7 +46,7 @@ returns-clause-run g c told contents catalog opened =
     r.log (map laid_now r.parts.items) contents now) (sym (same g c)) opened in
     let held = c.new.ensures.held told contents (same-catalog g c ∙ catalog) is.clusters
     is.geometry_is is.records is.sound is.owners.count is.owned of-taken in
-    let whole = c.new.ensures.whole is.set is.geometry_is is.laid in
+    let whole = c.new.ensures.whole is.clusters is.set is.geometry_is is.laid in
     let run = opening-run g.B.Blocks.seen (opening_state contents (owned_in t.space)) c.new.result
     c.new.ensures.entries c.new.ensures.stopped whole held
     (λ image at. g.met.B.Blocks.images_may c.new.result.blocks image told at) in

@@ -3,6 +3,7 @@ use Rattle.vr_types.specs.Geometry.{area_count}
 use Rattle.vr_types.specs.Space.{free_count}
 use Rattle.vr_history.specs.Legal.{state_of}
 use Rattle.vr_history.specs.State.{State, opening_state}
+use Rattle.vr_answer.proofs.CallerLemmas.{keyed_are}
 use Rattle.vr_record_file.specs.Now.{state_now}
 use Rattle.vr_event.specs.Opening.{owned_in}
 use Rattle.vr_store.specs.Store.{IsStored, StoreNow, part_now}
@@ -18,7 +19,8 @@ returns-clause-held g c told contents catalog keyed geometry records sound count
     let same : state_now opening file ≡ opening =
     ap (state_of file.geometry opening) c.new-2.ensures.entries in
     record {
-      file = c.new-2.ensures.state contents (owned_in space) catalog keyed parts;
+      file = c.new-2.ensures.state contents (owned_in space) catalog
+          (keyed_are c.args.catalog keyed) parts;
       free = ap (λ (s : StoreNow). free_count s.space) c.new.ensures
           ∙ free-owned space (area_count file.geometry)
           (count ∙ sym (ap area_count c.new-2.ensures.geometry))

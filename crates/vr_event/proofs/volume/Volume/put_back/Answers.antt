@@ -3,6 +3,8 @@ use Rattle.vr_types.specs.Moments.{Guards}
 use Rattle.vr_history.specs.State.{State}
 use Rattle.vr_history.specs.Step.{IsLastKept, puts_back}
 use Rattle.vr_undo.specs.Records.{image_of}
+use Rattle.vr_answer.specs.Scope.{AreKeyedClusters}
+use Rattle.vr_record_file.proofs.Resting.{keyed_now}
 use Rattle.vr_record_file.specs.Now.{FileNow, state_now}
 use Rattle.vr_volume.specs.Crashes.{RecoversTo}
 use Rattle.vr_event.specs.EndedFile.{IsEnding}
@@ -45,7 +47,9 @@ returns-in-Ok-clause-held g c told opening held ending =
     c.enter_undone.ensures.leaves (ap (λ (s : StoreNow). s.space) c.put_last.ensures.rest) going was
     (c.enter_undone.ensures.state opening was.file kept)
     (c.in-Ok.ensures.back told before.number state (puts_back unit state) stored mine.current
-    (undone-in state unit image was.file.now.alone last)))
+    (undone-in state unit image (keyed_now opening before.file was.file
+    (subst (λ (v : VolumeNow g.row.B.Denot). AreKeyedClusters v.file.catalog) (sym c.self.view_is)
+    c.requires.whole.keyed)) last)))
 
 pub returns-in-Ok-clause-moments : goal.returns-in-Ok-clause-moments
 returns-in-Ok-clause-moments g c told opening held ending =

@@ -7,7 +7,7 @@ use Rattle.vr_history.specs.Step.{case_of, stand_refused}
 use Rattle.vr_answer.specs.Tried.{file_refusals}
 use Rattle.vr_record_file.specs.Now.{state_now}
 use Rattle.vr_event.specs.Volume.{IsHeld, VolumeNow}
-use Rattle.vr_event.proofs.Early.{early, early-is}
+use Rattle.vr_record_file.proofs.Resting.{file_is}
 use Rattle.vr_event.proofs.Staying.{files-stay}
 use Rattle.vr_event.proofs.volume.Volume.refused_early.Goals as goal
 
@@ -21,13 +21,12 @@ returns-clause-value g c told opening held deck =
       file = c.self.inside.file;
     } in
     let file = c.self.inside.file in
-    let state : State = early (state_now opening file) in
+    let state : State = state_now opening file in
     let then : IsHeld seen opening before =
     subst (IsHeld seen opening) (sym c.self.view_is) held in
     c.refused_by_file.ensures.value state
-    (early-is opening file then.file _ c.catalog.ensures c.lock_table-locks.ensures c.held.ensures
-    c.stand.ensures c.stopped.ensures c.geometry.ensures refl refl
-    (c.free_areas.ensures ∙ then.free))
+    (file_is opening file then.file _ c.catalog.ensures c.held.ensures c.stand.ensures
+    c.stopped.ensures refl)
     ∙ ap (λ (shape : Geometry). first_of (file_refusals (case_of shape state c.args.unit
     c.args.request.now))) c.geometry.ensures
     ∙ ap (λ (v : VolumeNow g.row.B.Denot). first_of (file_refusals (case_of v.file.geometry
