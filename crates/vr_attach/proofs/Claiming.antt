@@ -85,8 +85,8 @@ claimed-leaves geometry part areas area free n other is = elim (eqb_tells at are
 
 -- ---- owners once a part got it
 
--- Once a part of the volume got the least free area, it has the blocks of that, which were nobody's,
--- and each part has those that it had.
+-- Once a part of the volume got the least free area, it has the blocks of that, which were
+-- nobody's, and each part has those that it had.
 pub claimed-grows : (geometry : Geometry) (shape : Shape) (areas : List (Option PartNo))
     → IsInside geometry shape → MayGrow shape areas (owner_of geometry areas)
     (owner_of geometry (claimed_by (part_no shape) areas))

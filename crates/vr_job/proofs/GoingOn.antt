@@ -50,6 +50,7 @@ use Rattle.vr_job.proofs.ReadFaults.{acted-reads}
 use Rattle.vr_job.proofs.Stopping.{commit-first, commit-went, faults-follow, going-on, stop-of}
 use Rattle.vr_job.proofs.Stopping.{stopped-more}
 use Rattle.vr_job.proofs.Undoing.{shows-same}
+use Rattle.vr_job.proofs.WriteFaults.{acted-rose}
 
 -- stamps rise on
 stamped-more : (before : ℕ) (entries more : List Entry) → IsStamped before entries
@@ -223,7 +224,7 @@ module _ {B : Type 0} (seen : B → Seen) (faults : B → Faults) (old new : Vol
         (inr (ap (λ (r : Request). Asked r (Refused WriteFault)) commit.0)) commit.2)
         commit.1) is
 
-    module _ (first : B) (run : HasRun seen opening first old) (number : new.number ≡ old.number)
+    module _ (first : B) (run : HasRun seen faults opening first old) (number : new.number ≡ old.number)
         (whole : IsWhole seen old)
         (moments : old.file.stopped ≡ None → Guards (seen old.blocks) (seen new.blocks)
         (IsLeftIn old.store.log.geometry old.number (state_now opening old.file) after unit line
@@ -286,7 +287,8 @@ module _ {B : Type 0} (seen : B → Seen) (faults : B → Faults) (old new : Vol
               held.file.legal.steps))
 
       one-event : IsWhole seen new → IsHeld seen opening new
-          → IsOfEvents seen old.file.geometry old.number opening first new.blocks new.file.entries
+          → IsOfEvents seen faults old.file.geometry old.number opening first new.blocks
+          new.file.entries
       one-event whole-new held = record {
         events = record {
           blocks = old.blocks;
@@ -301,6 +303,10 @@ module _ {B : Type 0} (seen : B → Seen) (faults : B → Faults) (old new : Vol
             after = rests;
             faults = follow;
             lasting = λ done. rests (sym held-stopped ∙ goes-on held done);
+            refused_read = acted-reads old.file new.file made-in.made made-in.entries
+                (faults old.blocks) (faults new.blocks) act after unit line request acted;
+            failed_write = λ stop. acted-rose old.file new.file made-in.made made-in.entries stop
+                (faults old.blocks) (faults new.blocks) act after unit line request acted;
           },
           run.events.are,
         );
@@ -365,14 +371,15 @@ module _ {B : Type 0} (seen : B → Seen) (faults : B → Faults) (old new : Vol
           made-in.geometry held.file.now.of_clusters)) run.keeps_catalog)
 
       -- and where it does: what a crash leaves at each moment, event by event
-      pub event-run : IsWhole seen new → IsHeld seen opening new → HasRun seen opening first new
+      pub event-run : IsWhole seen new → IsHeld seen opening new
+          → HasRun seen faults opening first new
       event-run whole-new held = record {
         held = held;
         keeps_catalog = subst (λ (g : Geometry). KeepTheCatalog g opening new.file.entries)
             (sym made-in.geometry) (keeps-on held);
-        events = subst (λ (n : ℕ). IsOfEvents seen new.file.geometry n opening first new.blocks
-            new.file.entries) (sym number)
-            (subst (λ (g : Geometry). IsOfEvents seen g old.number opening first new.blocks
+        events = subst (λ (n : ℕ). IsOfEvents seen faults new.file.geometry n opening first
+            new.blocks new.file.entries) (sym number)
+            (subst (λ (g : Geometry). IsOfEvents seen faults g old.number opening first new.blocks
             new.file.entries) (sym made-in.geometry) (one-event whole-new held));
         left = subst (λ (n : ℕ). Guards (seen first) (seen new.blocks)
             (IsLeftBy new.file.geometry n opening new.file.entries)) (sym number)
@@ -395,16 +402,16 @@ module _ {B : Type 0} (seen : B → Seen) (old mid : VolumeNow B) (numbers : Lis
   entries-stay = ap (λ (v : VolumeNow B). v.file.entries) same
 
   -- they leave what a crash leaves,
-  stays-run : (opening : State) (first : B) → IsHeld seen opening mid
-      → HasRun seen opening first old → HasRun seen opening first mid
-  stays-run opening first held run = record {
+  stays-run : (faults : B → Faults) (opening : State) (first : B) → IsHeld seen opening mid
+      → HasRun seen faults opening first old → HasRun seen faults opening first mid
+  stays-run faults opening first held run = record {
     held = held;
     keeps_catalog = subst (λ (v : VolumeNow B). KeepTheCatalog v.file.geometry opening
         v.file.entries) (sym same) run.keeps_catalog;
     left = subst (λ (v : VolumeNow B). Guards (seen first) (seen v.blocks)
         (IsLeftBy v.file.geometry v.number opening v.file.entries)) (sym same) run.left;
-    events = subst (λ (v : VolumeNow B). IsOfEvents seen v.file.geometry v.number opening first
-        v.blocks v.file.entries) (sym same) run.events;
+    events = subst (λ (v : VolumeNow B). IsOfEvents seen faults v.file.geometry v.number opening
+        first v.blocks v.file.entries) (sym same) run.events;
     stopped = subst (λ (v : VolumeNow B). v.file.stopped ≢ None → HasStopped v.file.geometry v.number
         opening v.file.entries (seen v.blocks)) (sym same) run.stopped;
   }
@@ -447,7 +454,8 @@ module _ {B : Type 0} (seen : B → Seen) (old mid : VolumeNow B) (numbers : Lis
     went = record {
       on = stays-on faults (whole is.whole) decks;
       held = λ told opening from. held opening from;
-      run = λ told opening first run. stays-run opening first (held opening run.held) run;
+      run = λ told opening first run. stays-run faults opening first
+          (held opening run.held) run;
     };
     entries = entries-stay;
   }

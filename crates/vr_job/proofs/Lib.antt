@@ -14,6 +14,7 @@ pub mod RunCommitted
 pub mod Faultless
 pub mod Stopping
 pub mod ReadFaults
+pub mod WriteFaults
 pub mod Devices
 pub mod Shown
 pub mod Codes

@@ -9,6 +9,7 @@ use Rattle.std.proofs.lemmas.List.Elements.{All-cons, All-head, All-map, All-nil
 use Rattle.std.proofs.lemmas.Option.{get_or_from_slice_get, slice_get_within}
 use Rattle.vr_types.specs.Content.{Content}
 use Rattle.vr_types.specs.Geometry.{IsAllowed}
+use Rattle.vr_types.specs.Faults.{Faults}
 use Rattle.vr_types.specs.Seen.{Seen}
 use Rattle.vr_types.specs.declared.geometry.Geometry.{Geometry}
 use Rattle.vr_types.specs.declared.unit.PartNo.{PartNo}
@@ -444,12 +445,13 @@ says-told number why end same says = told-by number why (subst (SaysOfBlocks num
 -- ---- the beginning of a run
 
 -- a volume that is held from its opening, and has no entry yet
-pub opening-run : {B : Type 0} (seen : B → Seen) (opening : State) (volume : VolumeNow B)
+pub opening-run : {B : Type 0} (seen : B → Seen) (faults : B → Faults) (opening : State)
+    (volume : VolumeNow B)
     → volume.file.entries ≡ [] → volume.file.stopped ≡ None → IsWhole seen volume
     → IsHeld seen opening volume
     → ((image : Image) → (seen volume.blocks).images (seen volume.blocks).moment image
-    → Left (seen volume.blocks) image) → HasRun seen opening volume.blocks volume
-opening-run seen opening volume none going whole held may = record {
+    → Left (seen volume.blocks) image) → HasRun seen faults opening volume.blocks volume
+opening-run seen faults opening volume none going whole held may = record {
   held = held;
   keeps_catalog = subst (KeepTheCatalog volume.file.geometry opening) (sym none) tt;
   left = guards-weaken now now (RecoversTo volume.store.log.geometry volume.number state [])

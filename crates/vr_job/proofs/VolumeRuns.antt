@@ -163,7 +163,7 @@ module _ {D : Type 0} (tells : Bool) (seen : D → Seen) (faults : D → Faults)
       (on.stamped (subst (IsStamped 0) (sym opens_so.begins) tt))
 
   module _ (by : End) (synced : by ≡ Ran → result ≡ Ok tt) (told : IsTrue tells) where
-    held : IsOpenHeld seen number (seen first) volume
+    held : IsOpenHeld seen faults number (seen first) volume
     held = opens_so.held told
 
     opened : Guards (seen first) (seen volume.blocks) (λ image. Left (seen first) image
@@ -176,7 +176,7 @@ module _ {D : Type 0} (tells : Bool) (seen : D → Seen) (faults : D → Faults)
     abbrev opening : State
     opening = opening_state held.contents (owned_in held.owners)
 
-    run : HasRun seen opening volume.blocks end
+    run : HasRun seen faults opening volume.blocks end
     run = went.run told opening volume.blocks held.run
 
     same-geometry : end.file.geometry ≡ volume.file.geometry

@@ -1,6 +1,7 @@
 -- The events of a run on a volume, one after another: what a crash leaves while each goes on, and once
 -- it is over. The rules are this project's own.
-use Rattle.std.specs.Prelude.{◌≡◌, ◌⊎◌, ◌≤◌, ℕ, List, [], ◌∷◌, ◌++◌, None, flat_map, length}
+use Rattle.std.specs.Prelude.{◌≡◌, ◌⊎◌, ◌<◌, ◌≤◌, ◌+◌, ℕ, List, [], ◌∷◌, ◌++◌, None, flat_map, length}
+use Rattle.vr_types.specs.Faults.{Faults}
 use Rattle.vr_types.specs.Image.{Image}
 use Rattle.vr_types.specs.Moments.{Guards}
 use Rattle.vr_types.specs.Seen.{Left, Seen}
@@ -19,6 +20,7 @@ use Rattle.vr_history.specs.declared.entry.What.TheVariants.{Asked, Faulted}
 use Rattle.vr_volume.specs.Crashes.{RecoversTo}
 use Rattle.vr_job.specs.Crash.{AreInCommit, HaveDoneCommit}
 use Rattle.vr_job.specs.Faultless.{AreFaultless}
+use Rattle.vr_job.specs.ReadFaults.{read_faults}
 
 -- An event: the blocks and the history as it began, and the entries that it made.
 pub record Event (B : Type 0) : Type 0 where
@@ -74,9 +76,10 @@ FaultsFollow made = IsStop made ⊎ AreFaultless made
 -- An event, with the blocks and the history as it left them: it answered one request at most; it
 -- touched no block, or each image at each moment of it is as above; and it leaves the volume at rest. A
 -- fault is entered after a request alone that was answered 905. Where a COMMIT was answered 0, its unit
--- is in every image that a crash may leave from then on.
-pub record IsEvent {B : Type 0} (seen : B → Seen) (geometry : Geometry) (number : ℕ)
-    (opening : State) (event : Event B) (now : B) (entries : List Entry) : Type 0 where
+-- is in every image that a crash may leave from then on. A request is answered 904 only where a read
+-- failed in its event, and 905, so that the volume stops, only where a write or a sync failed in it.
+pub record IsEvent {B : Type 0} (seen : B → Seen) (counts : B → Faults) (geometry : Geometry)
+    (number : ℕ) (opening : State) (event : Event B) (now : B) (entries : List Entry) : Type 0 where
   pub entries_are : entries ≡ event.entries ++ event.made
   pub once : length (requests_in event.made) ≤ 1
   pub during : (now ≡ event.blocks) ⊎ Guards (seen event.blocks) (seen now)
@@ -85,17 +88,20 @@ pub record IsEvent {B : Type 0} (seen : B → Seen) (geometry : Geometry) (numbe
   pub faults : FaultsFollow event.made
   pub lasting : HaveDoneCommit event.made → (image : Image) → Left (seen now) image
       → RecoversTo geometry number (state_of geometry opening entries) [] image
+  pub refused_read : (counts event.blocks).reads + read_faults event.made ≤ (counts now).reads
+  pub failed_write : IsStop event.made → (counts event.blocks).writes < (counts now).writes
 
 -- These are the events, the last one first, from these blocks and no history on.
-abbrev pub AreEvents : {B : Type 0} → (B → Seen) → Geometry → ℕ → State → B → B → List Entry
-    → List (Event B) → Type 0
-AreEvents seen geometry number opening first now entries [] = (now ≡ first) × (entries ≡ [])
-AreEvents seen geometry number opening first now entries (event ∷ earlier) =
-    IsEvent seen geometry number opening event now entries
-    × AreEvents seen geometry number opening first event.blocks event.entries earlier
+abbrev pub AreEvents : {B : Type 0} → (B → Seen) → (B → Faults) → Geometry → ℕ → State → B → B
+    → List Entry → List (Event B) → Type 0
+AreEvents seen counts geometry number opening first now entries [] =
+    (now ≡ first) × (entries ≡ [])
+AreEvents seen counts geometry number opening first now entries (event ∷ earlier) =
+    IsEvent seen counts geometry number opening event now entries
+    × AreEvents seen counts geometry number opening first event.blocks event.entries earlier
 
 -- The run from these blocks on is such events.
-pub record IsOfEvents {B : Type 0} (seen : B → Seen) (geometry : Geometry) (number : ℕ)
-    (opening : State) (first now : B) (entries : List Entry) : Type 0 where
+pub record IsOfEvents {B : Type 0} (seen : B → Seen) (counts : B → Faults) (geometry : Geometry)
+    (number : ℕ) (opening : State) (first now : B) (entries : List Entry) : Type 0 where
   pub events : List (Event B)
-  pub are : AreEvents seen geometry number opening first now entries events
+  pub are : AreEvents seen counts geometry number opening first now entries events

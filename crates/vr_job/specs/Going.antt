@@ -40,14 +40,14 @@ pub record GoesOn {B : Type 0} (seen : B → Seen) (faults : B → Faults) (old 
 -- What goes on where it does, from an opening and the blocks as they were then: the history is
 -- legal, gives what the volume has, and leaves the catalog as it is; each image at each moment since is left by the history, and
 -- so it is event by event; and where the volume has stopped, by the event in which it did.
-pub record HasRun {B : Type 0} (seen : B → Seen) (opening : State) (first : B)
-    (volume : VolumeNow B) : Type 0 where
+pub record HasRun {B : Type 0} (seen : B → Seen) (faults : B → Faults) (opening : State)
+    (first : B) (volume : VolumeNow B) : Type 0 where
   pub held : IsHeld seen opening volume
   pub keeps_catalog : KeepTheCatalog volume.file.geometry opening volume.file.entries
   pub left : Guards (seen first) (seen volume.blocks)
       (IsLeftBy volume.file.geometry volume.number opening volume.file.entries)
-  pub events : IsOfEvents seen volume.file.geometry volume.number opening first volume.blocks
-      volume.file.entries
+  pub events : IsOfEvents seen faults volume.file.geometry volume.number opening first
+      volume.blocks volume.file.entries
   pub stopped : volume.file.stopped ≢ None → HasStopped volume.file.geometry volume.number opening
       volume.file.entries (seen volume.blocks)
 
@@ -57,8 +57,8 @@ pub record WentOn {B : Type 0} (tells : Bool) (seen : B → Seen) (faults : B �
   pub on : GoesOn seen faults old new
   pub held : IsTrue tells → (opening : State) → IsHeld seen opening old
       → IsHeld seen opening new
-  pub run : IsTrue tells → (opening : State) (first : B) → HasRun seen opening first old
-      → HasRun seen opening first new
+  pub run : IsTrue tells → (opening : State) (first : B) → HasRun seen faults opening first old
+      → HasRun seen faults opening first new
 
 -- A later state of a volume: it is as it was, or went on.
 abbrev pub Follows : {B : Type 0} → Bool → (B → Seen) → (B → Faults) → VolumeNow B → VolumeNow B

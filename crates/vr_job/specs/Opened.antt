@@ -3,6 +3,7 @@
 use Rattle.std.specs.Prelude.{◌≡◌, ℕ, List, [], Option, false, true}
 use Rattle.std.specs.List.{AllByRecursion}
 use Rattle.vr_types.specs.Content.{Content}
+use Rattle.vr_types.specs.Faults.{Faults}
 use Rattle.vr_types.specs.Seen.{Seen}
 use Rattle.vr_types.specs.declared.geometry.Geometry.{Geometry}
 use Rattle.vr_types.specs.declared.unit.PartNo.{PartNo}
@@ -67,11 +68,11 @@ pub record IsReadyFrom (number : ℕ) (geometry : Geometry) (catalog : List CatE
 -- It is held from its opening, with contents to which the blocks recovered before, and each image
 -- that a crash may leave of it now recovers to them. An area is owned by the part that its catalog
 -- lays in it, and by no other, and else it is free.
-pub record IsOpenHeld {B : Type 0} (seen : B → Seen) (number : ℕ) (old : Seen)
-    (volume : VolumeNow B) : Type 0 where
+pub record IsOpenHeld {B : Type 0} (seen : B → Seen) (faults : B → Faults) (number : ℕ)
+    (old : Seen) (volume : VolumeNow B) : Type 0 where
   pub contents : ℕ → Content
   pub owners : List (Option PartNo)
   pub volume_is : IsVolume number volume.file.geometry contents old
   pub catalog_is : volume.file.catalog ≡ entries_in (contents 0)
   pub owners_are : AreOwners volume.file.geometry volume.file.catalog owners
-  pub run : HasRun seen (opening_state contents (owned_in owners)) volume.blocks volume
+  pub run : HasRun seen faults (opening_state contents (owned_in owners)) volume.blocks volume

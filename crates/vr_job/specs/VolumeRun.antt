@@ -71,8 +71,8 @@ pub record IsRun {D : Type 0} (tells : Bool) (seen : D → Seen) (faults : D →
   pub opened : D
   pub opens : Guards (seen old) (seen opened) (λ image. Left (seen old) image
       ⊎ Recovers geometry number image contents)
-  pub events : IsOfEvents seen geometry number (opening_state contents (owned_in owners)) opened
-      ended entries
+  pub events : IsOfEvents seen faults geometry number (opening_state contents (owned_in owners))
+      opened ended entries
   pub closes : Keeps tells (seen ended) (seen new)
   pub goes : (faults new).writes ≡ (faults old).writes
       → (state_of geometry (opening_state contents (owned_in owners)) entries).stopped ≡ None
@@ -151,7 +151,7 @@ pub record IsOpen {D : Type 0} (tells : Bool) (seen : D → Seen) (faults : D �
   pub begins : volume.file.entries ≡ []
   pub going : volume.file.stopped ≡ None
   pub never_fall : NeverFall (faults device) (faults volume.blocks)
-  pub held : IsTrue tells → IsOpenHeld seen number (seen device) volume
+  pub held : IsTrue tells → IsOpenHeld seen faults number (seen device) volume
   pub any_moment : IsTrue tells → (geometry : Geometry) (contents : ℕ → Content)
       → IsVolume number geometry contents (seen device)
       → Guards (seen device) (seen volume.blocks) (λ image. Left (seen device) image

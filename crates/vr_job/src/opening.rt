@@ -139,7 +139,8 @@ fn made<B: Blocks>(alloc: Global, blocks: B, number: u32, found: Box<Ready>) -> 
         → found.value.catalog.value ≡ entries_in (contents 0)
         → IsOpenedWith number (owner_of found.value.log.geometry found.value.space)
         found.value.log (map laid_now found.value.parts.items) contents (B.seen blocks)
-        → HasRun B.seen (opening_state contents (owned_in found.value.space)) blocks result }
+        → HasRun B.seen B.faults (opening_state contents (owned_in found.value.space)) blocks
+        result }
     ensures blocks { result.blocks ≡ blocks }
     ensures number { result.number ≡ number }
     ensures geometry { result.file.geometry ≡ found.value.geometry }
@@ -175,7 +176,8 @@ pub fn open<B: Blocks + Drop>(
     ensures number { IfOk result (λ volume. volume.number ≡ number) }
     ensures going { IfOk result (λ volume. volume.file.stopped ≡ None) }
     // It is held from its opening, and each image that a crash may leave of it recovers to that.
-    ensures held { IsTrue B.tells → IfOk result (IsOpenHeld B.seen number (B.seen blocks)) }
+    ensures held { IsTrue B.tells
+        → IfOk result (IsOpenHeld B.seen B.faults number (B.seen blocks)) }
     // In every image of every moment, whether it is opened or not.
     ensures any_moment { IsTrue B.tells → (geometry : VolumeShape) (contents : ℕ → Content)
         → IsVolume number geometry contents (B.seen blocks)

@@ -11,14 +11,12 @@ use Rattle.vr_types.specs.Seen.{Left, Seen}
 use Rattle.vr_types.specs.declared.geometry.Geometry.{Geometry}
 use Rattle.vr_types.proofs.CallerLemmas.{during-weaken}
 use Rattle.vr_space.specs.Owners.{Owners}
-use Rattle.vr_space.specs.Keyed.{IsKeyedSound, entries_of, keyed_way}
-use Rattle.vr_space.specs.Part.{AddsTo, HasKeptRoom, HasOnly, HasRoom, InPart, IsSound, KeyedShape}
+use Rattle.vr_space.specs.Part.{AddsTo, HasKeptRoom, HasOnly, HasRoom, InPart}
 use Rattle.vr_space.specs.Part.{IsAtRest, IsQuiet, Just, MayAlsoHold, Nothing, Shape, part_no}
 use Rattle.vr_attach.specs.Owning.{IsPastLog}
 use Rattle.vr_space.specs.Room.{Lengths}
-use Rattle.vr_space.proofs.CallerLemmas.{each-less, find-more, head-in, IsBlock, keyed-less}
-use Rattle.vr_space.proofs.CallerLemmas.{StaysPart}
-use Rattle.vr_space.proofs.CallerLemmas.{keyed-within, only-weaken, within-less}
+use Rattle.vr_space.proofs.CallerLemmas.{IsPartBlock, StaysPart, holds-less, only-weaken}
+use Rattle.vr_space.proofs.CallerLemmas.{rest-of-quiet, room-less, sound-grows, sound-less}
 use Rattle.vr_history.specs.State.{BeforeImage}
 use Rattle.vr_log.specs.Content.{Content as LogContent}
 use Rattle.vr_log.specs.LogNow.{HasLog, IsLogOf, LogNow}
@@ -27,7 +25,7 @@ use Rattle.vr_log.specs.Standing.{InLog}
 use Rattle.vr_log.specs.declared.record.LogRecord.{LogRecord}
 use Rattle.vr_volume.specs.Laid.{shape_by}
 use Rattle.vr_volume.specs.Laying.{IsFreeIn, IsLaidSo}
-use Rattle.vr_volume.specs.PutBack.{images_of, oldest}
+use Rattle.vr_volume.specs.PutBack.{images_of, lengths_kept, oldest}
 use Rattle.vr_volume.specs.Safe.{IsItemOf, IsPartIn, IsPartSafe, IsSafe}
 use Rattle.vr_volume.specs.Safe.{IsSafeImage}
 use Rattle.vr_volume.proofs.Apart.{part-apart}
@@ -44,25 +42,14 @@ module _ (a b : Seen) (count : b.count ≡ a.count) (size : b.size ≡ a.size) w
       (images : List BeforeImage) (content : Content)
       → Fewer shape owners → IsPartSafe shape owners part images content a
       → IsPartSafe shape owners part images content b
-  safe-less (KeyedShape keyed) owners part images content fewer safe =
-      let sound : IsKeyedSound keyed a = safe.sound.0 in
-      let less : (n : ℕ) (block : Block) → IsBlock keyed a n → b.may n block → a.may n block =
-      λ n block is. fewer n block is.0 (safe.sound.1 n is.1) in
+  safe-less shape owners part images content fewer safe =
+      let less : (n : ℕ) (block : Block) → IsPartBlock shape owners a n → b.may n block
+      → a.may n block = λ n block is. fewer n block is.0 is.1 in
       record {
-        sound = (keyed-less keyed a b count size less sound, safe.sound.1);
+        sound = sound-less a b shape owners count size less safe.sound;
         items = λ place found held. safe.items place found
-            (find-more (IsBlock keyed a) b.may a.may found less (keyed_way keyed place)
-            (within-less (IsBlock keyed a) b.may a.may less (keyed_way keyed place)
-            (keyed-within keyed a sound place)) held);
-        room = record {
-          places = safe.room.places;
-          each = λ top may.
-              let before : a.may keyed.head top =
-              less keyed.head top
-              (omega (arith, sound.area), (omega arith, omega arith)) may in
-              each-less keyed a b _ None (entries_of top) less sound.area
-              (head-in keyed top (sound.heads top before)) (safe.room.each top before);
-        };
+            (holds-less shape owners a b.may safe.sound less place found held);
+        room = room-less shape owners (lengths_kept images part) a b less safe.sound safe.room;
       }
 
 -- ---- calls that put nothing
@@ -114,6 +101,18 @@ AddsSafe geometry log committed part shape A = (content : LogContent) → IsLogO
     → (place : List ℕ) (found : Option Item) → A place found
     → IsItemOf part (images_of content.records) (committed content.records part) place found
 
+-- two numbers are the same, or not
+pub equal-or : (one other : ℕ) → (one ≡ other) ⊎ (one ≢ other)
+equal-or one other = ⊎_elim
+    (λ less. inr (λ same. omega (arith, less, same)))
+    (λ most. ⊎_elim (λ less. inr (λ same. omega (arith, less, same)))
+    (λ least. inl (omega (arith, most, least))) (cases_lt other one))
+    (cases_lt one other)
+
+-- a part is laid in one way
+pub some-same : (one other : Shape) → Some one ≡ Some other → one ≡ other
+some-same one other same = cc
+
 module _ (geometry : Geometry) (number : ℕ) (owners : Owners) (log : LogNow)
     (committed : List LogRecord → ℕ → Content) (part : ℕ) (shape : Shape) (kept : Lengths)
     (A : List ℕ → Option Item → Type 0) (a b : Seen)
@@ -121,16 +120,6 @@ module _ (geometry : Geometry) (number : ℕ) (owners : Owners) (log : LogNow)
     (laid : IsLaidSo geometry log committed part shape kept)
     (added : AddsSafe geometry log committed part shape A) (adds : AddsTo shape owners A a b)
     (rooms : Touches (InPart shape owners) (HasRoom shape kept) a b) where
-  equal-or : (one other : ℕ) → (one ≡ other) ⊎ (one ≢ other)
-  equal-or one other = ⊎_elim
-      (λ less. inr (λ same. omega (arith, less, same)))
-      (λ most. ⊎_elim (λ less. inr (λ same. omega (arith, less, same)))
-      (λ least. inl (omega (arith, most, least))) (cases_lt other one))
-      (cases_lt one other)
-
-  some-same : (one other : Shape) → Some one ≡ Some other → one ≡ other
-  some-same one other same = cc
-
   -- the header and the log are outside the part
   out-header : Outside (InPart shape owners) 0
   out-header inside = omega (arith, safe.past 0 (part_no shape).0 inside)
@@ -324,11 +313,6 @@ stays-part geometry shape owners Q a b past call = record {
 
 -- ---- owners
 
--- a part that is at rest by some owners is so by those by which it is sound
-quiet-rests : (shape : Shape) (owners : Owners) (now : Seen) → IsQuiet shape now
-    → IsSound shape owners now → IsAtRest shape owners now
-quiet-rests (KeyedShape part) owners now quiet sound = (quiet.1.0, sound.1)
-
 -- a part of a safe volume
 pub quiet-safe : (geometry : Geometry) (number : ℕ) (owners : Owners) (log : LogNow)
     (committed : List LogRecord → ℕ → Content) (part : ℕ) (shape : Shape) (kept : Lengths)
@@ -339,22 +323,12 @@ quiet-safe geometry number owners log committed part shape kept now safe left la
     let some : HasLog log now.cur = safe.logs now.cur (record {
       each = λ n below inside. left.each n below;
     }) in
-    quiet-rests shape owners now quiet
+    rest-of-quiet shape owners now quiet
     ((safe.by_log some.0 some.2).parts part shape (laid some.0 some.2).laid).sound
 
 -- other owners who leave each part the blocks that it has
 abbrev pub Leaves : Owners → Owners → Type 0
 Leaves owners grown = (n part : ℕ) → owners n ≡ Some part → grown n ≡ Some part
-
-pub sound-grows : (shape : Shape) (owners grown : Owners) (now : Seen) → Leaves owners grown
-    → IsSound shape owners now → IsSound shape grown now
-sound-grows (KeyedShape part) owners grown now leaves (sound, owned) =
-    (sound, λ n inside. leaves n part.part (owned n inside))
-
-pub rest-grows : (shape : Shape) (owners grown : Owners) (now : Seen) → Leaves owners grown
-    → IsAtRest shape owners now → IsAtRest shape grown now
-rest-grows (KeyedShape part) owners grown now leaves (rests, owned) =
-    (rests, λ n inside. leaves n part.part (owned n inside))
 
 -- the volume is safe by them, too
 pub safe-grows : (geometry : Geometry) (number : ℕ) (owners grown : Owners) (log : LogNow)
@@ -374,7 +348,7 @@ safe-grows geometry number owners grown log committed now leaves past safe = rec
         let mine : IsPartSafe shape owners part (images_of content.records)
         (committed content.records part) now = (safe.by_log content is).parts part shape laid in
         record {
-          sound = sound-grows shape owners grown now leaves mine.sound;
+          sound = sound-grows owners grown now leaves shape mine.sound;
           items = mine.items;
           room = mine.room;
         };

@@ -1,21 +1,19 @@
 -- What forcing blocks that were changed leaves of a volume at rest.
-use Rattle.std.proofs.Common.{◌≡◌, ⊎_elim, ◌<◌, ℕ, Bool, IsTrue, List, []}
-use Rattle.std.proofs.Common.{refl, sym, ap, subst, ◌∙◌, arith, take}
+use Rattle.std.proofs.Common.{⊎_elim, ℕ, Bool, IsTrue, List, []}
+use Rattle.std.proofs.Common.{refl, sym, ap, subst, ◌∙◌, take}
 use Rattle.std.proofs.Common.{drop}
 use Rattle.std.specs.List.{Contains}
 use Rattle.std.proofs.lemmas.List.{take-append-drop}
 use Rattle.std.proofs.lemmas.List.Elements.{Contains-append_cases}
 use Rattle.vr_types.specs.Blocks.{Forced, Keeps}
-use Rattle.vr_types.specs.Image.{Block, Image, block_at}
+use Rattle.vr_types.specs.Image.{Image, block_at}
 use Rattle.vr_types.specs.Seen.{Left, Seen}
 use Rattle.vr_types.specs.declared.geometry.Geometry.{Geometry}
 use Rattle.vr_types.specs.declared.unit.Unit.{Unit as UnitOfRecovery}
 use Rattle.vr_space.specs.Owners.{Owners}
 use Rattle.vr_space.specs.Known.{Known}
-use Rattle.vr_space.specs.Part.{IsDueTo, IsFirm, IsSound, KeyedShape, Shape, item_of}
-use Rattle.vr_space.specs.Way.{MayOnceForced}
-use Rattle.vr_space.specs.Keyed.{keyed_way}
-use Rattle.vr_space.proofs.CallerLemmas.{IsBlock, find-more, keyed-within, within-less}
+use Rattle.vr_space.specs.Part.{IsDueTo, IsSound, Shape, item_of}
+use Rattle.vr_space.proofs.CallerLemmas.{due-fewer, due-none}
 use Rattle.vr_log.specs.LogNow.{LogNow}
 use Rattle.vr_history.specs.State.{BeforeImage, State}
 use Rattle.vr_volume.specs.Committed.{IsFirmFor, committed_by}
@@ -26,37 +24,13 @@ use Rattle.vr_volume.proofs.Rested.{part-stays, stands-still}
 
 -- ---- what is due
 
--- What is due to some blocks is due to others by which a crash leaves no more.
-pub due-fewer : (shape : Shape) (owners : Owners) (listed left place : List ℕ) (a b : Seen)
-    → IsSound shape owners a
-    → ((n : ℕ) (block : Block) → n < a.count → b.may n block → a.may n block)
-    → ((n : ℕ) (block : Block) → n < a.count → MayOnceForced left b n block
-    → MayOnceForced listed a n block)
-    → b.cur ≡ a.cur → IsDueTo shape listed a place → IsDueTo shape left b place
-due-fewer (KeyedShape part) owners listed left place a b (sound, owned) fewer less same due item
-    holds =
-    due item (find-more (IsBlock part a) (MayOnceForced left b) (MayOnceForced listed a) item
-    (λ n block is may. less n block is.0 may) (keyed_way part place)
-    (within-less (IsBlock part a) (MayOnceForced left b) a.may
-    (λ n block is may. fewer n block is.0 may.0) (keyed_way part place)
-    (keyed-within part a sound place)) holds)
-    ∙ sym (ap (λ (image : Image). item_of (KeyedShape part) image place) same)
-
--- once no block is due, a crash leaves the current record alone
-due-none : (shape : Shape) (owners : Owners) (place : List ℕ) (now : Seen)
-    → IsSound shape owners now → IsDueTo shape [] now place → IsFirm shape now place
-due-none (KeyedShape part) owners place now (sound, owned) due item holds =
-    due item (find-more (IsBlock part now) now.may (MayOnceForced [] now) item
-    (λ n block is may. (may, λ there. absurd (omega (arith, there.1)))) (keyed_way part place)
-    (keyed-within part now sound place) holds)
-
 pub firm-for : (geometry : Geometry) (owners : Owners) (log : LogNow) (state : State)
     (unit : UnitOfRecovery)
     (now : Seen) → IsDueFor geometry log state unit [] now → AreRead geometry owners state now
     → IsFirmFor geometry log state unit now
 firm-for geometry owners log state unit now due read part place image shape found is mine laid may =
     let reads = read part shape laid in
-    due-none shape owners place now reads.0 (due part place image shape is mine laid) found may
+    due-none shape owners now reads.0 place (due part place image shape is mine laid) found may
     ∙ reads.1 place
 
 -- ---- a call that forces some
@@ -65,30 +39,29 @@ module _ (tells : Bool) (told : IsTrue tells) (a b : Seen) (call : Keeps tells a
   -- whether it fails or not, what was due is,
   pub due-kept : (shape : Shape) (owners : Owners) (listed place : List ℕ) → IsSound shape owners a
       → IsDueTo shape listed a place → IsDueTo shape listed b place
-  due-kept shape owners listed place sound = due-fewer shape owners listed listed place a b sound
-      (λ n block below may. call.adds_none told n block below may)
-      (λ n block below may. (
-        call.adds_none told n block below may.0,
+  due-kept shape owners listed place sound =
+      due-fewer shape owners a sound listed listed place b
+      (λ n block is may. (
+        call.adds_none told n block is.0 may.0,
         λ there. may.1 there ∙ ap (λ (image : Image). block_at image n) (call.content told),
       ))
-      (call.content told)
+      (ap (λ (image : Image). item_of shape image place) (call.content told))
 
   -- to those alone that it didn't force
   pub due-left : (shape : Shape) (owners : Owners) (listed place : List ℕ) (count : ℕ)
       → Forced (drop count listed) a.cur b.may → IsSound shape owners a
       → IsDueTo shape listed a place → IsDueTo shape (take count listed) b place
-  due-left shape owners listed place count forced sound = due-fewer shape owners listed (take count
-      listed) place a b sound
-      (λ n block below may. call.adds_none told n block below may)
-      (λ n block below may. (
-        call.adds_none told n block below may.0,
+  due-left shape owners listed place count forced sound =
+      due-fewer shape owners a sound listed (take count listed) place b
+      (λ n block is may. (
+        call.adds_none told n block is.0 may.0,
         λ there. ⊎_elim
             (λ left. may.1 left ∙ ap (λ (image : Image). block_at image n) (call.content told))
             (λ done. forced n block done may.0)
             (Contains-append_cases (take count listed) (drop count listed) n
             (subst (λ (all : List ℕ). Contains all n) (sym (take-append-drop count listed)) there)),
       ))
-      (call.content told)
+      (ap (λ (image : Image). item_of shape image place) (call.content told))
 
   -- the volume stays at rest, and each part of it
   pub volume-kept : (geometry : Geometry) (number : ℕ) (owners : Owners) (log : LogNow)

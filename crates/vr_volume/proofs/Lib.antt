@@ -18,6 +18,7 @@ pub mod KeptAgain
 pub mod Ending
 pub mod Resting
 pub mod Rested
+pub mod Stages
 pub mod Histories
 pub mod EndCalls
 pub mod ForceCalls

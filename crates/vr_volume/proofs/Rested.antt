@@ -20,15 +20,12 @@ use Rattle.vr_types.specs.declared.unit.Unit.{Unit as UnitOfRecovery}
 use Rattle.vr_space.specs.Owners.{Owners}
 use Rattle.vr_space.specs.Known.{Known}
 use Rattle.vr_attach.specs.Owning.{IsPastLog}
-use Rattle.vr_space.specs.Part.{DueMore, HasKeptRoom, InPart, IsAtRest, KeyedShape}
-use Rattle.vr_space.specs.Part.{Knows, SameRecords}
+use Rattle.vr_space.specs.Part.{HasKeptRoom, InPart, IsAtRest, Knows, SameRecords}
 use Rattle.vr_space.specs.Part.{IsPlaceOf, IsSound, SetsOne, Shape, item_of, part_no}
 use Rattle.vr_space.specs.Room.{Lengths}
-use Rattle.vr_space.proofs.CallerLemmas.{StaysPart, knows-stays, rest-sound, rest-stays, room-stays}
-use Rattle.vr_space.proofs.CallerLemmas.{IsBlock, find-more, keyed-within, on-still, same-stays}
-use Rattle.vr_space.proofs.CallerLemmas.{left-is, one-owner, within-less}
-use Rattle.vr_space.specs.Keyed.{keyed_way}
-use Rattle.vr_space.specs.Way.{MayOnceForced}
+use Rattle.vr_space.proofs.CallerLemmas.{StaysPart, knows-stays, left-is, on-still, one-owner}
+use Rattle.vr_space.proofs.CallerLemmas.{rest-grows, rest-sound, rest-stays, room-stays, same-stays}
+use Rattle.vr_space.proofs.CallerLemmas.{stays-keeps}
 use Rattle.vr_log.specs.Content.{Content as LogContent}
 use Rattle.vr_log.specs.Live.{live_in}
 use Rattle.vr_log.specs.LogNow.{IsForced, IsLogOf, IsPrefixOf, LogNow}
@@ -46,7 +43,7 @@ use Rattle.vr_volume.specs.Rests.{IsGivenFor, IsPartAtRest, IsVolumeAtRest}
 use Rattle.vr_volume.specs.Safe.{IsSafe}
 use Rattle.vr_volume.specs.Steps.{Changing, IsChangeOf, IsFirstChange, IsNextChange, IsPutBack}
 use Rattle.vr_volume.specs.Steps.{IsPutIn, image_by}
-use Rattle.vr_volume.proofs.Calls.{Leaves, rest-grows, safe-grows, safe-keeps}
+use Rattle.vr_volume.proofs.Calls.{Leaves, safe-grows, safe-keeps}
 use Rattle.vr_volume.proofs.Committing.{catalog-same}
 use Rattle.vr_volume.proofs.Images.{kept-append, kept_more}
 use Rattle.vr_volume.proofs.Meeting.{first-before}
@@ -138,24 +135,7 @@ stays-then shape owners a b c first second = record {
       (second.fewer n block (omega (arith, below, first.count)) inside may);
 }
 
--- what has to be forced for its places stays
-pub due-stays : (shape : Shape) (owners : Owners) (a b : Seen) → StaysPart shape owners a b
-    → IsSound shape owners a → Left a a.cur → DueMore shape [] a b
-due-stays (KeyedShape part) owners a b stays (sound, owned) left listed place due within item
-    holds =
-    let less : (n : ℕ) (block : Block) → IsBlock part a n → MayOnceForced listed b n block
-    → MayOnceForced listed a n block =
-    λ n block is may. (
-      stays.fewer n block is.0 (owned n is.1) may.0,
-      λ there. may.1 there ∙ stays.same n (owned n is.1),
-    ) in
-    due item (find-more (IsBlock part a) (MayOnceForced listed b) (MayOnceForced listed a) item less
-    (keyed_way part place)
-    (within-less (IsBlock part a) (MayOnceForced listed b) a.may
-    (λ n block is may. stays.fewer n block is.0 (owned n is.1) may.0) (keyed_way part place)
-    (keyed-within part a sound place)) holds)
-    ∙ sym (same-stays a b (KeyedShape part) owners stays (sound, owned) left place)
-
+-- so it stays at rest
 pub part-stays : (geometry : Geometry) (owners : Owners) (images more : List BeforeImage)
     (old new : State)
     (shape : Shape) (known : Known) (a b : Seen) → StaysPart shape owners a b → Left a a.cur
@@ -545,14 +525,6 @@ part-same-records geometry owners images state shape known later a d part count 
 
 -- the log and each part stay
 module _ (tells : Bool) (told : IsTrue tells) (a b : Seen) (call : Keeps tells a b) where
-  pub stays-keeps : (shape : Shape) (owners : Owners) → StaysPart shape owners a b
-  stays-keeps shape owners = record {
-    count = call.count_same;
-    size = call.size_same;
-    same = λ n inside. ap (λ (image : Image). block_at image n) (call.content told);
-    fewer = λ n block below inside may. call.adds_none told n block below may;
-  }
-
   pub stands-keeps : (log : LogNow) → IsForced log → LogStands log a → LogStands log b
   stands-keeps log forced stands = stands-still log forced a b stands call.count_same call.size_same
       (λ n block below inside may. call.adds_none told n block below may)
@@ -572,8 +544,8 @@ module _ (tells : Bool) (told : IsTrue tells) (a b : Seen) (call : Keeps tells a
       → IsPartAtRest geometry owners images state shape known a
       → IsPartAtRest geometry owners images state shape known b
   part-keeps geometry owners images state shape known left part =
-      part-stays geometry owners images images state state shape known a b (stays-keeps shape
-      owners) left part refl refl refl
+      part-stays geometry owners images images state state shape known a b
+      (stays-keeps tells told a b call shape owners) left part refl refl refl
 
 -- ---- owners who leave each part the blocks that it has
 
@@ -584,7 +556,7 @@ pub part-grows : (geometry : Geometry) (owners grown : Owners) (images : List Be
 part-grows geometry owners grown images state shape known now leaves part = record {
   laid = part.laid;
   on = part.on;
-  rests = rest-grows shape owners grown now leaves part.rests;
+  rests = rest-grows owners grown now leaves shape part.rests;
   room = part.room;
   knows = part.knows;
   reads = part.reads;

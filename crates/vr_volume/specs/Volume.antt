@@ -1,13 +1,13 @@
 -- What the blocks of a whole volume stand for: its log, and a content of each part. And what they
 -- recover to: the contents with the before-images of units that haven't ended put back. The rules
 -- are this project's own.
-use Rattle.std.specs.Prelude.{◌≡◌, ◌+◌, ◌<◌, ℕ, [], All, IfSome, Option, Some, None}
+use Rattle.std.specs.Prelude.{◌≡◌, ℕ, [], All, IfSome, Option, Some, None}
 use Rattle.std.specs.Option.{option_and_then}
 use Rattle.vr_types.specs.Content.{Content as ContentOf, record_of}
 use Rattle.vr_types.specs.Image.{Image, block_at}
 use Rattle.vr_types.specs.declared.geometry.Geometry.{Geometry}
 use Rattle.vr_space.specs.Owners.{Owners}
-use Rattle.vr_space.specs.Part.{Shape, KeyedShape, StandsFor, IsPlaceOf, IsRecordOf, HasRoom}
+use Rattle.vr_space.specs.Part.{Shape, StandsFor, IsPlaceOf, IsRecordOf, HasRoom}
 use Rattle.vr_space.specs.Part.{StaysIn}
 use Rattle.vr_attach.specs.Owning.{IsPastLog}
 use Rattle.vr_history.specs.State.{BeforeImage}
@@ -17,6 +17,7 @@ use Rattle.vr_volume.specs.CatalogRules.{IsCatalog}
 use Rattle.vr_volume.specs.Header.{header_block}
 use Rattle.vr_volume.specs.Laid.{shape_by}
 use Rattle.vr_volume.specs.PutBack.{AreAlone, images_of, put_back, lengths_kept}
+pub use Rattle.vr_attach.specs.Laid.{IsInside}
 
 -- the content of part 0 once the before-images are put back: it says which parts there are
 abbrev pub catalog_back : LogContent → (ℕ → ContentOf) → ContentOf
@@ -40,11 +41,6 @@ pub record VolumeStandsFor (geometry : Geometry) (number : ℕ) (image : Image) 
   pub within : (part : ℕ) (shape : Shape) → shapes_by geometry log contents part ≡ Some shape
       → StaysIn shape owners image
   pub others : (part : ℕ) → shapes_by geometry log contents part ≡ None → contents part ≡ []
-
--- a part is on blocks that the volume has, with their size
-abbrev pub IsInside : Geometry → Shape → Type 0
-IsInside geometry (KeyedShape part) =
-    (part.head + part.area < geometry.blocks) × (part.size ≡ geometry.size)
 
 -- A before-image may be put back: its part is laid, and it is a record that may stand at a place of
 -- it, or none.

@@ -11,7 +11,7 @@ ghost use Rattle.vr_types.specs.declared.fault.DeviceFault.TheVariants.{Read, Wr
 ghost use Rattle.vr_types.specs.declared.geometry.Geometry.{Geometry};
 ghost use Rattle.vr_space.specs.Owners.{Owners};
 ghost use Rattle.vr_space.specs.declared.room.Room.TheVariants as answers;
-ghost use Rattle.vr_attach.specs.Owning.{IsPastLog};
+ghost use Rattle.vr_attach.specs.Owning.{claimed_by, owner_of};
 ghost use Rattle.vr_space.specs.Known.{HasMet, Known, places_met};
 ghost use Rattle.vr_space.specs.Part.{
   CanSet,
@@ -113,8 +113,8 @@ pub fn set_free<B: Blocks, P: Part, K: Kept>(
 }
 
 /// Does the stage that comes before a record of a part. At each moment of it, whether it fails or
-/// not, each image is a safe one, and the volume is safe from then on, by owners who leave each
-/// part its blocks and give this one those of the area that it may claim.
+/// not, each image is a safe one, and the volume is safe from then on, where the least free area is
+/// the part's. Once it is done the volume is at rest by who owns the areas then.
 pub fn do_stage<B: Blocks, P: Part, K: Kept>(
     blocks: &mut B,
     part: &mut P,
@@ -135,14 +135,15 @@ pub fn do_stage<B: Blocks, P: Part, K: Kept>(
         (B.seen blocks.old).cur (free_count space.old)
         (K.kept kept.now (part_no (P.shape part.old))) place.now length }
     ensures safe { IsTrue B.tells → (geometry : Geometry) (number : ℕ)
-        (owners grown : Owners) (log : LogNow) (committed : List LogRecord → ℕ → Content)
-        → MayGrow (P.shape part.old) space.old owners grown → IsPastLog geometry grown
-        → IsSafe geometry number owners log committed (B.seen blocks.old)
+        (log : LogNow) (committed : List LogRecord → ℕ → Content)
+        → IsSafe geometry number (owner_of geometry space.old) log committed (B.seen blocks.old)
         → IsLaidSo geometry log committed (part_no (P.shape part.old)).0 (P.shape part.old)
         (K.kept kept.now (part_no (P.shape part.old)))
-        → Guards (B.seen blocks.old) (B.seen blocks.new)
-        (IsSafeImage geometry number grown log committed)
-        × IsSafe geometry number grown log committed (B.seen blocks.new) }
+        → Guards (B.seen blocks.old) (B.seen blocks.new) (IsSafeImage geometry number
+        (owner_of geometry (claimed_by (part_no (P.shape part.old)) space.old)) log committed)
+        × IsSafe geometry number
+        (owner_of geometry (claimed_by (part_no (P.shape part.old)) space.old)) log committed
+        (B.seen blocks.new) }
     ensures stage { IsTrue B.tells → IfOk result (λ kind. answers.Stage kind
         ≡ room_of (P.shape part.old) (P.known part.old) (B.seen blocks.old).cur
         (free_count space.old) (K.kept kept.now (part_no (P.shape part.old))) place.now length) }
@@ -173,36 +174,41 @@ pub fn do_stage<B: Blocks, P: Part, K: Kept>(
     ensures size { (B.seen blocks.new).size ≡ (B.seen blocks.old).size }
     ensures cause { HasCause (B.faults blocks.old) (B.faults blocks.new) result }
     ensures shape { P.shape part.new ≡ P.shape part.old }
-    // A volume that was at rest is so by the same state, and so is each of its parts.
-    ensures at_rest { IsTrue B.tells → OnOk result ((number : ℕ) (owners grown : Owners)
-        (log : LogNow) (images : List BeforeImage) (state : State)
-        → MayGrow (P.shape part.old) space.old owners grown → IsPastLog log.geometry grown
-        → IsVolumeAtRest log.geometry number owners log images state (B.seen blocks.old)
-        → IsPartAtRest log.geometry owners images state (P.shape part.old) (P.known part.old)
+    // A volume that was at rest is so by the same state and the owners of the areas, and so is each
+    // of its parts.
+    ensures at_rest { IsTrue B.tells → OnOk result ((number : ℕ) (log : LogNow)
+        (images : List BeforeImage) (state : State)
+        → IsVolumeAtRest log.geometry number (owner_of log.geometry space.old) log images state
         (B.seen blocks.old)
+        → IsPartAtRest log.geometry (owner_of log.geometry space.old) images state
+        (P.shape part.old) (P.known part.old) (B.seen blocks.old)
         → K.kept kept.now (part_no (P.shape part.old))
         ≡ lengths_kept images (part_no (P.shape part.old)).0
-        → IsVolumeAtRest log.geometry number grown log images state (B.seen blocks.new)
-        × IsPartAtRest log.geometry grown images state (P.shape part.old) (P.known part.new)
+        → IsVolumeAtRest log.geometry number (owner_of log.geometry space.new) log images state
+        (B.seen blocks.new)
+        × IsPartAtRest log.geometry (owner_of log.geometry space.new) images state
+        (P.shape part.old) (P.known part.new) (B.seen blocks.new)) }
+    ensures others { IsTrue B.tells → OnOk result ((number : ℕ) (log : LogNow)
+        (images : List BeforeImage) (state : State) (other : Shape) (known : Known)
+        → IsVolumeAtRest log.geometry number (owner_of log.geometry space.old) log images state
+        (B.seen blocks.old)
+        → IsPartAtRest log.geometry (owner_of log.geometry space.old) images state
+        (P.shape part.old) (P.known part.old) (B.seen blocks.old)
+        → (part_no other).0 ≢ (part_no (P.shape part.old)).0
+        → IsPartAtRest log.geometry (owner_of log.geometry space.old) images state other known
+        (B.seen blocks.old)
+        → IsPartAtRest log.geometry (owner_of log.geometry space.new) images state other known
         (B.seen blocks.new)) }
-    ensures others { IsTrue B.tells → OnOk result ((number : ℕ) (owners grown : Owners)
-        (log : LogNow) (images : List BeforeImage) (state : State) (other : Shape) (known : Known)
-        → MayGrow (P.shape part.old) space.old owners grown
-        → IsVolumeAtRest log.geometry number owners log images state (B.seen blocks.old)
-        → IsPartAtRest log.geometry owners images state (P.shape part.old) (P.known part.old)
-        (B.seen blocks.old)
-        → (part_no other).0 ≢ (part_no (P.shape part.old)).0
-        → IsPartAtRest log.geometry owners images state other known (B.seen blocks.old)
-        → IsPartAtRest log.geometry grown images state other known (B.seen blocks.new)) }
     // What has to be forced for the places of another part stays.
-    ensures others_due { IsTrue B.tells → OnOk result ((number : ℕ) (owners grown : Owners)
-        (log : LogNow) (images : List BeforeImage) (state : State) (other : Shape) (known : Known)
-        → MayGrow (P.shape part.old) space.old owners grown
-        → IsVolumeAtRest log.geometry number owners log images state (B.seen blocks.old)
-        → IsPartAtRest log.geometry owners images state (P.shape part.old) (P.known part.old)
+    ensures others_due { IsTrue B.tells → OnOk result ((number : ℕ) (log : LogNow)
+        (images : List BeforeImage) (state : State) (other : Shape) (known : Known)
+        → IsVolumeAtRest log.geometry number (owner_of log.geometry space.old) log images state
         (B.seen blocks.old)
+        → IsPartAtRest log.geometry (owner_of log.geometry space.old) images state
+        (P.shape part.old) (P.known part.old) (B.seen blocks.old)
         → (part_no other).0 ≢ (part_no (P.shape part.old)).0
-        → IsPartAtRest log.geometry owners images state other known (B.seen blocks.old)
+        → IsPartAtRest log.geometry (owner_of log.geometry space.old) images state other known
+        (B.seen blocks.old)
         → DueMore other [] (B.seen blocks.old) (B.seen blocks.new)) }
 {
     let kind = part.advance(blocks, space, kept, place, length)?;

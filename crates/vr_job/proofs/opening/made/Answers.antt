@@ -47,10 +47,11 @@ returns-clause-run g c told contents catalog opened =
     let held = c.new.ensures.held told contents (same-catalog g c ∙ catalog) is.clusters
     is.geometry_is is.records is.sound is.owners.count is.owned of-taken in
     let whole = c.new.ensures.whole is.clusters is.set is.geometry_is is.laid in
-    let run = opening-run g.B.Blocks.seen (opening_state contents (owned_in t.space)) c.new.result
+    let run = opening-run g.B.Blocks.seen g.B.Blocks.faults (opening_state contents (owned_in t.space))
+    c.new.result
     c.new.ensures.entries c.new.ensures.stopped whole held
     (λ image at. g.met.B.Blocks.images_may c.new.result.blocks image told at) in
     subst (λ (blocks : g.row.B.Denot). HasRun g.B.Blocks.seen
-    (opening_state contents (owned_in b.space)) blocks c.new.result) c.new.ensures.blocks
-    (subst (λ (r : Ready). HasRun g.B.Blocks.seen (opening_state contents (owned_in r.space))
-    c.new.result.blocks c.new.result) (same g c) run)
+    g.B.Blocks.faults (opening_state contents (owned_in b.space)) blocks c.new.result) c.new.ensures.blocks
+    (subst (λ (r : Ready). HasRun g.B.Blocks.seen g.B.Blocks.faults
+    (opening_state contents (owned_in r.space)) c.new.result.blocks c.new.result) (same g c) run)

@@ -26,7 +26,7 @@ returns-in-Ok-clause-held g c told =
           (subst (λ (entries : List CatEntry). AreOwners c.in-Ok.found.value.geometry entries
           c.in-Ok.found.value.space) (sym c.made.ensures.catalog) c.in-Ok.ensures.ready.owners);
       run = subst (λ (blocks : g.row.B.Denot). HasRun g.B.Blocks.seen
-          (opening_state from.0 (owned_in c.in-Ok.found.value.space)) blocks c.made.result)
+          g.B.Blocks.faults (opening_state from.0 (owned_in c.in-Ok.found.value.space)) blocks c.made.result)
           (sym c.made.ensures.blocks)
           (c.made.ensures.run told from.0 from.1.catalog_is from.1.opened);
     }

@@ -2,9 +2,9 @@ use Rattle.std.proofs.Common.{subst}
 use Rattle.vr_space.specs.Part.{HasKeptRoom, HasRoom, given, part_no}
 use Rattle.vr_space.specs.Room.{Lengths}
 use Rattle.vr_volume.specs.Committed.{committed_by}
-use Rattle.vr_space.proofs.CallerLemmas.{rest-sound}
+use Rattle.vr_space.proofs.CallerLemmas.{due-stays, rest-sound}
 use Rattle.vr_volume.proofs.KeptAgain.{place-again, volume-kept-again}
-use Rattle.vr_volume.proofs.Rested.{due-stays, free-again, laid-again, other-stays, part-put}
+use Rattle.vr_volume.proofs.Rested.{free-again, laid-again, other-stays, part-put}
 use Rattle.vr_volume.proofs.Rested.{place-some, stands-part, stays-apart, volume-next-change}
 use Rattle.vr_volume.proofs.Rested.{volume-put-back}
 use Rattle.vr_volume.proofs.Undoing.{put-some}

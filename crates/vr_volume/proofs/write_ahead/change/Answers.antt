@@ -18,11 +18,11 @@ use Rattle.vr_space.specs.Room.{Lengths}
 use Rattle.vr_volume.specs.Committed.{committed_by}
 use Rattle.vr_volume.specs.Laying.{IsLaidBy, IsLogged}
 use Rattle.vr_volume.proofs.Rested.{first-of, laid-by-more, part-first-change, rec-is, stands-part}
-use Rattle.vr_space.proofs.CallerLemmas.{due-at-then}
+use Rattle.vr_space.proofs.CallerLemmas.{due-at-then, due-stays}
 use Rattle.std.proofs.Common.{◌≡◌, ap}
 use Rattle.vr_types.specs.declared.unit.PartNo.{PartNo}
 use Rattle.vr_attach.specs.Owning.{IsPastLog}
-use Rattle.vr_volume.proofs.Rested.{due-stays, other-first-change, stays-apart, stays-then}
+use Rattle.vr_volume.proofs.Rested.{other-first-change, stays-apart, stays-then}
 use Rattle.vr_volume.proofs.Rested.{volume-first-change}
 use Rattle.vr_volume.proofs.write_ahead.change.Goals as goal
 

@@ -1,0 +1,71 @@
+-- An event that stops its volume is one in which a write failed: any other enters one entry at most.
+use Rattle.std.proofs.Common.{◌≡◌, ◌<◌, ◌∙◌, ⊎_elim, ℕ, List, [], ◌∷◌, ◌++◌, None, refl, sym, ap}
+use Rattle.std.proofs.Common.{arith, length}
+use Rattle.std.proofs.lemmas.List.{append-nil, append_cancel_left}
+use Rattle.vr_types.specs.Faults.{Faults}
+use Rattle.vr_types.specs.declared.reply.Reply.TheVariants.{Done as DoneReply}
+use Rattle.vr_types.specs.declared.request.Request.{Request}
+use Rattle.vr_types.specs.declared.unit.Unit.{Unit as UnitOfRecovery}
+use Rattle.vr_history.specs.declared.entry.Entry.{Entry}
+use Rattle.vr_history.specs.declared.entry.What.{What}
+use Rattle.vr_history.specs.declared.entry.What.TheVariants.{Asked, Split, Undone}
+use Rattle.vr_record_file.specs.Now.{FileNow, ended, entry_next, with_event}
+use Rattle.vr_event.specs.Acting.{HasStepped, IsActed, IsAnsweredFor}
+use Rattle.vr_event.specs.declared.act.Act.{Act}
+use Rattle.vr_event.specs.declared.act.Act.TheVariants.{Again, Done}
+use Rattle.vr_job.specs.Events.{IsStop}
+
+module _ (old new : FileNow) (made : List Entry) (entries : new.entries ≡ old.entries ++ made)
+    (stop : IsStop made) where
+  -- it enters two
+  two-entered : length made ≡ 2
+  two-entered = ap (λ (them : List Entry). length them) stop.made_are
+
+  -- so neither none
+  not-none : new ≡ old → ⊥
+  not-none same = omega (
+    arith,
+    two-entered,
+    ap (λ (them : List Entry). length them) (append_cancel_left old.entries made []
+        (sym entries ∙ ap (λ (f : FileNow). f.entries) same ∙ sym (append-nil old.entries))),
+  )
+
+  -- nor one
+  not-one : (after : ℕ) (unit : UnitOfRecovery) (line : ℕ) (what : What) (mid : FileNow)
+      → new ≡ with_event after unit line what mid → mid.entries ≡ old.entries → ⊥
+  not-one after unit line what mid leaves same = omega (
+    arith,
+    two-entered,
+    ap (λ (them : List Entry). length them) (append_cancel_left old.entries made
+        (entry_next mid.entries after unit line what ∷ []) (sym entries
+        ∙ ap (λ (f : FileNow). f.entries) leaves
+        ∙ ap (λ (es : List Entry). es ++ entry_next mid.entries after unit line what ∷ []) same)),
+  )
+
+  not-stepped : (after : ℕ) (unit : UnitOfRecovery) (request : Request)
+      → HasStepped after unit request old new → ⊥
+  not-stepped after unit request is = ⊎_elim not-none
+      (λ step. ⊎_elim
+      (λ split. not-one after unit 0 (Split split.0) old split.1 refl)
+      (λ back. not-one after unit 0 (Undone back.1 back.2) old back.3 refl) step) is
+
+  answered-rose : (before now : Faults) (after : ℕ) (unit : UnitOfRecovery) (line : ℕ)
+      (request : Request) → IsAnsweredFor before now after unit line request old new
+      → before.writes < now.writes
+  answered-rose before now after unit line request is = ⊎_elim
+      (λ entered. absurd (not-one after unit line (Asked request entered.entered.reply)
+      (record old { locks = new.locks; files = new.files; files_room = new.files_room })
+      entered.entered.leaves refl))
+      (λ further. ⊎_elim
+      (λ over. absurd (not-one after unit line (Asked request (DoneReply 0 None None))
+      (ended unit old) over.1 refl))
+      (λ fails. fails.1) further) is
+
+  -- and a write failed
+  pub acted-rose : (before now : Faults) (act : Act) (after : ℕ) (unit : UnitOfRecovery) (line : ℕ)
+      (request : Request) → IsActed before now act after unit line request old new
+      → before.writes < now.writes
+  acted-rose before now Done after unit line request is =
+      answered-rose before now after unit line request is.by
+  acted-rose before now (Again given) after unit line request is =
+      absurd (not-stepped after unit request is.by.1)
