@@ -48,6 +48,16 @@ module _ {B : Type 0} (seen : B → Seen) where
     set = set;
   }
 
+  -- whole, once a write failed
+  pub whole-stopped : (volume : VolumeNow B) → AreKeyedClusters volume.file.catalog
+      → (volume.file.stopped ≡ None → ⊥) → IsWhole seen volume
+  whole-stopped volume keyed stopped = record {
+    keyed = keyed;
+    geometry = λ going. absurd (stopped going);
+    laid = λ going. absurd (stopped going);
+    set = λ going. absurd (stopped going);
+  }
+
   -- held, by the same state
   pub held-moved : (opening : State) (volume : VolumeNow B) (store : StoreNow) (blocks : B)
       → store.space ≡ volume.store.space

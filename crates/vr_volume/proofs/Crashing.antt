@@ -142,15 +142,22 @@ module _ (geometry : Geometry) (number : ℕ) (owners : Owners) (log : LogNow)
       (counted-end log.records rec counted state.befores is
       (none-ended geometry state rest.laid log rest.logged))
 
-  -- An image that is safe by the log recovers to what is committed in the state.
+  -- An image that is safe by the log, whoever owns the areas in it, recovers to what is committed in
+  -- the state.
+  pub safe-recovers : (grown : Owners) (image : Image)
+      → IsSafeImage geometry number grown log (committed_by state) image
+      → RecoversTo geometry number state [] image
+  safe-recovers grown image safe = recovers-same geometry number image
+      (committed_by state safe.0.records) (committed_with [] state)
+      (own-contents safe.0 safe.1)
+      (image_recovers geometry number grown image safe.0 (committed_by state safe.0.records)
+      safe.2)
+
+  -- so also one by who owns them now
   pub rest-recovers : (image : Image)
       → IsSafeImage geometry number owners log (committed_by state) image
       → RecoversTo geometry number state [] image
-  rest-recovers image safe = recovers-same geometry number image
-      (committed_by state safe.0.records) (committed_with [] state)
-      (own-contents safe.0 safe.1)
-      (image_recovers geometry number owners image safe.0 (committed_by state safe.0.records)
-      safe.2)
+  rest-recovers image safe = safe-recovers owners image safe
 
   -- One that is safe by the log with a record more recovers to that, or to what is committed with the
   -- units counted that the record commits.
