@@ -201,7 +201,7 @@ impl<B: Blocks, P: Part> Volume<B, P> {
         ensures generation { self.new.file.stopped ≡ None
             → self.new.store.log.generation ≤ self.old.store.log.generation + 1 }
     {
-        match self.refused_early(alloc, unit, request.get()) {
+        match self.refused_early(unit, request.get()) {
             Some(refusal) => {
                 self.refuse_early(unit, line, request, refusal, after);
                 Act::Done

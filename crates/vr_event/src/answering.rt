@@ -9,9 +9,7 @@ ghost use Rattle.vr_record_file.specs.Now.{state_now};
 ghost use Rattle.vr_event.specs.Volume.{IsHeld};
 
 use crate::volume::Volume;
-use std::alloc::Global;
-use vr_answer::{Case, refused_by_file};
-use vr_locks::lock_table;
+use vr_answer::refused_by_file;
 use vr_space::Part;
 use vr_types::{Blocks, Refusal, Request, Unit};
 
@@ -20,12 +18,7 @@ impl<B: Blocks, P: Part> Volume<B, P> {
     /// `NotAllowed`, `BadLength`, `NoPosition` where a sequential GET finds its file nowhere, and
     /// `NoGet` where an update or an erase finds nothing held. None of them looks at locks or at the
     /// log, so neither is a parameter. It takes no memory, and the refusal moves no file.
-    pub fn refused_early<'a>(
-        &'a self,
-        alloc: Global,
-        unit: Unit,
-        request: &'a Request,
-    ) -> Option<Refusal>
+    pub fn refused_early<'a>(&'a self, unit: Unit, request: &'a Request) -> Option<Refusal>
         ensures value { IsTrue B.tells → (opening : State) → IsHeld B.seen opening self.now
             → (unit.deck == 0) ≡ false
             → result ≡ first_of (file_refusals (case_of self.now.file.geometry
@@ -40,21 +33,7 @@ impl<B: Blocks, P: Part> Volume<B, P> {
         // It is no fault of the device.
         ensures calm { IsCalm result }
     {
-        let locks = lock_table(alloc);
-        refused_by_file(&Case {
-            geometry: self.file.geometry(),
-            catalog: self.file.catalog(),
-            locks: &locks,
-            held: self.file.held(unit.deck, request),
-            stand: self.file.stand(unit.deck, request),
-            stopped: self.file.stopped(),
-            free: self.store.free_areas(),
-            used: 0,
-            address: None,
-            areas: 0,
-            unit,
-            request,
-            catalog_changing: false,
-        })
+        let free = self.store.free_areas();
+        refused_by_file(&self.file.case(unit, request, free, 0, None, 0))
     }
 }

@@ -1,13 +1,13 @@
 use Rattle.std.proofs.Common.{ap, refl, subst, sym, ◌∙◌}
 use Rattle.std.specs.Option.{option_and_then}
-use Rattle.vr_types.specs.declared.geometry.Geometry.{Geometry}
+use Rattle.vr_history.specs.Case.{Case}
 use Rattle.vr_history.specs.Replies.{first_of}
 use Rattle.vr_history.specs.State.{State}
 use Rattle.vr_history.specs.Step.{case_of, stand_refused}
 use Rattle.vr_answer.specs.Tried.{file_refusals}
 use Rattle.vr_record_file.specs.Now.{state_now}
 use Rattle.vr_event.specs.Volume.{IsHeld, VolumeNow}
-use Rattle.vr_record_file.proofs.Resting.{file_is}
+use Rattle.vr_event.proofs.Known.{whole-is}
 use Rattle.vr_event.proofs.Staying.{files-stay}
 use Rattle.vr_event.proofs.volume.Volume.refused_early.Goals as goal
 
@@ -24,11 +24,10 @@ returns-clause-value g c told opening held deck =
     let state : State = state_now opening file in
     let then : IsHeld seen opening before =
     subst (IsHeld seen opening) (sym c.self.view_is) held in
-    c.refused_by_file.ensures.value state
-    (file_is opening file then.file _ c.catalog.ensures c.held.ensures c.stand.ensures
-    c.stopped.ensures refl)
-    ∙ ap (λ (shape : Geometry). first_of (file_refusals (case_of shape state c.args.unit
-    c.args.request.now))) c.geometry.ensures
+    c.refused_by_file.ensures.value state (c.case.ensures.file opening then.file)
+    ∙ ap (λ (w : Case). first_of (file_refusals w)) (whole-is c.case.result state file.geometry
+    c.args.unit c.args.request.now c.case.ensures.geometry c.case.ensures.unit
+    c.case.ensures.asked)
     ∙ ap (λ (v : VolumeNow g.row.B.Denot). first_of (file_refusals (case_of v.file.geometry
     (state_now opening v.file) c.args.unit c.args.request.now))) c.self.view_is
 
