@@ -35,7 +35,7 @@ address_added case Commit = None
 address_added case Backout = None
 
 -- What is handed in of such a data set is what the state has: the address that an added record gets
--- in an entry-sequenced one, and how many areas either kind has. Of other data sets nothing is.
+-- in an entry-sequenced one, and how many areas either kind has. Of other data sets it says nothing.
 pub record AreNumbersOf (given : Option (List ℕ)) (count : ℕ) (case : Case) : Type 0 where
   pub address : kind_of case ≡ Some Entry → given ≡ address_added case case.request
   pub areas : IsNumbered (kind_of case) → count ≡ areas_of case.state (base_of case)
