@@ -39,7 +39,7 @@ use Rattle.vr_volume.specs.Steps.{IsEndedIn}
 use Rattle.vr_volume.proofs.Calls.{stays-part}
 use Rattle.vr_volume.proofs.ForceCalls.{due-kept, firm-for}
 use Rattle.vr_volume.proofs.Meeting.{filter-alone, find-passes}
-use Rattle.vr_volume.proofs.Rested.{due-stays}
+use Rattle.vr_space.proofs.CallerLemmas.{due-stays}
 use Rattle.vr_store.specs.Store.{ChangedBy, IsFitImage, IsRestedPart, IsSet, IsStored}
 use Rattle.vr_store.specs.Store.{StoreNow, blocks_of, owners_of}
 use Rattle.vr_store.proofs.Among.{HasShape, among-all, among-shape}

@@ -12,11 +12,11 @@ use Rattle.vr_types.specs.declared.geometry.Geometry.{Geometry}
 use Rattle.vr_types.proofs.CallerLemmas.{during-weaken, guards-then}
 use Rattle.vr_space.specs.Known.{Known}
 use Rattle.vr_space.specs.Owners.{Owners}
-use Rattle.vr_space.specs.Part.{DueMoreAt, IsSound, Shape}
+use Rattle.vr_space.specs.Part.{DueMoreAt, IsSound, Shape, item_of}
 use Rattle.vr_space.proofs.CallerLemmas.{due-keeps, due-then, rest-sound}
 use Rattle.vr_log.specs.LogNow.{LogNow}
 use Rattle.vr_history.specs.State.{BeforeImage, State}
-use Rattle.vr_volume.proofs.ForceCalls.{due-fewer}
+use Rattle.vr_space.proofs.CallerLemmas.{due-fewer}
 use Rattle.vr_volume.proofs.Rested.{part-keeps, volume-keeps}
 use Rattle.vr_store.specs.Change.{IsNoted, IsSetIn}
 
@@ -47,19 +47,18 @@ module _ (tells : Bool) (told : IsTrue tells) (b c : Seen) (call : Keeps tells b
     -- or forced
     due-forced : (listed : List ℕ) → Forced put b.cur c.may → DueMoreAt shape place listed a c
     due-forced listed forced all at was either =
-        due-fewer shape owners (put ++ all) all at b c sound
-        (λ n block below may. call.adds_none told n block below may)
-        (λ n block below may. (
-          call.adds_none told n block below may.0,
+        due-fewer shape owners b sound (put ++ all) all at c
+        (λ n block is may. (
+          call.adds_none told n block is.0 may.0,
           λ there. ⊎_elim
               (λ here. forced n block here may.0)
               (λ rest. may.1 rest ∙ ap (λ (image : Image). block_at image n) (call.content told))
               (Contains-append_cases put all n there),
         ))
-        (call.content told)
+        (ap (λ (image : Image). item_of shape image at) (call.content told))
         (due (put ++ all) at
-        (due-fewer shape owners all (put ++ all) at a a before (λ n block below may. may)
-        (λ n block below may. (
+        (due-fewer shape owners a before all (put ++ all) at a
+        (λ n block is may. (
           may.0,
           λ there. may.1 (Contains-append_right put all n there),
         ))

@@ -79,7 +79,7 @@ part-of number shape known =
 
 -- a part by its split alone
 abbrev pub part-split : PartNo → Shape → Option SplitNow → PartNow
-part-split number shape split = part-of number shape (record { split = split; met = [] })
+part-split number shape split = part-of number shape (record { split = split; met = []; areas = []; used = 0 })
 
 -- a part that a call left as it was
 pub laid-same : {P : Type 0} (shape : P → Shape) (known : P → Known)

@@ -8,7 +8,7 @@ use Rattle.std.specs.declared.cmp.Ordering.TheVariants.{Less, Equal, Greater}
 use Rattle.vr_types.specs.Content.{Content, Item, found_by, item_at, place_cmp, record_at}
 use Rattle.vr_types.specs.Content.{record_of}
 use Rattle.vr_types.specs.Seen.{Left, Seen}
-use Rattle.vr_space.specs.Part.{Shape, Stands as StandFor, item_of, record_read}
+use Rattle.vr_space.specs.Part.{Knows, Shape, Stands as StandFor, item_of, record_read}
 use Rattle.vr_space.proofs.CallerLemmas.{rest-sound, rest-stands}
 use Rattle.vr_history.specs.State.{State}
 use Rattle.vr_volume.specs.Laid.{shape_by}
@@ -24,6 +24,12 @@ pub at-shape : (P : Shape → Type 0) (parts : List PartNow) (number : ℕ) (par
     → part_among parts number ≡ Some part → IfSome (shape_among parts number) P → P part.shape
 at-shape P parts number part is holds = subst (λ (found : Option PartNow).
     IfSome (option_map (λ (one : PartNow). one.shape) found) P) is holds
+
+-- and of the shape of the part that is found
+pub shape-at : (P : Shape → Type 0) (parts : List PartNow) (number : ℕ) (part : PartNow)
+    → part_among parts number ≡ Some part → P part.shape → IfSome (shape_among parts number) P
+shape-at P parts number part is holds = subst (λ (found : Option PartNow).
+    IfSome (option_map (λ (one : PartNow). one.shape) found) P) (sym is) holds
 
 -- what holds of the part that is found
 pub at-part : (P : PartNow → Type 0) (parts : List PartNow) (number : ℕ) (part : PartNow)
@@ -86,6 +92,12 @@ module _ (store : StoreNow) (now : Seen) (set : IsSet store now) where
   stand-at number part found left stands = rest-stands part.shape (owners_of store) now
       (rest-sound part.shape (owners_of store) now (rested-at stands.number stands.state number part
       found stands.stored).rests) left
+
+  -- and are as it knows them
+  pub knows-at : (number : ℕ) (part : PartNow) → part_among store.parts number ≡ Some part
+      → Stands store now → Knows part.shape part.known now
+  knows-at number part found stands =
+      (rested-at stands.number stands.state number part found stands.stored).knows
 
   -- what is read there is the record of the state
   pub record-read : (volume : ℕ) (state : State) (number : ℕ) (part : PartNow)

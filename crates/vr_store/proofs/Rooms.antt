@@ -7,7 +7,7 @@ use Rattle.vr_types.specs.Space.{free_count}
 use Rattle.vr_types.specs.declared.unit.PartNo.{PartNo}
 use Rattle.vr_space.specs.Known.{HasMet, Known, places_met}
 use Rattle.vr_space.specs.Met.{met_next}
-use Rattle.vr_space.specs.Part.{IsStageDue, KeyedShape, Shape, part_no, room_of}
+use Rattle.vr_space.specs.Part.{IsStageDue, KeyedShape, RelativeShape, Shape, part_no, room_of}
 use Rattle.vr_space.specs.Split.{SplitNow, keyed_room}
 use Rattle.vr_space.specs.Room.{Lengths}
 use Rattle.vr_space.specs.declared.room.Room.{Room}
@@ -62,6 +62,7 @@ room-by-split : (shape : Shape) (one other : Known) → one.split ≡ other.spli
     → room_of shape one image free kept place n ≡ room_of shape other image free kept place n
 room-by-split (KeyedShape part) one other same image free kept place n =
     ap (λ (s : Option SplitNow). keyed_room part s image kept place n) same
+room-by-split (RelativeShape part) one other same image free kept place n = refl
 
 -- A call that leaves the shape and the split of the part, and the blocks, leaves the room.
 pub room-still : (old new : StoreNow) (number : ℕ) (before after : PartNow) (a b : Image)

@@ -30,7 +30,7 @@ use Rattle.vr_volume.specs.Laid.{shape_by}
 use Rattle.vr_volume.specs.PutBack.{images_of, is_image_of, oldest}
 use Rattle.vr_volume.specs.Steps.{Changing, image_by}
 use Rattle.vr_volume.proofs.Alone.{is-there}
-use Rattle.vr_volume.proofs.ForceCalls.{due-fewer}
+use Rattle.vr_space.proofs.CallerLemmas.{due-fewer}
 use Rattle.vr_volume.proofs.Images.{oldest-append}
 use Rattle.vr_volume.proofs.Moving.{catalog-stays}
 use Rattle.vr_store.specs.Change.{IsMadeOf, IsReadyBy, IsSetIn, IsToSet, has_kept, has_logged}
@@ -60,8 +60,8 @@ pub due-longer : (shape : Shape) (owners : Owners) (listed longer place : List �
     → ((n : ℕ) → Contains listed n → Contains longer n) → IsDueTo shape listed a place
     → IsDueTo shape longer a place
 due-longer shape owners listed longer place a sound within due =
-    due-fewer shape owners listed longer place a a sound (λ n block below may. may)
-    (λ n block below may. (may.0, λ there. may.1 (within n there))) refl due
+    due-fewer shape owners a sound listed longer place a
+    (λ n block is may. (may.0, λ there. may.1 (within n there))) refl due
 
 module _ (number : ℕ) (store : StoreNow) (unit : UnitOfRecovery) (part : PartNo) (place : List ℕ)
     (prepared : Prepared) (was : Option (List ℕ)) (old : State) (a : Seen)
@@ -284,12 +284,12 @@ module _ (number : ℕ) (store : StoreNow) (unit : UnitOfRecovery) (part : PartN
           (ap (λ (n : PartNo). record {
             number = n;
             shape = now.shape;
-            known = record { split = None; met = [] };
+            known = record { split = None; met = []; areas = []; used = 0 };
           }) number-same
           ∙ ap (λ (s : Shape). record {
             number = before.number;
             shape = s;
-            known = record { split = None; met = [] };
+            known = record { split = None; met = []; areas = []; used = 0 };
           }) shape-same) store.parts into.found
 
       -- the store as the call left it

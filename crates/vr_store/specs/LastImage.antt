@@ -3,7 +3,11 @@
 use Rattle.std.specs.Prelude.{◌≡◌, ℕ, Bool, true, false, List, Option, Some, None, IfSome}
 use Rattle.vr_types.specs.Image.{Image}
 use Rattle.vr_types.specs.declared.unit.Unit.{Unit as UnitOfRecovery}
-use Rattle.vr_space.specs.Part.{stage_of}
+use Rattle.vr_types.specs.declared.unit.PartNo.{PartNo}
+use Rattle.vr_types.specs.declared.unit.StageKind.{StageKind}
+use Rattle.vr_space.specs.Owners.{Owners}
+use Rattle.vr_space.specs.Part.{IsStageOf, OwnersAfter, Shape, stage_of}
+use Rattle.vr_attach.specs.Owning.{claimed_by, owner_of}
 use Rattle.vr_space.specs.declared.room.Room.{Room}
 use Rattle.vr_space.specs.declared.room.Room.TheVariants.{NoSpace, Ready, Stage}
 use Rattle.vr_history.specs.Effects.{last_kept, with_change, without_last}
@@ -23,6 +27,23 @@ OnLast store unit P = IfSome (last_of_unit store unit) P
 abbrev pub IsDueAtLast : StoreNow → Image → UnitOfRecovery → ℕ → Type 0
 IsDueAtLast store image unit n =
     OnLast store unit (λ last. IsDueAt store image last.part last.place n)
+
+-- a stage of a part left the owners of areas so
+pub record HasAdvanced (part : PartNo) (shape : Shape) (old new : List (Option PartNo)) : Type 0
+  where
+    pub kind : StageKind
+    pub stage : IsStageOf shape kind
+    pub owners : OwnersAfter part kind old new
+
+-- the areas once the part of a before-image got the least free one
+abbrev pub claimed_for : List (Option PartNo) → Option BeforeImage → List (Option PartNo)
+claimed_for areas None = areas
+claimed_for areas (Some image) = claimed_by (record { 0 = image.part }) areas
+
+-- which part each block is of, where that of the last before-image did
+abbrev pub last_claimed : StoreNow → UnitOfRecovery → Owners
+last_claimed store unit =
+    owner_of store.log.geometry (claimed_for store.space (last_of_unit store unit))
 
 abbrev pub is_stage : Room → Bool
 is_stage (Stage kind) = true

@@ -9,24 +9,25 @@ with_part number after [] = []
 with_part number after (part ∷ parts) =
     cond (has_number number part) (after ∷ parts) (part ∷ with_part number after parts)
 
--- a part but for what it met, and but for its split under way too
+-- a part by its split under way alone, and but for all that it keeps of its blocks
 abbrev pub but_met : PartNow → PartNow
-but_met part = record part { known = record part.known { met = [] } }
+but_met part =
+    record part { known = record { split = part.known.split; met = []; areas = []; used = 0 } }
 
 abbrev pub but_split : PartNow → PartNow
-but_split part = record part { known = record { split = None; met = [] } }
+but_split part = record part { known = record { split = None; met = []; areas = []; used = 0 } }
 
 -- each other part stays as it is
 abbrev pub OthersStay : ℕ → List PartNow → List PartNow → Type 0
 OthersStay number old new = (other : ℕ) → other ≢ number
     → part_among new other ≡ part_among old other
 
--- Of the part of this number alone there is something new: what it met,
+-- Of the part of this number alone there is something new: what it keeps beside its split,
 pub record OnlyMet (number : ℕ) (old new : List PartNow) : Type 0 where
   pub parts : map but_met new ≡ map but_met old
   pub others : OthersStay number old new
 
--- or its split and what it met.
+-- or all that it keeps of its blocks.
 pub record OnlySplit (number : ℕ) (old new : List PartNow) : Type 0 where
   pub parts : map but_split new ≡ map but_split old
   pub others : OthersStay number old new

@@ -14,7 +14,8 @@ ghost use Rattle.vr_undo.specs.Records.{image_of};
 ghost use Rattle.vr_volume.specs.Committed.{IsCurrent, committed_by};
 ghost use Rattle.vr_volume.specs.Safe.{IsSafeImage};
 ghost use Rattle.vr_volume.specs.Steps.{IsChangeOf, IsPutBack};
-ghost use Rattle.vr_store.specs.LastImage.{HasNoStage, IsBackIn, IsDueAtLast, IsMetBy, OnLast};
+ghost use Rattle.vr_store.specs.LastImage.{HasAdvanced, HasNoStage, IsBackIn, IsDueAtLast};
+ghost use Rattle.vr_store.specs.LastImage.{IsMetBy, OnLast, last_claimed};
 ghost use Rattle.vr_store.specs.LastImage.{is_stage as is_a_stage, last_of_unit};
 ghost use Rattle.vr_store.specs.Change.{IsSettable};
 ghost use Rattle.vr_store.specs.PutBack.{IsTaken, IsTakenFrom, back_at};
@@ -125,18 +126,22 @@ impl<P: Part> Store<P> {
         requires due { IsTrue B.tells
             → IsDueAtLast self.old (B.seen blocks.old).cur unit length }
         ensures owners_stay { OnErr result (self.new.space ≡ self.old.space) }
-        ensures owners_same { IsTrue B.tells → self.new.space ≡ self.old.space }
+        // What is due is a stage of its part, which takes no area or the least free one.
+        ensures owners { IsTrue B.tells → OnOk result (OnLast self.old unit (λ last.
+            IfSome (shape_among self.old.parts last.part)
+            (λ shape. HasAdvanced (record { 0 = last.part }) shape self.old.space
+            self.new.space))) }
         ensures shapes { (number : ℕ)
             → shape_among self.new.parts number ≡ shape_among self.old.parts number }
         ensures set { IsSet self.new (B.seen blocks.new) }
         ensures stored { IsTrue B.tells → OnOk result ((volume : ℕ) (state : State)
             → IsStored volume self.old state (B.seen blocks.old)
             → IsStored volume self.new state (B.seen blocks.new)) }
-        // At every moment, whether it fails or not.
+        // At every moment, whether it fails or not: the least free area may be the part's already.
         ensures moments { IsTrue B.tells → (volume : ℕ) (state : State)
             → IsStored volume self.old state (B.seen blocks.old)
             → Guards (B.seen blocks.old) (B.seen blocks.new)
-            (IsSafeImage self.old.log.geometry volume (owners_of self.old) self.old.log
+            (IsSafeImage self.old.log.geometry volume (last_claimed self.old unit) self.old.log
             (committed_by state)) }
         // It reads before it puts.
         ensures unread { IfErr result (λ fault. fault ≡ Read

@@ -2,7 +2,7 @@
 ghost use Rattle.std.specs.Prelude.{◌≡◌, ℕ, IsTrue, IfOk, IfSome};
 ghost use Rattle.vr_types.specs.Blocks.{Keeps};
 ghost use Rattle.vr_types.specs.Content.{record_at};
-ghost use Rattle.vr_space.specs.Part.{IsOn, IsPlaceOf, Stands as StandFor, record_read};
+ghost use Rattle.vr_space.specs.Part.{IsOn, IsPlaceOf, Knows, Stands as StandFor, record_read};
 ghost use Rattle.vr_history.specs.State.{State};
 ghost use Rattle.vr_store.specs.Cause.{HasLookCause};
 ghost use Rattle.vr_store.specs.Store.{IsSet, IsStored, Stands, shape_among};
@@ -56,6 +56,8 @@ fn copy_at<B: Blocks, P: Part>(
     requires on { IsOn (P.shape part.old) (B.seen blocks.old) }
     requires place { IsPlaceOf (P.shape part.old) place.now }
     requires stands { IsTrue B.tells → StandFor (P.shape part.old) (B.seen blocks.old).cur }
+    requires knows { IsTrue B.tells → Knows (P.shape part.old) (P.known part.old)
+        (B.seen blocks.old) }
     ensures found { IsTrue B.tells → IfOk result (λ found.
         found ≡ record_read (P.shape part.old) (B.seen blocks.old).cur place.now) }
     ensures shape { P.shape part.new ≡ P.shape part.old }

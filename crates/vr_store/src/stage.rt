@@ -5,17 +5,16 @@ ghost use Rattle.vr_types.specs.Faults.{HasCause};
 ghost use Rattle.vr_types.specs.Moments.{Guards};
 ghost use Rattle.vr_types.specs.declared.fault.DeviceFault.TheVariants.{Read};
 ghost use Rattle.vr_space.specs.Known.{HasMet};
-ghost use Rattle.vr_space.specs.Part.{IsLengthOf, IsPlaceOf, OwnersAfter};
-ghost use Rattle.vr_space.specs.Split.{IsIntervalStage};
+ghost use Rattle.vr_space.specs.Part.{IsLengthOf, IsPlaceOf, IsStageOf, OwnersAfter};
 ghost use Rattle.vr_space.specs.declared.room.Room.TheVariants as answers;
-ghost use Rattle.vr_attach.specs.Owning.{owner_of};
+ghost use Rattle.vr_attach.specs.Owning.{claimed_by, owner_of};
 ghost use Rattle.vr_history.specs.State.{State};
 ghost use Rattle.vr_volume.specs.Committed.{committed_by};
 ghost use Rattle.vr_volume.specs.Safe.{IsSafeImage};
 ghost use Rattle.vr_store.specs.Parts.{OnlyMet, OnlySplit};
 ghost use Rattle.vr_store.specs.Room.{IsDueAt, IsRoomAt};
 ghost use Rattle.vr_store.specs.Store.{IsSet, IsStored, Stands, part_among, part_now, shape_among};
-ghost use Rattle.vr_store.specs.Store.{owners_of, store_of};
+ghost use Rattle.vr_store.specs.Store.{store_of};
 
 use crate::changed::UnitBlocks;
 use crate::parts::{Laid, index_of};
@@ -107,7 +106,9 @@ pub(crate) fn advance_at<B: Blocks, P: Part>(
         number.0 place.now length (answers.Stage kind)) }
     ensures owners { IfOk result (λ kind. OwnersAfter number kind space.old space.new) }
     ensures owners_stay { OnErr result (space.new ≡ space.old) }
-    ensures interval { IsTrue B.tells → IfOk result IsIntervalStage }
+    ensures kind { IsTrue B.tells → IfSome
+        (shape_among (map (part_now P.shape P.known) parts.old.items) number.0)
+        (λ shape. IfOk result (IsStageOf shape)) }
     ensures set { IsSet (store_of P.shape P.known log.now undo.now parts.new.items
         changed.now.items space.new) (B.seen blocks.new) }
     ensures stored { IsTrue B.tells → OnOk result ((volume : ℕ) (state : State)
@@ -115,13 +116,13 @@ pub(crate) fn advance_at<B: Blocks, P: Part>(
         changed.now.items space.old) state (B.seen blocks.old)
         → IsStored volume (store_of P.shape P.known log.now undo.now parts.new.items
         changed.now.items space.new) state (B.seen blocks.new)) }
-    // At every moment, whether it fails or not.
+    // At every moment, whether it fails or not: the least free area may be the part's already.
     ensures moments { IsTrue B.tells → (volume : ℕ) (state : State)
         → IsStored volume (store_of P.shape P.known log.now undo.now parts.old.items
         changed.now.items space.old) state (B.seen blocks.old)
         → Guards (B.seen blocks.old) (B.seen blocks.new)
-        (IsSafeImage log.now.geometry volume (owner_of log.now.geometry space.old) log.now
-        (committed_by state)) }
+        (IsSafeImage log.now.geometry volume
+        (owner_of log.now.geometry (claimed_by number space.old)) log.now (committed_by state)) }
     // It reads before it puts.
     ensures unread { IfErr result (λ fault. fault ≡ Read
         → Keeps B.tells (B.seen blocks.old) (B.seen blocks.new)
@@ -214,18 +215,18 @@ impl<P: Part> Store<P> {
         ensures owners { IfOk result (λ kind.
             OwnersAfter number kind self.old.space self.new.space) }
         ensures owners_stay { OnErr result (self.new.space ≡ self.old.space) }
-        // It is a stage of the split of one interval, which takes no area.
-        ensures interval { IsTrue B.tells → IfOk result IsIntervalStage }
-        ensures owners_same { IsTrue B.tells → self.new.space ≡ self.old.space }
+        ensures kind { IsTrue B.tells → IfSome (shape_among self.old.parts number.0)
+            (λ shape. IfOk result (IsStageOf shape)) }
         ensures set { IsSet self.new (B.seen blocks.new) }
         ensures stored { IsTrue B.tells → OnOk result ((volume : ℕ) (state : State)
             → IsStored volume self.old state (B.seen blocks.old)
             → IsStored volume self.new state (B.seen blocks.new)) }
-        // At every moment, whether it fails or not.
+        // At every moment, whether it fails or not: the least free area may be the part's already.
         ensures moments { IsTrue B.tells → (volume : ℕ) (state : State)
             → IsStored volume self.old state (B.seen blocks.old)
             → Guards (B.seen blocks.old) (B.seen blocks.new)
-            (IsSafeImage self.old.log.geometry volume (owners_of self.old) self.old.log
+            (IsSafeImage self.old.log.geometry volume
+            (owner_of self.old.log.geometry (claimed_by number self.old.space)) self.old.log
             (committed_by state)) }
         // It reads before it puts.
         ensures unread { IfErr result (λ fault. fault ≡ Read

@@ -2,9 +2,12 @@ use Rattle.std.proofs.Common.{refl, sym, ap, subst, map}
 use Rattle.std.proofs.Common.{set, List, Option, None, rules, IsTrue}
 use Rattle.vr_types.specs.declared.unit.PartNo.{PartNo}
 use Rattle.vr_types.specs.Space.{free_count}
-use Rattle.vr_space.specs.Part.{IsLengthOf, IsPlaceOf, OwnersAfter, Shape, part_no}
-use Rattle.vr_space.proofs.CallerLemmas.{grows-none, interval-owners, interval-stage}
-use Rattle.vr_attach.proofs.CallerLemmas.{owner-past-log}
+use Rattle.std.specs.Prelude.{IfOk}
+use Rattle.vr_types.specs.Moments.{Guards}
+use Rattle.vr_volume.specs.Safe.{IsSafeImage}
+use Rattle.vr_space.specs.Part.{IsLengthOf, IsPlaceOf, IsStageOf, OwnersAfter, Shape, part_no}
+use Rattle.vr_space.proofs.CallerLemmas.{room-stage}
+use Rattle.vr_attach.specs.Owning.{claimed_by, owner_of}
 use Rattle.vr_undo.specs.Records.{images_in}
 use Rattle.vr_volume.specs.Committed.{committed_by}
 use Rattle.vr_volume.specs.PutBack.{lengths_kept}
@@ -15,6 +18,7 @@ use Rattle.vr_store.specs.Store.{IsStored, StoreNow, owners_of, part_now, store_
 use Rattle.vr_store.proofs.Kept.{err-as}
 use Rattle.vr_store.proofs.PartsAt.{laid-at, laid-found, none-laid, only-split, part-split}
 use Rattle.vr_store.proofs.Recorded.{at-shape, number-at, part-number-at, rested-at, set-at}
+use Rattle.vr_store.proofs.Recorded.{shape-at}
 use Rattle.vr_store.proofs.Rooms.{due-at, room-at}
 use Rattle.vr_store.proofs.Worked.{set-worked, stored-met, stored-worked}
 use Rattle.vr_store.proofs.stage.advance_at.Goals as goal
@@ -84,15 +88,18 @@ returns-in_err-kind-in-Some g c =
       stage = search rules;
       owners = search rules;
       owners_stay = search rules;
-      interval = search rules;
+      kind = λ told. shape-at (λ (s : Shape). IfOk c.from_residual.result (IsStageOf s)) store.parts
+          number before at.found (search rules);
       set = set-worked store number before after parts space at same a b
           c.do_stage.ensures.count c.do_stage.ensures.size c.requires.set;
       stored = search rules;
       moments = λ told volume state stored.
-          (c.do_stage.ensures.safe told store.log.geometry volume (owners_of store)
-          (owners_of store) store.log (committed_by state)
-          (grows-none before.shape store.space (owners_of store))
-          (owner-past-log store.log.geometry store.space) stored.volume.safe
+          subst (λ (owner : PartNo). Guards a b (IsSafeImage store.log.geometry volume
+          (owner_of store.log.geometry (claimed_by owner store.space)) store.log
+          (committed_by state)))
+          (part-number-at store a c.requires.set c.args.number before at.found)
+          (c.do_stage.ensures.safe told store.log.geometry volume store.log (committed_by state)
+          stored.volume.safe
           (laid-rest store.log.geometry volume (owners_of store) store.log (images_in store.undo)
           state a stored.volume before.shape before.known
           (rested-at store a c.requires.set volume state number before at.found stored) _ refl)).0;
@@ -136,15 +143,12 @@ returns g c =
     (record { number = laid.number; part = c.do_stage.new.part })) in
     let same = ap (λ (s : Shape). but_split (part-split laid.number s None))
     c.do_stage.ensures.shape in
-    let own = owners_of store in
-    let grows = grows-none before.shape store.space own in
-    let past = owner-past-log store.log.geometry store.space in
     let owners = subst (λ (owner : PartNo). OwnersAfter owner done.kind c.args.space.now space)
     (part-number-at store a c.requires.set c.args.number before at.found)
     done.ensures.owners in
-    let interval = λ (told : IsTrue g.B.Blocks.tells).
+    let kind = λ (told : IsTrue g.B.Blocks.tells).
     let stands = c.requires.stands told in
-    interval-stage before.shape before.known a a.cur (free_count c.args.space.now)
+    room-stage before.shape before.known a a.cur (free_count c.args.space.now)
     (lengths_kept (images_in c.args.undo.now) (part_no before.shape).0) c.args.place.now
     c.args.length done.kind
     (rested-at store a c.requires.set stands.number stands.state number before at.found
@@ -155,31 +159,34 @@ returns g c =
           (number-at store a c.requires.set number before at.found) a.cur c.args.place.now
           c.args.length _ (done.ensures.stage told);
       owners = owners;
-      interval = interval;
+      kind = λ told. shape-at (λ (s : Shape). IsStageOf s done.kind) store.parts number before
+          at.found (kind told);
       owners_stay = search rules;
       set = set-worked store number before after parts space at same a b
           c.do_stage.ensures.count c.do_stage.ensures.size c.requires.set;
       stored = λ told volume state stored.
           let mine = rested-at store a c.requires.set volume state number before at.found stored in
-          let rest = done.ensures.at_rest told volume own own store.log images state grows past
-          stored.volume mine refl in
-          subst (λ (areas : List (Option PartNo)).
-          IsStored volume (record store { parts = parts; space = areas }) state b)
-          (sym (interval-owners c.args.number done.kind store.space space (interval told) owners))
-          (stored-worked store number before after parts store.space at same volume state a b
+          let rest = done.ensures.at_rest told volume store.log images state stored.volume mine
+          refl in
+          stored-worked store number before after parts space at same volume state a b
           c.requires.set stored rest.0
-          (subst (λ (s : Shape). IsPartAtRest store.log.geometry own images state s after.known b)
+          (subst (λ (s : Shape). IsPartAtRest store.log.geometry
+          (owner_of store.log.geometry space) images state s after.known b)
           (sym c.do_stage.ensures.shape) rest.1)
-          (λ other apart rested. done.ensures.others told volume own own store.log images state
-          other.shape other.known grows stored.volume mine apart rested)
+          (λ other apart rested. done.ensures.others told volume store.log images state
+          other.shape other.known stored.volume mine apart rested)
           (done.ensures.due told)
-          (λ other apart rested. done.ensures.others_due told volume own own store.log images state
-          other.shape other.known grows stored.volume mine apart rested));
+          (λ other apart rested. done.ensures.others_due told volume store.log images state
+          other.shape other.known stored.volume mine apart rested);
       moments = λ told volume state stored.
-          (c.do_stage.ensures.safe told store.log.geometry volume own own store.log
-          (committed_by state) grows past stored.volume.safe
-          (laid-rest store.log.geometry volume own store.log images state a stored.volume
-          before.shape before.known
+          subst (λ (owner : PartNo). Guards a b (IsSafeImage store.log.geometry volume
+          (owner_of store.log.geometry (claimed_by owner store.space)) store.log
+          (committed_by state)))
+          (part-number-at store a c.requires.set c.args.number before at.found)
+          (c.do_stage.ensures.safe told store.log.geometry volume store.log (committed_by state)
+          stored.volume.safe
+          (laid-rest store.log.geometry volume (owners_of store) store.log images state a
+          stored.volume before.shape before.known
           (rested-at store a c.requires.set volume state number before at.found stored) _ refl)).0;
       unread = search rules;
       parts = only-split number before after store.parts parts at refl same;

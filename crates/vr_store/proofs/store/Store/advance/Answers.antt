@@ -3,7 +3,8 @@ use Rattle.std.proofs.lemmas.Result.{IfErr-weaker, on_ok_weaker}
 use Rattle.vr_types.specs.Moments.{Guards}
 use Rattle.vr_volume.specs.Committed.{committed_by}
 use Rattle.vr_volume.specs.Safe.{IsSafeImage}
-use Rattle.vr_store.specs.Store.{IsStored, StoreNow, owners_of}
+use Rattle.vr_attach.specs.Owning.{claimed_by, owner_of}
+use Rattle.vr_store.specs.Store.{IsStored, StoreNow}
 use Rattle.vr_store.proofs.store.Store.advance.Goals as goal
 
 pub returns-clause-stored : goal.returns-clause-stored
@@ -16,7 +17,9 @@ pub returns-clause-moments : goal.returns-clause-moments
 returns-clause-moments g c told volume state =
     subst (λ (s : StoreNow). IsStored volume s state (g.B.Blocks.seen c.args.blocks.now)
     → Guards (g.B.Blocks.seen c.args.blocks.now) (g.B.Blocks.seen c.advance_at.new.blocks)
-    (IsSafeImage s.log.geometry volume (owners_of s) s.log (committed_by state))) c.self.view_is
+    (IsSafeImage s.log.geometry volume
+    (owner_of s.log.geometry (claimed_by c.args.number s.space)) s.log (committed_by state)))
+    c.self.view_is
     (c.advance_at.ensures.moments told volume state)
 
 pub returns-clause-unread : goal.returns-clause-unread

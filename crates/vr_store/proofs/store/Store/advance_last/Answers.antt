@@ -1,14 +1,33 @@
-use Rattle.std.proofs.Common.{ap, map, subst, sym, ◌∙◌}
+use Rattle.std.specs.Prelude.{IfSome}
+use Rattle.vr_types.specs.declared.unit.StageKind.{StageKind}
+use Rattle.vr_space.specs.Part.{IsStageOf, OwnersAfter, Shape}
+use Rattle.std.proofs.Common.{ℕ, ◌≡◌, List, None, Option, Some, ap, map, refl, subst, sym, ◌∙◌}
+use Rattle.vr_types.specs.declared.unit.PartNo.{PartNo}
+use Rattle.vr_types.specs.declared.unit.Unit.{Unit as UnitOfRecovery}
+use Rattle.vr_space.specs.Owners.{Owners}
+use Rattle.vr_attach.specs.Owning.{claimed_by, owner_of}
+use Rattle.vr_history.specs.State.{BeforeImage}
+use Rattle.vr_store.specs.LastImage.{HasAdvanced, OnLast, claimed_for, last_claimed, last_of_unit}
 use Rattle.vr_types.specs.Moments.{Guards}
 use Rattle.vr_volume.specs.Committed.{committed_by}
 use Rattle.vr_volume.specs.Safe.{IsSafeImage}
 use Rattle.vr_undo.specs.Records.{befores_of, image_of}
-use Rattle.vr_store.specs.Store.{IsFitImage, IsSet, IsStored, StoreNow, owners_of, part_now}
-use Rattle.vr_store.specs.Store.{shape_among}
+use Rattle.vr_store.specs.Store.{IsFitImage, IsSet, IsStored, StoreNow, part_now, shape_among}
+use Rattle.vr_store.specs.Store.{store_of}
 use Rattle.vr_store.proofs.Kept.{err-as}
 use Rattle.vr_store.proofs.LastImages.{last-has, last-lent}
 use Rattle.vr_store.proofs.PlacedParts.{shapes-same}
 use Rattle.vr_store.proofs.store.Store.advance_last.Goals as goal
+
+-- which part each block is of, where the part of the last image got the least free area
+last-areas : (store : StoreNow) (unit : UnitOfRecovery) (last : BeforeImage) (part : PartNo)
+    → last_of_unit store unit ≡ Some last → part.0 ≡ last.part
+    → owner_of store.log.geometry (claimed_by part store.space) ≡ last_claimed store unit
+last-areas store unit last part is same =
+    ap (λ (n : ℕ). let named : PartNo = record { 0 = n } in
+    owner_of store.log.geometry (claimed_by named store.space)) same
+    ∙ ap (λ (found : Option BeforeImage). owner_of store.log.geometry
+    (claimed_for store.space found)) (sym is)
 
 pub advance_at-requires-clause-part : goal.advance_at-requires-clause-part
 advance_at-requires-clause-part g c =
@@ -45,10 +64,21 @@ returns-in_err-kind-in-Some-clause-shapes g c number =
 
 pub returns-in_err-kind-in-Some-clause-moments : goal.returns-in_err-kind-in-Some-clause-moments
 returns-in_err-kind-in-Some-clause-moments g c told volume state =
-    subst (λ (s : StoreNow). IsStored volume s state (g.B.Blocks.seen c.args.blocks.now)
-    → Guards (g.B.Blocks.seen c.args.blocks.now) (g.B.Blocks.seen c.advance_at.new.blocks)
-    (IsSafeImage s.log.geometry volume (owners_of s) s.log (committed_by state))) c.self.view_is
-    (c.advance_at.ensures.moments told volume state)
+    let inside = c.self.inside in
+    let store : StoreNow = store_of g.P.Part.shape g.P.Part.known inside.log inside.undo
+    inside.parts.items inside.changed.items inside.space in
+    let a = g.B.Blocks.seen c.args.blocks.now in
+    let b = g.B.Blocks.seen c.advance_at.new.blocks in
+    subst (λ (s : StoreNow). IsStored volume s state a → Guards a b
+    (IsSafeImage s.log.geometry volume (last_claimed s c.args.unit) s.log (committed_by state)))
+    c.self.view_is
+    (subst (λ (owners : Owners). IsStored volume store state a → Guards a b
+    (IsSafeImage store.log.geometry volume owners store.log (committed_by state)))
+    (last-areas store c.args.unit (image_of c.args.unit c.in-Some.before.now)
+    c.in-Some.before.now.part
+    (last-lent c.args.unit (befores_of inside.undo) c.last.result c.in-Some.before c.in-Some.is
+    c.last.ensures) refl)
+    (c.advance_at.ensures.moments told volume state))
 
 pub returns-in_err-kind-in-Some-clause-unread : goal.returns-in_err-kind-in-Some-clause-unread
 returns-in_err-kind-in-Some-clause-unread g c =
@@ -69,13 +99,58 @@ returns-clause-shapes g c number =
 
 pub returns-clause-moments : goal.returns-clause-moments
 returns-clause-moments g c told volume state =
-    subst (λ (s : StoreNow). IsStored volume s state (g.B.Blocks.seen c.args.blocks.now)
-    → Guards (g.B.Blocks.seen c.args.blocks.now) (g.B.Blocks.seen c.advance_at.new.blocks)
-    (IsSafeImage s.log.geometry volume (owners_of s) s.log (committed_by state))) c.self.view_is
-    (c.advance_at.ensures.moments told volume state)
+    let inside = c.self.inside in
+    let store : StoreNow = store_of g.P.Part.shape g.P.Part.known inside.log inside.undo
+    inside.parts.items inside.changed.items inside.space in
+    let a = g.B.Blocks.seen c.args.blocks.now in
+    let b = g.B.Blocks.seen c.advance_at.new.blocks in
+    subst (λ (s : StoreNow). IsStored volume s state a → Guards a b
+    (IsSafeImage s.log.geometry volume (last_claimed s c.args.unit) s.log (committed_by state)))
+    c.self.view_is
+    (subst (λ (owners : Owners). IsStored volume store state a → Guards a b
+    (IsSafeImage store.log.geometry volume owners store.log (committed_by state)))
+    (last-areas store c.args.unit (image_of c.args.unit c.in-Some.before.now)
+    c.in-Some.before.now.part
+    (last-lent c.args.unit (befores_of inside.undo) c.last.result c.in-Some.before c.in-Some.is
+    c.last.ensures) refl)
+    (c.advance_at.ensures.moments told volume state))
 
 pub returns-clause-stored : goal.returns-clause-stored
 returns-clause-stored g c told volume state stored =
     c.in_ok-kind-in-Some.ensures.stored told volume state
     (subst (λ (s : StoreNow). IsStored volume s state (g.B.Blocks.seen c.args.blocks.now))
     (sym c.self.view_is) stored)
+
+advanced : (part : PartNo) (kind : StageKind) (old new : List (Option PartNo))
+    (found : Option Shape) → IfSome found (λ (shape : Shape). IsStageOf shape kind)
+    → OwnersAfter part kind old new
+    → IfSome found (λ (shape : Shape). HasAdvanced part shape old new)
+advanced part kind old new None stage owners = tt
+advanced part kind old new (Some shape) stage owners =
+    record { kind = kind; stage = stage; owners = owners }
+
+on-last : (store : StoreNow) (unit : UnitOfRecovery) (last : BeforeImage)
+    (P : BeforeImage → Type 0) → last_of_unit store unit ≡ Some last → P last → OnLast store unit P
+on-last store unit last P is holds = subst (λ (found : Option BeforeImage). IfSome found P) (sym is)
+    holds
+
+pub returns-clause-owners : goal.returns-clause-owners
+returns-clause-owners g c told =
+    let inside = c.self.inside in
+    let store : StoreNow = store_of g.P.Part.shape g.P.Part.known inside.log inside.undo
+    inside.parts.items inside.changed.items inside.space in
+    let done = c.in_ok-kind-in-Some in
+    let before = c.in-Some.before.now in
+    let last : BeforeImage = image_of c.args.unit before in
+    let new : List (Option PartNo) = c.advance_at.new.space in
+    subst (λ (s : StoreNow). OnLast s c.args.unit (λ (image : BeforeImage).
+    IfSome (shape_among s.parts image.part)
+    (λ (shape : Shape). HasAdvanced (record { 0 = image.part }) shape s.space new)))
+    c.self.view_is
+    (on-last store c.args.unit last
+    (λ (image : BeforeImage). IfSome (shape_among store.parts image.part)
+    (λ (shape : Shape). HasAdvanced (record { 0 = image.part }) shape store.space new))
+    (last-lent c.args.unit (befores_of inside.undo) c.last.result c.in-Some.before c.in-Some.is
+    c.last.ensures)
+    (advanced before.part done.kind store.space new (shape_among store.parts before.part.0)
+    (done.ensures.kind told) done.ensures.owners))

@@ -11,7 +11,7 @@ use Rattle.vr_store.specs.Store.{ChangedBy, IsSet, IsStored, PartNow, StoreNow, 
 use Rattle.vr_store.specs.Store.{part_now}
 use Rattle.vr_store.proofs.PutNothing.{set-keeps, stored-keeps}
 use Rattle.vr_store.proofs.PartsAt.{laid-found, laid-same, none-laid}
-use Rattle.vr_store.proofs.Recorded.{at-shape, none-read, record-read, set-at, stand-at}
+use Rattle.vr_store.proofs.Recorded.{at-shape, knows-at, none-read, record-read, set-at, stand-at}
 use Rattle.vr_store.proofs.store.Store.look.Goals as goal
 
 pub copy_at-requires : goal.copy_at-requires
@@ -33,6 +33,7 @@ copy_at-requires g c =
           c.requires.place;
       stands = λ told. stand-at store a c.requires.set number part found
           (g.met.B.Blocks.cur_may c.args.blocks.now told) (c.requires.stands told);
+      knows = λ told. knows-at store a c.requires.set number part found (c.requires.stands told);
     }
 
 abbrev store-of : LogNow → List KeptRecord → List ChangedBy → List (Option PartNo)

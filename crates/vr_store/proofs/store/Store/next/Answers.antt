@@ -8,7 +8,7 @@ use Rattle.vr_undo.specs.declared.record.KeptRecord.{KeptRecord}
 use Rattle.vr_store.specs.Next.{IsNextAt, NextOf}
 use Rattle.vr_store.specs.Store.{ChangedBy, PartNow, StoreNow, changed_by, part_now}
 use Rattle.vr_store.proofs.PartsAt.{laid-found, laid-same, none-laid}
-use Rattle.vr_store.proofs.Recorded.{at-shape, set-at, stand-at}
+use Rattle.vr_store.proofs.Recorded.{at-shape, knows-at, set-at, stand-at}
 use Rattle.vr_store.proofs.store.Store.next.Goals as goal
 
 pub next-requires : goal.next-requires
@@ -30,6 +30,7 @@ next-requires g c =
           found c.requires.room;
       stands = λ told. stand-at store a c.requires.set number part found
           (g.met.B.Blocks.cur_may c.args.blocks.now told) (c.requires.stands told);
+      knows = λ told. knows-at store a c.requires.set number part found (c.requires.stands told);
     }
 
 abbrev store-of : LogNow → List KeptRecord → List ChangedBy → List (Option PartNo)
