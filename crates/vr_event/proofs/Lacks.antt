@@ -22,7 +22,7 @@ use Rattle.vr_types.specs.declared.request.Request.TheVariants.{EndReq, Commit, 
 use Rattle.vr_types.specs.declared.unit.Kind.TheVariants.{Keyed}
 use Rattle.vr_types.specs.declared.unit.StageKind.{StageKind}
 use Rattle.vr_space.specs.Known.{Known}
-use Rattle.vr_space.specs.Part.{KeyedShape, Shape, room_of}
+use Rattle.vr_space.specs.Part.{KeyedShape, RelativeShape, Shape, room_of}
 use Rattle.vr_space.specs.Room.{Lengths}
 use Rattle.vr_space.specs.Split.{SplitNow, free_interval, keyed_fits, keyed_stage, room_after}
 use Rattle.vr_space.specs.Split.{room_by, room_by_split}
@@ -44,7 +44,7 @@ use Rattle.vr_answer.specs.Tried.{file_refusals, record_refusals}
 use Rattle.vr_answer.specs.declared.case.Case.{Case as CaseInHand}
 use Rattle.vr_event.specs.Getting.{refusal_of}
 use Rattle.vr_event.specs.Lacking.{AreElse, IfLacks, IfNoSpace, IsElse, LacksRoomIn}
-use Rattle.vr_event.specs.Putting.{IsChange}
+use Rattle.vr_event.specs.Putting.{IsChange, IsKeyedIn, IsKeyedShape}
 use Rattle.vr_store.specs.Room.{IsRoomAt}
 use Rattle.vr_store.specs.Store.{PartNow, StoreNow, part_among}
 use Rattle.vr_store.specs.declared.no.LookNo.{LookNo}
@@ -68,29 +68,32 @@ lacks-after None false None None need left is =
     let lefts : left ≡ 0 = cc in
     ap (λ (n : ℕ). NoSpace n left) needs ∙ ap (λ (n : ℕ). NoSpace 1 n) lefts
 
--- A part that lacks room needs one area, and none is free to it.
+-- A keyed part that lacks room needs one area, and none is free to it.
 room-lacks : (shape : Shape) (known : Known) (image : Image) (free : ℕ) (kept : Lengths)
-    (place : List ℕ) (n need left : ℕ)
+    (place : List ℕ) (n need left : ℕ) → IsKeyedShape shape
     → room_of shape known image free kept place n ≡ answers.NoSpace need left
     → NoSpace need left ≡ lacks_area
-room-lacks (KeyedShape part) known image free kept place n need left is =
+room-lacks (RelativeShape part) known image free kept place n need left keyed is = absurd keyed
+room-lacks (KeyedShape part) known image free kept place n need left keyed is =
     lacks-after (keyed_stage part known.split image place) (keyed_fits part image kept place n)
     known.split (free_interval part (block_at image part.head)) need left is
 
 module _ (store : StoreNow) (image : Image) (number : ℕ) (place : List ℕ) (n need left : ℕ)
     (laid : part_among store.parts number ≢ None)
     (room : IsRoomAt store image number place n (answers.NoSpace need left)) where
-  pub lacks-is : NoSpace need left ≡ lacks_area
-  lacks-is = of (part_among store.parts number) laid room
+  pub lacks-is : IsKeyedIn store.parts number
+      → NoSpace need left ≡ lacks_area
+  lacks-is keyed = of (part_among store.parts number) laid keyed room
     where
       of : (found : Option PartNow) → found ≢ None
+          → IfSome (option_map (λ (one : PartNow). one.shape) found) IsKeyedShape
           → IfSome found (λ (one : PartNow). answers.NoSpace need left
           ≡ room_of one.shape one.known image (free_count store.space)
           (lengths_kept (images_in store.undo) number) place n)
           → NoSpace need left ≡ lacks_area
-      of None some is = absurd (some refl)
-      of (Some one) some is = room-lacks one.shape one.known image (free_count store.space)
-          (lengths_kept (images_in store.undo) number) place n need left (sym is)
+      of None some shaped is = absurd (some refl)
+      of (Some one) some shaped is = room-lacks one.shape one.known image (free_count store.space)
+          (lengths_kept (images_in store.undo) number) place n need left shaped (sym is)
 
   -- it lacks room for the record that the request gives
   pub lacking : (request : Request) (bytes : List ℕ) → new_record request ≡ Some bytes

@@ -23,6 +23,7 @@ pub mod MetParts
 pub mod RecordShapes
 pub mod WeighsAt
 pub mod Recovering
+pub mod KeyedParts
 pub mod Puts
 pub mod Wholes
 pub mod Makes

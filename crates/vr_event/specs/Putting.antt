@@ -19,7 +19,8 @@ use Rattle.vr_catalog.specs.Definition.{key_of}
 use Rattle.vr_catalog.specs.declared.definition.Definition.{Definition}
 use Rattle.vr_catalog.specs.declared.entry.CatEntry.{CatEntry}
 use Rattle.vr_space.specs.Known.{HasMet, Known}
-use Rattle.vr_space.specs.Part.{IsLengthOf, IsPlaceOf, IsRecordOf, Shape, fits_at, stage_of}
+use Rattle.vr_space.specs.Part.{IsLengthOf, IsPlaceOf, IsRecordOf, KeyedShape, RelativeShape}
+use Rattle.vr_space.specs.Part.{Shape, fits_at, stage_of}
 use Rattle.vr_space.specs.Room.{Lengths}
 use Rattle.vr_log.specs.declared.record.LogRecord.TheVariants.{Before}
 use Rattle.vr_history.specs.Case.{Case, new_record}
@@ -94,6 +95,14 @@ is_length_in n definition = nat_le (definition.key_offset + definition.key_lengt
 abbrev pub AreLaidBy : Geometry → List CatEntry → List PartNow → Type 0
 AreLaidBy geometry entries parts = (number : ℕ) → shape_among parts number
     ≡ shape_in geometry entries number
+
+abbrev pub IsKeyedShape : Shape → Type 0
+IsKeyedShape (KeyedShape part) = Unit {0}
+IsKeyedShape (RelativeShape part) = ⊥
+
+-- the part is keyed, where it is laid
+abbrev pub IsKeyedIn : List PartNow → ℕ → Type 0
+IsKeyedIn parts part = IfSome (shape_among parts part) IsKeyedShape
 
 -- the part is laid, and the place is one of it
 pub record HasPlace (parts : List PartNow) (part : ℕ) (place : List ℕ) : Type 0 where

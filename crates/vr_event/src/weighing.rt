@@ -269,6 +269,7 @@ fn weigh_room<B: Blocks, P: Part>(
     requires stands { IsTrue B.tells → Stands store.old (B.seen blocks.old) }
     requires at { putting.HasPlace store.old.parts part.0 place }
     requires keyed { AreKeyedClusters case.now.catalog.now }
+    requires keyed_part { putting.IsKeyedIn store.old.parts part.0 }
     requires size { putting.FitsLength store.old.parts part.0 length }
     requires new_fits { putting.FitsItem store.old.parts part.0 place
         (cases.new_record case.now.request.now) }
@@ -316,6 +317,7 @@ fn weigh_record<B: Blocks, P: Part>(
     requires stands { IsTrue B.tells → Stands store.old (B.seen blocks.old) }
     requires at { putting.HasPlace store.old.parts part.0 place }
     requires keyed { AreKeyedClusters case.now.catalog.now }
+    requires keyed_part { putting.IsKeyedIn store.old.parts part.0 }
     requires change { putting.IsChange case.now.request.now }
     requires size { IfSome length (λ n. putting.FitsLength store.old.parts part.0 n) }
     requires new_fits { IfSome length (λ n. putting.FitsItem store.old.parts part.0 place
@@ -372,6 +374,7 @@ fn weigh_looked<B: Blocks, P: Part>(
     requires stands { IsTrue B.tells → Stands store.old (B.seen blocks.old) }
     requires at { putting.HasPlace store.old.parts part.0 place }
     requires keyed { AreKeyedClusters case.now.catalog.now }
+    requires keyed_laid { AreKeyedClusters catalog.now }
     requires laid { putting.AreLaidBy case.now.geometry catalog.now store.old.parts }
     requires change { putting.IsChange case.now.request.now }
     ensures may { IsTrue B.tells → (volume : ℕ) → InEachWith case.now old (λ whole.
@@ -418,6 +421,7 @@ fn weigh_at<B: Blocks, P: Part>(
     requires stands { IsTrue B.tells → Stands store.old (B.seen blocks.old) }
     requires at { putting.HasPlace store.old.parts part.0 place }
     requires keyed { AreKeyedClusters case.now.catalog.now }
+    requires keyed_laid { AreKeyedClusters catalog.now }
     requires laid { putting.AreLaidBy case.now.geometry catalog.now store.old.parts }
     requires change { putting.IsChange case.now.request.now }
     ensures may { IsTrue B.tells → (volume : ℕ) → InEach case.now (λ whole.

@@ -2,7 +2,7 @@
 -- the record at a place of a part, the part and the before-images of a change, and an idle volume.
 pub use Rattle.vr_store.proofs.Idle.{idle-guards, stored-left}
 pub use Rattle.vr_store.proofs.Kept.{on-err, stored-changed}
-pub use Rattle.vr_store.proofs.LastImages.{last-state}
+pub use Rattle.vr_store.proofs.LastImages.{last-has, last-state}
 pub use Rattle.vr_store.proofs.PlacedParts.{shapes-same, split-met}
 pub use Rattle.vr_store.proofs.PutNothing.{moments-keeps, stands-kept, stored-keeps}
 pub use Rattle.vr_store.proofs.ReadyParts.{numbered, rested, undo-images}

@@ -73,7 +73,7 @@ returns-in-Ok-NoSpace-clause-may g c told state is at ready =
     (lacks-is c.args.store.now image c.args.part.0 c.args.place c.args.length c.in-Ok-NoSpace.need
     c.in-Ok-NoSpace.free c.requires.at.laid
     (subst (IsRoomAt c.args.store.now image c.args.part.0 c.args.place c.args.length)
-    c.in-Ok-NoSpace.field-0-is (c.in-Ok-NoSpace.ensures.answer told))) ready
+    c.in-Ok-NoSpace.field-0-is (c.in-Ok-NoSpace.ensures.answer told)) c.requires.keyed_part) ready
 
 pub returns-in-Ok-NoSpace-clause-lacks : goal.returns-in-Ok-NoSpace-clause-lacks
 returns-in-Ok-NoSpace-clause-lacks g c told =

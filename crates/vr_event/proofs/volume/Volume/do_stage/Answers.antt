@@ -1,4 +1,4 @@
-use Rattle.std.proofs.Common.{◌≡◌, ◌∙◌, [], Err, None, ap, inl, inr, refl, subst, sym}
+use Rattle.std.proofs.Common.{◌≡◌, ◌≢◌, ◌∙◌, [], Err, None, ap, inl, inr, refl, subst, sym}
 use Rattle.vr_types.specs.Moments.{Guards}
 use Rattle.vr_types.specs.declared.fault.DeviceFault.{DeviceFault}
 use Rattle.vr_types.specs.declared.fault.DeviceFault.TheVariants.{Read, Write}
@@ -10,7 +10,8 @@ use Rattle.vr_record_file.specs.Now.{FileNow, state_now, with_event}
 use Rattle.vr_volume.specs.Crashes.{RecoversTo}
 use Rattle.vr_event.specs.Acting.{IsActed}
 use Rattle.vr_event.specs.Putting.{IsChanging}
-use Rattle.vr_store.specs.Store.{StoreNow}
+use Rattle.vr_attach.specs.Owning.{claimed_by, owner_of}
+use Rattle.vr_store.specs.Store.{StoreNow, part_among}
 use Rattle.vr_event.specs.Volume.{IsHeld, IsWhole, VolumeNow}
 use Rattle.vr_event.specs.declared.act.Act.TheVariants as acts
 use Rattle.vr_store.specs.declared.no.LookNo.TheVariants.{Fault}
@@ -18,7 +19,8 @@ use Rattle.vr_event.proofs.Acted.{failed-for}
 use Rattle.vr_event.proofs.Causes.{entered-refused}
 use Rattle.vr_event.proofs.Entering.{held-refused}
 use Rattle.vr_store.proofs.CallerLemmas.{shapes-same}
-use Rattle.vr_event.proofs.Recovering.{stored-recovers}
+use Rattle.vr_event.proofs.KeyedParts.{keyed-parts, takes-none}
+use Rattle.vr_event.proofs.Recovering.{owned-recovers}
 use Rattle.vr_event.proofs.Replied.{not-failed, not-same, not-split, replied-over}
 use Rattle.vr_event.proofs.UnitEnded.{held-stopped}
 use Rattle.vr_event.proofs.Weighs.{refuse-look}
@@ -41,8 +43,9 @@ returns-in-Ok-CiSwitch-clause-moments g c told opening held =
     let b = seen c.advance.new.blocks in
     subst (λ (v : VolumeNow g.row.B.Denot). Guards (seen v.blocks) b
     (RecoversTo v.store.log.geometry v.number (state_now opening v.file) [])) c.self.view_is
-    (stored-recovers before.number before.store (state_now opening before.file) (seen before.blocks)
-    b (was.stored goes) (c.advance.ensures.moments told before.number
+    (owned-recovers before.number before.store (state_now opening before.file) (seen before.blocks)
+    b (owner_of before.store.log.geometry (claimed_by c.args.part before.store.space))
+    (was.stored goes) (c.advance.ensures.moments told before.number
     (state_now opening before.file) (was.stored goes)))
 
 pub returns-in-Ok-clause-moments : goal.returns-in-Ok-clause-moments
@@ -61,8 +64,9 @@ returns-in-Ok-clause-moments g c told opening held =
     let b = seen c.advance.new.blocks in
     subst (λ (v : VolumeNow g.row.B.Denot). Guards (seen v.blocks) b
     (RecoversTo v.store.log.geometry v.number (state_now opening v.file) [])) c.self.view_is
-    (stored-recovers before.number before.store (state_now opening before.file) (seen before.blocks)
-    b (was.stored goes) (c.advance.ensures.moments told before.number
+    (owned-recovers before.number before.store (state_now opening before.file) (seen before.blocks)
+    b (owner_of before.store.log.geometry (claimed_by c.args.part before.store.space))
+    (was.stored goes) (c.advance.ensures.moments told before.number
     (state_now opening before.file) (was.stored goes)))
 
 pub returns-in-Err-Read-clause-moments : goal.returns-in-Err-Read-clause-moments
@@ -81,8 +85,9 @@ returns-in-Err-Read-clause-moments g c told opening held =
     let b = seen c.advance.new.blocks in
     subst (λ (v : VolumeNow g.row.B.Denot). Guards (seen v.blocks) b
     (RecoversTo v.store.log.geometry v.number (state_now opening v.file) [])) c.self.view_is
-    (stored-recovers before.number before.store (state_now opening before.file) (seen before.blocks)
-    b (was.stored goes) (c.advance.ensures.moments told before.number
+    (owned-recovers before.number before.store (state_now opening before.file) (seen before.blocks)
+    b (owner_of before.store.log.geometry (claimed_by c.args.part before.store.space))
+    (was.stored goes) (c.advance.ensures.moments told before.number
     (state_now opening before.file) (was.stored goes)))
 
 pub returns-in-Err-Write-clause-moments : goal.returns-in-Err-Write-clause-moments
@@ -101,8 +106,9 @@ returns-in-Err-Write-clause-moments g c told opening held =
     let b = seen c.advance.new.blocks in
     subst (λ (v : VolumeNow g.row.B.Denot). Guards (seen v.blocks) b
     (RecoversTo v.store.log.geometry v.number (state_now opening v.file) [])) c.self.view_is
-    (stored-recovers before.number before.store (state_now opening before.file) (seen before.blocks)
-    b (was.stored goes) (c.advance.ensures.moments told before.number
+    (owned-recovers before.number before.store (state_now opening before.file) (seen before.blocks)
+    b (owner_of before.store.log.geometry (claimed_by c.args.part before.store.space))
+    (was.stored goes) (c.advance.ensures.moments told before.number
     (state_now opening before.file) (was.stored goes)))
 
 pub returns-in-Ok-CiSwitch-clause-whole : goal.returns-in-Ok-CiSwitch-clause-whole
@@ -192,8 +198,16 @@ returns-in-Ok-CiSwitch-clause-held g c told opening held asked =
     } in
     let was : IsHeld seen opening before =
     subst (IsHeld seen opening) (sym c.self.view_is) held in
+    let goes : before.file.stopped ≡ None =
+    ap (λ (v : VolumeNow g.row.B.Denot). v.file.stopped) c.self.view_is ∙ c.requires.going in
+    let whole : IsWhole seen before = subst (IsWhole seen) (sym c.self.view_is) c.requires.whole in
+    let laid : part_among before.store.parts c.args.part.0 ≢ None =
+    subst (λ (v : VolumeNow g.row.B.Denot). part_among v.store.parts c.args.part.0 ≢ None)
+    (sym c.self.view_is) c.requires.at.laid in
     let moved = held-moved seen opening before c.advance.new.self c.advance.new.blocks
-    (c.advance.ensures.owners_same told)
+    (takes-none before.store.parts c.args.part before.store.space c.advance.new.self.space laid
+    (keyed-parts seen before whole goes c.args.part.0) c.in-Ok-CiSwitch.field-0
+    (c.in-Ok-CiSwitch.ensures.kind told) c.in-Ok-CiSwitch.ensures.owners)
     (λ going. c.in-Ok-CiSwitch.ensures.stored told before.number (state_now opening before.file)
     (was.stored going)) was in
     held-split seen opening (record before {
@@ -213,8 +227,16 @@ returns-in-Ok-clause-held g c told opening held asked =
     } in
     let was : IsHeld seen opening before =
     subst (IsHeld seen opening) (sym c.self.view_is) held in
+    let goes : before.file.stopped ≡ None =
+    ap (λ (v : VolumeNow g.row.B.Denot). v.file.stopped) c.self.view_is ∙ c.requires.going in
+    let whole : IsWhole seen before = subst (IsWhole seen) (sym c.self.view_is) c.requires.whole in
+    let laid : part_among before.store.parts c.args.part.0 ≢ None =
+    subst (λ (v : VolumeNow g.row.B.Denot). part_among v.store.parts c.args.part.0 ≢ None)
+    (sym c.self.view_is) c.requires.at.laid in
     let moved = held-moved seen opening before c.advance.new.self c.advance.new.blocks
-    (c.advance.ensures.owners_same told)
+    (takes-none before.store.parts c.args.part before.store.space c.advance.new.self.space laid
+    (keyed-parts seen before whole goes c.args.part.0) c.in-Ok.field-0 (c.in-Ok.ensures.kind told)
+    c.in-Ok.ensures.owners)
     (λ going. c.in-Ok.ensures.stored told before.number (state_now opening before.file)
     (was.stored going)) was in
     moved
@@ -259,7 +281,7 @@ returns-in-Err-Read-clause-held g c told opening held asked =
     subst (λ (f : FileNow). IsChanging opening f c.args.unit c.args.request)
     (sym (ap (λ (v : VolumeNow g.row.B.Denot). v.file) c.self.view_is)) asked in
     let moved = held-moved seen opening before c.advance.new.self c.advance.new.blocks
-    (c.advance.ensures.owners_same told)
+    c.in-Err-Read.ensures.owners_stay
     (λ going. (c.in-Err-Read.ensures.unread c.in-Err-Read.field-0-is).1 told before.number
     (state_now opening before.file) (was.stored going)) was in
     let may = may-changing opening before.file c.args.unit c.args.request (Refused ReadFault) mine
@@ -307,7 +329,7 @@ returns-in-Err-Write-clause-held g c told opening held asked =
     c.args.request) c.requires.change (Fault Write) mine.unrefused).0 in
     held-stopped seen opening before c.fail_write.new.self c.advance.new.self c.advance.new.blocks
     c.args.after c.args.unit c.args.line c.args.request c.fail_write.ensures.leaves
-    (c.advance.ensures.owners_same told) was
+    c.in-Err-Write.ensures.owners_stay was
     (c.fail_write.ensures.state opening before.file.locks was.file may)
 
 pub returns-in-Err-Write-clause-acted : goal.returns-in-Err-Write-clause-acted
