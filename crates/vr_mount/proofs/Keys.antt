@@ -1,20 +1,23 @@
 -- A place with a record has the length of the part's places.
 use Rattle.std.proofs.Common.{◌≡◌, ℕ, Bool, true, false, List, [], ◌∷◌, ◌++◌, map, Option, Some}
-use Rattle.std.proofs.Common.{None, sym, ap, subst, ◌∙◌, length, drop, arith}
+use Rattle.std.proofs.Common.{None, refl, sym, ap, subst, ◌∙◌, length, drop, arith}
 use Rattle.std.proofs.lemmas.List.{length-take, length-drop}
 use Rattle.std.proofs.lemmas.List.Elements.{All-head, All-tail}
 use Rattle.std.specs.Prelude.{All, filter, cond, option_and_then}
-use Rattle.vr_types.specs.Content.{Content, Placed, record_of}
+use Rattle.vr_types.specs.Content.{Content, Item, Placed, record_of}
 use Rattle.vr_types.specs.Image.{Image, block_at}
-use Rattle.vr_types.proofs.CallerLemmas.{same_place}
+use Rattle.vr_types.proofs.CallerLemmas.{length-four, same_place}
 use Rattle.vr_ci.specs.Interval as ci
 use Rattle.vr_seqset.specs.Entry.{Entry}
 use Rattle.vr_space.specs.Room.{Range, is_in}
 use Rattle.vr_space.specs.Keyed.{Keyed, HoldRanges, IsKept, entry_block, entries_of, items_of}
 use Rattle.vr_space.specs.Keyed.{placed, records_of, records_in, range_of, content_from}
-use Rattle.vr_space.specs.Part.{Shape, KeyedShape, IsPlaceOf, Stands, record_read}
+use Rattle.vr_space.specs.Part.{Shape, KeyedShape, RelativeShape, Stands, record_read}
 use Rattle.vr_space.specs.Part.{place_length}
-use Rattle.vr_space.proofs.CallerLemmas.{NoneAt, none-record, content_item}
+use Rattle.vr_space.specs.Rosters.{Numbered}
+use Rattle.vr_space.specs.Slots.{IsSlotPlace, number_of, slot_way}
+use Rattle.vr_space.specs.Way.{found_on}
+use Rattle.vr_space.proofs.CallerLemmas.{NoneAt, none-record, content_item, found-place}
 
 -- each place has this many bytes
 abbrev AreKeys : ℕ → Content → Type 0
@@ -71,6 +74,18 @@ none_of n (entry ∷ content) place keys other = (
   none_of n content place keys.1 other,
 )
 
+-- the number of a slot has four bytes
+none_slot : (part : Numbered) (image : Image) (place : List ℕ) → (length place ≡ 4 → ⊥)
+    → (found : Option Item) → found_on image (slot_way part place) ≡ found → found ≡ None
+none_slot part image place other None is = refl
+none_slot part image place other (Some item) is =
+    let there : IsSlotPlace place =
+    found-place part image place (λ none. some-none (sym is ∙ none)) in
+    absurd (other (ap length there.bytes ∙ length-four (number_of place)))
+  where
+    some-none : Some item ≡ None → ⊥
+    some-none same = cc
+
 -- a place of another length has no record
 pub none_elsewhere : (shape : Shape) (image : Image) → Stands shape image → (place : List ℕ)
     → (length place ≡ place_length shape → ⊥) → record_read shape image place ≡ None
@@ -82,8 +97,5 @@ none_elsewhere (KeyedShape part) image stands place other =
     ap (option_and_then record_of)
     (sym (content_item (KeyedShape part) image content stands.1 place)
     ∙ none-record place content (none_of part.key content place keys other))
-
--- one of that length is the part's
-pub place_by_length : (shape : Shape) (place : List ℕ) → length place ≡ place_length shape
-    → IsPlaceOf shape place
-place_by_length (KeyedShape part) place long = long
+none_elsewhere (RelativeShape part) image stands place other = ap (option_and_then record_of)
+    (none_slot part image place other (found_on image (slot_way part place)) refl)

@@ -1,5 +1,5 @@
 -- On which areas the parts of a catalog are laid.
-use Rattle.std.proofs.Common.{◌≡◌, ◌⊎◌, ℕ, ◌+◌, ◌<◌, Bool, true, false, List, refl, sym, ap}
+use Rattle.std.proofs.Common.{◌≡◌, ◌⊎◌, ℕ, ◌+◌, ◌<◌, ◌≤◌, Bool, true, false, List, refl, sym, ap}
 use Rattle.std.proofs.Common.{◌∙◌, subst, arith, inl, inr, Option, Some, None, get_or, length}
 use Rattle.std.specs.Prelude.{if◌then◌else◌, ◌==◌, All, IfSome}
 use Rattle.std.specs.Option.{option_and_then}
@@ -13,11 +13,11 @@ use Rattle.vr_types.specs.declared.unit.Kind.TheVariants as kinds
 use Rattle.vr_catalog.specs.Catalog.{entry_with_part, cluster_definition}
 use Rattle.vr_catalog.specs.declared.definition.Definition.{Definition}
 use Rattle.vr_catalog.specs.declared.entry.CatEntry.{CatEntry}
-use Rattle.vr_space.specs.Part.{Shape, KeyedShape, InFirstArea}
+use Rattle.vr_space.specs.Part.{Shape, KeyedShape, RelativeShape, InFirstArea}
 use Rattle.vr_attach.specs.Laid.{keyed_shape, catalog_shape, shape_by_kind, shape_from, shape_of}
 use Rattle.vr_attach.specs.Laid.{shape_in}
 use Rattle.vr_attach.specs.Laid.{AreApart}
-use Rattle.vr_mount.specs.Areas.{area_in, AreOn, EndsBefore, IsBelow}
+use Rattle.vr_mount.specs.Areas.{area_in, area_length, AreOn, EndsBefore, first_block, IsBelow}
 use Rattle.vr_mount.specs.Numbers.{area_by_kind, laid_area, number_by, numbers_by, AreToldApart}
 use Rattle.vr_mount.specs.declared.distinct.Which.TheVariants.{Part, Area}
 use Rattle.vr_mount.proofs.Blocks.{one_area, area_ends, area_there}
@@ -30,11 +30,15 @@ some_is x y same = cc
 
 -- ---- a shape and its area
 
--- a shape is on the blocks of an area
+-- the size of its blocks
+abbrev pub block_size : Shape → ℕ
+block_size (KeyedShape part) = part.size
+block_size (RelativeShape part) = part.geometry.size
+
+-- the first area of a shape is on the blocks of an area
 abbrev pub IsAt : Geometry → ℕ → Shape → Type 0
-IsAt geometry area (KeyedShape part) =
-    (part.head ≡ head_block geometry area) × (part.area ≡ geometry.area)
-    × (part.size ≡ geometry.size)
+IsAt geometry area shape = (first_block shape ≡ head_block geometry area)
+    × (area_length shape ≡ geometry.area) × (block_size shape ≡ geometry.size)
 
 by_kind : (geometry : Geometry) (part a : ℕ) (area : AreaNo) (d : Definition) (kind : Kind)
     (shape : Shape) → area.0 ≡ a → shape_by_kind geometry part a d kind ≡ Some shape
@@ -129,16 +133,30 @@ at_shape geometry entries part a is =
 
 -- ---- shapes in one area
 
+-- the blocks of the first area, by its first block and its length
+pub inside-first : (shape : Shape) (n : ℕ) → InFirstArea shape n
+    → (first_block shape ≤ n) × (n ≤ first_block shape + area_length shape)
+inside-first (KeyedShape part) n inside = inside
+inside-first (RelativeShape part) n inside = (inside.from, inside.to)
+
+first-inside : (shape : Shape) (n : ℕ) → first_block shape ≤ n
+    → n ≤ first_block shape + area_length shape → InFirstArea shape n
+first-inside (KeyedShape part) n from to = (from, to)
+first-inside (RelativeShape part) n from to = record { from = from; to = to }
+
 first_in : (geometry : Geometry) (a : ℕ) (shape : Shape) → IsAt geometry a shape
     → InFirstArea shape (head_block geometry a)
-first_in geometry a (KeyedShape part) at = (omega (arith, at.0), omega (arith, at.0))
+first_in geometry a shape at =
+    first-inside shape (head_block geometry a) (omega (arith, at.0)) (omega (arith, at.0))
 
 same_area : (geometry : Geometry) (a b n : ℕ) (here there : Shape) → IsAt geometry a here
     → IsAt geometry b there → InFirstArea here n → InFirstArea there n → a ≡ b
-same_area geometry a b n (KeyedShape here) (KeyedShape there) at to in-here in-there =
-    one_area (1 + geometry.log) geometry.area a b n (omega (arith, at.0, in-here.0))
-    (omega (arith, at.0, at.1, in-here.1)) (omega (arith, to.0, in-there.0))
-    (omega (arith, to.0, to.1, in-there.1))
+same_area geometry a b n here there at to in-here in-there =
+    let one = inside-first here n in-here in
+    let other = inside-first there n in-there in
+    one_area (1 + geometry.log) geometry.area a b n (omega (arith, at.0, one.0))
+    (omega (arith, at.0, at.1, one.1)) (omega (arith, to.0, other.0))
+    (omega (arith, to.0, to.1, other.1))
 
 -- no two parts have one area
 abbrev pub OneEach : List CatEntry → Type 0
@@ -274,12 +292,12 @@ apart_told geometry entries parts apart =
 
 ends_at : (geometry : Geometry) (a : ℕ) (shape : Shape) → IsAt geometry a shape
     → a < area_count geometry → EndsBefore geometry.blocks shape
-ends_at geometry a (KeyedShape part) at below =
+ends_at geometry a shape at below =
     omega (arith, at.0, at.1, area_ends geometry.blocks geometry.log geometry.area a below)
 
 at_ends : (geometry : Geometry) (a : ℕ) (shape : Shape) → IsAt geometry a shape
     → EndsBefore geometry.blocks shape → a < area_count geometry
-at_ends geometry a (KeyedShape part) at ends =
+at_ends geometry a shape at ends =
     area_there geometry.blocks geometry.log geometry.area a (omega (arith, at.0, at.1, ends))
 
 below_is : (areas a : ℕ) (entry : CatEntry) → laid_area entry ≡ Some a → IsBelow areas entry

@@ -10,4 +10,5 @@ pub mod Owning
 pub mod Keys
 pub mod Reading
 pub mod PartContents
+pub mod SlotRecords
 pub mod Touched

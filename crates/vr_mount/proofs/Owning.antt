@@ -13,7 +13,7 @@ use Rattle.vr_types.specs.declared.geometry.Geometry.{Geometry}
 use Rattle.vr_types.specs.declared.unit.PartNo.{PartNo}
 use Rattle.vr_catalog.specs.Catalog.{entry_with_part}
 use Rattle.vr_catalog.specs.declared.entry.CatEntry.{CatEntry}
-use Rattle.vr_space.specs.Part.{Shape, KeyedShape}
+use Rattle.vr_space.specs.Part.{Shape}
 use Rattle.vr_attach.specs.Laid.{shape_in}
 use Rattle.vr_attach.specs.Laid.{AreApart}
 use Rattle.vr_mount.specs.Areas.{AreOn, AreOwners, BeginsWith, IsLaidIn, area_in}
@@ -35,14 +35,14 @@ same_part one other equal = ap (λ (n : ℕ). let part : PartNo = record { 0 = n
 
 begins_at : (geometry : Geometry) (a area : ℕ) (shape : Shape) → IsAt geometry a shape
     → BeginsWith (head_block geometry area) shape → a ≡ area
-begins_at geometry a area (KeyedShape part) at begins =
+begins_at geometry a area shape at begins =
     let same : head_block geometry a ≡ head_block geometry area = sym at.0 ∙ begins in
     one_area (1 + geometry.log) geometry.area a area (head_block geometry a) (omega arith)
     (omega arith) (omega (arith, same)) (omega (arith, same))
 
 at_begins : (geometry : Geometry) (area : ℕ) (shape : Shape) → IsAt geometry area shape
     → BeginsWith (head_block geometry area) shape
-at_begins geometry area (KeyedShape part) at = at.0
+at_begins geometry area shape at = at.0
 
 pub laid_in : (geometry : Geometry) (entries : List CatEntry) (part area : ℕ)
     → area_in entries part ≡ Some area → IsLaidIn geometry entries part area

@@ -4,6 +4,7 @@ use Rattle.std.proofs.Common.{arith, Option, Some, None, ◌≤◌, Bool, true, 
 use Rattle.std.specs.Prelude.{slice_index, cond, filter}
 use Rattle.std.specs.List.Sorted.{IsStrictlySortedBy}
 use Rattle.vr_types.specs.Content.{Content, Ascends, Placed}
+use Rattle.vr_types.specs.Geometry.{area_count}
 use Rattle.vr_types.specs.Image.{Block, Image, block_at}
 use Rattle.vr_ci_match.specs.declared.form.Form.TheVariants.{Plain}
 use Rattle.vr_ci.specs.Interval as ci
@@ -12,9 +13,13 @@ use Rattle.vr_seqset.specs.Entry.{Entry}
 use Rattle.vr_space.specs.Keyed.{HoldRanges, InArea, IsHead, Keyed, KeyedStandsFor, content_from}
 use Rattle.vr_space.specs.Keyed.{entries_of, entry_block, range_of, records_in, HoldsRange}
 use Rattle.vr_space.specs.Keyed.{HaveRooms, items_of, key_of, length_of, lengths_of, placed}
-use Rattle.vr_space.specs.Part.{InFirstArea, KeyedShape, Shape, StandsFor, HasRoom}
-use Rattle.vr_space.proofs.CallerLemmas.{AreIn, head-in}
-use Rattle.vr_space.specs.Room.{HaveRoom, Range, is_in, weight}
+use Rattle.vr_space.specs.Owners.{Owners}
+use Rattle.vr_space.specs.Part.{HasRoom, InPart, KeyedShape, RelativeShape, Shape, StandsFor, StaysIn}
+use Rattle.vr_space.specs.Room.{HaveRoom, Lengths, Range, is_in, weight}
+use Rattle.vr_space.specs.Rosters.{IsChained, IsInArea, IsOf, IsOwnArea, Numbered, roster_block}
+use Rattle.vr_space.specs.Slots.{IsSlots, KeepsSlots, SlotsStandFor, SlotsStayIn}
+use Rattle.vr_space.proofs.CallerLemmas.{AreIn, chain-less, head-in, roster-inside, slots-less}
+use Rattle.vr_mount.proofs.SlotRecords.{records-same}
 
 -- no content ascends
 pub none-ascend : Ascends []
@@ -48,7 +53,7 @@ module _ (part : Keyed) (old new : Image)
       (block_at old (entry_block part entry)) ++ c)
       (content-same (Some entry.high) entries inside.1)
 
-  keyed-same : (content : Content) → KeyedStandsFor part old content
+  pub keyed-same : (content : Content) → KeyedStandsFor part old content
       → KeyedStandsFor part new content
   keyed-same content stands =
       let top : block_at new part.head ≡ block_at old part.head =
@@ -64,11 +69,86 @@ module _ (part : Keyed) (old new : Image)
             ∙ ap (λ (b : Block). content_from part new None (entries_of b)) (sym top);
       }
 
--- the same of any part
-pub stands-same : (shape : Shape) (old new : Image) (content : Content)
-    → ((n : ℕ) → InFirstArea shape n → block_at new n ≡ block_at old n)
+  rooms-under : (kept : Lengths) (low : Option (List ℕ)) (entries : List Entry)
+      → AreIn part.area entries → HaveRooms part kept old low entries
+      → HaveRooms part kept new low entries
+  rooms-under kept low [] inside rooms = tt
+  rooms-under kept low (entry ∷ entries) inside rooms = (
+    subst (λ (b : Block). HaveRoom part.size (lengths_of part kept (range_of low entry) b))
+        (sym (block-same entry inside.0)) rooms.0,
+    rooms-under kept (Some entry.high) entries inside.1 rooms.1,
+  )
+
+  keyed-rooms : (kept : Lengths) (content : Content) → KeyedStandsFor part old content
+      → HasRoom (KeyedShape part) kept old → HasRoom (KeyedShape part) kept new
+  keyed-rooms kept content stands rooms =
+      let top : block_at new part.head ≡ block_at old part.head =
+      same part.head (omega arith, omega arith) in
+      subst (λ (b : Block). HaveRooms part kept new None (entries_of b)) (sym top)
+      (rooms-under kept None (entries_of (block_at old part.head))
+      (head-in part (block_at old part.head) stands.head) rooms)
+
+-- ---- a part that stays in its own blocks
+
+-- what a part of chained areas stands for and keeps room for, where the blocks that it owns stay
+module _ (part : Numbered) (owners : Owners) (old new : Image)
+    (within : SlotsStayIn part owners old)
+    (same : (n : ℕ) → InPart (RelativeShape part) owners n → block_at new n ≡ block_at old n) where
+  block-here : (area : ℕ) → IsOwnArea part owners area → (n : ℕ) → IsInArea part area n
+      → (block : Block) → IsOf new n block → IsOf old n block
+  block-here area own n inside block is = is ∙ same n (own.owned n inside)
+
+  top-same : (area : ℕ) → IsOwnArea part owners area
+      → block_at new (roster_block part area) ≡ block_at old (roster_block part area)
+  top-same area own =
+      same (roster_block part area) (own.owned (roster_block part area) (roster-inside part area))
+
+  chain-same : (Wider : ℕ → Type 0) → ((area : ℕ) → IsOwnArea part owners area → Wider area)
+      → IsChained part Wider (IsSlots part) (IsOf new)
+  chain-same Wider wider = chain-less part (IsOwnArea part owners) Wider (IsSlots part) (IsOf new)
+      (IsOf old) wider block-here (area_count part.geometry) part.first within
+
+  slots-room : (kept : Lengths) → KeepsSlots part kept (IsOf old) → KeepsSlots part kept (IsOf new)
+  slots-room kept room = slots-less part (IsOwnArea part owners) (IsSlots part) (IsOf new)
+      (IsOf old) kept (λ area own top is. is ∙ top-same area own) within room
+
+  slots-same : (content : Content) → SlotsStandFor part old content
+      → SlotsStandFor part new content
+  slots-same content stands = record {
+    part_is = stands.part_is;
+    chain = chain-same (λ area. area < area_count part.geometry) (λ area own. own.there);
+    records = stands.records ∙ sym (records-same part (IsOwnArea part owners) old new
+        (λ area own n inside. same n (own.owned n inside)) (area_count part.geometry) 1 part.first
+        within);
+  }
+
+-- A part that stays in its own blocks does so where these are as they were,
+pub stays-same : (shape : Shape) (owners : Owners) (old new : Image) → StaysIn shape owners old
+    → ((n : ℕ) → InPart shape owners n → block_at new n ≡ block_at old n)
+    → StaysIn shape owners new
+stays-same (KeyedShape part) owners old new within same = within
+stays-same (RelativeShape part) owners old new within same =
+    chain-same part owners old new within same (IsOwnArea part owners) (λ area own. own)
+
+-- stands for what it stood for,
+pub stands-same : (shape : Shape) (owners : Owners) (old new : Image) (content : Content)
+    → StaysIn shape owners old
+    → ((n : ℕ) → InPart shape owners n → block_at new n ≡ block_at old n)
     → StandsFor shape old content → StandsFor shape new content
-stands-same (KeyedShape part) old new content same stands = keyed-same part old new same content stands
+stands-same (KeyedShape part) owners old new content within same stands =
+    keyed-same part old new (λ n inside. same n (within n inside)) content stands
+stands-same (RelativeShape part) owners old new content within same stands =
+    slots-same part owners old new within same content stands
+
+-- and has the room that it had.
+pub rooms-same : (shape : Shape) (owners : Owners) (kept : Lengths) (old new : Image)
+    (content : Content) → StaysIn shape owners old
+    → ((n : ℕ) → InPart shape owners n → block_at new n ≡ block_at old n)
+    → StandsFor shape old content → HasRoom shape kept old → HasRoom shape kept new
+rooms-same (KeyedShape part) owners kept old new content within same stands rooms =
+    keyed-rooms part old new (λ n inside. same n (within n inside)) kept content stands rooms
+rooms-same (RelativeShape part) owners kept old new content within same stands rooms =
+    slots-room part owners old new within same kept rooms
 
 -- ---- room
 
@@ -112,3 +192,4 @@ pub part-fits : (shape : Shape) (image : Image) (content : Content) → StandsFo
     → HasRoom shape [] image
 part-fits (KeyedShape part) image content stands =
     have-rooms part image None (entries_of (block_at image part.head)) stands.intervals
+part-fits (RelativeShape part) image content stands = λ at entry below. absurd (omega (arith, below))

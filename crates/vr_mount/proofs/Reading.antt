@@ -12,7 +12,11 @@ use Rattle.vr_types.specs.Content.Item.{Standing, Withdrawn}
 use Rattle.vr_types.specs.Image.{Image}
 use Rattle.vr_types.proofs.CallerLemmas.{same_place}
 use Rattle.vr_space.specs.Room.{is_above}
-use Rattle.vr_space.specs.Part.{IsOn, Shape, Stands, StandsFor, record_read}
+use Rattle.vr_space.specs.Known.{Known}
+use Rattle.vr_space.specs.Part.{IsOn, IsUnderWay, KeyedShape, Knows, RelativeShape, Shape, Stands}
+use Rattle.vr_space.specs.Part.{StandsFor, record_read}
+use Rattle.vr_space.specs.Split.{SplitNow}
+use Rattle.vr_space.specs.UnderWay.{KeyedUnderWay}
 use Rattle.vr_space.proofs.CallerLemmas.{AllAbove, Rising, rising-sorted, stands_content}
 use Rattle.vr_space.proofs.CallerLemmas.{content_item, on-still, none-record, none-above, above-weaken}
 use Rattle.vr_space.proofs.CallerLemmas.{above-more, by_other, lt_from_test, same_is_equal}
@@ -22,7 +26,7 @@ use Rattle.vr_types.specs.Blocks.{Keeps}
 use Rattle.vr_types.specs.Faults.{Faults}
 use Rattle.vr_types.specs.Seen.{Seen}
 use Rattle.vr_mount.specs.Listing.{AddsNext, AreRecords, HasListCause, HasNoneAfter, IsAddedNext}
-use Rattle.vr_mount.specs.Listing.{IsReadNext}
+use Rattle.vr_mount.specs.Listing.{IsReadNext, KnowsImage}
 use Rattle.vr_mount.specs.declared.no.ListNo.TheVariants.{Memory}
 
 -- ---- what is at a place
@@ -256,6 +260,24 @@ pub still_stands : (tells : Bool) (shape other : Shape) (a b : Seen) → Keeps t
 still_stands tells shape other a b keeps same stands told =
     subst (λ (s : Shape). Stands s b.cur) (sym same)
     (subst (λ (i : Image). Stands shape i) (sym (keeps.content told)) (stands told))
+
+-- the part knows the blocks then
+pub knows_now : (shape : Shape) (known : Known) (now : Seen) → KnowsImage shape known now.cur
+    → Knows shape known now
+knows_now shape known now knows = record { way = way_now shape; blocks = knows.met }
+  where
+    way_now : (shape : Shape) → IsUnderWay shape known now
+    way_now (KeyedShape part) =
+        subst (λ (split : Option SplitNow). KeyedUnderWay part split now) (sym knows.no_split) tt
+    way_now (RelativeShape part) = tt
+
+pub still_knows : (tells : Bool) (shape other : Shape) (known now : Known) (a b : Seen)
+    → Keeps tells a b → other ≡ shape → now ≡ known
+    → (IsTrue tells → KnowsImage shape known a.cur) → IsTrue tells → KnowsImage other now b.cur
+still_knows tells shape other known now a b keeps same still knows told =
+    subst (λ (s : Shape). KnowsImage s now b.cur) (sym same)
+    (subst (λ (k : Known). KnowsImage shape k b.cur) (sym still)
+    (subst (λ (i : Image). KnowsImage shape known i) (sym (keeps.content told)) (knows told)))
 
 pub still_on : (tells : Bool) (shape other : Shape) (a b : Seen) → Keeps tells a b
     → other ≡ shape → IsOn shape a → IsOn other b

@@ -9,7 +9,7 @@ use Rattle.vr_types.specs.declared.geometry.Geometry.{Geometry}
 use Rattle.vr_types.specs.declared.unit.PartNo.{PartNo}
 use Rattle.vr_catalog.specs.Catalog.{entry_with_part}
 use Rattle.vr_catalog.specs.declared.entry.CatEntry.{CatEntry}
-use Rattle.vr_space.specs.Part.{Shape, KeyedShape}
+use Rattle.vr_space.specs.Part.{Shape, KeyedShape, RelativeShape}
 use Rattle.vr_attach.specs.Laid.{shape_in}
 use Rattle.vr_mount.specs.Numbers.{laid_area}
 
@@ -18,11 +18,20 @@ abbrev pub area_in : List CatEntry → ℕ → Option ℕ
 area_in entries part =
     if part == 0 then Some 0 else option_and_then laid_area (entry_with_part entries part)
 
--- a part is on blocks below this one
-abbrev pub EndsBefore : ℕ → Shape → Type 0
-EndsBefore count (KeyedShape part) = part.head + part.area < count
+-- the first block of a part's first area, and how many blocks of the area come after it
+abbrev pub first_block : Shape → ℕ
+first_block (KeyedShape part) = part.head
+first_block (RelativeShape part) = head_block part.geometry part.first
 
--- each part that the entries lay is on blocks of the volume
+abbrev pub area_length : Shape → ℕ
+area_length (KeyedShape part) = part.area
+area_length (RelativeShape part) = part.geometry.area
+
+-- the first area of a part is on blocks below this one
+abbrev pub EndsBefore : ℕ → Shape → Type 0
+EndsBefore count shape = first_block shape + area_length shape < count
+
+-- the first area of each part that the entries lay is on blocks of the volume
 abbrev pub AreOn : Geometry → List CatEntry → Type 0
 AreOn geometry entries = (part : ℕ) (shape : Shape) → shape_in geometry entries part ≡ Some shape
     → EndsBefore geometry.blocks shape
@@ -40,7 +49,7 @@ catalog_part = record { 0 = 0 }
 
 -- a part begins with this block
 abbrev pub BeginsWith : ℕ → Shape → Type 0
-BeginsWith block (KeyedShape part) = part.head ≡ block
+BeginsWith block shape = first_block shape ≡ block
 
 -- The entries lay the part in this area.
 pub record IsLaidIn (geometry : Geometry) (entries : List CatEntry) (part area : ℕ) : Type 0 where

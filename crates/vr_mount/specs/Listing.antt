@@ -1,12 +1,13 @@
 -- The records of a part, read one after the other. The rules are this project's own.
 use Rattle.std.specs.Prelude.{◌≡◌, ◌≢◌, ◌<◌, ◌≤◌, ℕ, Bool, true, false, List, [], ◌∷◌, ◌++◌}
-use Rattle.std.specs.Prelude.{Option, Some, None, Result, OnOk, IsErrOf}
+use Rattle.std.specs.Prelude.{Option, Some, None, Result, OnOk, IsErrOf, length}
 use Rattle.std.specs.declared.cmp.Ordering.TheVariants.{Less}
 use Rattle.vr_types.specs.Content.{Content, place_cmp}
 use Rattle.vr_types.specs.Faults.{Faults}
 use Rattle.vr_types.specs.Image.{Image}
 use Rattle.vr_types.specs.declared.fault.DeviceFault.TheVariants as faults
-use Rattle.vr_space.specs.Part.{Shape, StandsFor, record_read}
+use Rattle.vr_space.specs.Known.{Known}
+use Rattle.vr_space.specs.Part.{AreMet, IsPlaceOf, Shape, StandsFor, record_read}
 use Rattle.vr_space.specs.Room.{is_above}
 use Rattle.vr_mount.specs.Records.{bytes_of}
 use Rattle.vr_mount.specs.declared.no.ListNo.{ListNo}
@@ -16,6 +17,15 @@ use Rattle.vr_mount.specs.declared.no.ListNo.TheVariants.{Fault, Memory}
 abbrev pub AreRecords : Shape → Image → List (List ℕ) → Type 0
 AreRecords shape image read = (content : Content) → StandsFor shape image content
     → bytes_of content ≡ read
+
+-- every place of this length is one that a record of the part may have
+abbrev pub AreAllPlaces : Shape → ℕ → Type 0
+AreAllPlaces shape n = (place : List ℕ) → length place ≡ n → IsPlaceOf shape place
+
+-- No split is under way, and the blocks of the image are as the part met them.
+pub record KnowsImage (shape : Shape) (known : Known) (image : Image) : Type 0 where
+  pub no_split : known.split ≡ None
+  pub met : AreMet shape known image
 
 -- ---- one after the other
 

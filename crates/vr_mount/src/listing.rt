@@ -3,8 +3,8 @@ ghost use Rattle.std.specs.Prelude.{◌≡◌, ◌≤◌, ◌++◌, ◌∷◌, [
 ghost use Rattle.vr_types.specs.Blocks.{Keeps};
 ghost use Rattle.vr_types.specs.Faults.{HasCause};
 ghost use Rattle.vr_space.specs.Part.{IsOn, Stands, given, place_length, record_read};
-ghost use Rattle.vr_mount.specs.Listing.{AddsNext, AreRecords, FollowsLast, HasListCause};
-ghost use Rattle.vr_mount.specs.Listing.{ReadsNext};
+ghost use Rattle.vr_mount.specs.Listing.{AddsNext, AreAllPlaces, AreRecords, FollowsLast};
+ghost use Rattle.vr_mount.specs.Listing.{HasListCause, KnowsImage, ReadsNext};
 
 use crate::no::ListNo;
 use std::alloc::Global;
@@ -22,6 +22,8 @@ fn seek<B: Blocks, P: Part>(
     requires on { IsOn (P.shape part.old) (B.seen blocks.old) }
     requires room { place_length (P.shape part.old) ≤ into.old.room }
     requires stands { IsTrue B.tells → Stands (P.shape part.old) (B.seen blocks.old).cur }
+    requires knows { IsTrue B.tells → KnowsImage (P.shape part.old) (P.known part.old)
+        (B.seen blocks.old).cur }
     ensures next { IsTrue B.tells → IfOk result (λ found. FollowsLast (P.shape part.old)
         (B.seen blocks.old).cur last.now found into.new.place) }
     ensures keeps { Keeps B.tells (B.seen blocks.old) (B.seen blocks.new) }
@@ -56,7 +58,10 @@ fn copy_at<B: Blocks, P: Part>(
 ) -> Result<Option<Bytes>, ListNo>
     requires on { IsOn (P.shape part.old) (B.seen blocks.old) }
     requires length { place_length (P.shape part.old) ≡ length }
+    requires places { AreAllPlaces (P.shape part.old) length }
     requires stands { IsTrue B.tells → Stands (P.shape part.old) (B.seen blocks.old).cur }
+    requires knows { IsTrue B.tells → KnowsImage (P.shape part.old) (P.known part.old)
+        (B.seen blocks.old).cur }
     ensures item { IsTrue B.tells → IfOk result (λ found. found
         ≡ record_read (P.shape part.old) (B.seen blocks.old).cur place.now) }
     ensures keeps { Keeps B.tells (B.seen blocks.old) (B.seen blocks.new) }
@@ -82,7 +87,10 @@ fn read_next<B: Blocks, P: Part>(
 ) -> Result<Option<Bytes>, ListNo>
     requires on { IsOn (P.shape part.old) (B.seen blocks.old) }
     requires length { place_length (P.shape part.old) ≡ length }
+    requires places { AreAllPlaces (P.shape part.old) length }
     requires stands { IsTrue B.tells → Stands (P.shape part.old) (B.seen blocks.old).cur }
+    requires knows { IsTrue B.tells → KnowsImage (P.shape part.old) (P.known part.old)
+        (B.seen blocks.old).cur }
     ensures read { IsTrue B.tells → IfOk result (ReadsNext (P.shape part.old)
         (B.seen blocks.old).cur last.old last.new) }
     ensures keeps { Keeps B.tells (B.seen blocks.old) (B.seen blocks.new) }
@@ -122,7 +130,10 @@ fn add_next<B: Blocks, P: Part>(
 ) -> Result<bool, ListNo>
     requires on { IsOn (P.shape part.old) (B.seen blocks.old) }
     requires length { place_length (P.shape part.old) ≡ length }
+    requires places { AreAllPlaces (P.shape part.old) length }
     requires stands { IsTrue B.tells → Stands (P.shape part.old) (B.seen blocks.old).cur }
+    requires knows { IsTrue B.tells → KnowsImage (P.shape part.old) (P.known part.old)
+        (B.seen blocks.old).cur }
     ensures added { IsTrue B.tells → IfOk result (AddsNext (P.shape part.old)
         (B.seen blocks.old).cur last.old last.new records.old.items records.new.items) }
     ensures keeps { Keeps B.tells (B.seen blocks.old) (B.seen blocks.new) }
@@ -151,7 +162,10 @@ fn add_all<B: Blocks, P: Part>(
 ) -> Result<(), ListNo>
     requires on { IsOn (P.shape part.old) (B.seen blocks.old) }
     requires length { place_length (P.shape part.old) ≡ length }
+    requires places { AreAllPlaces (P.shape part.old) length }
     requires stands { IsTrue B.tells → Stands (P.shape part.old) (B.seen blocks.old).cur }
+    requires knows { IsTrue B.tells → KnowsImage (P.shape part.old) (P.known part.old)
+        (B.seen blocks.old).cur }
     requires first { last.old ≡ None }
     requires none { records.old.items ≡ [] }
     ensures records { IsTrue B.tells → OnOk result (AreRecords (P.shape part.old)
@@ -172,8 +186,8 @@ fn add_all<B: Blocks, P: Part>(
     Err(ListNo::Memory)
 }
 
-/// The records of a part, in the order of their places, which have `length` bytes each. The part
-/// stays as it is.
+/// The records of a part, in the order of their places, which have `length` bytes each: it has
+/// every place of that length, as a key-sequenced part does. The part stays as it is.
 ///
 /// `Fault`: the device failed to read a block of the part, or to write out another block. It comes
 /// only where the device counted one. `Memory`: there is no memory for the records.
@@ -185,7 +199,10 @@ pub fn records_of_part<B: Blocks, P: Part>(
 ) -> Result<Vec<Bytes>, ListNo>
     requires on { IsOn (P.shape part.old) (B.seen blocks.old) }
     requires length { place_length (P.shape part.old) ≡ length }
+    requires places { AreAllPlaces (P.shape part.old) length }
     requires stands { IsTrue B.tells → Stands (P.shape part.old) (B.seen blocks.old).cur }
+    requires knows { IsTrue B.tells → KnowsImage (P.shape part.old) (P.known part.old)
+        (B.seen blocks.old).cur }
     ensures records { IsTrue B.tells → IfOk result (λ found. AreRecords (P.shape part.old)
         (B.seen blocks.old).cur found.items) }
     ensures keeps { Keeps B.tells (B.seen blocks.old) (B.seen blocks.new) }

@@ -1,8 +1,9 @@
 use Rattle.std.proofs.Common.{refl, sym, ◌∙◌, ap, subst, Option, None, List, ℕ}
 use Rattle.vr_types.proofs.CallerLemmas.{keeps-none, keeps-then}
-use Rattle.vr_space.specs.Part.{place_length}
+use Rattle.vr_space.specs.Part.{Shape, place_length}
+use Rattle.vr_mount.specs.Listing.{AreAllPlaces}
 use Rattle.vr_mount.proofs.Reading.{AreRead, none_read, added_read, ended_read, still_stands}
-use Rattle.vr_mount.proofs.Reading.{still_on, cause_ok, cause_memory}
+use Rattle.vr_mount.proofs.Reading.{still_knows, still_on, cause_ok, cause_memory}
 use Rattle.vr_mount.proofs.listing.add_all.Goals as goal
 
 pub loop-turn-init : goal.loop-turn-init
@@ -32,9 +33,15 @@ add_next-requires g c =
           (seen c.args.blocks.now) (seen c.loop-turn.blocks) c.loop-turn.invariant.keeps
           c.loop-turn.invariant.shape c.requires.on;
       length = ap place_length c.loop-turn.invariant.shape ∙ c.requires.length;
+      places = subst (λ (shape : Shape). AreAllPlaces shape c.args.length)
+          (sym c.loop-turn.invariant.shape) c.requires.places;
       stands = still_stands g.B.Blocks.tells (P.shape c.args.part.now) (P.shape c.loop-turn.part)
           (seen c.args.blocks.now) (seen c.loop-turn.blocks) c.loop-turn.invariant.keeps
           c.loop-turn.invariant.shape c.requires.stands;
+      knows = still_knows g.B.Blocks.tells (P.shape c.args.part.now) (P.shape c.loop-turn.part)
+          (P.known c.args.part.now) (P.known c.loop-turn.part) (seen c.args.blocks.now)
+          (seen c.loop-turn.blocks) c.loop-turn.invariant.keeps c.loop-turn.invariant.shape
+          c.loop-turn.invariant.known c.requires.knows;
     }
 
 pub loop-turn-preserved : goal.loop-turn-preserved

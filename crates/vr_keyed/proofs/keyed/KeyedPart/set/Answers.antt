@@ -1,4 +1,4 @@
-use Rattle.std.proofs.Common.{◌≡◌, ◌<◌, List, ℕ, arith, All, Option, rules, sym, ap, subst}
+use Rattle.std.proofs.Common.{◌≡◌, ◌<◌, List, [], ℕ, arith, All, Option, rules, sym, ap, subst}
 use Rattle.std.specs.Prelude.{IfErr}
 use Rattle.std.specs.Option.{option_map}
 use Rattle.std.proofs.lemmas.Result.{IfErr-weaker}
@@ -241,6 +241,14 @@ returns-clause-due g c told =
 
 pub returns-clause-put : goal.returns-clause-put
 returns-clause-put g c =
+    let now = c.args.self.now in
+    let same : c.self.inside.layout ≡ now.part = ap (λ (o : Owned). o.part) c.self.view_is in
+    subst (λ (put : List ℕ). All (InArea now.part) put) (sym c.note_put.ensures.put)
+    (subst (λ (p : Layouts). All (InArea p) (put_of c.in_ok-put.put)) same
+    c.in_ok-put.ensures.put)
+
+pub returns-clause-below : goal.returns-clause-below
+returns-clause-below g c =
     let now = c.args.self.now in
     let b = g.B.Blocks.seen c.set.new.blocks in
     let same : c.self.inside.layout ≡ now.part = ap (λ (o : Owned). o.part) c.self.view_is in
