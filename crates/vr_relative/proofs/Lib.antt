@@ -1,3 +1,9 @@
 pub mod Counted
 pub mod Numbers
 pub mod Ordered
+pub mod Reached
+pub mod PlaceBlock
+pub mod ChainReads
+pub mod Reading
+pub mod FirstRead
+pub mod NextPlaces

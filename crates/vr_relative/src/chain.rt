@@ -110,6 +110,15 @@ impl Chain {
         (number - 1) % self.layout.slots()
     }
 
+    /// The number of a slot of a used interval.
+    pub(crate) fn number_of(&self, interval: u32, slot: u32) -> u32
+        requires used { interval < self.now.used }
+        requires there { slot < slots_of self.now.part }
+        ensures { result ≡ interval * slots_of self.now.part + slot + 1 }
+    {
+        interval * self.layout.slots() + slot + 1
+    }
+
     /// The block of a place's interval. None where the place is that of no slot, or its interval
     /// isn't used.
     pub(crate) fn block_at(&self, place: &[u8]) -> Option<u32>
