@@ -16,7 +16,7 @@ pub record IsChainNow (part : Numbered) (areas : List ℕ) (used : ℕ) : Type 0
   pub some : 0 < length areas
   pub few : length areas ≤ area_count part.geometry
   pub each : All (λ area. area < area_count part.geometry) areas
-  pub used : used ≤ length areas * part.geometry.area
+  pub within : used ≤ length areas * part.geometry.area
 
 -- it is the chain that the blocks have
 pub record IsChainOf (chain : ChainNow) (image : Image) : Type 0 where

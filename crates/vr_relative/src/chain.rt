@@ -63,6 +63,13 @@ pub fn first_chain(alloc: Global, layout: ChainLayout) -> Result<Chain, OutOfMem
 impl Chain {
     ghost use Rattle.vr_relative.specs.Chain.{ChainNow};
 
+    /// Where the part is.
+    pub(crate) fn layout(&self) -> &ChainLayout
+        ensures { result.now ≡ self.now.part }
+    {
+        &self.layout
+    }
+
     /// How many intervals are used.
     pub fn used(&self) -> u32
         ensures { result ≡ self.now.used }
@@ -127,9 +134,9 @@ impl Chain {
             return Room::Ready;
         }
         let whole = u64::from(self.layout.geometry.area);
-        let wanted = (u64::from(interval) + 1).div_ceil(whole) as u32;
-        let need = wanted.saturating_sub(self.areas.len() as u32);
-        if need <= free {
+        let wanted = (u64::from(interval) + 1).div_ceil(whole);
+        let need = wanted.saturating_sub(self.areas.len() as u64);
+        if need <= u64::from(free) {
             Room::Stage(StageKind::Extend)
         } else {
             Room::NoSpace { need, free }

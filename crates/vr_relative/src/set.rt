@@ -15,7 +15,8 @@ ghost use Rattle.vr_relative.specs.Met.{mets_in};
 ghost use Rattle.vr_relative.specs.Setting.{IsReady, IsSetNow, MaySet, put_of, refreshed};
 
 use crate::chain::Chain;
-use crate::met::{MetBlock, Mets, meet};
+use crate::meet::meet;
+use crate::met::{MetBlock, Mets};
 use crate::number::slot_number;
 use crate::writing::write_set;
 use vr_types::{Blocks, DeviceFault};

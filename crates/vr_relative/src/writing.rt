@@ -1,5 +1,5 @@
 //! Writing an interval of slots.
-ghost use Rattle.std.specs.Prelude.{◌≡◌, ◌<◌, ◌++◌, ℕ, List, [], IsTrue, IfSome, length, map};
+ghost use Rattle.std.specs.Prelude.{◌≡◌, ◌≤◌, ◌<◌, ◌-◌, ◌++◌, ℕ, List, [], IsTrue, IfSome, length, map};
 ghost use Rattle.std.specs.Prelude.{slice_set};
 ghost use Rattle.std.specs.List.{AllByRecursion};
 ghost use Rattle.vr_ci_match.specs.declared.form.Form.TheVariants as forms;
