@@ -1,0 +1,10 @@
+pub mod Reading
+pub mod Reached
+pub mod PlaceBlock
+pub mod SlotSet
+pub mod SetAdds
+pub mod Setting
+pub mod Meeting
+pub mod Refreshing
+pub mod Looking
+pub mod WritingSlots
