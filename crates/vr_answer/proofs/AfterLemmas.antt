@@ -11,7 +11,7 @@ use Rattle.vr_types.specs.declared.position.Stand.TheVariants.{At, After, End}
 use Rattle.vr_types.specs.declared.position.Stand.TheVariants.{None as Nowhere}
 use Rattle.vr_types.specs.declared.geometry.Geometry.{Geometry}
 use Rattle.vr_types.specs.declared.reply.Refusal.{Refusal}
-use Rattle.vr_types.specs.declared.reply.Refusal.TheVariants.{EndOfData, NotFound}
+use Rattle.vr_types.specs.declared.reply.Refusal.TheVariants.{EndOfData, NoAddress, NotFound}
 use Rattle.vr_types.specs.declared.reply.Reply.TheVariants.{Done, Refused}
 use Rattle.vr_types.specs.declared.request.FileRef.{FileRef}
 use Rattle.vr_types.specs.declared.request.Find.{Find}
@@ -267,6 +267,13 @@ pub after_lost : (geometry : Geometry) (state : State) (unit : UnitOfRecovery) (
     ≡ stands_as (case_of geometry state unit (Point on find)) on Nowhere
     (let_go (case_of geometry state unit (Point on find)))
 after_lost geometry state unit on find = refl
+
+pub after_no_address : (geometry : Geometry) (state : State) (unit : UnitOfRecovery)
+    (on : FileRef) (find : Find)
+    → after_asked (case_of geometry state unit (Point on find)) (Refused NoAddress)
+    ≡ stands_as (case_of geometry state unit (Point on find)) on Nowhere
+    (let_go (case_of geometry state unit (Point on find)))
+after_no_address geometry state unit on find = refl
 
 -- a refused request drops what its file holds, and nothing else
 stands_same : (deck : ℕ) (o : Option FileRef) (state : State) → stands_in deck o None state ≡ state

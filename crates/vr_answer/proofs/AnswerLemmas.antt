@@ -2,7 +2,7 @@
 use Rattle.std.proofs.Common.{◌≡◌, ℕ, Bool, false, List, Option}
 use Rattle.std.proofs.Common.{Some, None, Result, Ok, Err, OnErr, IsTrue, refl, sym, ap, ◌∙◌}
 use Rattle.std.specs.List.{list_any}
-use Rattle.std.specs.Option.{is_some, option_and_then, option_map_or, option_or}
+use Rattle.std.specs.Option.{option_and_then, option_map_or, option_or}
 use Rattle.vr_catalog.specs.declared.definition.Definition.{Definition}
 use Rattle.vr_types.specs.declared.memory.OutOfMemory.{OutOfMemory}
 use Rattle.vr_types.specs.declared.reply.Refusal.{Refusal}
@@ -101,7 +101,7 @@ module _ (case : CaseInHand) (state : State) (is : IsCaseOf case state) where
     answer_is logged live logs lives =
         let done = done_here case.request.now at present in
         ap (λ (o : Option Refusal). refused_or (option_or o
-        (option_or (record_here case at (is_some present))
+        (option_or (record_here case at present)
         (full_here case present logged live))) done) (file_is case state is)
         ∙ ap (λ (o : Option Refusal). refused_or (option_or (first_of (file_refusals w))
         (option_or o (full_here case present logged live))) done)

@@ -31,7 +31,7 @@ use Rattle.vr_answer.specs.Tried.{file_refusals, record_refusals}
 pub use Rattle.vr_answer.proofs.AfterLemmas.{after_backout, after_change, after_commit}
 pub use Rattle.vr_answer.proofs.AfterLemmas.{after_end, after_endreq, after_least, after_lost}
 pub use Rattle.vr_answer.proofs.AfterLemmas.{after_next, after_point, after_read, after_refused}
-pub use Rattle.vr_answer.proofs.AfterLemmas.{names_at}
+pub use Rattle.vr_answer.proofs.AfterLemmas.{after_no_address, names_at}
 -- before-images are under locks, and locks are taken as the record file says
 pub use Rattle.vr_answer.proofs.KeptLemmas.{kept_in_the_way, kept_throughout}
 -- an exclusive lock is there once it is taken, stays as others are taken, and as another unit ends
@@ -40,10 +40,13 @@ pub use Rattle.vr_answer.proofs.KeptLemmas.{any_left, kept_with, other_held, tak
 -- that another unit may bring back is listed where one of its before-images brings it back
 pub use Rattle.vr_answer.proofs.LeastLemmas.{comes_least, comes_named, found_least, kept_any}
 pub use Rattle.vr_answer.proofs.LeastLemmas.{listed_standing, standing_listed}
--- no alternate index stands over a part, and no pair of one moves; what a file is on, which is
--- key-sequenced; and the place that a direct read names
-pub use Rattle.vr_answer.proofs.OpeningLemmas.{IsKeyed, definition_keyed, keyed_here, moves_none}
-pub use Rattle.vr_answer.proofs.OpeningLemmas.{opened_is}
+-- no alternate index stands over a part, and no pair of one moves; what a file is on; and the place
+-- that a direct read names
+pub use Rattle.vr_answer.proofs.OpeningLemmas.{moves_none, opened_is}
+-- where all clusters are key-sequenced, they are clusters, what a file is on is key-sequenced, and
+-- nothing has to be handed in of places that are numbers
+pub use Rattle.vr_answer.proofs.OpeningLemmas.{IsKeyed, definition_keyed, keyed_alone, keyed_are}
+pub use Rattle.vr_answer.proofs.OpeningLemmas.{keyed_here, kind_keyed, numbers_keyed}
 pub use Rattle.vr_answer.proofs.PlaceLemmas.{read_is}
 pub use Rattle.vr_answer.proofs.TakingLemmas.{taken_alike}
 

@@ -3,8 +3,8 @@ use Rattle.std.proofs.Common.{◌||◌, ℕ, Bool, true, false, List, Option, So
 use Rattle.std.specs.Option.{option_and_then, option_map, option_or}
 use Rattle.vr_catalog.specs.declared.definition.Definition.{Definition}
 use Rattle.vr_types.specs.declared.reply.Refusal.{Refusal}
-use Rattle.vr_types.specs.declared.reply.Refusal.TheVariants.{BadLength, NoFile, NoGet, NotAllowed}
-use Rattle.vr_types.specs.declared.reply.Refusal.TheVariants.{NoPosition, Stopped}
+use Rattle.vr_types.specs.declared.reply.Refusal.TheVariants.{BadLength, BadSlot, NoFile, NoGet}
+use Rattle.vr_types.specs.declared.reply.Refusal.TheVariants.{NoPosition, NotAllowed, Stopped}
 use Rattle.vr_types.specs.declared.request.FileRef.{FileRef}
 use Rattle.vr_types.specs.declared.request.Find.{Find}
 use Rattle.vr_types.specs.declared.request.Find.TheVariants.{Next, Equal, AtLeast}
@@ -15,8 +15,9 @@ use Rattle.vr_types.specs.declared.unit.Kind.{Kind}
 use Rattle.vr_types.specs.declared.unit.Kind.TheVariants.{Keyed, Entry, Relative}
 use Rattle.vr_history.specs.Case.{file_of}
 use Rattle.vr_history.specs.Opened.{Opened, Unknown, Cluster, ByPath}
-use Rattle.vr_history.specs.RefusedFile.{find_length_wrong, has_length, is_unknown}
+use Rattle.vr_history.specs.RefusedFile.{find_length_wrong, has_length, is_slot_zero, is_unknown}
 use Rattle.vr_history.specs.RefusedFile.{key_length_wrong, length_wrong, record_wrong, refused_if}
+use Rattle.vr_history.specs.RefusedFile.{slot_named}
 use Rattle.vr_answer.specs.declared.case.Case.{Case as CaseInHand}
 use Rattle.vr_answer.specs.Here.{asked_here, before_here, file_here, form_by, no_file_here}
 use Rattle.vr_answer.specs.Here.{form_here, no_get_here, no_position_here, placed_here}
@@ -45,6 +46,9 @@ calm-no-file = record { read = λ is. cc; write = λ is. cc }
 
 calm-not-allowed : IsCalm (Some NotAllowed)
 calm-not-allowed = record { read = λ is. cc; write = λ is. cc }
+
+calm-slot : IsCalm (Some BadSlot)
+calm-slot = record { read = λ is. cc; write = λ is. cc }
 
 calm-no-get : IsCalm (Some NoGet)
 calm-no-get = record { read = λ is. cc; write = λ is. cc }
@@ -105,6 +109,9 @@ file_calm case =
     (calm-then (λ (known : Definition). form_by (Some known) case.request.now)
     (definition_here case)
     (λ known. calm-or _ _ (calm-if _ _ calm-not-allowed)
-    (calm-wrong (as_opened (Some known)) case.request.now)))
+    (calm-or _ _ (calm-then (λ (place : List ℕ).
+    refused_if (is_slot_zero (as_opened (Some known)) place) BadSlot) (slot_named case.request.now)
+    (λ place. calm-if _ _ calm-slot))
+    (calm-wrong (as_opened (Some known)) case.request.now))))
     (calm-or (no_position_here case) (no_get_here case) (calm-if _ _ calm-no-position)
     (calm-if _ _ calm-no-get)))

@@ -11,10 +11,8 @@ use Rattle.vr_types.specs.declared.reply.Refusal.TheVariants.{NoPosition, Stoppe
 use Rattle.vr_types.specs.declared.request.Request.{Request}
 use Rattle.vr_types.specs.declared.request.Request.TheVariants.{Get, Point, Add, Update, Erase}
 use Rattle.vr_types.specs.declared.request.Request.TheVariants.{EndReq, Commit, Backout}
-use Rattle.vr_types.specs.declared.unit.Kind.{Kind}
-use Rattle.vr_types.specs.declared.unit.Kind.TheVariants.{Keyed}
 use Rattle.vr_history.specs.Case.{Case, acts_on_held, file_of}
-use Rattle.vr_history.specs.Opened.{Opened, Cluster, opened}
+use Rattle.vr_history.specs.Opened.{Opened, opened}
 use Rattle.vr_history.specs.RefusedFile.{bad_length, bad_slot, goes_with_kind, is_catalog_changing}
 use Rattle.vr_history.specs.RefusedFile.{is_slot_zero, is_unknown, length_wrong, no_file}
 use Rattle.vr_history.specs.RefusedFile.{not_allowed, refused_if, slot_named, stopped}
@@ -23,11 +21,11 @@ use Rattle.vr_history.specs.Replies.{before_all, first_of}
 use Rattle.vr_history.specs.State.{State}
 use Rattle.vr_answer.specs.declared.case.Case.{Case as CaseInHand}
 use Rattle.vr_answer.specs.Here.{asked_here, before_here, file_here, form_by, no_file_here}
-use Rattle.vr_answer.specs.Here.{no_get_here, no_position_here, placed_here, stopped_here}
+use Rattle.vr_answer.specs.Here.{no_get_here, no_position_here, placed_here, slot_by, stopped_here}
 use Rattle.vr_answer.specs.InHand.{IsCaseOf, whole}
 use Rattle.vr_answer.specs.Opening.{as_opened, definition_here}
 use Rattle.vr_answer.specs.Tried.{file_refusals}
-use Rattle.vr_answer.proofs.OpeningLemmas.{IsKeyed, keyed_here, opened_is}
+use Rattle.vr_answer.proofs.OpeningLemmas.{opened_is}
 
 -- the first of some refusals that are others
 pub first_of-two : (a b x y : Option Refusal) → a ≡ x → b ≡ y
@@ -65,11 +63,6 @@ pub option_or-assoc : {A : Type 0} (a b c : Option A)
     → option_or a (option_or b c) ≡ option_or (option_or a b) c
 option_or-assoc None b c = refl
 option_or-assoc (Some x) b c = refl
-
--- what is a function of a key-sequenced definition
-pub at_keyed : {A : Type 0} (definition : Definition) → definition.kind ≡ Keyed
-    → (f : Definition → A) → f definition ≡ f (record definition { kind = Keyed })
-at_keyed definition keyed f = ap (λ (kind : Kind). f (record definition { kind = kind })) keyed
 
 -- the form of a request is tried after its file: where no file can be opened, that is refused first
 -- of a request that is on a file, and nothing is asked of the form of any other
@@ -129,19 +122,13 @@ module _ (case : CaseInHand) (state : State) (is : IsCaseOf case state) where
       (placed_first (no_file w) (no_file_here case) (stopped w ∷ []) (stopped_here case) no_file_is
       (first_of-cons (stopped w) [] ∙ option_or-none (stopped w) ∙ stopped_is))
 
-  no_slot : (definition : Option Definition) → IsKeyed definition → (o : Option (List ℕ))
-      → option_and_then (λ place. refused_if (is_slot_zero (as_opened definition) place) BadSlot) o
-      ≡ None
-  no_slot definition keyed None = refl
-  no_slot None keyed (Some place) = refl
-  no_slot (Some definition) keyed (Some place) =
-      at_keyed definition keyed (λ d. refused_if (is_slot_zero (Cluster d) place) BadSlot)
+  abbrev slot : Option Refusal
+  slot = slot_by (definition_here case) request
 
-  slot_right : bad_slot w ≡ None
-  slot_right =
+  slot_is : bad_slot w ≡ slot
+  slot_is =
       known (λ o. option_and_then (λ place. refused_if (is_slot_zero o place) BadSlot)
       (slot_named request))
-      ∙ no_slot (definition_here case) (keyed_here case state is) (slot_named request)
 
   no_position_is : no_position w ≡ no_position_here case
   no_position_is =
@@ -168,13 +155,13 @@ module _ (case : CaseInHand) (state : State) (is : IsCaseOf case state) where
 
   tried_is : first_of (file_refusals w)
       ≡ option_or (no_file_here case) (option_or (stopped_here case)
-      (option_or allowed (option_or long (placed_here case))))
+      (option_or allowed (option_or slot (option_or long (placed_here case)))))
   tried_is =
       let last = first_of-cons (no_get w) [] ∙ option_or-none (no_get w) ∙ no_get_is in
       placed_first (no_file w) _ _ _ no_file_is
       (placed_first (stopped w) _ _ _ stopped_is
       (placed_first (not_allowed w) _ _ _ allowed_is
-      (passed_over (bad_slot w) _ _ slot_right
+      (placed_first (bad_slot w) _ _ _ slot_is
       (placed_first (bad_length w) _ _ _ long_is
       (placed_first (no_position w) _ _ _ no_position_is last)))))
 
@@ -182,7 +169,11 @@ module _ (case : CaseInHand) (state : State) (is : IsCaseOf case state) where
   file_is = sym
       (tried_is
       ∙ ap (λ (o : Option Refusal). option_or (no_file_here case)
-      (option_or (stopped_here case) o)) (option_or-assoc allowed long (placed_here case))
+      (option_or (stopped_here case) (option_or allowed o)))
+      (option_or-assoc slot long (placed_here case))
+      ∙ ap (λ (o : Option Refusal). option_or (no_file_here case)
+      (option_or (stopped_here case) o))
+      (option_or-assoc allowed (option_or slot long) (placed_here case))
       ∙ by_definition (definition_here case) case.catalog_changing request (stopped_here case)
       (placed_here case)
       ∙ option_or-assoc (no_file_here case) (stopped_here case) (asked_here case))

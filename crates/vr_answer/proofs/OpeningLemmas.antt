@@ -1,11 +1,12 @@
--- What a file is on where the catalog has key-sequenced clusters alone.
+-- What a file is on where the catalog has clusters alone, and where all are key-sequenced.
 use Rattle.std.proofs.Common.{◌≡◌, ℕ, Bool, true, false, cond, ◌==◌, List, [], ◌∷◌, Option, Some}
-use Rattle.std.proofs.Common.{None, refl, sym, ap, ◌∙◌, subst, filter, find, map, ◌&&◌}
+use Rattle.std.proofs.Common.{None, inl, inr, refl, sym, ap, ◌∙◌, subst, filter, find, map, ◌&&◌}
 use Rattle.std.proofs.lemmas.Option.{none-some, same_Some}
 use Rattle.std.specs.List.{filter_map}
-use Rattle.std.specs.Option.{option_and_then, option_map_or, is_none}
+use Rattle.std.specs.Option.{option_and_then, option_map, option_map_or, is_none}
 use Rattle.vr_catalog.specs.Catalog.{Alternate, alternate_from, alternate_in, alternates_over}
-use Rattle.vr_catalog.specs.Catalog.{by_part, cluster_definition, definition_in, definition_of}
+use Rattle.vr_catalog.specs.Catalog.{by_part, cluster_definition, definition_in as stated_in}
+use Rattle.vr_catalog.specs.Catalog.{definition_of}
 use Rattle.vr_catalog.specs.Catalog.{entry_with_part, is_over}
 use Rattle.vr_catalog.specs.Definition.{catalog_definition}
 use Rattle.vr_catalog.specs.declared.definition.Definition.{Definition}
@@ -13,38 +14,42 @@ use Rattle.vr_catalog.specs.declared.entry.CatEntry.{CatEntry}
 use Rattle.vr_catalog.specs.declared.entry.EntryKind.{EntryKind}
 use Rattle.vr_catalog.specs.declared.entry.EntryKind.TheVariants as EntryKinds
 use Rattle.vr_types.specs.declared.request.FileRef.{FileRef}
-use Rattle.vr_types.specs.declared.unit.Kind.TheVariants.{Keyed}
+use Rattle.vr_types.specs.declared.unit.Kind.{Kind}
+use Rattle.vr_types.specs.declared.unit.Kind.TheVariants.{Keyed, Entry, Relative}
 use Rattle.vr_types.specs.declared.unit.PartNo.{PartNo}
 use Rattle.vr_history.specs.Case.{Case, file_of}
-use Rattle.vr_history.specs.Opened.{Unknown, built_over, by_name, by_path}
+use Rattle.vr_history.specs.Opened.{Opened, Unknown, built_over, by_name, by_path}
+use Rattle.vr_history.specs.Opened.{definition_in}
 use Rattle.vr_history.specs.Change.{move_of, moves_at, moves_key, pair_moves, place_changed}
 use Rattle.vr_history.specs.Opened.{base_of, catalog_of, opened, opened_base, opened_file}
 use Rattle.vr_history.specs.State.{State}
 use Rattle.vr_answer.specs.declared.case.Case.{Case as CaseInHand}
 use Rattle.vr_answer.specs.InHand.{IsCaseOf, whole}
 use Rattle.vr_answer.specs.Opening.{as_opened, definition_here, reached}
-use Rattle.vr_answer.specs.Scope.{AreKeyedClusters, IsKeyedCluster, HasClustersAlone}
+use Rattle.vr_answer.specs.Numbered.{AreNumbersOf, IsNumbered, kind_of}
+use Rattle.vr_answer.specs.Scope.{AreClusters, AreKeyedClusters, HasClustersAlone, HasKeyedAlone}
+use Rattle.vr_answer.specs.Scope.{IsCluster, IsKeyedCluster}
 
 -- an entry of a cluster is no alternate index
 if_same : {A : Type 0} (b : Bool) (x : A) → cond b x x ≡ x
 if_same true x = refl
 if_same false x = refl
 
-no_alternate : (base : ℕ) (entry : CatEntry) → IsKeyedCluster entry
+no_alternate : (base : ℕ) (entry : CatEntry) → IsCluster entry
     → alternate_in base entry ≡ None
 no_alternate base entry is =
     ap (λ (kind : EntryKind). cond (is_over entry.related base) (alternate_from kind entry) None)
-    is.0
+    is
     ∙ if_same (is_over entry.related base) None
 
-none_listed : (base : ℕ) (entries : List CatEntry) → AreKeyedClusters entries
+none_listed : (base : ℕ) (entries : List CatEntry) → AreClusters entries
     → filter_map (alternate_in base) entries ≡ []
 none_listed base [] are = refl
 none_listed base (entry ∷ entries) are =
     rw (no_alternate base entry are.0) (none_listed base entries are.1)
 
 -- no alternate index stands over any part
-pub alternates_none : (entries : List CatEntry) (base : ℕ) → AreKeyedClusters entries
+pub alternates_none : (entries : List CatEntry) (base : ℕ) → AreClusters entries
     → alternates_over entries base ≡ []
 alternates_none entries base are =
     ap (λ (l : List Alternate). map (λ (pair : ℕ × Alternate). pair.1) (by_part l))
@@ -55,12 +60,20 @@ built_none state base alone =
     ap (λ (l : List Alternate). filter (λ alternate. alternate.built) l)
     (alternates_none (catalog_of state) base alone)
 
--- each cluster is key-sequenced
+-- key-sequenced clusters are clusters
+pub keyed_are : (entries : List CatEntry) → AreKeyedClusters entries → AreClusters entries
+keyed_are [] are = tt
+keyed_are (entry ∷ entries) are = (are.0.0, keyed_are entries are.1)
+
+pub keyed_alone : (state : State) → HasKeyedAlone state → HasClustersAlone state
+keyed_alone state keyed = keyed_are (catalog_of state) keyed
+
+-- each of them is key-sequenced
 keyed_entry : (entry : CatEntry) (kind : EntryKind) (definition : Definition)
     → IsKeyedCluster entry → cluster_definition kind entry ≡ Some definition
     → definition.kind ≡ Keyed
 keyed_entry entry EntryKinds.Cluster definition is there =
-    ap (λ (d : Definition). d.kind) (sym (same_Some (definition_in entry) definition there)) ∙ is.1
+    ap (λ (d : Definition). d.kind) (sym (same_Some (stated_in entry) definition there)) ∙ is.1
 keyed_entry entry EntryKinds.Alternate definition is there = absurd (none-some definition there)
 keyed_entry entry EntryKinds.Path definition is there = absurd (none-some definition there)
 
@@ -162,10 +175,46 @@ keyed_by_file entries are (Some file) =
     (λ definition there. definition_keyed entries file.base.0 definition are there))
 
 pub keyed_here : (case : CaseInHand) (state : State) → IsCaseOf case state
-    → IsKeyed (definition_here case)
-keyed_here case state is =
-    keyed_by_file case.catalog.now (subst AreKeyedClusters (sym is.catalog) is.alone)
+    → HasKeyedAlone state → IsKeyed (definition_here case)
+keyed_here case state is keyed =
+    keyed_by_file case.catalog.now (subst AreKeyedClusters (sym is.catalog) keyed)
     (file_of case.request.now)
+
+-- the kind of what a file is on
+abbrev pub kind_in : Opened → Option Kind
+kind_in opened = option_map (λ definition. definition.kind) (definition_in opened)
+
+not_some : (kind : Kind) (o : Option Definition) → IsKeyed o
+    → kind_in (as_opened o) ≡ Some kind → kind ≡ Keyed
+not_some kind None is there = absurd (none-some kind there)
+not_some kind (Some definition) is there = sym (same_Some definition.kind kind there) ∙ is
+
+file_keyed : (state : State) → HasKeyedAlone state → (o : Option FileRef) (kind : Kind)
+    → kind_in (option_map_or (opened_file state) o Unknown) ≡ Some kind → kind ≡ Keyed
+file_keyed state keyed o kind there =
+    not_some kind (option_and_then (reached (catalog_of state)) o)
+    (keyed_by_file (catalog_of state) keyed o)
+    (sym (ap kind_in (by_file state (keyed_alone state keyed) o)) ∙ there)
+
+-- the data set of a request is key-sequenced, so that its places aren't numbers
+pub kind_keyed : (case : Case) → HasKeyedAlone case.state → (kind : Kind)
+    → kind_of case ≡ Some kind → kind ≡ Keyed
+kind_keyed case keyed kind there =
+    file_keyed case.state keyed (file_of case.request) kind there
+
+not_numbered : (case : Case) → HasKeyedAlone case.state → IsNumbered (kind_of case) → ⊥
+not_numbered case keyed is = elim is [
+  | inl entry ↦ cc (kind_keyed case keyed Entry entry)
+  | inr relative ↦ cc (kind_keyed case keyed Relative relative)
+]
+
+-- so that whatever is handed in of numbers is right
+pub numbers_keyed : (case : Case) → HasKeyedAlone case.state → (given : Option (List ℕ))
+    → (count : ℕ) → AreNumbersOf given count case
+numbers_keyed case keyed given count = record {
+  address = λ entry. absurd (not_numbered case keyed (inl entry));
+  areas = λ numbered. absurd (not_numbered case keyed numbered);
+}
 
 -- no pair of an alternate index moves
 pub moves_none : (case : Case) → HasClustersAlone case.state → pair_moves case ≡ []

@@ -4,13 +4,14 @@ use Rattle.std.proofs.Common.{Some, None, refl, sym, ap, ◌∙◌, filter, map}
 use Rattle.std.specs.Prelude.{flat_map}
 use Rattle.std.specs.Option.{is_some, option_and_then, option_copied, option_map, option_map_or}
 use Rattle.std.specs.Option.{option_or, option_to_list}
-use Rattle.vr_catalog.specs.Definition.{key_of}
 use Rattle.vr_catalog.specs.declared.definition.Definition.{Definition}
 use Rattle.vr_types.specs.declared.request.Find.TheVariants.{Next, Equal, AtLeast}
 use Rattle.vr_types.specs.declared.request.Request.{Request}
 use Rattle.vr_types.specs.declared.request.Request.TheVariants.{Get, Point, Add, Update, Erase}
 use Rattle.vr_types.specs.declared.request.Request.TheVariants.{EndReq, Commit, Backout}
+use Rattle.vr_types.specs.declared.request.FileRef.{FileRef}
 use Rattle.vr_types.specs.declared.unit.Kind.{Kind}
+use Rattle.vr_types.specs.declared.unit.Kind.TheVariants.{Keyed, Entry, Relative}
 use Rattle.vr_types.specs.declared.unit.Mode.{Mode}
 use Rattle.vr_history.specs.Case.{Case, find_of}
 use Rattle.vr_history.specs.Change.{PairMove, place_added, place_asked, place_by}
@@ -21,14 +22,16 @@ use Rattle.vr_history.specs.Names.{record_name}
 use Rattle.vr_history.specs.Opened.{Opened, definition_in, opened}
 use Rattle.vr_history.specs.State.{State}
 use Rattle.vr_answer.specs.declared.case.Case.{Case as CaseInHand}
-use Rattle.vr_answer.specs.Here.{asks_lock, changed_by, changed_here, looked_here, name_here, name_of}
+use Rattle.vr_answer.specs.Here.{added_by, asks_lock, changed_by, changed_here, looked_here}
+use Rattle.vr_answer.specs.Here.{name_here, name_of}
 use Rattle.vr_answer.specs.Here.{names_in, read_by, read_here}
 use Rattle.vr_answer.specs.InHand.{IsCaseOf, whole}
 use Rattle.vr_answer.specs.Looked.{place_looked_at}
+use Rattle.vr_answer.specs.Numbered.{address_added, kind_of}
 use Rattle.vr_answer.specs.Opening.{as_opened, definition_here}
 use Rattle.vr_answer.specs.Scope.{IsDirect}
 use Rattle.vr_answer.proofs.FileLemmas.{option_or-none}
-use Rattle.vr_answer.proofs.OpeningLemmas.{IsKeyed, keyed_here, moves_none, opened_is}
+use Rattle.vr_answer.proofs.OpeningLemmas.{kind_in, moves_none, opened_is}
 
 -- a direct read names its place
 place_named : (place : List ℕ) (definition : Option Definition) (found : Option Candidate)
@@ -74,30 +77,46 @@ module _ (case : CaseInHand) (state : State) (is : IsCaseOf case state) where
       (find_of case.request.now)) (opened_is case state is)
       ∙ read_cases case.request.now direct (definition_here case) (found w)
 
-  key_added : (definition : Option Definition) → IsKeyed definition → (place : Option (List ℕ))
-      → (bytes : List ℕ)
-      → option_map (λ known. place_added w known place bytes) (definition_in (as_opened definition))
-      ≡ option_map (λ known. key_of known bytes) definition
-  key_added None keyed place bytes = refl
-  key_added (Some definition) keyed place bytes =
-      ap (λ (kind : Kind). Some (place_by kind w definition place bytes)) keyed
+  -- the address that an added record gets is the one that is handed in, where it gets one
+  abbrev Addressed : Option Kind → Request → Type 0
+  Addressed kind request = kind ≡ Some Entry → option_copied case.address ≡ address_added w request
 
-  changed_cases : (request : Request)
-      → place_asked w request ≡ changed_by request (definition_here case) held
-  changed_cases (Add file place bytes) =
+  added_kind : (kind : Kind) (definition : Definition) (file : FileRef) (named : Option (List ℕ))
+      → (bytes : List ℕ) → Addressed (Some kind) (Add file named bytes)
+      → Some (place_by kind w definition named bytes)
+      ≡ added_by kind definition (option_copied case.address) named bytes
+  added_kind Keyed definition file named bytes address = refl
+  added_kind Entry definition file named bytes address = sym (address refl)
+  added_kind Relative definition file named bytes address = refl
+
+  added_place : (definition : Option Definition) (file : FileRef) (named : Option (List ℕ))
+      → (bytes : List ℕ) → Addressed (kind_in (as_opened definition)) (Add file named bytes)
+      → option_map (λ known. place_added w known named bytes)
+      (definition_in (as_opened definition))
+      ≡ option_and_then (λ known. added_by known.kind known (option_copied case.address) named bytes)
+      definition
+  added_place None file named bytes address = refl
+  added_place (Some definition) file named bytes address =
+      added_kind definition.kind definition file named bytes address
+
+  changed_cases : (request : Request) → Addressed (kind_of w) request
+      → place_asked w request
+      ≡ changed_by request (definition_here case) held (option_copied case.address)
+  changed_cases (Add file place bytes) address =
       ap (λ (o : Opened). option_map (λ known. place_added w known place bytes) (definition_in o))
       (opened_is case state is)
-      ∙ key_added (definition_here case) (keyed_here case state is) place bytes
-  changed_cases (Update file bytes) = sym is.held
-  changed_cases (Erase file) = sym is.held
-  changed_cases (Get file find update integrity) = refl
-  changed_cases (Point file find) = refl
-  changed_cases (EndReq file) = refl
-  changed_cases Commit = refl
-  changed_cases Backout = refl
+      ∙ added_place (definition_here case) file place bytes
+      (λ entry. address (ap kind_in (opened_is case state is) ∙ entry))
+  changed_cases (Update file bytes) address = sym is.held
+  changed_cases (Erase file) address = sym is.held
+  changed_cases (Get file find update integrity) address = refl
+  changed_cases (Point file find) address = refl
+  changed_cases (EndReq file) address = refl
+  changed_cases Commit address = refl
+  changed_cases Backout address = refl
 
   pub changed_is : place_changed w ≡ changed_here case
-  changed_is = changed_cases case.request.now
+  changed_is = changed_cases case.request.now is.numbers.address
 
   pub looked_is : IsDirect case.request.now → looked_here case ≡ place_looked_at w
   looked_is direct = sym

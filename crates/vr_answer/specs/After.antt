@@ -1,5 +1,4 @@
--- What the entry of a request leaves of the state, field by field, in a catalog of key-sequenced
--- clusters alone.
+-- What the entry of a request leaves of the state, field by field, in a catalog of clusters alone.
 use Rattle.std.specs.Prelude.{◌≡◌, ℕ, ◌+◌, Bool, true, false, cond, List, [], ◌∷◌, ◌++◌}
 use Rattle.std.specs.Prelude.{option_map}
 use Rattle.vr_types.specs.Content.{Standing}

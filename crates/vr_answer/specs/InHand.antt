@@ -12,6 +12,7 @@ use Rattle.vr_answer.specs.declared.case.Case.{Case as CaseInHand}
 use Rattle.vr_answer.specs.declared.case.Looked.{Looked as LookedInHand}
 use Rattle.vr_answer.specs.Here.{stand_here}
 use Rattle.vr_answer.specs.Looked.{place_looked_at, record_looked_at}
+use Rattle.vr_answer.specs.Numbered.{AreNumbersOf}
 use Rattle.vr_answer.specs.Scope.{HasClustersAlone}
 
 -- the request as it meets the whole volume
@@ -35,6 +36,8 @@ pub record IsCaseOf (case : CaseInHand) (state : State) : Type 0 where
   pub stopped : case.stopped ≡ state.stopped
   pub free : case.free ≡ free_areas (whole case state)
   pub used : case.used ≡ state.used
+  -- what depends on places that are numbers
+  pub numbers : AreNumbersOf (option_copied case.address) case.areas (whole case state)
   pub changing : case.catalog_changing ≡ is_catalog_changing (whole case state)
   pub alone : HasClustersAlone state
 

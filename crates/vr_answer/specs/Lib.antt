@@ -4,6 +4,7 @@ pub mod InHand
 pub mod Kept
 pub mod Least
 pub mod Looked
+pub mod Numbered
 pub mod Opening
 pub mod Scope
 pub mod Tried

@@ -1,5 +1,5 @@
 -- Which requests name the place that they come to, and on which volumes requests are answered here.
--- That limit is this project's own: a further kind of data set is a line in `IsKeyedCluster`.
+-- That limit is this project's own: alternate indexes and paths are not answered yet.
 use Rattle.std.specs.Prelude.{◌≡◌, List}
 use Rattle.std.specs.List.{AllByRecursion}
 use Rattle.vr_catalog.specs.Catalog.{definition_in}
@@ -31,13 +31,23 @@ IsDirect (EndReq file) = Unit {0}
 IsDirect Commit = Unit {0}
 IsDirect Backout = Unit {0}
 
--- an entry of a key-sequenced cluster
+-- an entry of a cluster, of any of the three kinds
+abbrev pub IsCluster : CatEntry → Type 0
+IsCluster entry = entry.entry_kind ≡ Cluster
+
+-- the catalog has clusters alone: no alternate index and no path
+abbrev pub AreClusters : List CatEntry → Type 0
+AreClusters entries = AllByRecursion IsCluster entries
+
+abbrev pub HasClustersAlone : State → Type 0
+HasClustersAlone state = AreClusters (catalog_of state)
+
+-- and all of them are key-sequenced
 abbrev pub IsKeyedCluster : CatEntry → Type 0
 IsKeyedCluster entry = (entry.entry_kind ≡ Cluster) × ((definition_in entry).kind ≡ Keyed)
 
--- the catalog has key-sequenced clusters alone: no other kind, no alternate index and no path
 abbrev pub AreKeyedClusters : List CatEntry → Type 0
 AreKeyedClusters entries = AllByRecursion IsKeyedCluster entries
 
-abbrev pub HasClustersAlone : State → Type 0
-HasClustersAlone state = AreKeyedClusters (catalog_of state)
+abbrev pub HasKeyedAlone : State → Type 0
+HasKeyedAlone state = AreKeyedClusters (catalog_of state)

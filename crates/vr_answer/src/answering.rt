@@ -1,5 +1,5 @@
 //! The reply to a request, and the answer as a whole.
-ghost use Rattle.std.specs.Prelude.{◌≡◌, ◌<◌, ◌^◌, IfOk, IsTrue, None, OnErr, is_some, length};
+ghost use Rattle.std.specs.Prelude.{◌≡◌, ◌<◌, ◌^◌, IfOk, IsTrue, None, OnErr, length};
 ghost use Rattle.std.specs.Option.{ForSome, option_copied, option_or};
 ghost use Rattle.vr_types.specs.declared.reply.Refusal.TheVariants as refusals;
 ghost use Rattle.vr_types.specs.declared.reply.Reply.TheVariants as shown;
@@ -108,7 +108,7 @@ fn answer_read(
     requires { ForSome (option_copied looked.present) (λ bytes. length bytes < 2 ^ 32) }
     ensures value { IfOk result (λ reply. reply ≡ replies.refused_or
         (option_or (here.record_here case.now (option_copied looked.entry.place)
-        (is_some (option_copied looked.entry.present)))
+        (option_copied looked.entry.present))
         (here.full_here case.now (option_copied looked.entry.present) logged live))
         (here.done_here case.now.request.now (option_copied looked.entry.place)
         (option_copied looked.entry.present))) }

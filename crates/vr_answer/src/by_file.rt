@@ -1,7 +1,7 @@
 //! Refusals by what is in memory: the file, the volume, what the request names, and what its file
 //! holds for update.
 ghost use Rattle.std.specs.Prelude.{◌≡◌, ◌≢◌, ◌-◌, ◌^◌, length, min, not, None, option_and_then};
-ghost use Rattle.std.specs.Option.{option_copied};
+ghost use Rattle.std.specs.Option.{option_copied, option_or};
 ghost use Rattle.vr_history.specs.RefusedFile as refusals;
 ghost use Rattle.vr_history.specs.RefusedRecord as positions;
 ghost use Rattle.vr_history.specs.Replies as replies;
@@ -13,6 +13,7 @@ ghost use Rattle.vr_answer.specs.Scope.{IsDirect};
 ghost use Rattle.vr_answer.specs.Tried as tried;
 ghost use Rattle.vr_answer.specs.Tried.{IsCalm};
 
+use crate::areas::number_of;
 use crate::case::{Case, definition, file_of};
 use vr_catalog::Definition;
 use vr_types::{Find, Kind, Place, Refusal, Request, Stand};
@@ -176,13 +177,69 @@ fn length_wrong(definition: &Definition, request: &Request) -> Option<Refusal>
     }
 }
 
-/// The request doesn't go with the kind of the data set, or a record or a key has a length that
-/// isn't valid.
+/// The place that a read names.
+fn slot_sought(find: &Find) -> Option<&Place>
+    ensures { option_copied result ≡ refusals.slot_sought find.now }
+{
+    match find {
+        Find::Next => None,
+        Find::Equal(place) => Some(place),
+        Find::AtLeast(place) => Some(place),
+    }
+}
+
+/// The place that a request names, which is a slot in a relative data set.
+fn slot_named(request: &Request) -> Option<&Place>
+    ensures { option_copied result ≡ refusals.slot_named request.now }
+{
+    match request {
+        Request::Get { find, .. } => slot_sought(find),
+        Request::Point { find, .. } => slot_sought(find),
+        Request::Add { place, .. } => place.as_ref(),
+        Request::Update { .. } | Request::Erase { .. } | Request::EndReq { .. } => None,
+        Request::Commit | Request::Backout => None,
+    }
+}
+
+/// Whether a place is slot 0 of a relative data set.
+fn is_slot_zero(definition: &Definition, place: &Place) -> bool
+    ensures { result ≡ refusals.is_slot_zero (as_opened (Some definition.now)) place.now }
+{
+    match definition.kind {
+        Kind::Keyed => false,
+        Kind::Entry => false,
+        Kind::Relative => number_of(place.as_slice()) == 0,
+    }
+}
+
+/// The request names slot 0.
+fn bad_slot(definition: &Definition, request: &Request) -> Option<Refusal>
+    ensures { result ≡ here.slot_by (Some definition.now) request.now }
+{
+    match slot_named(request) {
+        None => None,
+        Some(place) => refused_if(is_slot_zero(definition, place), Refusal::BadSlot),
+    }
+}
+
+/// The refusal of a slot or of a length.
+fn named_wrong(definition: &Definition, request: &Request) -> Option<Refusal>
+    ensures { result ≡ option_or (here.slot_by (Some definition.now) request.now)
+        (refusals.length_wrong (as_opened (Some definition.now)) request.now) }
+{
+    match bad_slot(definition, request) {
+        Some(refusal) => Some(refusal),
+        None => length_wrong(definition, request),
+    }
+}
+
+/// The request doesn't go with the kind of the data set, or names slot 0, or a record or a key has a
+/// length that isn't valid.
 fn form_of(definition: &Definition, request: &Request) -> Option<Refusal>
     ensures { result ≡ here.form_by (Some definition.now) request.now }
 {
     if goes_with_kind(definition, request) {
-        length_wrong(definition, request)
+        named_wrong(definition, request)
     } else {
         Some(Refusal::NotAllowed)
     }
@@ -278,8 +335,8 @@ pub fn refused_before_all(case: &Case) -> Option<Refusal>
     before_here(case)
 }
 
-/// The first refusal by what is in memory: those of `refused_before_all`, `NotAllowed`,
-/// `BadLength`, `NoPosition` where a sequential GET finds its file nowhere, and `NoGet` where an
+/// The first refusal by what is in memory: those of `refused_before_all`, `NotAllowed`, `BadSlot`
+/// of slot 0, `BadLength`, `NoPosition` where a sequential GET finds its file nowhere, and `NoGet` where an
 /// update or an erase finds nothing held. It takes no memory, and moves no file.
 pub fn refused_by_file(case: &Case) -> Option<Refusal>
     ensures value { InEach case.now (λ whole.

@@ -7,6 +7,7 @@ ghost use Rattle.vr_history.specs.Opened as files;
 ghost use Rattle.vr_answer.specs.Here as here;
 ghost use Rattle.vr_answer.specs.InHand.{InEach};
 ghost use Rattle.vr_answer.specs.Opening.{as_opened, definition_here};
+ghost use Rattle.vr_answer.specs.Scope.{HasKeyedAlone};
 
 use vr_catalog::{Catalog, Definition};
 use vr_locks::LockTable;
@@ -15,8 +16,10 @@ use vr_types::{FileRef, Geometry, PartNo, Place, Request, Stand, Unit};
 /// A request with what a volume has in memory when it meets it: its shape, its catalog and its
 /// locks; the place that the request's file holds for update, and where the file stands, None where
 /// its deck hasn't used it yet, so that it stands at its start; the stamp of the write fault that
-/// stopped the volume; the number of free areas and the bytes of the log in use; the unit of
-/// recovery that asks; and whether a live unit of the utilities changed the catalog.
+/// stopped the volume; the number of free areas and the bytes of the log in use; the address that
+/// the record of an add gets in an entry-sequenced data set, as a place, and the number of areas of
+/// a data set that is entry-sequenced or relative, None and 0 of others; the unit of recovery that
+/// asks; and whether a live unit of the utilities changed the catalog.
 #[derive(Clone, Copy)]
 pub struct Case<'a> {
     pub geometry: Geometry,
@@ -27,6 +30,8 @@ pub struct Case<'a> {
     pub stopped: Option<u64>,
     pub free: u32,
     pub used: u64,
+    pub address: Option<&'a [u8]>,
+    pub areas: u32,
     pub unit: Unit,
     pub request: &'a Request,
     pub catalog_changing: bool,
@@ -81,8 +86,9 @@ pub(crate) fn definition(case: &Case) -> Option<Definition>
 /// nothing that can be opened by its name.
 pub fn opened(case: &Case) -> Option<Definition>
     ensures value { InEach case.now (λ whole. files.opened whole ≡ as_opened result) }
-    // and the cluster is key-sequenced
-    ensures keyed { InEach case.now (λ whole. IfSome result (λ known. known.kind ≡ Keyed)) }
+    // and the cluster is key-sequenced, where all are
+    ensures keyed { InEach case.now (λ whole. HasKeyedAlone whole.state
+        → IfSome result (λ known. known.kind ≡ Keyed)) }
 {
     definition(case)
 }

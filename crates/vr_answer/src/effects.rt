@@ -3,7 +3,7 @@
 ghost use Rattle.std.specs.Prelude.{◌≡◌, ℕ, Bool, List, None, Option, Some};
 ghost use Rattle.vr_types.specs.declared.geometry.Geometry.{Geometry};
 ghost use Rattle.vr_types.specs.declared.reply.Refusal.{Refusal as RefusalOf};
-ghost use Rattle.vr_types.specs.declared.reply.Refusal.TheVariants.{EndOfData, NotFound};
+ghost use Rattle.vr_types.specs.declared.reply.Refusal.TheVariants.{EndOfData, NoAddress, NotFound};
 ghost use Rattle.vr_types.specs.declared.reply.Reply.TheVariants.{Done, Refused};
 ghost use Rattle.vr_types.specs.declared.request.FileRef as files;
 ghost use Rattle.vr_types.specs.declared.position.Stand.TheVariants as stands;
@@ -50,7 +50,8 @@ pub fn read_leaves()
 /// A read that searches and is done leaves what a direct one leaves of the place that it comes to,
 /// and a sequential one its file after that place too (`sequential`, `at_least`); a POINT that is
 /// done leaves its file at the place that it comes to (`point`). Where they find no record, a
-/// sequential read leaves its file at the end (`at_end`), and a POINT nowhere (`lost`).
+/// sequential read leaves its file at the end (`at_end`), and a POINT nowhere (`lost`), also one by
+/// an address (`no_address`).
 pub fn search_leaves()
     ensures sequential { (geometry : Geometry) (state : State) (unit : units.Unit)
         (on : files.FileRef) (place : List ℕ) (update : Bool) (integrity : Integrity)
@@ -85,6 +86,11 @@ pub fn search_leaves()
         (on : files.FileRef) (find : Find)
         → let case = case_of geometry state unit (requests.Point on find) in
         after_asked case (Refused NotFound)
+        ≡ after.stands_as case on stands.None (after.let_go case) }
+    ensures no_address { (geometry : Geometry) (state : State) (unit : units.Unit)
+        (on : files.FileRef) (find : Find)
+        → let case = case_of geometry state unit (requests.Point on find) in
+        after_asked case (Refused NoAddress)
         ≡ after.stands_as case on stands.None (after.let_go case) }
 {}
 

@@ -3,11 +3,14 @@
 //! `vr_history` and `vr_locks`, and on no device. It promises that each refusal, each name that is
 //! locked, the space of the log that is needed and the reply to a request that is done are those of
 //! the record file (`vr_history`), for each state of a volume that what is in memory agrees with.
-//! Requests on key-sequenced clusters are answered, in a catalog that has nothing else. The place
-//! is named by the request, or found above this crate, as `found_is_least` says.
+//! Requests on clusters of all three kinds are answered, in a catalog that has neither alternate
+//! indexes nor paths. The place is named by the request, or found above this crate, as
+//! `found_is_least` says; the address of a record that is added to an entry-sequenced data set is
+//! handed in.
 #![tactic(auto)]
 
 mod answering;
+mod areas;
 mod by_file;
 mod by_record;
 mod case;

@@ -11,7 +11,7 @@ ghost use Rattle.vr_answer.specs.Scope.{IsDirect};
 
 use crate::case::{Case, definition};
 use vr_catalog::Definition;
-use vr_types::{Find, Request};
+use vr_types::{Find, Kind, Place, Request};
 
 /// The bytes of a record where its key stands, also of one that ends before its key does.
 pub(crate) fn key_in<'a>(definition: &Definition, bytes: &'a [u8]) -> &'a [u8]
@@ -40,14 +40,34 @@ pub(crate) fn read_here<'a>(case: &Case<'a>) -> Option<&'a [u8]>
     }
 }
 
+/// The place of an added record: its key, the address that is handed in, or the slot that is named.
+fn added_place<'a>(
+    definition: &Definition,
+    address: Option<&'a [u8]>,
+    named: &'a Option<Place>,
+    bytes: &'a [u8],
+) -> Option<&'a [u8]>
+    ensures { option_copied result ≡ here.added_by definition.now.kind definition.now
+        (option_copied address.entry) named.now bytes.now }
+{
+    match definition.kind {
+        Kind::Keyed => Some(key_in(definition, bytes)),
+        Kind::Entry => address,
+        Kind::Relative => match named {
+            None => Some(&bytes[..0]),
+            Some(place) => Some(place.as_slice()),
+        },
+    }
+}
+
 /// The place that a request changes.
 pub(crate) fn changed_here<'a>(case: &Case<'a>) -> Option<&'a [u8]>
     ensures { option_copied result ≡ here.changed_here case.now }
 {
     match case.request {
-        Request::Add { bytes, .. } => match definition(case) {
+        Request::Add { place, bytes, .. } => match definition(case) {
             None => None,
-            Some(definition) => Some(key_in(&definition, bytes.as_slice())),
+            Some(definition) => added_place(&definition, case.address, place, bytes.as_slice()),
         },
         Request::Update { .. } | Request::Erase { .. } => match case.held {
             None => None,
@@ -78,7 +98,8 @@ pub fn place_read<'a>(case: &Case<'a>) -> Option<&'a [u8]>
     read_here(case)
 }
 
-/// The place that a request changes: the key of the record added, or the place held for update.
+/// The place that a request changes: that of the record added, which is its key, the address that
+/// is handed in, or the slot that the request names; or the place held for update.
 #[tactic(auto, using(crate::proofs::PlaceLemmas::changed_is))]
 pub fn place_changed<'a>(case: &Case<'a>) -> Option<&'a [u8]>
     ensures { InEach case.now (λ whole. option_copied result ≡ changes.place_changed whole) }

@@ -1,9 +1,9 @@
 //! Which requests on which catalogs are answered here.
 ghost use Rattle.std.specs.Prelude.{◌≡◌, ◌↔◌, IsTrue};
-ghost use Rattle.vr_answer.specs.Scope.{AreKeyedClusters, IsDirect, IsKeyedCluster};
+ghost use Rattle.vr_answer.specs.Scope.{AreClusters, IsCluster, IsDirect};
 
 use vr_catalog::{CatEntry, Catalog, EntryKind};
-use vr_types::{Find, Kind, Request};
+use vr_types::{Find, Request};
 
 /// Whether a request is direct: any but POINT and the reads that search.
 pub fn is_direct(request: &Request) -> bool
@@ -20,32 +20,29 @@ pub fn is_direct(request: &Request) -> bool
     }
 }
 
-/// Whether an entry is of a key-sequenced cluster.
-fn is_keyed_cluster(entry: &CatEntry) -> bool
-    ensures { IsTrue result ↔ IsKeyedCluster entry.now }
+/// Whether an entry is of a cluster.
+fn is_cluster(entry: &CatEntry) -> bool
+    ensures { IsTrue result ↔ IsCluster entry.now }
 {
     match entry.entry_kind {
-        EntryKind::Cluster => match entry.kind {
-            None | Some(Kind::Keyed) => true,
-            Some(Kind::Entry) | Some(Kind::Relative) => false,
-        },
+        EntryKind::Cluster => true,
         EntryKind::Alternate | EntryKind::Path => false,
     }
 }
 
-/// Whether the entries are all of key-sequenced clusters.
-fn are_keyed_clusters(entries: &[CatEntry]) -> bool
-    ensures { IsTrue result ↔ AreKeyedClusters entries.now }
+/// Whether the entries are all of clusters.
+fn are_clusters(entries: &[CatEntry]) -> bool
+    ensures { IsTrue result ↔ AreClusters entries.now }
 {
     match entries {
         [] => true,
-        [first, rest @ ..] => is_keyed_cluster(first) && are_keyed_clusters(rest),
+        [first, rest @ ..] => is_cluster(first) && are_clusters(rest),
     }
 }
 
-/// Whether a catalog has key-sequenced clusters alone.
+/// Whether a catalog has clusters alone, of any kind.
 pub fn has_clusters_alone(catalog: &Catalog) -> bool
-    ensures { IsTrue result ↔ AreKeyedClusters catalog.now }
+    ensures { IsTrue result ↔ AreClusters catalog.now }
 {
-    are_keyed_clusters(catalog.as_slice())
+    are_clusters(catalog.as_slice())
 }

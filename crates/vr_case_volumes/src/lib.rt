@@ -1,6 +1,6 @@
 //! What cases of several volumes share: new volumes in memory, the words and the source by which a
 //! job is run, the entries of a run with the verbs of their requests, and why a case has no line. It
-//! stands on `vr_recover` for volumes, on `vr_outside` for sources, and on `vr_trace` for histories.
+//! stands on `vr_format` for volumes, on `vr_outside` for sources, and on `vr_trace` for histories.
 //! It promises that it is safe and ends.
 #![tactic(auto)]
 

@@ -4,7 +4,7 @@ use crate::answers::Stop;
 use std::alloc::Global;
 use vr_catalog::{CatEntry, EntryKind, FreeSpace, ShareOptions, SpaceUnit};
 use vr_device::{MemoryDevice, memory_device};
-use vr_recover::{FormatNo, format_entries, format_volume};
+use vr_format::{FormatNo, format_entries, format_volume};
 use vr_types::{AreaNo, Geometry, Kind, PartNo, dataset_name};
 
 /// The shape of most volumes: 15 areas of 7 intervals of 512 bytes, and 8 blocks of log.

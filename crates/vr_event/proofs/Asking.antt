@@ -23,9 +23,9 @@ use Rattle.vr_answer.proofs.CallerLemmas.{answered_done, meets_read_fault, meets
 use Rattle.vr_record_file.specs.Now.{EndsUnit, FileNow, MayBeAsked, state_now}
 use Rattle.vr_undo.specs.Records.{last_in}
 use Rattle.vr_volume.specs.Committed.{KeepsNoneIf}
-use Rattle.vr_event.specs.Backing.{last_of_unit}
+use Rattle.vr_store.specs.LastImage.{last_of_unit}
 use Rattle.vr_event.specs.EndedFile.{IsEndBy, IsEnding}
-use Rattle.vr_event.specs.Store.{IsStored, StoreNow}
+use Rattle.vr_store.specs.Store.{IsStored, StoreNow}
 
 pub ends-by : (kind : EndKind) (request : Request) → IsEndBy kind request → EndsUnit request
 ends-by Committed request is = inl is

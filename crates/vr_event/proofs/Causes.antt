@@ -16,12 +16,13 @@ use Rattle.vr_history.specs.Case.{Case}
 use Rattle.vr_history.specs.Replies.{first_of}
 use Rattle.vr_answer.specs.Tried.{file_refusals}
 use Rattle.vr_record_file.specs.Now.{FileNow, failed, with_event}
-use Rattle.vr_event.specs.Cause.{HasGetCause, HasLookCause, HasReplyCause, IsEnteredFor, is_faulted}
+use Rattle.vr_store.specs.Cause.{HasLookCause}
+use Rattle.vr_event.specs.Cause.{HasGetCause, HasReplyCause, IsEnteredFor, is_faulted}
 use Rattle.vr_event.specs.Getting.{IsRead, MayEnd, refusal_of}
 use Rattle.vr_event.specs.declared.getting.Outcome.{Outcome}
 use Rattle.vr_event.specs.declared.getting.Outcome.TheVariants as outcomes
-use Rattle.vr_event.specs.declared.no.LookNo.{LookNo}
-use Rattle.vr_event.specs.declared.no.LookNo.TheVariants.{Fault, Memory}
+use Rattle.vr_store.specs.declared.no.LookNo.{LookNo}
+use Rattle.vr_store.specs.declared.no.LookNo.TheVariants.{Fault, Memory}
 use Rattle.vr_event.proofs.Ended.{may-fail}
 
 -- what a read comes to, or that memory ran out

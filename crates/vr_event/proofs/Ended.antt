@@ -33,8 +33,8 @@ use Rattle.vr_answer.proofs.CallerLemmas.{meets_read_fault, meets_write_fault}
 use Rattle.vr_event.specs.Getting.{IsGet, IsRead, MayEnd, is_for_update, refusal_of}
 use Rattle.vr_event.specs.Searching.{IsSought}
 use Rattle.vr_event.specs.declared.getting.Outcome.TheVariants.{Done, Pointed, Refused}
-use Rattle.vr_event.specs.declared.no.LookNo.{LookNo}
-use Rattle.vr_event.specs.declared.no.LookNo.TheVariants.{Fault, Memory}
+use Rattle.vr_store.specs.declared.no.LookNo.{LookNo}
+use Rattle.vr_store.specs.declared.no.LookNo.TheVariants.{Fault, Memory}
 
 -- a read is a GET or a POINT
 pub read-elim : (P : Request → Type 0)

@@ -44,10 +44,10 @@ use Rattle.vr_answer.specs.declared.case.Case.{Case as CaseInHand}
 use Rattle.vr_event.specs.Getting.{refusal_of}
 use Rattle.vr_event.specs.Lacking.{AreElse, IfLacks, IfNoSpace, IsElse, LacksRoomIn}
 use Rattle.vr_event.specs.Putting.{IsChange}
-use Rattle.vr_event.specs.Room.{IsRoomAt}
-use Rattle.vr_event.specs.Store.{PartNow, StoreNow, part_among}
-use Rattle.vr_event.specs.declared.no.LookNo.{LookNo}
-use Rattle.vr_event.specs.declared.no.LookNo.TheVariants.{Fault, Memory}
+use Rattle.vr_store.specs.Room.{IsRoomAt}
+use Rattle.vr_store.specs.Store.{PartNow, StoreNow, part_among}
+use Rattle.vr_store.specs.declared.no.LookNo.{LookNo}
+use Rattle.vr_store.specs.declared.no.LookNo.TheVariants.{Fault, Memory}
 use Rattle.vr_event.specs.declared.weighing.Weighed.{Weighed}
 use Rattle.vr_event.specs.declared.weighing.Weighed.TheVariants as weighed
 use Rattle.vr_event.proofs.Weighs.{on-keyed}

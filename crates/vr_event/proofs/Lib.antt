@@ -1,24 +1,5 @@
-pub mod Among
-pub mod Keeping
-pub mod Positions
-pub mod Placing
-pub mod Fits
-pub mod PartsAt
-pub mod Worked
-pub mod Recorded
-pub mod Rooms
-pub mod Kept
-pub mod Setting
 pub mod Like
 pub mod Entering
-pub mod Listed
-pub mod Ends
-pub mod Noting
-pub mod Steps
-pub mod Readying
-pub mod Storing
-pub mod Backs
-pub mod Lasting
 pub mod Readings
 pub mod Early
 pub mod Ended
@@ -36,7 +17,6 @@ pub mod Asking
 pub mod Recovers
 pub mod Stepped
 pub mod Serves
-pub mod LaidParts
 pub mod Weighs
 pub mod Lacks
 pub mod Replied
@@ -51,4 +31,3 @@ pub mod ActedLater
 pub mod Opened
 pub mod Acted
 pub mod CallerLemmas
-pub mod Idle

@@ -6,7 +6,7 @@ use Rattle.vr_types.specs.Seen.{Seen}
 use Rattle.vr_history.specs.State.{BeforeImage, Logged, State}
 use Rattle.vr_volume.specs.Committed.{HasLogged, IsKeptIn, IsLaidState}
 use Rattle.vr_event.specs.Alike.{AreAlike}
-use Rattle.vr_event.specs.Store.{IsRestedPart, IsStored, StoreNow}
+use Rattle.vr_store.specs.Store.{IsRestedPart, IsStored, StoreNow}
 
 -- the state with other locks, positions, areas and stop
 abbrev other : State → State → State

@@ -61,11 +61,11 @@ use Rattle.vr_space.specs.Part.{record_read}
 use Rattle.vr_space.proofs.CallerLemmas.{item-read}
 use Rattle.vr_types.specs.Faults.{Faults}
 use Rattle.vr_event.specs.Cause.{HasReplyCause, IsEnteredFor}
-use Rattle.vr_event.specs.Changing.{IsMadeOf, has_logged, need_with}
+use Rattle.vr_store.specs.Change.{IsMadeOf, has_logged, need_with}
 use Rattle.vr_event.specs.Putting.{IsChange, IsReadyAt, IsReadyFor, IsToMake, need_at}
-use Rattle.vr_event.specs.Store.{IsStored, PartNow, StoreNow, part_among}
+use Rattle.vr_store.specs.Store.{IsStored, PartNow, StoreNow, part_among}
 use Rattle.vr_event.specs.Volume.{IsHeld, IsWhole, VolumeNow}
-use Rattle.vr_event.proofs.Recorded.{number-at, record-read, rested-at}
+use Rattle.vr_store.proofs.CallerLemmas.{number-at, record-read, rested-at}
 use Rattle.vr_event.proofs.Weighs.{asks-change}
 
 none-some : {X : Type 0} {x : X} → None ≡ Some x → ⊥

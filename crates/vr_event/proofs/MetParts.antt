@@ -14,12 +14,12 @@ use Rattle.vr_space.proofs.CallerLemmas.{ready-can, room-no-stage}
 use Rattle.vr_history.specs.Case.{new_record}
 use Rattle.vr_undo.specs.Records.{images_in}
 use Rattle.vr_volume.specs.PutBack.{lengths_kept}
-use Rattle.vr_event.specs.Parts.{OnlyMet}
+use Rattle.vr_store.specs.Parts.{OnlyMet}
 use Rattle.vr_event.specs.Putting.{FitsItem, FitsLength, HasMetAt, HasPlace, HasRoomAt}
 use Rattle.vr_event.specs.Putting.{IsFitting, IsReadyIn}
-use Rattle.vr_event.specs.Room.{IsRoomAt}
-use Rattle.vr_event.specs.Store.{PartNow, StoreNow, part_among, shape_among}
-use Rattle.vr_event.proofs.Placing.{shapes-same, split-met}
+use Rattle.vr_store.specs.Room.{IsRoomAt}
+use Rattle.vr_store.specs.Store.{PartNow, StoreNow, part_among, shape_among}
+use Rattle.vr_store.proofs.CallerLemmas.{shapes-same, split-met}
 
 pub none-shape : (o : Option PartNow) → option_map (λ (part : PartNow). part.shape) o ≡ None
     → o ≡ None

@@ -19,7 +19,7 @@ use Rattle.vr_volume.specs.Committed.{HasLogged, IsCurrent, IsKeptIn, IsPast, lo
 use Rattle.vr_volume.specs.PutBack.{AreAlone, images_of, oldest}
 use Rattle.vr_volume.specs.Rests.{IsPartAtRest, IsVolumeAtRest}
 use Rattle.vr_event.specs.Opening.{IsOpened, IsPartOpened, opened_store, owned_from, owned_in}
-use Rattle.vr_event.specs.Store.{IsRestedPart, IsStored, PartNow}
+use Rattle.vr_store.specs.Store.{IsRestedPart, IsStored, PartNow}
 
 -- ---- areas
 

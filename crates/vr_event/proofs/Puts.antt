@@ -18,14 +18,13 @@ use Rattle.vr_undo.specs.declared.record.KeptRecord.{KeptRecord}
 use Rattle.vr_undo.proofs.CallerLemmas.{kept-append, kept_more}
 use Rattle.vr_volume.specs.PutBack.{length_of, lengths_kept}
 use Rattle.vr_volume.specs.Rests.{IsPartAtRest}
-use Rattle.vr_event.specs.Changing.{IsKeptFor, IsPrepared, IsReadyBy, IsSettable, has_logged}
-use Rattle.vr_event.specs.Changing.{need_with, with_kept}
+use Rattle.vr_store.specs.Change.{IsKeptFor, IsPrepared, IsReadyBy, IsSettable, has_logged}
+use Rattle.vr_store.specs.Change.{need_with, with_kept}
 use Rattle.vr_event.specs.Putting.{HasRoomAt, IsFitting, IsToMake, need_at}
-use Rattle.vr_event.specs.Store.{ChangedBy, IsSet, IsStored, PartNow, StoreNow, blocks_of}
-use Rattle.vr_event.specs.Store.{owners_of, part_among, shape_among}
-use Rattle.vr_event.specs.declared.preparing.Prepared.{Prepared}
-use Rattle.vr_event.proofs.Kept.{stored-changed}
-use Rattle.vr_event.proofs.Readying.{numbered, rested, undo-images}
+use Rattle.vr_store.specs.Store.{ChangedBy, IsSet, IsStored, PartNow, StoreNow, blocks_of}
+use Rattle.vr_store.specs.Store.{owners_of, part_among, shape_among}
+use Rattle.vr_store.specs.declared.prepared.Prepared.{Prepared}
+use Rattle.vr_store.proofs.CallerLemmas.{numbered, rested, stored-changed, undo-images}
 
 module _ (store kept : StoreNow) (now : Seen) (unit : UnitOfRecovery) (part : PartNo)
     (place : List ℕ) (was : Option (List ℕ)) (prepared : Prepared)

@@ -15,7 +15,7 @@ use Rattle.vr_space.specs.Part.{IsRecordOf, Shape}
 use Rattle.vr_space.proofs.CallerLemmas.{record-length}
 use Rattle.vr_volume.specs.Laid.{catalog_shape, shape_by_kind, shape_from, shape_of}
 use Rattle.vr_event.specs.Putting.{AreLaidBy, FitsItem, FitsLength, FitsRecord, IsRecordBy}
-use Rattle.vr_event.specs.Store.{PartNow, shape_among}
+use Rattle.vr_store.specs.Store.{PartNow, shape_among}
 
 module _ (geometry : Geometry) (place bytes : List ℕ) where
   abbrev IsRecord : Shape → Type 0

@@ -15,10 +15,10 @@ use Rattle.vr_volume.specs.Committed.{committed_by}
 use Rattle.vr_volume.specs.Crashes.{RecoversTo}
 use Rattle.vr_volume.specs.Safe.{IsSafeImage}
 use Rattle.vr_volume.proofs.CallerLemmas.{before-recovers, rest-recovers}
-use Rattle.vr_event.specs.Changing.{IsReadyBy, log_with}
-use Rattle.vr_event.specs.Store.{IsStored, StoreNow, owners_of}
-use Rattle.vr_event.specs.declared.preparing.Prepared.{Prepared}
-use Rattle.vr_event.proofs.Keeping.{moments-keeps}
+use Rattle.vr_store.specs.Change.{IsReadyBy, log_with}
+use Rattle.vr_store.specs.Store.{IsStored, StoreNow, owners_of}
+use Rattle.vr_store.specs.declared.prepared.Prepared.{Prepared}
+use Rattle.vr_store.proofs.CallerLemmas.{moments-keeps}
 
 -- of a store that is a state's
 pub stored-recovers : (number : ℕ) (store : StoreNow) (state : State) (a b : Seen)

@@ -20,8 +20,8 @@ use Rattle.vr_volume.proofs.CallerLemmas.{backed-out-recovers, commit-recovers, 
 use Rattle.vr_record_file.specs.Now.{FileNow}
 use Rattle.vr_event.specs.Acting.{IsLeftIn}
 use Rattle.vr_event.specs.EndedFile.{HasEnded, IsEndBy}
-use Rattle.vr_event.specs.Store.{IsStored, StoreNow, owners_of}
-use Rattle.vr_event.proofs.Keeping.{moments-keeps}
+use Rattle.vr_store.specs.Store.{IsStored, StoreNow, owners_of}
+use Rattle.vr_store.proofs.CallerLemmas.{moments-keeps}
 
 module _ (number : ℕ) (store : StoreNow) (state : State) (a b : Seen)
     (stored : IsStored number store state a) where

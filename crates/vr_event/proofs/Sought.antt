@@ -9,6 +9,7 @@ use Rattle.std.specs.declared.cmp.Ordering.TheVariants.{Equal as Same, Less}
 use Rattle.std.proofs.lemmas.Slice.Eq.{bytes_eq-Decides}
 use Rattle.vr_catalog.specs.declared.definition.Definition.{Definition}
 use Rattle.vr_types.specs.Content.{place_cmp}
+use Rattle.vr_types.specs.Seen.{Seen}
 use Rattle.vr_types.specs.declared.position.Stand.{Stand}
 use Rattle.vr_types.specs.declared.request.Find.{Find}
 use Rattle.vr_types.specs.declared.request.Find.TheVariants.{Equal}
@@ -28,24 +29,15 @@ use Rattle.vr_undo.proofs.CallerLemmas.{any-stands, stands-any}
 use Rattle.vr_answer.specs.Least.{AreLeast, ComesTo, IsLeast, IsLeastWith, IsReadOf, KeptAt, Searches}
 use Rattle.vr_answer.specs.Least.{StandsAt, asks_for, first_seen, found_at, is_kept_at, lesser}
 use Rattle.vr_answer.proofs.CallerLemmas.{comes_least, comes_named, found_least}
+use Rattle.vr_store.specs.Next.{IsNextAt, NextOf}
+use Rattle.vr_store.specs.Store.{IsSet, IsStored, PartNow, StoreNow, part_among}
+use Rattle.vr_store.proofs.CallerLemmas.{none-read, record-read}
 use Rattle.vr_event.specs.Searching.{AsksFrom, HasRecord, IsFirstSeen, IsSought, MayComeBack}
 
 not-both : {A : Type 0} (b : Bool) → b ≡ false → b ≡ true → A
 not-both b is_not is = absurd cc
 
 -- ---- the least place of those that are asked for
-
-module _ (asked : List ℕ → Bool) where
-  -- at which the same is so
-  pub least-same : (Has Had : List ℕ → Type 0) → ((place : List ℕ) → Has place → Had place)
-      → ((place : List ℕ) → Had place → Has place) → (o : Option (List ℕ))
-      → IsLeastWith asked Has o → IsLeastWith asked Had o
-  least-same Has Had to from None none = λ place allowed had. none place allowed (from place had)
-  least-same Has Had to from (Some place) least = record {
-    asked_for = least.asked_for;
-    has = to place least.has;
-    lower_none = λ lower allowed less had. least.lower_none lower allowed less (from lower had);
-  }
 
 -- the same places are asked for
 pub least-asked : (asked other : List ℕ → Bool) (Has : List ℕ → Type 0)
@@ -60,7 +52,33 @@ least-asked asked other Has same (Some place) least = record {
       least.lower_none lower (same lower ∙ allowed) less has;
 }
 
--- what a search of what is kept answers is the least place
+-- what a search of a part answers is the least place with a record,
+module _ (store : StoreNow) (now : Seen) (set : IsSet store now) (volume : ℕ) (state : State)
+    (stored : IsStored volume store state now) (number : ℕ) (from : Whence) where
+  pub next-least : (found : Bool) (place : List ℕ) → IsNextAt store now.cur number from found place
+      → IsLeastWith (allows from) (HasRecord (state.contents number)) (cond found (Some place) None)
+  next-least = of (part_among store.parts number) refl
+    where
+      of : (one : Option PartNow) → part_among store.parts number ≡ one
+          → (found : Bool) (place : List ℕ) → NextOf one now.cur from found place
+          → IsLeastWith (allows from) (HasRecord (state.contents number))
+          (cond found (Some place) None)
+      of None none true place is = absurd cc
+      of None none false place is = λ other asked has.
+          has (sym (none-read store now volume state number none stored other))
+      of (Some part) some true place next = record {
+        asked_for = next.allowed;
+        has = λ none.
+            next.some (record-read store now set volume state number part some stored place ∙ none);
+        lower_none = λ lower asked less has. has
+            (sym (record-read store now set volume state number part some stored lower)
+            ∙ next.least lower asked less);
+      }
+      of (Some part) some false place none = λ other asked has. has
+          (sym (record-read store now set volume state number part some stored other)
+          ∙ none other asked)
+
+-- and what a search of what is kept answers is one, too
 pub least-kept : (from : Whence) (others : List Standing_at) (o : Option (Bor (List ℕ)))
     → MatchOption o (NoneAllowed from others)
     (λ (place : Bor (List ℕ)). IsLeastAllowed from others place.now)

@@ -22,8 +22,8 @@ use Rattle.vr_answer.specs.Scope.{HasClustersAlone}
 use Rattle.vr_answer.proofs.CallerLemmas.{definition_keyed}
 use Rattle.vr_record_file.specs.Now.{FileNow, IsStateOf, entry_next, state_now, with_event}
 use Rattle.vr_event.specs.Alike.{AreAlike}
-use Rattle.vr_event.specs.Backing.{IsBackIn}
-use Rattle.vr_event.specs.Store.{IsStored, StoreNow}
+use Rattle.vr_store.specs.LastImage.{IsBackIn}
+use Rattle.vr_store.specs.Store.{IsStored, StoreNow}
 use Rattle.vr_event.specs.Volume.{IsFileHeld, IsHeld, VolumeNow}
 use Rattle.vr_event.proofs.Entering.{held-alike}
 

@@ -35,7 +35,7 @@ use Rattle.vr_volume.specs.Committed.{IsLaidState}
 use Rattle.vr_volume.specs.Laid.{shape_in, shape_of}
 use Rattle.vr_volume.specs.Steps.{IsEndedIn}
 use Rattle.vr_event.specs.EndedFile.{IsEnded}
-use Rattle.vr_event.specs.Store.{IsStored, StoreNow}
+use Rattle.vr_store.specs.Store.{IsStored, StoreNow}
 use Rattle.vr_event.specs.Volume.{IsHeld, VolumeNow}
 use Rattle.vr_event.proofs.Entries.{held-failed}
 

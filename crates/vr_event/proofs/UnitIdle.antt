@@ -22,7 +22,7 @@ use Rattle.vr_volume.proofs.Alone.{is-own, is-there}
 use Rattle.vr_volume.specs.Committed.{IsCurrent, IsKeptIn, IsPast, logged_of}
 use Rattle.vr_volume.specs.PutBack.{AreAlone, images_of, is_image_of, oldest}
 use Rattle.vr_volume.specs.Steps.{IsEndedIn}
-use Rattle.vr_event.specs.Store.{IsRestedPart, IsStored, StoreNow}
+use Rattle.vr_store.specs.Store.{IsRestedPart, IsStored, StoreNow}
 use Rattle.vr_event.proofs.Like.{stored-alike}
 
 -- ---- a unit of which nothing is logged

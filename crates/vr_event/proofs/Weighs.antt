@@ -34,8 +34,8 @@ use Rattle.vr_answer.proofs.CallerLemmas.{lacks_memory, lacks_room, meets_read_f
 use Rattle.vr_answer.proofs.CallerLemmas.{meets_write_fault, opened_is}
 use Rattle.vr_event.specs.Getting.{refusal_of}
 use Rattle.vr_event.specs.Putting.{IsChange, IsRefusedBy, MayRefuse}
-use Rattle.vr_event.specs.declared.no.LookNo.{LookNo}
-use Rattle.vr_event.specs.declared.no.LookNo.TheVariants.{Fault, Memory}
+use Rattle.vr_store.specs.declared.no.LookNo.{LookNo}
+use Rattle.vr_store.specs.declared.no.LookNo.TheVariants.{Fault, Memory}
 
 module _ (case : Case) where
   -- by the record and by locks,

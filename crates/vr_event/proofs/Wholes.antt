@@ -24,7 +24,7 @@ use Rattle.vr_record_file.specs.Now.{failed, state_now, with_event}
 use Rattle.vr_volume.specs.Laid.{shape_in}
 use Rattle.vr_event.specs.Alike.{AreAlike}
 use Rattle.vr_event.specs.Putting.{IsChanging}
-use Rattle.vr_event.specs.Store.{IsSet, IsStored, StoreNow, shape_among}
+use Rattle.vr_store.specs.Store.{IsSet, IsStored, StoreNow, shape_among}
 use Rattle.vr_event.specs.Volume.{IsHeld, IsWhole, VolumeNow}
 use Rattle.vr_event.proofs.Entering.{alike_refused, held-alike}
 

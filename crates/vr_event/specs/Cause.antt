@@ -1,8 +1,6 @@
--- When a call that copies a record may answer what it answers, and when a read may be refused for a
--- fault of the device.
-use Rattle.std.specs.Prelude.{◌≡◌, ◌<◌, ◌≤◌, ◌⊎◌, ℕ, Bool, true, false, Result, IsErrOf, OnOk}
+-- When a read may be refused for a fault of the device.
+use Rattle.std.specs.Prelude.{◌≡◌, ◌<◌, ◌≤◌, ◌⊎◌, ℕ, Bool, true, false}
 use Rattle.vr_types.specs.Faults.{Faults}
-use Rattle.vr_types.specs.declared.fault.DeviceFault.TheVariants.{Read, Write}
 use Rattle.vr_types.specs.declared.reply.Refusal.{Refusal}
 use Rattle.vr_types.specs.declared.reply.Refusal.TheVariants.{EndOfData, Duplicate, NotFound}
 use Rattle.vr_types.specs.declared.reply.Refusal.TheVariants.{NoAddress, NoSpace, NoPosition, NoGet}
@@ -19,19 +17,6 @@ use Rattle.vr_record_file.specs.Now.{FileNow, failed}
 use Rattle.vr_event.specs.Getting.{IsEntered}
 use Rattle.vr_event.specs.declared.getting.Outcome.{Outcome}
 use Rattle.vr_event.specs.declared.getting.Outcome.TheVariants as outcomes
-use Rattle.vr_event.specs.declared.no.LookNo.{LookNo}
-use Rattle.vr_event.specs.declared.no.LookNo.TheVariants.{Fault, Memory}
-
--- Neither count falls, and neither rose where there is no fault; a fault comes only where the count
--- of it rose.
-pub record HasLookCause {T : Type 0} (before now : Faults) (result : Result T LookNo) : Type 0
-  where
-    pub reads : before.reads ≤ now.reads
-    pub writes : before.writes ≤ now.writes
-    pub ok : OnOk result (now ≡ before)
-    pub memory : IsErrOf result Memory → now ≡ before
-    pub read : IsErrOf result (Fault Read) → before.reads < now.reads
-    pub write : IsErrOf result (Fault Write) → before.writes < now.writes
 
 -- A reply is a fault of the device only where the count of that fault rose, and neither count falls.
 pub record HasReplyCause (before now : Faults) (reply : Reply) : Type 0 where

@@ -30,8 +30,8 @@ use Rattle.vr_types.specs.declared.fault.DeviceFault.TheVariants.{Read, Write}
 use Rattle.vr_types.specs.declared.reply.Refusal.{Refusal}
 use Rattle.vr_types.specs.declared.reply.Refusal.TheVariants.{Memory as NoMemory, ReadFault}
 use Rattle.vr_types.specs.declared.reply.Refusal.TheVariants.{WriteFault}
-use Rattle.vr_event.specs.declared.no.LookNo.{LookNo}
-use Rattle.vr_event.specs.declared.no.LookNo.TheVariants.{Fault, Memory}
+use Rattle.vr_store.specs.declared.no.LookNo.{LookNo}
+use Rattle.vr_store.specs.declared.no.LookNo.TheVariants.{Fault, Memory}
 use Rattle.vr_event.specs.declared.getting.Outcome.{Outcome}
 use Rattle.vr_event.specs.declared.getting.Outcome.TheVariants.{Refused, Done, Pointed}
 

@@ -18,7 +18,7 @@ use Rattle.vr_answer.specs.Here.{base_here}
 use Rattle.vr_history.specs.Case.{new_record}
 use Rattle.vr_undo.specs.Records.{images_in}
 use Rattle.vr_volume.specs.PutBack.{lengths_kept}
-use Rattle.vr_event.specs.Store.{PartNow, StoreNow, part_among}
+use Rattle.vr_store.specs.Store.{PartNow, StoreNow, part_among}
 use Rattle.vr_event.specs.declared.weighing.Weighed.{Weighed}
 use Rattle.vr_event.specs.declared.weighing.Weighed.TheVariants.{Refused, Stage, Ready}
 

@@ -1,12 +1,6 @@
-pub mod Store
-pub mod Parts
-pub mod Room
 pub mod Cause
-pub mod Changing
 pub mod Volume
 pub mod Alike
-pub mod Ends
-pub mod Backing
 pub mod Getting
 pub mod Looking
 pub mod Searching

@@ -13,7 +13,7 @@ use Rattle.vr_history.specs.State.{Owned}
 use Rattle.vr_volume.specs.CatalogRules.{IsCatalog}
 use Rattle.vr_volume.specs.Laid.{shape_by}
 use Rattle.vr_volume.specs.Safe.{IsSafe}
-use Rattle.vr_event.specs.Store.{PartNow, StoreNow, shape_among}
+use Rattle.vr_store.specs.Store.{PartNow, StoreNow, shape_among}
 
 -- the areas that parts have, the first of which has this number
 abbrev pub owned_from : ℕ → List (Option PartNo) → List Owned

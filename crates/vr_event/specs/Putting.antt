@@ -1,7 +1,7 @@
 -- What a PUT or an ERASE comes to before it is made: it is refused, a stage of a split comes first, or
 -- it is ready to be made. The rules are those of the record file.
-use Rattle.std.specs.Prelude.{◌≡◌, ◌≢◌, ◌<◌, ◌≤◌, ◌+◌, ◌==◌, ◌^◌, ℕ, Bool, true, false, List}
-use Rattle.std.specs.Prelude.{Option, Some, None, IfSome, IsTrue, length, option_map}
+use Rattle.std.specs.Prelude.{◌≡◌, ◌≢◌, ◌<◌, ◌≤◌, ◌+◌, ◌==◌, ◌^◌, ◌&&◌, ℕ, Bool, true, false, List}
+use Rattle.std.specs.Prelude.{Option, Some, None, IfSome, IsTrue, length, nat_le, option_map}
 use Rattle.vr_types.specs.Content.{Standing, item_at}
 use Rattle.vr_types.specs.Image.{Image}
 use Rattle.vr_types.specs.Seen.{Seen}
@@ -37,9 +37,9 @@ use Rattle.vr_volume.specs.PutBack.{lengths_kept}
 use Rattle.vr_answer.specs.Tried.{file_refusals, record_refusals}
 use Rattle.vr_record_file.specs.Now.{FileNow, is_undoing, state_now}
 use Rattle.vr_event.specs.Cause.{is_faulted}
-use Rattle.vr_event.specs.Changing.{NoOtherLogged, has_logged, need_with}
-use Rattle.vr_event.specs.Room.{IsDueAt}
-use Rattle.vr_event.specs.Store.{IsStored, PartNow, StoreNow, part_among, shape_among}
+use Rattle.vr_store.specs.Change.{NoOtherLogged, has_logged, need_with}
+use Rattle.vr_store.specs.Room.{IsDueAt}
+use Rattle.vr_store.specs.Store.{IsStored, PartNow, StoreNow, part_among, shape_among}
 use Rattle.vr_event.specs.Volume.{IsHeld, VolumeNow}
 use Rattle.vr_event.specs.declared.act.Act.{Act}
 use Rattle.vr_event.specs.declared.act.Act.TheVariants.{Again, Done}
@@ -84,6 +84,11 @@ pub record IsRecordBy (definition : Definition) (place bytes : List ℕ) : Type 
   pub least : definition.key_offset + definition.key_length ≤ length bytes
   pub most : length bytes ≤ definition.maximum
   pub key : key_of definition bytes ≡ place
+
+-- a length that a keyed record of a definition may have
+abbrev pub is_length_in : ℕ → Definition → Bool
+is_length_in n definition = nat_le (definition.key_offset + definition.key_length) n
+    && nat_le n definition.maximum
 
 -- the parts are those of a catalog
 abbrev pub AreLaidBy : Geometry → List CatEntry → List PartNow → Type 0

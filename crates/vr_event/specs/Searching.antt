@@ -1,8 +1,8 @@
 -- The place that a read comes to: the one that it names, or the least of those that it asks for at
 -- which a record stands, or at which another unit of recovery may bring one back. The rules are
 -- those of the record file; how the place is searched for is this project's own.
-use Rattle.std.specs.Prelude.{◌≡◌, ◌≢◌, ◌≤◌, ℕ, Bool, true, false, List, Option, Some, None}
-use Rattle.std.specs.Prelude.{IfSome, bytes_eq, option_and_then}
+use Rattle.std.specs.Prelude.{◌≡◌, ◌≢◌, ℕ, Bool, true, false, List, Option, Some, None}
+use Rattle.std.specs.Prelude.{bytes_eq, option_and_then}
 use Rattle.std.specs.List.{list_any}
 use Rattle.std.specs.Option.{option_map_or}
 use Rattle.vr_catalog.specs.Catalog.{definition_of}
@@ -12,7 +12,6 @@ use Rattle.vr_types.specs.Content.{Content, record_at}
 use Rattle.vr_types.specs.declared.position.Stand.{Stand}
 use Rattle.vr_types.specs.declared.request.Find.{Find}
 use Rattle.vr_types.specs.declared.unit.Unit.{Unit as UnitOfRecovery}
-use Rattle.vr_space.specs.Part.{place_length}
 use Rattle.vr_space.specs.Whence.{allows}
 use Rattle.vr_space.specs.declared.whence.Whence.{Whence}
 use Rattle.vr_history.specs.Case.{Case, find_of}
@@ -22,7 +21,6 @@ use Rattle.vr_history.specs.State.{BeforeImage, State}
 use Rattle.vr_answer.specs.InHand.{IsCaseOf, whole}
 use Rattle.vr_answer.specs.Least.{ComesTo, IsLeastWith, Searches, asks_for, first_seen, found_at}
 use Rattle.vr_answer.specs.declared.case.Case.{Case as CaseInHand}
-use Rattle.vr_event.specs.Store.{PartNow, shape_among}
 
 -- which places a search looks at that begins there; without a beginning it looks at none
 abbrev pub looks_at : Option Whence → List ℕ → Bool
@@ -71,7 +69,3 @@ InEachFound case at present fact = (state : State) → IsCaseOf case state
 abbrev pub place_room : List CatEntry → ℕ → ℕ
 place_room entries part =
     option_map_or (λ (definition : Definition). definition.key_length) (definition_of entries part) 0
-
--- a place of the part has no more bytes
-abbrev pub HoldsPlaces : List PartNow → ℕ → ℕ → Type 0
-HoldsPlaces parts part room = IfSome (shape_among parts part) (λ shape. place_length shape ≤ room)

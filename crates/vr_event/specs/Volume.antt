@@ -9,7 +9,7 @@ use Rattle.vr_history.specs.Step.{case_of}
 use Rattle.vr_types.specs.declared.request.Request.TheVariants.{Commit}
 use Rattle.vr_record_file.specs.Now.{FileNow, IsStateOf, state_now}
 use Rattle.vr_volume.specs.Laid.{shape_in}
-use Rattle.vr_event.specs.Store.{IsSet, IsStored, StoreNow, shape_among}
+use Rattle.vr_store.specs.Store.{IsSet, IsStored, StoreNow, shape_among}
 
 -- what a volume is seen as
 pub record VolumeNow (B : Type 0) : Type 0 where

@@ -1,7 +1,5 @@
 //! The refusals that need no record.
 ghost use Rattle.std.specs.Prelude.{◌≡◌, ◌≢◌, ◌==◌, IsTrue, None, false, option_and_then};
-ghost use Rattle.vr_types.specs.Space.{free_count};
-ghost use Rattle.vr_log.specs.Live.{used_by};
 ghost use Rattle.vr_answer.specs.Scope.{IsDirect};
 ghost use Rattle.vr_answer.specs.Tried.{IsCalm, file_refusals};
 ghost use Rattle.vr_history.specs.Replies.{first_of};
@@ -10,30 +8,12 @@ ghost use Rattle.vr_history.specs.Step.{case_of, stand_refused};
 ghost use Rattle.vr_record_file.specs.Now.{state_now};
 ghost use Rattle.vr_event.specs.Volume.{IsHeld};
 
-use crate::store::Store;
 use crate::volume::Volume;
 use std::alloc::Global;
 use vr_answer::{Case, refused_by_file};
 use vr_locks::lock_table;
 use vr_space::Part;
 use vr_types::{Blocks, Refusal, Request, Unit};
-
-impl<P: Part> Store<P> {
-    /// How many areas no part has.
-    pub(crate) fn free_areas(&self) -> u32
-        ensures { result ≡ free_count self.now.space }
-    {
-        self.space.free()
-    }
-
-    /// The bytes of the log in use.
-    pub(crate) fn used(&self) -> u64
-        requires { self.now.log.broken ≡ false }
-        ensures { result ≡ used_by self.now.log.records }
-    {
-        self.log.used()
-    }
-}
 
 impl<B: Blocks, P: Part> Volume<B, P> {
     /// The first refusal of a request of a deck by what is in memory: `NoFile`, `Stopped`,

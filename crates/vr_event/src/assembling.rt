@@ -11,17 +11,16 @@ ghost use Rattle.vr_history.specs.State.{opening_state};
 ghost use Rattle.vr_answer.specs.Scope.{AreKeyedClusters};
 ghost use Rattle.vr_volume.specs.Laid.{shape_in};
 ghost use Rattle.vr_event.specs.Opening.{IsOpened, opened_store, owned_in};
-ghost use Rattle.vr_event.specs.Store.{IsSet, part_now, shape_among};
+ghost use Rattle.vr_store.specs.Store.{IsSet, part_now, shape_among};
 ghost use Rattle.vr_event.specs.Volume.{IsHeld, IsWhole};
 
-use crate::parts::Laid;
-use crate::store::Store;
 use crate::volume::Volume;
 use std::alloc::Global;
 use vr_catalog::Catalog;
 use vr_log::UndoLog;
 use vr_record_file::RecordFile;
 use vr_space::Part;
+use vr_store::{Laid, Store};
 use vr_types::{Blocks, Geometry, Space};
 
 impl<B: Blocks, P: Part> Volume<B, P> {

@@ -17,10 +17,10 @@ ghost use Rattle.vr_history.specs.declared.entry.What.TheVariants as whats;
 ghost use Rattle.vr_record_file.specs.Now.{IsStateOf, has_deck, number_of, state_now, with_event};
 ghost use Rattle.vr_volume.specs.Crashes.{RecoversTo};
 ghost use Rattle.vr_event.specs.Acting.{IsActed};
-ghost use Rattle.vr_event.specs.Backing.{HasNoStage, IsDueAtLast, IsMetBy, OnLast, is_length_in};
-ghost use Rattle.vr_event.specs.Backing.{last_of_unit};
+ghost use Rattle.vr_store.specs.LastImage.{HasNoStage, IsDueAtLast, IsMetBy, OnLast, last_of_unit};
 ghost use Rattle.vr_event.specs.EndedFile.{IsEnding};
-ghost use Rattle.vr_event.specs.Store.{part_among, shape_among};
+ghost use Rattle.vr_store.specs.Store.{part_among, shape_among};
+ghost use Rattle.vr_event.specs.Putting.{is_length_in};
 ghost use Rattle.vr_event.specs.Volume.{Holds, IsHeld, IsWhole};
 
 use crate::act::Act;

@@ -17,36 +17,17 @@ ghost use Rattle.vr_record_file.specs.Now.{EndsUnit, MayBeAsked, has_deck, numbe
 ghost use Rattle.vr_volume.specs.Committed.{KeepsNoneIf};
 ghost use Rattle.vr_volume.specs.Crashes.{RecoversTo};
 ghost use Rattle.vr_event.specs.Acting.{IsActed, IsLeftIn};
-ghost use Rattle.vr_event.specs.Backing.{last_of_unit};
+ghost use Rattle.vr_store.specs.LastImage.{last_of_unit};
 ghost use Rattle.vr_event.specs.EndedFile.{IsEndBy, IsEnding};
-ghost use Rattle.vr_event.specs.Store.{blocks_of};
+ghost use Rattle.vr_store.specs.Store.{blocks_of};
 ghost use Rattle.vr_event.specs.Volume.{Holds, IsHeld, IsWhole};
 ghost use Rattle.vr_event.specs.declared.act.Act.TheVariants as acts;
 
 use crate::act::Act;
-use crate::changed::is_none;
-use crate::store::Store;
 use crate::volume::Volume;
 use vr_log::EndKind;
 use vr_space::Part;
 use vr_types::{Blocks, DeviceFault, SharedRequest, Unit};
-
-impl<P: Part> Store<P> {
-    /// Whether a unit is live: its log has records of it.
-    fn is_live(&self, unit: Unit) -> bool
-        requires { self.now.log.broken ≡ false }
-        ensures { result ≡ is_in unit (live_in self.now.log.records) }
-    {
-        self.log.is_live(unit)
-    }
-
-    /// Whether none of the blocks that a unit changed is left to be forced.
-    fn is_forced(&self, unit: Unit) -> bool
-        ensures { IsTrue result → blocks_of unit self.now.changed ≡ [] }
-    {
-        is_none(&self.changed, unit)
-    }
-}
 
 impl<B: Blocks, P: Part> Volume<B, P> {
     /// Forces the last four of the blocks that a unit changed, or all where there are no more, and

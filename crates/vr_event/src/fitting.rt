@@ -1,49 +1,12 @@
-//! Places and records that fit a part by the catalog, and what the log has of them.
-ghost use Rattle.std.specs.Prelude.{◌≡◌, ◌==◌, ◌<◌, ◌^◌, IfSome, IsTrue, List, false, is_some, length};
-ghost use Rattle.std.specs.List.{list_any};
+//! Records that fit a part by the catalog, and the length for which a change asks room.
+ghost use Rattle.std.specs.Prelude.{◌≡◌, ◌<◌, ◌^◌, IfSome, IsTrue, List, length};
 ghost use Rattle.std.specs.Option.{option_copied};
 ghost use Rattle.vr_types.specs.declared.geometry.Geometry.{Geometry};
-ghost use Rattle.vr_log.specs.Live.{is_in, live_in};
-ghost use Rattle.vr_undo.specs.Records.{is_logged_in, logged_of};
 ghost use Rattle.vr_event.specs.Putting.{AreLaidBy, FitsItem, FitsLength, FitsRecord, IsRecordBy};
-ghost use Rattle.vr_event.specs.Store.{PartNow, part_among};
+ghost use Rattle.vr_store.specs.Store.{PartNow};
 
-use crate::parts::Laid;
-use crate::store::Store;
 use vr_catalog::{Catalog, Definition};
-use vr_space::Part;
-use vr_types::{PartNo, Place, Unit};
-
-/// Whether one of the parts has this number.
-fn is_laid<P>(parts: &[Laid<P>], number: PartNo) -> bool
-    ensures { result ≡ list_any (λ laid. laid.number.0 == number.0) parts.now }
-{
-    parts.iter().any(|laid| laid.number.0 == number.0)
-}
-
-impl<P: Part> Store<P> {
-    /// Whether a part of this number is laid.
-    pub(crate) fn has_part(&self, number: PartNo) -> bool
-        ensures { result ≡ is_some (part_among self.now.parts number.0) }
-    {
-        is_laid(&self.parts, number)
-    }
-
-    /// Whether the log has a before-image of a place for a unit.
-    pub(crate) fn has_logged(&self, unit: Unit, part: PartNo, place: &Place) -> bool
-        ensures { result ≡ is_logged_in unit part.0 place.now (logged_of self.now.undo) }
-    {
-        self.undo.is_logged(unit, part, place)
-    }
-
-    /// Whether a unit is live in the log.
-    pub(crate) fn has_live(&self, unit: Unit) -> bool
-        requires { self.now.log.broken ≡ false }
-        ensures { result ≡ is_in unit (live_in self.now.log.records) }
-    {
-        self.log.is_live(unit)
-    }
-}
+use vr_types::{PartNo, Place};
 
 /// The length of a record that a definition allows at a place; None of any other.
 fn length_by(definition: &Definition, place: &Place, bytes: &[u8]) -> Option<u32>

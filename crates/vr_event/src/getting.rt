@@ -32,12 +32,10 @@ ghost use Rattle.vr_event.specs.declared.act.Act.TheVariants as acts;
 ghost use Rattle.vr_event.specs.declared.getting.Outcome.TheVariants as outcomes;
 ghost use Rattle.vr_event.specs.Putting.{AreLaidBy};
 ghost use Rattle.vr_event.specs.Searching.{InEachFound, IsSought};
-ghost use Rattle.vr_event.specs.Store.{IsSet, IsStored, Stands, shape_among};
+ghost use Rattle.vr_store.specs.Store.{IsSet, IsStored, Stands, shape_among};
 ghost use Rattle.vr_event.specs.Volume.{Holds, IsHeld, IsWhole};
 
-use crate::no::LookNo;
 use crate::searching::place_sought;
-use crate::store::Store;
 use crate::volume::Volume;
 use crate::weighing::{base_of, slice_of};
 use std::alloc::Global;
@@ -45,6 +43,7 @@ use vr_answer::{Case, Looked, done, lock_names, refused_by_record};
 use vr_catalog::Catalog;
 use vr_record_file::RecordFile;
 use vr_space::Part;
+use vr_store::{LookNo, Store};
 use vr_types::{
     Blocks, Bytes, DeviceFault, LockNames, OutOfMemory, PartNo, Place, Refusal, Reply, Request,
     SharedRequest, Unit,

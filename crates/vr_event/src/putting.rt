@@ -15,19 +15,18 @@ ghost use Rattle.vr_undo.specs.Records.{before_of};
 ghost use Rattle.vr_undo.specs.declared.before.Before.{Before};
 ghost use Rattle.vr_undo.specs.declared.record.KeptRecord.{KeptRecord};
 ghost use Rattle.vr_volume.specs.Crashes.{RecoversTo};
-ghost use Rattle.vr_event.specs.Changing.{IsBefore, IsMadeOf, IsPrepared, IsReady, IsReadyBy, IsSettable};
-ghost use Rattle.vr_event.specs.Changing.{need_with, with_kept};
-ghost use Rattle.vr_event.specs.Parts.{OnlyMet};
+ghost use Rattle.vr_store.specs.Change.{IsBefore, IsMadeOf, IsPrepared, IsReady, IsReadyBy, IsSettable};
+ghost use Rattle.vr_store.specs.Change.{need_with, with_kept};
+ghost use Rattle.vr_store.specs.Parts.{OnlyMet};
 ghost use Rattle.vr_event.specs.Putting as putting;
-ghost use Rattle.vr_event.specs.Store.{IsSet, IsStored, part_among, shape_among};
+ghost use Rattle.vr_store.specs.Store.{IsSet, IsStored, part_among, shape_among};
 ghost use Rattle.vr_event.specs.declared.putting.PutNo.TheVariants as nos;
 
-use crate::preparing::Prepared;
-use crate::store::Store;
 use std::alloc::Global;
 use vr_log::LogNo;
 use vr_record_file::RecordFile;
 use vr_space::Part;
+use vr_store::{Prepared, Store};
 use vr_types::{Blocks, LockNames, OutOfMemory, PartNo, Place, Unit};
 
 /// Why a change isn't made.

@@ -21,7 +21,7 @@ ghost use Rattle.vr_event.specs.Cause.{HasReplyCause, is_faulted};
 ghost use Rattle.vr_event.specs.Getting.{IsEntered};
 ghost use Rattle.vr_event.specs.Lacking.{IfLacks, IsLacking, LacksRoomIn};
 ghost use Rattle.vr_event.specs.Putting as putting;
-ghost use Rattle.vr_event.specs.Room.{IsDueAt};
+ghost use Rattle.vr_store.specs.Room.{IsDueAt};
 ghost use Rattle.vr_event.specs.Volume.{Holds, IsHeld, IsWhole};
 ghost use Rattle.vr_event.specs.declared.act.Act.TheVariants as acts;
 

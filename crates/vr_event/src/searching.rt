@@ -1,8 +1,7 @@
 //! The place that a read comes to: the one that it names, or the first that it finds.
-ghost use Rattle.std.specs.Prelude.{◌≡◌, ◌≢◌, ◌≤◌, ℕ, IfOk, IfSome, IsTrue, None};
+ghost use Rattle.std.specs.Prelude.{◌≡◌, ℕ, IfOk, IfSome, IsTrue, None};
 ghost use Rattle.std.specs.Option.{option_copied};
 ghost use Rattle.vr_types.specs.Blocks.{Keeps};
-ghost use Rattle.vr_space.specs.Part.{IsOn, Stands as StandFor, place_length, record_read};
 ghost use Rattle.vr_space.specs.Whence.{allows};
 ghost use Rattle.vr_types.specs.declared.request.Find.TheVariants as finds;
 ghost use Rattle.vr_history.specs.Case as cases;
@@ -13,20 +12,19 @@ ghost use Rattle.vr_answer.specs.Here.{base_here, or_start};
 ghost use Rattle.vr_answer.specs.InHand.{InEach};
 ghost use Rattle.vr_answer.specs.Least as least;
 ghost use Rattle.vr_answer.specs.Tried.{file_refusals};
-ghost use Rattle.vr_event.specs.Cause.{HasLookCause};
 ghost use Rattle.vr_event.specs.Getting.{IsRead};
 ghost use Rattle.vr_event.specs.Putting.{AreLaidBy};
 ghost use Rattle.vr_event.specs.Searching as searching;
-ghost use Rattle.vr_event.specs.Store.{IsSet, IsStored, Stands};
+ghost use Rattle.vr_store.specs.Cause.{HasLookCause};
+ghost use Rattle.vr_store.specs.Next.{HoldsPlaces};
+ghost use Rattle.vr_store.specs.Store.{IsSet, IsStored, Stands};
 
-use crate::no::LookNo;
-use crate::parts::index_of;
-use crate::store::Store;
 use std::alloc::Global;
 use std::cmp::Ordering;
 use vr_answer::Case;
 use vr_catalog::Catalog;
 use vr_space::{Part, Whence};
+use vr_store::{LookNo, Store};
 use vr_types::{
     Blocks, Find, Integrity, OutOfMemory, PartNo, Place, Request, Stand, Unit, empty_place,
 };
@@ -124,108 +122,83 @@ fn lesser(
     }
 }
 
-/// The least place of a part with a record that a search may find.
-fn next_at<B: Blocks, P: Part>(
+/// The least place of a part of a store with a record that a search may find; None where there is
+/// none, or no such part. `Fault` is the device's, and `Memory` says that memory ran out for the
+/// place.
+fn next_place<B: Blocks, P: Part>(
     alloc: Global,
     blocks: &mut B,
-    part: &mut P,
+    store: &mut Store<P>,
+    number: PartNo,
     from: Whence<'_>,
     room: u32,
 ) -> Result<Option<Place>, LookNo>
-    requires on { IsOn (P.shape part.old) (B.seen blocks.old) }
-    requires room { place_length (P.shape part.old) ≤ room }
-    requires stands { IsTrue B.tells → StandFor (P.shape part.old) (B.seen blocks.old).cur }
-    ensures next { IsTrue B.tells → IfOk result (λ next. least.IsLeastWith (allows from.entry)
-        (λ place. record_read (P.shape part.old) (B.seen blocks.old).cur place ≢ None) next) }
-    ensures shape { P.shape part.new ≡ P.shape part.old }
-    ensures known { P.known part.new ≡ P.known part.old }
+    requires set { IsSet store.old (B.seen blocks.old) }
+    requires room { HoldsPlaces store.old.parts number.0 room }
+    requires stands { IsTrue B.tells → Stands store.old (B.seen blocks.old) }
+    ensures next { IsTrue B.tells → IfOk result (λ next. (volume : ℕ) (state : State)
+        → IsStored volume store.old state (B.seen blocks.old)
+        → least.IsLeastWith (allows from.entry)
+        (searching.HasRecord (state.contents number.0)) next) }
+    ensures same { store.new ≡ store.old }
     ensures keeps { Keeps B.tells (B.seen blocks.old) (B.seen blocks.new) }
     ensures cause { HasLookCause (B.faults blocks.old) (B.faults blocks.new) result }
 {
     let mut into = empty_place(alloc, room)?;
-    if part.next(blocks, from, &mut into)? {
+    if store.next(blocks, number, from, &mut into)? {
         Ok(Some(into.into_place()))
     } else {
         Ok(None)
     }
 }
 
-impl<P: Part> Store<P> {
-    /// The least place of a part with a record that a search may find; None where there is none, or
-    /// no such part. `Fault` is the device's, and `Memory` says that memory ran out for the place.
-    fn next<B: Blocks>(
-        &mut self,
-        alloc: Global,
-        blocks: &mut B,
-        number: PartNo,
-        from: Whence<'_>,
-        room: u32,
-    ) -> Result<Option<Place>, LookNo>
-        requires set { IsSet self.old (B.seen blocks.old) }
-        requires room { searching.HoldsPlaces self.old.parts number.0 room }
-        requires stands { IsTrue B.tells → Stands self.old (B.seen blocks.old) }
-        ensures next { IsTrue B.tells → IfOk result (λ next. (volume : ℕ) (state : State)
-            → IsStored volume self.old state (B.seen blocks.old)
-            → least.IsLeastWith (allows from.entry)
-            (searching.HasRecord (state.contents number.0)) next) }
-        ensures same { self.new ≡ self.old }
-        ensures keeps { Keeps B.tells (B.seen blocks.old) (B.seen blocks.new) }
-        ensures cause { HasLookCause (B.faults blocks.old) (B.faults blocks.new) result }
-    {
-        match index_of(&self.parts, number) {
-            Some(at) => next_at(alloc, blocks, &mut self.parts[at].part, from, room),
-            None => Ok(None),
-        }
+/// The first of the least place with a record and, where the read sees such places, the least at
+/// which another unit may bring one back. It fails only if memory runs out.
+fn or_kept<P: Part>(
+    alloc: Global,
+    store: &Store<P>,
+    unit: Unit,
+    number: PartNo,
+    from: Whence<'_>,
+    sees: bool,
+    standing: Option<Place>,
+) -> Result<Option<Place>, OutOfMemory>
+    ensures { IfOk result (λ at. (state : State) → befores_of store.now.undo ≡ state.befores
+        → least.IsLeastWith (allows from.entry)
+        (searching.HasRecord (state.contents number.0)) standing
+        → searching.IsFirstSeen (allows from.entry) unit number.0 sees state at) }
+{
+    if sees {
+        lesser(alloc, standing, store.next_other(unit, number, from))
+    } else {
+        Ok(standing)
     }
+}
 
-    /// The first of the least place with a record and, where the read sees such places, the least at
-    /// which another unit may bring one back. It fails only if memory runs out.
-    fn or_kept(
-        &self,
-        alloc: Global,
-        unit: Unit,
-        number: PartNo,
-        from: Whence<'_>,
-        sees: bool,
-        standing: Option<Place>,
-    ) -> Result<Option<Place>, OutOfMemory>
-        ensures { IfOk result (λ at. (state : State) → befores_of self.now.undo ≡ state.befores
-            → least.IsLeastWith (allows from.entry)
-            (searching.HasRecord (state.contents number.0)) standing
-            → searching.IsFirstSeen (allows from.entry) unit number.0 sees state at) }
-    {
-        if sees {
-            lesser(alloc, standing, self.undo.next_other(unit, number, from))
-        } else {
-            Ok(standing)
-        }
-    }
-
-    /// The least place of a part that a read may find: one with a record, or where the read sees
-    /// such places, one at which another unit may bring a record back.
-    fn first_seen<B: Blocks>(
-        &mut self,
-        alloc: Global,
-        blocks: &mut B,
-        unit: Unit,
-        number: PartNo,
-        from: Whence<'_>,
-        room: u32,
-        sees: bool,
-    ) -> Result<Option<Place>, LookNo>
-        requires set { IsSet self.old (B.seen blocks.old) }
-        requires room { searching.HoldsPlaces self.old.parts number.0 room }
-        requires stands { IsTrue B.tells → Stands self.old (B.seen blocks.old) }
-        ensures first { IsTrue B.tells → IfOk result (λ at. (volume : ℕ) (state : State)
-            → IsStored volume self.old state (B.seen blocks.old)
-            → searching.IsFirstSeen (allows from.entry) unit number.0 sees state at) }
-        ensures same { self.new ≡ self.old }
-        ensures keeps { Keeps B.tells (B.seen blocks.old) (B.seen blocks.new) }
-        ensures cause { HasLookCause (B.faults blocks.old) (B.faults blocks.new) result }
-    {
-        let standing = self.next(alloc, blocks, number, from, room)?;
-        Ok(self.or_kept(alloc, unit, number, from, sees, standing)?)
-    }
+/// The least place of a part of a store that a read may find: one with a record, or where the read
+/// sees such places, one at which another unit may bring a record back.
+fn first_seen<B: Blocks, P: Part>(
+    alloc: Global,
+    blocks: &mut B,
+    store: &mut Store<P>,
+    unit: Unit,
+    number: PartNo,
+    from: Whence<'_>,
+    room: u32,
+    sees: bool,
+) -> Result<Option<Place>, LookNo>
+    requires set { IsSet store.old (B.seen blocks.old) }
+    requires room { HoldsPlaces store.old.parts number.0 room }
+    requires stands { IsTrue B.tells → Stands store.old (B.seen blocks.old) }
+    ensures first { IsTrue B.tells → IfOk result (λ at. (volume : ℕ) (state : State)
+        → IsStored volume store.old state (B.seen blocks.old)
+        → searching.IsFirstSeen (allows from.entry) unit number.0 sees state at) }
+    ensures same { store.new ≡ store.old }
+    ensures keeps { Keeps B.tells (B.seen blocks.old) (B.seen blocks.new) }
+    ensures cause { HasLookCause (B.faults blocks.old) (B.faults blocks.new) result }
+{
+    let standing = next_place(alloc, blocks, store, number, from, room)?;
+    Ok(or_kept(alloc, store, unit, number, from, sees, standing)?)
 }
 
 /// Searches for the place of a read that names none. Nothing is put.
@@ -255,7 +228,7 @@ fn searched<B: Blocks, P: Part>(
         Some(from) => {
             let room = place_room(catalog, part);
             let sees = sees_kept(case.request);
-            store.first_seen(alloc, blocks, case.unit, part, from, room, sees)
+            first_seen(alloc, blocks, store, case.unit, part, from, room, sees)
         }
     }
 }

@@ -6,21 +6,11 @@ ghost use Rattle.vr_history.specs.State.{State};
 ghost use Rattle.vr_record_file.specs.Now.{has_deck, number_of, state_now};
 ghost use Rattle.vr_event.specs.Volume.{IsHeld, IsWhole};
 
-use crate::store::Store;
 use crate::volume::Volume;
 use vr_catalog::Catalog;
 use vr_history::{Entry, History};
 use vr_space::Part;
 use vr_types::{Blocks, OutOfMemory};
-
-impl<P: Part> Store<P> {
-    /// The generation of the log.
-    fn generation(&self) -> u64
-        ensures { result ≡ self.now.log.generation }
-    {
-        self.log.generation()
-    }
-}
 
 impl<B: Blocks, P: Part> Volume<B, P> {
     /// The entries of the history, in order.

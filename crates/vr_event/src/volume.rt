@@ -1,10 +1,10 @@
 //! A volume: its blocks, what it has in memory beside them, and its record file.
 ghost use Rattle.std.specs.Prelude.{◌≡◌, ℕ, IsTrue, None, OnOk};
 
-use crate::store::Store;
 use std::marker::Model;
 use vr_record_file::RecordFile;
 use vr_space::Part;
+use vr_store::Store;
 use vr_types::Blocks;
 
 /// What one latch guards: the blocks of a volume, what stands behind them in memory, and the record

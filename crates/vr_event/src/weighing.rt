@@ -21,17 +21,15 @@ ghost use Rattle.vr_volume.specs.Laid.{shape_in};
 ghost use Rattle.vr_event.specs.Cause.{HasReplyCause, is_fault as faults, is_faulted};
 ghost use Rattle.vr_event.specs.Lacking as lacking;
 ghost use Rattle.vr_event.specs.Looking.{InEachLogged, InEachWith};
-ghost use Rattle.vr_event.specs.Parts.{OnlyMet};
+ghost use Rattle.vr_store.specs.Parts.{OnlyMet};
 ghost use Rattle.vr_event.specs.Putting as putting;
-ghost use Rattle.vr_event.specs.Room.{IsRoomAt};
+ghost use Rattle.vr_store.specs.Room.{IsRoomAt};
 ghost use Rattle.vr_types.specs.Image.{Image};
-ghost use Rattle.vr_event.specs.Store.{IsSet, IsStored, PartNow, Stands, StoreNow, part_among};
+ghost use Rattle.vr_store.specs.Store.{IsSet, IsStored, PartNow, Stands, StoreNow, part_among};
 ghost use Rattle.vr_space.specs.declared.room.Room.TheVariants as rooms;
 
 use crate::fitting::{fits_item, length_asked};
 use crate::getting::{fits, is_fault, refusal_of};
-use crate::no::LookNo;
-use crate::store::Store;
 use std::alloc::Global;
 use vr_answer::{
     Case, Looked, done, file_of, lock_names, log_full, place_changed, refused_by_record,
@@ -39,6 +37,7 @@ use vr_answer::{
 use vr_catalog::Catalog;
 use vr_record_file::RecordFile;
 use vr_space::{Part, Room};
+use vr_store::{LookNo, Store};
 use vr_types::{
     Blocks, Bytes, LockNames, OutOfMemory, PartNo, Place, Refusal, Reply, Request, Unit, place,
 };
@@ -343,7 +342,7 @@ fn weigh_record<B: Blocks, P: Part>(
         (putting.reply_to result) }
 {
     let logged = store.has_logged(case.unit, part, &place);
-    let live = store.has_live(case.unit);
+    let live = store.is_live(case.unit);
     match refused_in_memory(alloc, case, slice_of(&old), logged, live) {
         Err(_) => Weighed::Refused(Refusal::Memory),
         Ok(Some(refusal)) => Weighed::Refused(unless_fault(refusal)),

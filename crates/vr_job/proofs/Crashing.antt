@@ -12,7 +12,7 @@ use Rattle.vr_history.specs.declared.entry.Entry.{Entry}
 use Rattle.vr_volume.specs.Crashes.{RecoversTo}
 use Rattle.vr_record_file.specs.Now.{state_now}
 use Rattle.vr_event.specs.Volume.{IsHeld, IsWhole, VolumeNow}
-use Rattle.vr_event.proofs.CallerLemmas.{stored-left}
+use Rattle.vr_store.proofs.CallerLemmas.{stored-left}
 use Rattle.vr_job.specs.Crash.{AreInCommit, IsLeftBy}
 use Rattle.vr_job.specs.Events.{LeavesAtRest}
 

@@ -8,7 +8,7 @@ use Rattle.std.proofs.lemmas.Option.{slice_get-get_or, slice_get_cases}
 use Rattle.std.proofs.lemmas.Option.{slice_get_past, slice_get_read}
 use Rattle.vr_types.specs.Geometry.{IsAllowed}
 use Rattle.vr_types.specs.Seen.{Seen}
-use Rattle.vr_recover.specs.Formatted.{geometry_of}
+use Rattle.vr_format.specs.Formatted.{geometry_of}
 use Rattle.vr_job.specs.Formats.{AreFormattedTo, IsFresh}
 
 -- an element that was set, and another one

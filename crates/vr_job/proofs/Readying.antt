@@ -28,7 +28,7 @@ use Rattle.vr_attach.specs.Laid.{shape_by, shape_from, shape_in, shape_of}
 use Rattle.vr_attach.specs.Owning.{owner_of}
 use Rattle.vr_event.specs.Opening.{IsOpened as IsOpenedBy, IsPartOpened, opened_store, owned_from}
 use Rattle.vr_event.specs.Opening.{owned_in}
-use Rattle.vr_event.specs.Store.{ChangedBy, IsFitImage, IsPartSet, IsSet, PartNow, shape_among}
+use Rattle.vr_store.specs.Store.{ChangedBy, IsFitImage, IsPartSet, IsSet, PartNow, shape_among}
 use Rattle.vr_recover.specs.Opening.{IsHandedOut, IsOpenedBy as IsOpenedWith, shape_owned, shapes_laid}
 use Rattle.vr_recover.specs.Undone.{IsReady as IsReadyPart, alike}
 use Rattle.vr_recover.proofs.CallerLemmas.{laid-cases, shape-number}
@@ -50,7 +50,7 @@ use Rattle.vr_record_file.specs.Now.{state_now}
 use Rattle.vr_volume.specs.Crashes.{RecoversTo}
 use Rattle.vr_volume.specs.Safe.{IsSafe}
 use Rattle.vr_event.specs.Volume.{IsHeld, IsWhole, VolumeNow}
-use Rattle.vr_event.proofs.CallerLemmas.{idle-guards}
+use Rattle.vr_store.proofs.CallerLemmas.{idle-guards}
 use Rattle.vr_job.specs.Going.{HasRun}
 use Rattle.vr_job.specs.Crash.{IsLeftBy}
 use Rattle.vr_job.specs.Opened.{IsReady, IsReadyFrom, opened_now}

@@ -24,7 +24,7 @@ use Rattle.vr_record_file.specs.Now.{state_now}
 use Rattle.vr_event.specs.Opening.{owned_in}
 use Rattle.vr_event.specs.Volume.{IsWhole, VolumeNow}
 use Rattle.vr_mount.specs.Areas.{AreOwners}
-use Rattle.vr_event.proofs.CallerLemmas.{stored-left}
+use Rattle.vr_store.proofs.CallerLemmas.{stored-left}
 use Rattle.vr_recover.specs.Opening.{IsVolume}
 use Rattle.vr_volume.specs.Crashes.{RecoversTo}
 use Rattle.vr_volume.specs.Volume.{Recovers}

@@ -7,9 +7,10 @@ use Rattle.vr_types.specs.Geometry.{IsAllowed}
 use Rattle.vr_types.specs.Image.{Image}
 use Rattle.vr_types.specs.Regions.{Touches}
 use Rattle.vr_types.specs.Seen.{Left, Seen}
-use Rattle.vr_recover.specs.Formatted.{Anything, IsFormatted, IsWritten, first_entries, geometry_of}
-use Rattle.vr_recover.specs.declared.no.FormatNo.{FormatNo}
-use Rattle.vr_recover.specs.declared.no.FormatNo.TheVariants as nos
+use Rattle.vr_mount.specs.Touched.{Anything}
+use Rattle.vr_format.specs.Formatted.{IsFormatted, IsWritten, first_entries, geometry_of}
+use Rattle.vr_format.specs.declared.no.FormatNo.{FormatNo}
+use Rattle.vr_format.specs.declared.no.FormatNo.TheVariants as nos
 use Rattle.vr_trace.specs.declared.ending.EndLine.{EndLine}
 use Rattle.vr_trace.specs.declared.ending.EndLine.TheVariants.{DeviceFault, Geometry, NoMemory, Shelf}
 

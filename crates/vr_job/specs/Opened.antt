@@ -17,10 +17,10 @@ use Rattle.vr_log.specs.LogNow.{LogNow}
 use Rattle.vr_mount.specs.Areas.{AreOwners}
 use Rattle.vr_space.specs.Part.{part_no}
 use Rattle.vr_event.specs.Opening.{IsOpened, opened_store, owned_in}
-use Rattle.vr_event.specs.Store.{IsSet, PartNow, shape_among}
+use Rattle.vr_store.specs.Store.{IsSet, PartNow, shape_among}
 use Rattle.vr_volume.specs.Laid.{shape_in}
 use Rattle.vr_event.specs.Volume.{VolumeNow}
-use Rattle.vr_event.specs.declared.parts.Laid.{Laid}
+use Rattle.vr_store.specs.declared.parts.Laid.{Laid}
 use Rattle.vr_recover.specs.Opening.{IsVolume, shape_owned}
 use Rattle.vr_job.specs.Going.{HasRun}
 

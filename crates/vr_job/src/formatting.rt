@@ -2,14 +2,14 @@
 ghost use Rattle.std.specs.Prelude.{◌≡◌, ◌≤◌, ◌^◌, ◌-◌, min, length, IfErr, IfNone, IfSome, OnOk};
 ghost use Rattle.std.specs.Prelude.{IsTrue, false};
 ghost use Rattle.vr_types.specs.Geometry.{IsAllowed};
-ghost use Rattle.vr_recover.specs.Formatted.{geometry_of};
+ghost use Rattle.vr_format.specs.Formatted.{geometry_of};
 ghost use Rattle.vr_job.specs.Formats as formats;
 ghost use Rattle.vr_job.specs.Formats.{AreAllowed, AreFormatted, IsDeviceNo, IsForbidden, IsFormatEnd};
 ghost use Rattle.vr_job.specs.Formats.{IsFormatNo, IsFresh};
 
 use std::alloc::Global;
 use vr_device::BlockDevice;
-use vr_recover::{FormatNo, format_volume};
+use vr_format::{FormatNo, format_volume};
 use vr_trace::EndLine;
 use vr_types::Geometry;
 

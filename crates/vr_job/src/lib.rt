@@ -1,7 +1,7 @@
 //! The top call. It formats the devices of a shelf; or it opens their volumes, runs the steps of a job on
 //! them, the decks of a step each on a thread of its own, closes them, and hands the devices and the
-//! histories back; and it prints what came of that. It stands on the volume (vr_event), on opening and
-//! formatting one (vr_recover), on the steps of a job over volumes that serve their decks (vr_worker),
+//! histories back; and it prints what came of that. It stands on the volume (vr_event), on opening
+//! (vr_recover) and formatting (vr_format) one, on the steps of a job over volumes that serve their decks (vr_worker),
 //! on job texts (vr_job_text) and on how jobs end (vr_job_ends). It promises, at every
 //! schedule, that each deck's part of the merged history of the volumes is what it requests, each request
 //! once and in order, or the first of it where stamps or memory run out; that each volume's history is

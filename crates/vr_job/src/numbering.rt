@@ -4,10 +4,10 @@ ghost use Rattle.vr_job.specs.Opened.{laid_now, opened_now};
 
 use std::alloc::Global;
 use vr_catalog::Catalog;
-use vr_event::Laid;
 use vr_keyed::Keyed;
 use vr_log::UndoLog;
 use vr_recover::Opened;
+use vr_store::Laid;
 use vr_trace::EndLine;
 use vr_types::{Geometry, OutOfMemory, Space};
 

@@ -2,6 +2,8 @@
 use Rattle.std.proofs.Common.{◌≡◌, ℕ, ◌+◌, ◌-◌, ◌*◌, ◌/◌, ◌<◌, ◌≤◌, arith, inl, inr}
 use Rattle.std.proofs.lemmas.Bool.{cases_lt}
 use Rattle.std.proofs.Math.Nat.{mul-le-mul_right, lt-mul-div-succ, div-mul-le_self}
+use Rattle.vr_types.specs.Geometry.{IsAllowed, area_count, head_block}
+use Rattle.vr_types.specs.declared.geometry.Geometry.{Geometry}
 
 -- areas of the same length follow one another
 below_next : (long first second : ℕ) → first < second
@@ -43,3 +45,23 @@ area_there blocks log long area ends =
         mul-le-mul_right {m = (blocks - 1 - log) / (long + 1)} {n = area} (long + 1) past,
       ))
     ]
+
+-- ---- of a volume of this shape
+
+-- an area ends before the next one begins
+pub area-before : (geometry : Geometry) (one other : ℕ) → one < other
+    → head_block geometry one + geometry.area < head_block geometry other
+area-before geometry one other less = omega (arith, below_next geometry.area one other less)
+
+-- an area is on the device
+pub area-on : (geometry : Geometry) (area : ℕ) → area < area_count geometry
+    → head_block geometry area + geometry.area < geometry.blocks
+area-on geometry area below =
+    omega (arith, area_ends geometry.blocks geometry.log geometry.area area below)
+
+-- there are two areas at least
+pub two-areas : (geometry : Geometry) → IsAllowed geometry → 2 ≤ area_count geometry
+two-areas geometry allowed =
+    let there : 1 < area_count geometry =
+    area_there geometry.blocks geometry.log geometry.area 1 (omega (arith, allowed.two_areas)) in
+    omega (arith, there)

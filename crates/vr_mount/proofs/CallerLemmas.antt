@@ -1,4 +1,8 @@
--- What the crates above cite of the parts of a catalog.
+-- What the crates above cite: the areas of a volume, the parts of a catalog and who owns their blocks,
+-- and calls of which only the blocks are said.
+pub use Rattle.vr_mount.proofs.Blocks.{area-before, area-on, two-areas}
+pub use Rattle.vr_mount.proofs.PartContents.{none-ascend, part-fits, stands-same}
+pub use Rattle.vr_mount.proofs.Touched.{image-same, touches-none}
 use Rattle.std.proofs.Common.{◌≡◌, ◌∙◌, ℕ, ◌+◌, ◌≤◌, List, Option, Some, sym, ap, arith}
 use Rattle.vr_types.specs.Geometry.{head_block}
 use Rattle.vr_types.specs.Image.{Image}
@@ -7,10 +11,12 @@ use Rattle.vr_types.specs.declared.geometry.Geometry.{Geometry}
 use Rattle.vr_types.specs.declared.unit.PartNo.{PartNo}
 use Rattle.vr_catalog.specs.declared.entry.CatEntry.{CatEntry}
 use Rattle.vr_log.specs.LogNow.{IsOf}
+use Rattle.vr_space.specs.Owners.{Owners}
 use Rattle.vr_space.specs.Part.{InFirstArea, IsOn, KeyedShape, Shape, StaysIn}
-use Rattle.vr_attach.specs.Laid.{shape_in}
-use Rattle.vr_attach.specs.Owning.{owner_of}
-use Rattle.vr_attach.proofs.CallerLemmas.{area-owned, first-stays, laid-as}
+use Rattle.vr_attach.specs.Laid.{AreApart, shape_in}
+use Rattle.vr_attach.specs.Owning.{IsPastLog, owner_of}
+use Rattle.vr_attach.proofs.CallerLemmas.{apart-owned, area-owned, first-stays, laid-as}
+use Rattle.vr_attach.proofs.CallerLemmas.{owner-past-log}
 use Rattle.vr_mount.specs.Areas.{AreOn, AreOwners, EndsBefore}
 use Rattle.vr_mount.proofs.Laying.{IsAt, shape_at}
 use Rattle.vr_mount.proofs.Owning.{laid_in}
@@ -48,3 +54,24 @@ owners_stay geometry entries areas own part shape laid image =
     area-owned geometry areas at.0 whose
     (own.owned whose at.0 (laid_in geometry entries part at.0 at.1)) n here.0 here.1
     ∙ ap Some (sym (laid-as geometry entries part shape laid).number))
+
+-- Owners who give each part that the entries lay its blocks, past the log.
+pub record OwnParts (geometry : Geometry) (entries : List CatEntry) (owners : Owners) : Type 0 where
+  pub past : IsPastLog geometry owners
+  pub within : (part : ℕ) (shape : Shape) → shape_in geometry entries part ≡ Some shape
+      → (image : Image) → StaysIn shape owners image
+
+-- those of the areas
+pub areas-own : (geometry : Geometry) (entries : List CatEntry) (areas : List (Option PartNo))
+    → AreOwners geometry entries areas → OwnParts geometry entries (owner_of geometry areas)
+areas-own geometry entries areas own = record {
+  past = owner-past-log geometry areas;
+  within = owners_stay geometry entries areas own;
+}
+
+-- some, where no block is in two parts
+pub some-own : (geometry : Geometry) (entries : List CatEntry)
+    → AreApart (shape_in geometry entries) → (owners : Owners) × OwnParts geometry entries owners
+some-own geometry entries apart =
+    let owned = apart-owned geometry entries apart in
+    (owned.0, record { past = owned.1; within = owned.2 })

@@ -9,3 +9,5 @@ pub mod Marking
 pub mod Owning
 pub mod Keys
 pub mod Reading
+pub mod PartContents
+pub mod Touched

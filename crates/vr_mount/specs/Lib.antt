@@ -5,3 +5,4 @@ pub mod Records
 pub mod Marks
 pub mod Areas
 pub mod Listing
+pub mod Touched

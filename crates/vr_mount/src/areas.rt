@@ -2,18 +2,29 @@
 ghost use Rattle.std.specs.Prelude.{◌≡◌, ◌↔◌, ◌<◌, ◌∷◌, IsTrue, IfOk, All, Some, length, nat_eq};
 ghost use Rattle.std.specs.Prelude.{set};
 ghost use Rattle.std.specs.List.{IsDistinct, fold};
+ghost use Rattle.vr_types.specs.Geometry.{IsAllowed};
 ghost use Rattle.vr_types.specs.declared.geometry.Geometry.{Geometry as VolumeShape};
 ghost use Rattle.vr_catalog.specs.Catalog.{parts_in};
-ghost use Rattle.vr_attach.specs.Laid.{shape_in};
-ghost use Rattle.vr_attach.specs.Laid.{AreApart};
+ghost use Rattle.vr_catalog.specs.Definition.{catalog_definition as definition_of_catalog};
+ghost use Rattle.vr_attach.specs.Laid.{AreApart, keyed_part, shape_in};
 ghost use Rattle.vr_mount.specs.Areas.{AreOn, AreOwners, IsBelow, catalog_part, part_of};
 ghost use Rattle.vr_mount.specs.Marks.{marked};
 ghost use Rattle.vr_mount.specs.Numbers.{laid_area as area_of};
 
 use crate::distinct::{Which, are_told_apart, laid_area};
 use std::alloc::Global;
-use vr_catalog::{CatEntry, Catalog};
+use vr_attach::layout_of;
+use vr_catalog::{CatEntry, Catalog, catalog_definition};
+use vr_space::Layout;
 use vr_types::{AreaNo, Geometry, OutOfMemory, PartNo, Space, space};
+
+/// Where the catalog's own part is: in area 0.
+pub fn catalog_layout(geometry: &Geometry) -> Layout
+    requires { IsAllowed geometry.now }
+    ensures { result ≡ keyed_part geometry.now 0 0 definition_of_catalog }
+{
+    layout_of(*geometry, PartNo(0), 0, &catalog_definition())
+}
 
 /// Whether no block is in the first areas of two of the parts that a catalog lays: no two of its
 /// clusters have the same first area, and none has area 0, which is the catalog's own.

@@ -25,7 +25,7 @@ fn digit(number: u32) -> u8
 }
 
 /// The bytes of the header of a volume of this number, without the zeros after them.
-fn header_bytes(geometry: &Geometry, number: u32) -> [u8; 30]
+pub fn header_bytes(geometry: &Geometry, number: u32) -> [u8; 30]
     ensures { result ≡ bytes_of geometry.now number }
 {
     let s = geometry.size.to_be_bytes();

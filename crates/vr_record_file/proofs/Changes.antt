@@ -18,9 +18,10 @@ use Rattle.vr_types.specs.declared.request.Request.TheVariants.{Get, Point, Add,
 use Rattle.vr_types.specs.declared.request.Request.TheVariants.{EndReq, Commit, Backout}
 use Rattle.vr_types.specs.declared.unit.Mode.{Mode}
 use Rattle.vr_types.specs.declared.unit.Mode.TheVariants.{Exclusive}
+use Rattle.vr_types.specs.declared.unit.AreaNo.{AreaNo}
 use Rattle.vr_types.specs.declared.unit.PartNo.{PartNo}
 use Rattle.vr_types.specs.declared.unit.Unit.{Unit as UnitOfRecovery}
-use Rattle.vr_history.specs.declared.entry.What.TheVariants.{Asked, Undone, Split}
+use Rattle.vr_history.specs.declared.entry.What.TheVariants.{Asked, Claimed, Undone, Split}
 use Rattle.vr_history.specs.Case.{Case, file_of}
 use Rattle.vr_history.specs.Change.{Change, place_changed}
 use Rattle.vr_history.specs.Effects.{changes, has_part, image_kept, keeps_other, last_of}
@@ -29,9 +30,9 @@ use Rattle.vr_history.specs.Effects.{placed_in, without_last, takes_out, with_ch
 use Rattle.vr_history.specs.Names.{change_names, lock_names, record_name, with_lock, with_locks}
 use Rattle.vr_history.specs.Opened.{base_of, catalog_of}
 use Rattle.vr_history.specs.State.{BeforeImage, Logged, Owned, State}
-use Rattle.vr_history.specs.Step.{IsLastKept, after_asked, case_of, change_back}
+use Rattle.vr_history.specs.Step.{IsLastKept, IsLeastFree, after_asked, case_of, change_back}
 use Rattle.vr_answer.specs.After.{IsChanged, change_at}
-use Rattle.vr_answer.specs.Scope.{AreKeyedClusters}
+use Rattle.vr_answer.specs.Scope.{AreClusters}
 use Rattle.vr_answer.proofs.CallerLemmas.{after_change, kept_with, names_at, taken}
 use Rattle.vr_record_file.specs.Now.{FileNow, IsLockedIn, IsOf, IsOfCluster, IsOfDeck, IsStateOf}
 use Rattle.vr_record_file.specs.Now.{MayBeAsked}
@@ -108,7 +109,7 @@ module _ (file : FileNow) (before : List Lock) (state : State) (unit : UnitOfRec
         positions = λ d s. old.positions d s ∙ ap (λ (p : ℕ → ℕ → _). p d s) (sym made.positions);
         numbers = λ d. is.numbers d ∙ ap (λ (n : ℕ → ℕ). n d) (sym made.numbers);
         stopped = is.stopped ∙ sym made.stopped;
-        alone = subst AreKeyedClusters catalog is.alone;
+        alone = subst AreClusters catalog is.alone;
         owned = subst (λ (l : List Owned). AllByRecursion
             (λ owned. has_part (parts_laid file.catalog) owned.part ≡ true) l) (sym made.owned)
             is.owned;
@@ -221,7 +222,7 @@ module _ (file : FileNow) (state : State) (unit : UnitOfRecovery) (kept : Before
         positions = is.positions;
         numbers = is.numbers;
         stopped = is.stopped;
-        alone = subst AreKeyedClusters catalog is.alone;
+        alone = subst AreClusters catalog is.alone;
         owned = is.owned;
         locked = is.locked;
         of_decks = is.of_decks;
@@ -247,3 +248,25 @@ pub split_state : (opening : State) (file : FileNow) (after : ℕ) (unit : UnitO
     → IsStateOf opening (with_event after unit 0 (Split part) file)
 split_state opening file after unit part is =
     entered opening file file after 0 unit (Split part) is tt tt refl is.now
+
+-- an area is given to a part of the catalog
+pub claimed_state : (opening : State) (file : FileNow) (after : ℕ) (unit : UnitOfRecovery)
+    (part : PartNo) (area : AreaNo) → IsStateOf opening file
+    → IsLeastFree file.geometry (state_now opening file) area.0
+    → has_part (parts_laid file.catalog) part.0 ≡ true
+    → IsStateOf opening (with_event after unit 0 (Claimed part area) file)
+claimed_state opening file after unit part area is free laid =
+    let now = is.now in
+    entered opening file file after 0 unit (Claimed part area) is free tt refl (record {
+      catalog = now.catalog;
+      locks = now.locks;
+      positions = now.positions;
+      numbers = now.numbers;
+      stopped = now.stopped;
+      alone = now.alone;
+      owned = all_append (λ owned. has_part (parts_laid file.catalog) owned.part ≡ true)
+          (state_now opening file).owned (record { area = area.0; part = part.0 }) now.owned laid;
+      locked = now.locked;
+      of_decks = now.of_decks;
+      of_clusters = now.of_clusters;
+    })

@@ -23,7 +23,8 @@ use Rattle.vr_history.specs.State.{Logged, Owned, State, opening_state}
 use Rattle.vr_history.specs.Step.{case_of}
 use Rattle.vr_answer.specs.Here.{or_start}
 use Rattle.vr_answer.specs.InHand.{IsCaseOf}
-use Rattle.vr_answer.specs.Scope.{AreKeyedClusters}
+use Rattle.vr_answer.specs.Numbered.{AreNumbersOf}
+use Rattle.vr_answer.specs.Scope.{AreClusters, AreKeyedClusters, HasKeyedAlone}
 use Rattle.vr_answer.specs.declared.case.Case.{Case as CaseInHand}
 use Rattle.vr_record_file.specs.Now.{FileNow, IsOf, IsOfDeck, IsStateOf, has_deck, held_in}
 use Rattle.vr_record_file.specs.Now.{is_of_deck, number_of, stand_in, state_now}
@@ -32,7 +33,7 @@ use Rattle.vr_record_file.specs.declared.numbers.DeckNumber.{DeckNumber}
 -- the opening
 pub new_state : (file : FileNow) → file.locks ≡ [] → file.files ≡ [] → file.numbers ≡ []
     → file.stopped ≡ None → file.entries ≡ [] → (contents : ℕ → Content) (owned : List Owned)
-    → file.catalog ≡ entries_in (contents 0) → AreKeyedClusters file.catalog
+    → file.catalog ≡ entries_in (contents 0) → AreClusters file.catalog
     → AllByRecursion (λ area. has_part (parts_laid file.catalog) area.part ≡ true) owned
     → IsStateOf (opening_state contents owned) file
 new_state file locks files numbers stopped entries contents owned catalog alone laid =
@@ -45,7 +46,7 @@ new_state file locks files numbers stopped entries contents owned catalog alone 
       positions = λ d s. ap (λ (l : List FilePosition). position_of l d s) files;
       numbers = λ d. ap (λ (l : List DeckNumber). number_of l d) numbers;
       stopped = stopped;
-      alone = subst AreKeyedClusters catalog alone;
+      alone = subst AreClusters catalog alone;
       owned = laid;
       locked = tt;
       of_decks = tt;
@@ -165,7 +166,9 @@ module _ (opening : State) (file : FileNow) (is : IsStateOf opening file) (case 
     (changing : case.catalog_changing ≡ false)
     (used : case.used ≡ (state_now opening file).used)
     (free : case.free ≡ free_areas (case_of file.geometry (state_now opening file) case.unit
-    case.request.now)) where
+    case.request.now))
+    (numbers : AreNumbersOf (option_copied case.address) case.areas
+    (case_of file.geometry (state_now opening file) case.unit case.request.now)) where
   abbrev state : State
   state = state_now opening file
 
@@ -185,6 +188,11 @@ module _ (opening : State) (file : FileNow) (is : IsStateOf opening file) (case 
       ∙ start_unset (position_at file.files deck on.slot)
       ∙ ap (λ (p : Position). p.stand) (is.now.positions deck on.slot))
 
+  numbers_are : AreNumbersOf (option_copied case.address) case.areas
+      (case_of case.geometry state case.unit case.request.now)
+  numbers_are = subst (λ g. AreNumbersOf (option_copied case.address) case.areas
+      (case_of g state case.unit case.request.now)) (sym geometry) numbers
+
   pub case_is : IsCaseOf case (record state { locks = file.locks })
   case_is = record {
     catalog = catalog ∙ is.now.catalog;
@@ -194,6 +202,7 @@ module _ (opening : State) (file : FileNow) (is : IsStateOf opening file) (case 
     stopped = stopped ∙ is.now.stopped;
     free = free ∙ sym (ap (λ g. free_areas (case_of g state case.unit case.request.now)) geometry);
     used = used;
+    numbers = record { address = numbers_are.address; areas = numbers_are.areas };
     changing = changing ∙ sym (ap (λ (b : Bool). not (case.unit.deck == 0)
         && (is_none state.stopped && b)) (none_changes state.logged is.now.of_decks)
         ∙ and_false (not (case.unit.deck == 0)) (is_none state.stopped));
@@ -203,3 +212,9 @@ module _ (opening : State) (file : FileNow) (is : IsStateOf opening file) (case 
   pub case_is_going : file.stopped ≡ None → IsCaseOf case state
   case_is_going going = subst (λ (l : List Lock). IsCaseOf case (record state { locks = l }))
       (is.now.locks going) case_is
+
+-- the catalog in memory is that of the state, so that its clusters are all key-sequenced where those
+-- of the catalog are
+pub keyed_now : (opening : State) (file : FileNow) → IsStateOf opening file
+    → AreKeyedClusters file.catalog → HasKeyedAlone (state_now opening file)
+keyed_now opening file is keyed = subst AreKeyedClusters is.now.catalog keyed

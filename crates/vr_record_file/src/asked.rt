@@ -7,6 +7,7 @@ ghost use Rattle.vr_history.specs.RefusedRoom.{free_areas};
 ghost use Rattle.vr_history.specs.State.{State};
 ghost use Rattle.vr_history.specs.Step.{case_of};
 ghost use Rattle.vr_answer.specs.InHand.{IsCaseOf};
+ghost use Rattle.vr_answer.specs.Numbered.{AreNumbersOf};
 ghost use Rattle.vr_record_file.specs.Now.{IsStateOf, held_in, state_now};
 
 use crate::file::RecordFile;
@@ -35,21 +36,34 @@ impl RecordFile {
     }
 
     /// A request of a deck, with what is in memory, the number of free areas and the bytes of the
-    /// log in use. It agrees with the state that the history gives (`going`); once the volume has
-    /// stopped, with the state that has the locks that are in memory (`always`), which no answer
-    /// looks at then.
-    pub fn case<'a>(&'a self, unit: Unit, request: &'a Request, free: u32, used: u64) -> Case<'a>
+    /// log in use; and of a data set whose places are numbers, the address that an added record gets
+    /// and how many areas there are, None and 0 of others. It agrees with the state that the history
+    /// gives (`going`); once the volume has stopped, with the state that has the locks that are in
+    /// memory (`always`), which no answer looks at then.
+    pub fn case<'a>(
+        &'a self,
+        unit: Unit,
+        request: &'a Request,
+        free: u32,
+        used: u64,
+        address: Option<&'a [u8]>,
+        areas: u32,
+    ) -> Case<'a>
         ensures going { (opening : State) → IsStateOf opening self.now → self.now.stopped ≡ None
             → (unit.deck == 0) ≡ false
             → used ≡ (state_now opening self.now).used
             → free ≡ free_areas (case_of self.now.geometry (state_now opening self.now) unit
             request.now)
+            → AreNumbersOf (option_copied address.entry) areas
+            (case_of self.now.geometry (state_now opening self.now) unit request.now)
             → IsCaseOf result (state_now opening self.now) }
         ensures always { (opening : State) → IsStateOf opening self.now
             → (unit.deck == 0) ≡ false
             → used ≡ (state_now opening self.now).used
             → free ≡ free_areas (case_of self.now.geometry (state_now opening self.now) unit
             request.now)
+            → AreNumbersOf (option_copied address.entry) areas
+            (case_of self.now.geometry (state_now opening self.now) unit request.now)
             → IsCaseOf result (record (state_now opening self.now) { locks = self.now.locks }) }
         ensures asked { result.request.now ≡ request.now }
         ensures unit { result.unit ≡ unit }
@@ -64,6 +78,8 @@ impl RecordFile {
             stopped: self.stopped(),
             free,
             used,
+            address,
+            areas,
             unit,
             request,
             catalog_changing: false,

@@ -1,23 +1,24 @@
 //! Changes of records, and their locks.
 ghost use Rattle.std.specs.Prelude.{◌≡◌, ◌<◌, ◌-◌, ◌^◌, ◌==◌, ℕ, false, IfErr, List, None, OnErr};
-ghost use Rattle.std.specs.Prelude.{OnOk, Option, Some};
+ghost use Rattle.std.specs.Prelude.{OnOk, Option, Some, true};
 ghost use Rattle.vr_types.specs.Locks.{Lock, conflict_on};
 ghost use Rattle.vr_types.specs.declared.reply.Reply.TheVariants.{Done};
 ghost use Rattle.vr_types.specs.declared.unit.Mode.TheVariants.{Exclusive};
 ghost use Rattle.vr_locks.specs.Answer.{CauseOf};
 ghost use Rattle.vr_history.specs.declared.entry.What.TheVariants as whats;
 ghost use Rattle.vr_history.specs.Change.{place_changed};
+ghost use Rattle.vr_history.specs.Effects.{has_part, parts_laid};
 ghost use Rattle.vr_history.specs.Merged.{last_stamp};
 ghost use Rattle.vr_history.specs.Names.{lock_names, with_locks};
 ghost use Rattle.vr_history.specs.Opened.{base_of};
 ghost use Rattle.vr_history.specs.State.{State};
-ghost use Rattle.vr_history.specs.Step.{IsLastKept, case_of};
+ghost use Rattle.vr_history.specs.Step.{IsLastKept, IsLeastFree, case_of};
 ghost use Rattle.vr_record_file.specs.Now.{IsStateOf, MayBeAsked, lets_go, state_now, with_event};
 
 use crate::file::RecordFile;
 use vr_history::What;
 use vr_locks::LockNo;
-use vr_types::{LockNames, Mode, PartNo, Place, Reply, SharedRequest, Unit};
+use vr_types::{AreaNo, LockNames, Mode, PartNo, Place, Reply, SharedRequest, Unit};
 
 impl RecordFile {
     /// A unit takes locks, all or none.
@@ -101,5 +102,20 @@ impl RecordFile {
             → IsStateOf opening self.new }
     {
         self.enter(unit, 0, What::Split { part }, after);
+    }
+
+    /// Enters that an area was given to a part of the catalog: the least that no part has. It takes
+    /// no memory.
+    pub fn claim(&mut self, unit: Unit, part: PartNo, area: AreaNo, after: u64)
+        requires room { 0 < self.old.room }
+        requires last { last_stamp 0 self.old.entries < 2 ^ 64 - 2 }
+        requires after { after < 2 ^ 64 - 2 }
+        ensures leaves { self.new ≡ with_event after unit 0 (whats.Claimed part area) self.old }
+        ensures state { (opening : State) → IsStateOf opening self.old
+            → IsLeastFree self.old.geometry (state_now opening self.old) area.0
+            → has_part (parts_laid self.old.catalog) part.0 ≡ true
+            → IsStateOf opening self.new }
+    {
+        self.enter(unit, 0, What::Claimed { part, area }, after);
     }
 }

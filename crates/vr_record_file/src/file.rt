@@ -6,7 +6,7 @@ ghost use Rattle.vr_catalog.specs.Catalog.{entries_in};
 ghost use Rattle.vr_history.specs.Effects.{has_part, parts_laid};
 ghost use Rattle.vr_history.specs.Merged.{last_stamp};
 ghost use Rattle.vr_history.specs.State.{Owned, State, opening_state};
-ghost use Rattle.vr_answer.specs.Scope.{AreKeyedClusters};
+ghost use Rattle.vr_answer.specs.Scope.{AreClusters};
 ghost use Rattle.vr_record_file.specs.Now.{IsStateOf, lets_go, next_stamp, with_event};
 ghost use Rattle.vr_history.specs.declared.entry.What.TheVariants.{Asked};
 
@@ -53,14 +53,14 @@ impl Model for RecordFile {
 impl RecordFile {
     /// A record file with no lock, no position, no deck and no entry, on this catalog. It takes no
     /// memory. It is what no history gives from a volume that is opened with this catalog, of
-    /// key-sequenced clusters alone, whose areas are all of parts in it (`state`).
+    /// clusters alone, whose areas are all of parts in it (`state`).
     pub fn new(alloc: Global, geometry: Geometry, catalog: Catalog) -> RecordFile
         ensures geometry { result.geometry ≡ geometry }
         ensures catalog { result.catalog ≡ catalog }
         ensures entries { result.entries ≡ [] }
         ensures stopped { result.stopped ≡ None }
         ensures state { (contents : ℕ → Content) (owned : List Owned)
-            → catalog ≡ entries_in (contents 0) → AreKeyedClusters catalog
+            → catalog ≡ entries_in (contents 0) → AreClusters catalog
             → AllByRecursion (λ area. has_part (parts_laid catalog) area.part ≡ true) owned
             → IsStateOf (opening_state contents owned) result }
     {

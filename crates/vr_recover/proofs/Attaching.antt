@@ -20,6 +20,7 @@ use Rattle.vr_log.specs.LogNow.{IsOf}
 use Rattle.vr_mount.specs.Areas.{IsBelow}
 use Rattle.vr_space.specs.Keyed.{Keyed}
 use Rattle.vr_space.specs.Part.{IsOn, KeyedShape, Shape, Stands}
+use Rattle.vr_mount.proofs.CallerLemmas.{area-on}
 use Rattle.vr_recover.specs.Found.{AllStand, AreEntries, AreEntriesOf, AtAreas, AtPart, IsAreaNo}
 use Rattle.vr_recover.specs.Found.{IsEntryNo, IsEntryShown, IsMountShown, IsOneShown, LaysIn}
 use Rattle.vr_recover.specs.Found.{ShowsBoth, ShowsOnly}
@@ -28,7 +29,6 @@ use Rattle.vr_recover.specs.declared.open_no.OpenNo.TheVariants as nos
 use Rattle.vr_recover.specs.declared.open_no.OpenNo.TheVariants.{Damaged, Version, Read, Write, Memory}
 use Rattle.vr_recover.specs.declared.open_no.Unserved.{Unserved}
 use Rattle.vr_recover.specs.Unserved.{IsCatalogUnserved, IsEntryCause, IsPlain}
-use Rattle.vr_recover.proofs.Areas.{area-on}
 
 -- ---- answers
 

@@ -31,6 +31,7 @@ use Rattle.vr_space.specs.Split.{SplitNow}
 use Rattle.vr_space.specs.Part.{IsOn, KeyedShape, Shape, StaysIn, part_no}
 use Rattle.vr_volume.specs.PutBack.{images_of, lengths_kept}
 use Rattle.vr_volume.specs.Volume.{Recovers, shapes_by}
+use Rattle.vr_mount.proofs.CallerLemmas.{OwnParts, area-on, stands-same, two-areas}
 use Rattle.vr_recover.specs.Found.{AreAttached, AreEntriesOf, IsFound, IsPartReady, IsPlanned}
 use Rattle.vr_recover.specs.Found.{IsUndoable}
 use Rattle.vr_recover.specs.Opening.{shape_owned, shapes_laid}
@@ -38,14 +39,11 @@ use Rattle.vr_recover.specs.Undone.{FitsPart, HaveOwnNumbers, IsCovered, IsLaidP
 use Rattle.vr_recover.specs.Undone.{IsSettled}
 use Rattle.vr_recover.specs.Undone.{nothing_known}
 use Rattle.vr_recover.proofs.Agreeing.{log-same, shapes-same}
-use Rattle.vr_recover.proofs.Areas.{area-on, two-areas}
 use Rattle.vr_recover.proofs.Keeping.{all-more}
-use Rattle.vr_recover.proofs.Owning.{OwnParts}
 use Rattle.vr_recover.proofs.Settled.{part-opened, settled-undone}
 use Rattle.vr_recover.proofs.Recovery.{AreOffLog, found-recovers, moved-recovers, recovered}
 use Rattle.vr_recover.proofs.Refusals.{layouts-on}
 use Rattle.vr_recover.proofs.Shapes.{each-laid, shapes-differ}
-use Rattle.vr_recover.proofs.Standing.{stands-same}
 
 -- ---- while it is cleared
 

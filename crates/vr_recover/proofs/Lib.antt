@@ -1,13 +1,4 @@
 pub mod CallerLemmas
-pub mod Headers
-pub mod Tops
-pub mod Records
-pub mod Standing
-pub mod Areas
-pub mod Made
-pub mod Owning
-pub mod NewVolume
-pub mod Safe
 pub mod Settled
 pub mod PuttingBack
 pub mod BackingOut
@@ -22,7 +13,3 @@ pub mod Recovery
 pub mod Refusals
 pub mod Clearing
 pub mod OpenLemmas
-pub mod Taking
-pub mod Ordering
-pub mod Members
-pub mod Planning

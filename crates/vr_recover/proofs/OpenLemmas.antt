@@ -25,7 +25,7 @@ use Rattle.vr_log.specs.Spells.{Spells}
 use Rattle.vr_log.specs.Standing.{LogStands}
 use Rattle.vr_mount.specs.Areas.{AreOwners}
 use Rattle.vr_mount.specs.Header.{IsHeaderOf, version_in}
-use Rattle.vr_mount.proofs.CallerLemmas.{owners_stay}
+use Rattle.vr_mount.proofs.CallerLemmas.{image-same, owners_stay}
 use Rattle.vr_space.specs.Keyed.{Keyed}
 use Rattle.vr_space.specs.Owners.{Owners}
 use Rattle.vr_space.specs.Part.{IsOn, KeyedShape, Shape, StandsFor, part_no}
@@ -47,7 +47,6 @@ use Rattle.vr_recover.specs.Unserved.{ByCatalog, ByImage, ByLog, IsUnservedOf}
 use Rattle.vr_recover.proofs.Agreeing.{volume-here}
 use Rattle.vr_recover.proofs.Clearing.{laid-all, parts-on, parts-past, shapes-are}
 use Rattle.vr_recover.proofs.Keeping.{all-more}
-use Rattle.vr_recover.proofs.Made.{image-same}
 use Rattle.vr_recover.proofs.Recovery.{found-entries, found-recovers, recovered}
 use Rattle.vr_recover.proofs.Settled.{committed-by}
 use Rattle.vr_recover.proofs.Shapes.{are-laid}

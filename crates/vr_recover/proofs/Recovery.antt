@@ -30,13 +30,12 @@ use Rattle.vr_space.specs.Room.{HaveRoom, Lengths}
 use Rattle.vr_space.proofs.CallerLemmas.{AreIn, head-in}
 use Rattle.vr_volume.specs.PutBack.{images_of, lengths_kept, put_back}
 use Rattle.vr_volume.specs.Volume.{CanPutBack, IsInside, Recovers, catalog_back, shapes_by}
+use Rattle.vr_mount.proofs.CallerLemmas.{OwnParts, some-own, stands-same}
 use Rattle.vr_recover.specs.Found.{HasRoomOf, IsFound, IsPlanned}
 use Rattle.vr_recover.specs.Opening.{shapes_laid}
 use Rattle.vr_recover.specs.Undone.{FitsPart, HasPart}
 use Rattle.vr_recover.proofs.Agreeing.{off-back}
-use Rattle.vr_recover.proofs.Owning.{OwnParts, some-own}
 use Rattle.vr_recover.proofs.Shapes.{each-laid, laid-number, laid-there}
-use Rattle.vr_recover.proofs.Standing.{stands-same}
 
 some-shape : (x y : Shape) → Some x ≡ Some y → x ≡ y
 some-shape x y same = cc

@@ -42,8 +42,8 @@ use Rattle.vr_volume.specs.PutBack.{images_of, length_in, length_of, lengths_kep
 use Rattle.vr_volume.specs.Safe.{AreCommitted, IsItemOf, IsPartSafe, IsSafe, IsSafeBy}
 use Rattle.vr_volume.specs.Volume.{CanPutBack, IsInside, Recovers, shapes_by}
 use Rattle.vr_volume.proofs.PuttingBack.{back-ascends, back-item}
+use Rattle.vr_mount.proofs.CallerLemmas.{none-ascend}
 use Rattle.vr_recover.specs.Undone.{FitsPart, IsAllFirm, IsCovered, IsOpenedPart, IsSettled}
-use Rattle.vr_recover.proofs.Safe.{none-ascend}
 
 -- ---- a part
 

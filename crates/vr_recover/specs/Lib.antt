@@ -1,8 +1,3 @@
-pub mod Formatted
-pub mod Fit
-pub mod InOrder
-pub mod Planned
-pub mod FormatCause
 pub mod Undone
 pub mod OpenNo
 pub mod Images

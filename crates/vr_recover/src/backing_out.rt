@@ -9,7 +9,7 @@ ghost use Rattle.vr_log.specs.Live.{live_in};
 ghost use Rattle.vr_log.specs.LogNow.{IsForced, IsOf, next_generation};
 ghost use Rattle.vr_log.specs.Standing.{InLog, LogStands};
 ghost use Rattle.vr_volume.specs.Volume.{Recovers};
-ghost use Rattle.vr_recover.specs.Formatted.{Anything};
+ghost use Rattle.vr_mount.specs.Touched.{Anything};
 ghost use Rattle.vr_recover.specs.Undone.{IsOut, IsUndone};
 
 use vr_log::{EndKind, LogRecord, UndoLog};

@@ -1,44 +1,23 @@
-//! Laws of what formatting leaves, and of what opening begins with: each is the contract of a
-//! function that does nothing.
-ghost use Rattle.std.specs.Prelude.{◌≡◌, ◌+◌, ◌<◌, ◌≤◌, ℕ, List, [], All, Some, length, slice_set};
+//! Laws of what opening begins with: each is the contract of a function that does nothing.
+ghost use Rattle.std.specs.Prelude.{◌≡◌, ◌+◌, ◌<◌, ◌≤◌, ℕ, List, All, Some, length, slice_set};
 ghost use Rattle.vr_types.specs.Blocks.{AllForced};
 ghost use Rattle.vr_types.specs.Content.{Content};
 ghost use Rattle.vr_types.specs.Geometry.{IsAllowed};
 ghost use Rattle.vr_types.specs.Fields.{AreZeros};
 ghost use Rattle.vr_types.specs.Image.{Block, Image, block_at};
 ghost use Rattle.vr_types.specs.declared.geometry.Geometry.{Geometry};
-ghost use Rattle.vr_space.specs.Owners.{Owners};
 ghost use Rattle.vr_space.specs.Part.{Shape, part_no};
-ghost use Rattle.vr_catalog.specs.declared.entry.CatEntry.{CatEntry};
 ghost use Rattle.vr_log.specs.Content.{Content as LogContent};
 ghost use Rattle.vr_log.specs.LogNow.{IsOf, last_index, made};
 ghost use Rattle.vr_log.specs.Records.{bytes_of};
 ghost use Rattle.vr_log.specs.Spells.{Spells};
 ghost use Rattle.vr_log.specs.Standing.{InLog, LogStands};
 ghost use Rattle.vr_volume.specs.PutBack.{images_of};
-ghost use Rattle.vr_volume.specs.Safe.{IsImageSafe, IsSafe};
+ghost use Rattle.vr_volume.specs.Safe.{IsSafe};
 ghost use Rattle.vr_volume.specs.Volume.{Recovers, shapes_by};
-ghost use Rattle.vr_recover.specs.Formatted.{IsFormatted, contents_of};
 ghost use Rattle.vr_recover.specs.Undone.{IsCovered, IsOpenedPart, IsSettled};
 
 use vr_types::Blocks;
-
-/// What was formatted is safe, with a log of no records and no generation yet: off the places of
-/// before-images, of which there are none, it has what is committed, each part in its own blocks.
-pub fn formatted_is_safe()
-    ensures { (geometry : Geometry) (number : ℕ) (entries : List CatEntry) (image : Image)
-        → IsFormatted geometry number entries image
-        → (owners : Owners) × IsImageSafe geometry number owners
-        (record { generation = 0; records = [] }) (contents_of entries) image }
-{}
-
-/// And it recovers to the records of its entries in the catalog, and to nothing in each other part.
-/// Each of its parts is on blocks that the volume has, and it has no before-image to put back.
-pub fn formatted_recovers()
-    ensures { (geometry : Geometry) (number : ℕ) (entries : List CatEntry) (image : Image)
-        → IsFormatted geometry number entries image
-        → Recovers geometry number image (contents_of entries) }
-{}
 
 /// What opening begins with: where a crash leaves what is read alone, and the blocks that are read
 /// recover to some contents, the volume is safe, with its log, and with these contents committed.

@@ -32,23 +32,13 @@ use crate::laid::{Laid, add_entries, add_part};
 use crate::open_no::{OpenNo, Unserved};
 use crate::served::{are_keyed_clusters, are_plain};
 use std::alloc::Global;
-use vr_attach::layout_of;
-use vr_catalog::{Catalog, catalog_definition};
+use vr_catalog::Catalog;
 use vr_keyed::Keyed;
-use vr_mount::{ListNo, are_apart, are_on, catalog_of_records, records_of_part};
-use vr_space::Layout;
-use vr_types::{Blocks, Bytes, DeviceFault, Geometry, PartNo};
+use vr_mount::{ListNo, are_apart, are_on, catalog_layout, catalog_of_records, records_of_part};
+use vr_types::{Blocks, Bytes, DeviceFault, Geometry};
 
 /// The rule that is shown where records are those of no catalog.
 const NO_CATALOG: u32 = 17;
-
-/// Where the catalog is.
-fn catalog_layout(geometry: &Geometry) -> Layout
-    requires { IsAllowed geometry.now }
-    ensures { result ≡ part_of geometry.now 0 0 definition_of_catalog }
-{
-    layout_of(*geometry, PartNo(0), 0, &catalog_definition())
-}
 
 /// The block that is shown where the catalog isn't in order: its head.
 fn catalog_head(geometry: &Geometry) -> u32

@@ -28,7 +28,7 @@ ghost use Rattle.vr_log.specs.declared.record.LogRecord.{LogRecord as Rec};
 ghost use Rattle.vr_volume.specs.Laying.{IsFreeIn, IsLaidSo};
 ghost use Rattle.vr_volume.specs.PutBack.{image_in, images_of, lengths_kept};
 ghost use Rattle.vr_volume.specs.Safe.{IsSafe, IsSafeImage};
-ghost use Rattle.vr_recover.specs.Formatted.{Anything};
+ghost use Rattle.vr_mount.specs.Touched.{Anything};
 ghost use Rattle.vr_recover.specs.Undone.{
   ArePutBack,
   FitsPart,

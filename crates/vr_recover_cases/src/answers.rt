@@ -2,7 +2,7 @@
 
 use std::alloc::{AllocError, AllocFailed, Global};
 use std::fmt::Write;
-use vr_recover::FormatNo;
+use vr_format::FormatNo;
 use vr_types::OutOfMemory;
 
 /// Why a line has no answer.

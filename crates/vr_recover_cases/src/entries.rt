@@ -5,7 +5,7 @@ use crate::desk::Desk;
 use crate::words::{numbers, parted};
 use std::alloc::Global;
 use vr_catalog::{CatEntry, Catalog, EntryKind, FreeSpace, ShareOptions, SpaceUnit};
-use vr_recover::format_entries;
+use vr_format::format_entries;
 use vr_types::{Kind, PartNo, dataset_name};
 
 /// Formats the device: `NUMBER LOG AREA / NAME KIND PART KEY OFFSET AVERAGE MAXIMUM / ..`. KIND is K,

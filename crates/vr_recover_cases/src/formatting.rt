@@ -5,7 +5,7 @@ use crate::desk::Desk;
 use crate::words::{number, numbers, parted};
 use std::alloc::Global;
 use vr_device::{BlockDevice, MemoryDevice, memory_device};
-use vr_recover::{FormatNo, format_volume};
+use vr_format::{FormatNo, format_volume};
 use vr_types::OutOfMemory;
 
 /// The largest block, in bytes, and the most blocks.

@@ -1,6 +1,6 @@
-//! Cases of `vr_recover` from a text table: volumes that are formatted, their bytes, shapes at each
-//! limit, and each call of a device failing in turn, with a plain, slow reader of a formatted volume
-//! beside them. Each line of its input has a question, ` -> ` and the answer that is wanted. It asks
+//! Cases of `vr_format` and `vr_recover` from a text table: volumes that are formatted, their bytes,
+//! shapes at each limit, and each call of a device failing in turn, with a plain, slow reader of a
+//! formatted volume beside them. Each line of its input has a question, ` -> ` and the answer that is wanted. It asks
 //! the public calls, prints each line whose answer differs, and at the end how many lines there were
 //! and how many differ; the status is 1 where one differs. What it promises is that it is safe and
 //! ends: what the answers show is tested, and its whole output is compared.

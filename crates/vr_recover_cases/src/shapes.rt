@@ -6,7 +6,7 @@ use crate::answers::{Answer, Stop, say_formatted};
 use crate::words::numbers;
 use std::alloc::Global;
 use vr_device::BlockDevice;
-use vr_recover::format_volume;
+use vr_format::format_volume;
 use vr_types::Failed;
 
 /// A device of a shape. It reports no content.

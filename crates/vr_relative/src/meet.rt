@@ -13,7 +13,6 @@ ghost use Rattle.vr_relative.specs.Met.{mets_in};
 
 use crate::chain::Chain;
 use crate::met::{MetBlock, Mets};
-use crate::number::slot_number;
 use std::alloc::Global;
 use std::mem::swap;
 use vr_space::ChainLayout;
@@ -53,10 +52,10 @@ fn recall(mets: &mut Mets, place: &[u8]) -> bool
         → All (IsSlotMet part image) (mets_in mets.new) }
     ensures room { (part : Numbered) → AreMetsOf part mets.old → AreMetsOf part mets.new }
 {
-    if mets.filled > 0 && mets.first.place.as_slice() == place {
+    if mets.is_first(place) {
         return true;
     }
-    if mets.filled < 2 || mets.second.place.as_slice() != place {
+    if !mets.is_second(place) {
         return false;
     }
     swap(&mut mets.first, &mut mets.second);

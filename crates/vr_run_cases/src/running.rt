@@ -9,8 +9,8 @@ use std::alloc::Global;
 use std::sync::Wait;
 use std::thread::Threads;
 use vr_device::{MemoryDevice, memory_device};
+use vr_format::{FormatNo, format_volume};
 use vr_job_text::parse_job;
-use vr_recover::{FormatNo, format_volume};
 
 /// The largest block, in bytes, and the most blocks.
 const LIMIT: u32 = 4096;

@@ -1,7 +1,7 @@
 //! Cases of decks that share volumes: jobs that are run by `run_volumes` and `run_job` of `vr_job`
 //! over volumes in memory, the decks of a step on threads. It prints a line for each case, the same
 //! at every schedule, and its whole output is compared. It stands on `vr_job` for the runs, on
-//! `vr_outside` for the gates by which it holds decks, and on `vr_recover` for volumes. What it
+//! `vr_outside` for the gates by which it holds decks, and on `vr_case_volumes` for volumes. What it
 //! promises is that it is safe; what the lines show is tested.
 #![tactic(auto)]
 

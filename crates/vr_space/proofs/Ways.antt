@@ -1,5 +1,5 @@
 -- What may be found on a way, as what is allowed of blocks grows or shrinks.
-use Rattle.std.proofs.Common.{◌≡◌, ◌⊎◌, inl, inr, ⊎_elim, ◌<◌, ℕ, List, Option, Contains, refl}
+use Rattle.std.proofs.Common.{◌≡◌, ℕ, Option, refl}
 use Rattle.vr_types.specs.Content.{Item}
 use Rattle.vr_types.specs.Image.{Block, Image, block_at}
 use Rattle.vr_space.specs.Way.{Way, Found, Reads, found_on, MayFind, IsWithin}

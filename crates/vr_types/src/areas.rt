@@ -54,7 +54,7 @@ impl Space {
         ensures none { result ≡ None → self.new ≡ self.old }
     {
         let area = self.least_free()?;
-        self.owners[area.0 as usize] = Some(part);
+        self.mark(area, part);
         Some(area)
     }
 

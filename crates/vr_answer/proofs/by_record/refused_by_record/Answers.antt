@@ -1,5 +1,5 @@
 use Rattle.std.proofs.Common.{Option, ap, ◌∙◌}
-use Rattle.std.specs.Option.{is_some, option_and_then, option_copied}
+use Rattle.std.specs.Option.{option_and_then, option_copied}
 use Rattle.vr_types.specs.declared.reply.Refusal.{Refusal}
 use Rattle.vr_history.specs.Step.{stand_refused}
 use Rattle.vr_answer.proofs.StayLemmas.{record_stays_here}
@@ -21,4 +21,4 @@ returns-clause-stays c =
     (λ refusal is direct.
     ap (λ (o : Option Refusal). option_and_then (stand_refused c.args.case.now.request.now) o) is
     ∙ record_stays_here c.args.case.now direct (option_copied c.args.looked.place)
-    (is_some (option_copied c.args.looked.present)))
+    (option_copied c.args.looked.present))

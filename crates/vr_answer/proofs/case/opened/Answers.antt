@@ -10,7 +10,7 @@ use Rattle.vr_answer.proofs.case.opened.Goals as goal
 pub returns : goal.returns
 returns c = record {
   value = λ state is. opened_is c.args.case.now state is ∙ sym (ap as_opened c.definition.ensures);
-  keyed = λ state is.
+  keyed = λ state is keyed.
       subst (λ (o : Option Definition). IfSome o (λ known. known.kind ≡ Keyed))
-      (sym c.definition.ensures) (opened_keyed c.args.case.now state is);
+      (sym c.definition.ensures) (opened_keyed c.args.case.now state is keyed);
 }

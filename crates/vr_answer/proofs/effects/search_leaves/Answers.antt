@@ -1,5 +1,5 @@
 use Rattle.vr_answer.proofs.AfterLemmas.{after_end, after_least, after_lost, after_next}
-use Rattle.vr_answer.proofs.AfterLemmas.{after_point}
+use Rattle.vr_answer.proofs.AfterLemmas.{after_no_address, after_point}
 use Rattle.vr_answer.proofs.effects.search_leaves.Goals as goal
 
 pub returns : goal.returns
@@ -9,4 +9,5 @@ returns c = record {
   point = after_point;
   at_end = after_end;
   lost = after_lost;
+  no_address = after_no_address;
 }

@@ -1,5 +1,5 @@
 use Rattle.vr_answer.specs.InHand.{whole}
-use Rattle.vr_event.specs.declared.no.LookNo.TheVariants.{Memory}
+use Rattle.vr_store.specs.declared.no.LookNo.TheVariants.{Memory}
 use Rattle.vr_event.proofs.Ended.{may-fail}
 use Rattle.vr_event.proofs.getting.answered.Goals as goal
 

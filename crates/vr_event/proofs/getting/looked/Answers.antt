@@ -2,7 +2,7 @@ use Rattle.std.proofs.Common.{ℕ, List, Option, refl, subst}
 use Rattle.vr_types.proofs.CallerLemmas.{keeps-none}
 use Rattle.vr_answer.specs.InHand.{whole}
 use Rattle.vr_event.specs.Searching.{IsSought}
-use Rattle.vr_event.specs.declared.no.LookNo.TheVariants.{Memory}
+use Rattle.vr_store.specs.declared.no.LookNo.TheVariants.{Memory}
 use Rattle.vr_event.proofs.Causes.{may-unless}
 use Rattle.vr_event.proofs.Ended.{may-fail}
 use Rattle.vr_event.proofs.getting.looked.Goals as goal

@@ -3,10 +3,10 @@ use Rattle.vr_types.proofs.CallerLemmas.{keeps-then}
 use Rattle.vr_types.specs.declared.reply.Refusal.{Refusal}
 use Rattle.vr_answer.specs.InHand.{whole}
 use Rattle.vr_event.specs.Getting.{MayEnd}
-use Rattle.vr_event.specs.Store.{IsStored, Stands, StoreNow}
+use Rattle.vr_store.specs.Store.{IsStored, Stands, StoreNow}
 use Rattle.vr_event.specs.declared.getting.Outcome.TheVariants.{Refused}
 use Rattle.vr_event.proofs.Ended.{may-fail}
-use Rattle.vr_event.proofs.Keeping.{stands-kept, stored-keeps}
+use Rattle.vr_store.proofs.CallerLemmas.{stands-kept, stored-keeps}
 use Rattle.vr_event.proofs.getting.sought.Goals as goal
 
 pub looked-requires-clause-stands : goal.looked-requires-clause-stands

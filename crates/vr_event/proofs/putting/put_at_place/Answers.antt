@@ -4,8 +4,8 @@ use Rattle.std.specs.Option.{option_copied}
 use Rattle.vr_types.proofs.CallerLemmas.{keeps-none}
 use Rattle.vr_types.specs.Moments.{Guards}
 use Rattle.vr_volume.specs.Crashes.{RecoversTo}
-use Rattle.vr_event.specs.Store.{IsStored, StoreNow}
-use Rattle.vr_event.proofs.Keeping.{moments-keeps}
+use Rattle.vr_store.specs.Store.{IsStored, StoreNow}
+use Rattle.vr_store.proofs.CallerLemmas.{moments-keeps}
 use Rattle.vr_event.proofs.Puts.{final-is, final-stored, needs, ready-by, settable-kept}
 use Rattle.vr_event.proofs.Recovering.{stored-recovers}
 use Rattle.vr_event.proofs.putting.put_at_place.Goals as goal

@@ -12,7 +12,7 @@ use Rattle.vr_answer.specs.Least.{IsReadOf, Searches, asks_for}
 use Rattle.vr_answer.specs.Tried.{file_refusals}
 use Rattle.vr_event.specs.Getting.{IsRead}
 use Rattle.vr_event.specs.Searching.{IsFirstSeen, IsSought}
-use Rattle.vr_event.specs.Store.{IsStored}
+use Rattle.vr_store.specs.Store.{IsStored}
 use Rattle.vr_event.proofs.Known.{read-on, reads-known}
 use Rattle.vr_event.proofs.Sought.{sought-first, sought-named}
 use Rattle.vr_event.proofs.searching.place_sought.Goals as goal

@@ -8,7 +8,7 @@ use Rattle.vr_history.specs.State.{State}
 use Rattle.vr_answer.specs.Here.{or_start}
 use Rattle.vr_answer.specs.Least.{Searches, asks_for}
 use Rattle.vr_event.specs.Searching.{AsksFrom, IsFirstSeen}
-use Rattle.vr_event.specs.Store.{IsStored}
+use Rattle.vr_store.specs.Store.{IsStored}
 use Rattle.vr_event.proofs.Sought.{first-asked}
 use Rattle.vr_event.proofs.searching.searched.Goals as goal
 

@@ -5,7 +5,7 @@ use Rattle.vr_types.specs.declared.reply.Refusal.{Refusal}
 use Rattle.vr_answer.specs.InHand.{whole}
 use Rattle.vr_event.specs.Lacking.{IfLacks, IfNoSpace, LacksRoomIn}
 use Rattle.vr_event.specs.Putting.{MayRefuse}
-use Rattle.vr_event.specs.Store.{StoreNow}
+use Rattle.vr_store.specs.Store.{StoreNow}
 use Rattle.vr_event.proofs.Lacks.{look-else}
 use Rattle.vr_event.proofs.Weighs.{refuse-look}
 use Rattle.vr_event.proofs.WeighsAt.{looked-at}

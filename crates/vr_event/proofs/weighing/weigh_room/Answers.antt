@@ -3,8 +3,8 @@ use Rattle.vr_types.specs.declared.reply.Refusal.{Refusal}
 use Rattle.vr_answer.specs.InHand.{whole}
 use Rattle.vr_event.specs.Lacking.{IfNoSpace, LacksRoomIn}
 use Rattle.vr_event.specs.Putting.{MayRefuse}
-use Rattle.vr_event.specs.Room.{IsRoomAt}
-use Rattle.vr_event.specs.declared.no.LookNo.TheVariants.{Fault}
+use Rattle.vr_store.specs.Room.{IsRoomAt}
+use Rattle.vr_store.specs.declared.no.LookNo.TheVariants.{Fault}
 use Rattle.vr_event.proofs.MetParts.{length-same, met-shapes, place-same, ready-same}
 use Rattle.vr_event.proofs.Lacks.{lacks-any, lacks-is, look-else}
 use Rattle.vr_event.proofs.MetParts.{room-full, room-ready}

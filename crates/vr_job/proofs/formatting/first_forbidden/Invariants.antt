@@ -1,7 +1,7 @@
 use Rattle.std.proofs.Common.{◌≡◌, ◌<◌, ℕ, Some}
 use Rattle.std.specs.Prelude.{slice_get}
 use Rattle.vr_types.specs.Geometry.{IsAllowed}
-use Rattle.vr_recover.specs.Formatted.{geometry_of}
+use Rattle.vr_format.specs.Formatted.{geometry_of}
 use Rattle.vr_job.proofs.formatting.first_forbidden.Given as goal
 
 abbrev pub invariant-loop-at : goal.invariant-loop-at

@@ -1,5 +1,5 @@
 use Rattle.std.proofs.Common.{Bool, inr, subst, sym}
-use Rattle.vr_event.proofs.CallerLemmas.{on-err}
+use Rattle.vr_store.proofs.CallerLemmas.{on-err}
 use Rattle.vr_worker.specs.Asked.{HasEntered}
 use Rattle.vr_job.specs.Going.{went-then}
 use Rattle.vr_job.proofs.Entering.{err-undone, none-entered}

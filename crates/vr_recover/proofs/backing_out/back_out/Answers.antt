@@ -7,11 +7,11 @@ use Rattle.vr_log.specs.declared.record.EndKind.TheVariants.{BackedOut}
 use Rattle.vr_log.specs.declared.record.LogRecord.TheVariants.{End}
 use Rattle.vr_volume.specs.Safe.{IsSafe, IsSafeImage}
 use Rattle.vr_volume.specs.Volume.{Recovers}
-use Rattle.vr_recover.specs.Formatted.{Anything}
+use Rattle.vr_mount.specs.Touched.{Anything}
+use Rattle.vr_mount.proofs.CallerLemmas.{touches-none}
 use Rattle.vr_recover.specs.Undone.{HasAll, IsBeforeOf, alike}
 use Rattle.vr_recover.proofs.BackingOut.{all-stays, end-undone, left-recovers, out-ended}
 use Rattle.vr_recover.proofs.BackingOut.{safe-recovers}
-use Rattle.vr_recover.proofs.Made.{touches-none}
 use Rattle.vr_recover.proofs.backing_out.back_out.Goals as goal
 
 pub returns-else-is_live-clause-any_moment : goal.returns-else-is_live-clause-any_moment

@@ -9,9 +9,10 @@ use Rattle.vr_types.proofs.CallerLemmas.{guards-start, guards-then}
 use Rattle.vr_log.specs.Live.{live_in}
 use Rattle.vr_log.specs.Standing.{InLog}
 use Rattle.vr_volume.specs.Volume.{Recovers}
+use Rattle.vr_types.proofs.CallerLemmas.{touches-then}
+use Rattle.vr_mount.proofs.CallerLemmas.{touches-none}
 use Rattle.vr_recover.proofs.BackingOut.{AreOut, left-recovers, none-live, stays-out}
-use Rattle.vr_recover.specs.Formatted.{Anything}
-use Rattle.vr_recover.proofs.Made.{touches-both, touches-none}
+use Rattle.vr_mount.specs.Touched.{Anything}
 use Rattle.vr_recover.proofs.backing_out.back_out_all.Goals as goal
 
 pub loop-rec-init : goal.loop-rec-init
@@ -63,7 +64,7 @@ loop-rec-preserved g c =
       shape = c.in_ok-back_out.ensures.shape;
       stands = c.in_ok-back_out.ensures.stands;
       faults = c.in_ok-back_out.ensures.cause.cause.ok ∙ c.loop-rec.invariant.faults;
-      touches = λ told. touches-both (InLog c.args.log.now.geometry)
+      touches = λ told. touches-then (InLog c.args.log.now.geometry) Anything
           (g.B.Blocks.seen c.args.blocks.now) b d (c.loop-rec.invariant.touches told)
           (subst (λ (geometry : Geometry). Touches (InLog geometry) Anything b d)
           c.loop-rec.invariant.geometry (c.back_out.ensures.touches told));
@@ -102,7 +103,7 @@ pub returns-in_err-back_out-clause-touches : goal.returns-in_err-back_out-clause
 returns-in_err-back_out-clause-touches g c told =
     let b = g.B.Blocks.seen c.loop-rec.blocks in
     let d = g.B.Blocks.seen c.back_out.new.blocks in
-    touches-both (InLog c.args.log.now.geometry)
+    touches-then (InLog c.args.log.now.geometry) Anything
     (g.B.Blocks.seen c.args.blocks.now) b d (c.loop-rec.invariant.touches told)
     (subst (λ (geometry : Geometry). Touches (InLog geometry) Anything b d)
     c.loop-rec.invariant.geometry (c.back_out.ensures.touches told))

@@ -9,7 +9,7 @@ use Rattle.vr_log.specs.Live.{is_in, live_in}
 use Rattle.vr_log.specs.LogNow.{IsOf}
 use Rattle.vr_log.specs.Standing.{InLog, LogStands}
 use Rattle.vr_volume.specs.Volume.{Recovers}
-use Rattle.vr_recover.specs.Formatted.{Anything}
+use Rattle.vr_mount.specs.Touched.{Anything}
 use Rattle.vr_recover.specs.Undone.{IsUndone}
 use Rattle.vr_recover.proofs.BackingOut.{AreOut}
 use Rattle.vr_recover.proofs.backing_out.back_out_all.Given as goal

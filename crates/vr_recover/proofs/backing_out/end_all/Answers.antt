@@ -9,10 +9,10 @@ use Rattle.vr_volume.specs.Safe.{IsSafe}
 use Rattle.vr_volume.specs.Volume.{Recovers}
 use Rattle.vr_volume.proofs.EndCalls.{forced-generation}
 use Rattle.vr_volume.proofs.LogCalls.{forced-geometry, forced-is, forced-records}
-use Rattle.vr_recover.specs.Formatted.{Anything}
+use Rattle.vr_mount.specs.Touched.{Anything}
+use Rattle.vr_types.proofs.CallerLemmas.{touches-then}
 use Rattle.vr_recover.specs.Undone.{HasAll, alike}
 use Rattle.vr_recover.proofs.BackingOut.{all-stays}
-use Rattle.vr_recover.proofs.Made.{touches-both}
 use Rattle.vr_recover.proofs.backing_out.end_all.Goals as goal
 
 pub returns-in_err-force_log-clause-any_moment : goal.returns-in_err-force_log-clause-any_moment
@@ -84,7 +84,7 @@ returns-clause-touches g c told =
     let log = c.args.log.now in
     let b = g.B.Blocks.seen c.back_out_all.new.blocks in
     let d = g.B.Blocks.seen c.force_log.new.blocks in
-    touches-both (InLog log.geometry) (g.B.Blocks.seen c.args.blocks.now) b d
+    touches-then (InLog log.geometry) Anything (g.B.Blocks.seen c.args.blocks.now) b d
     (c.back_out_all.ensures.touches told)
     (keeps-touches g.B.Blocks.tells (InLog log.geometry) Anything b d told c.force_log.ensures.keeps
     (λ image left. tt))
@@ -94,7 +94,7 @@ returns-in_err-force_log-clause-touches g c told =
     let log = c.args.log.now in
     let b = g.B.Blocks.seen c.back_out_all.new.blocks in
     let d = g.B.Blocks.seen c.force_log.new.blocks in
-    touches-both (InLog log.geometry) (g.B.Blocks.seen c.args.blocks.now) b d
+    touches-then (InLog log.geometry) Anything (g.B.Blocks.seen c.args.blocks.now) b d
     (c.back_out_all.ensures.touches told)
     (keeps-touches g.B.Blocks.tells (InLog log.geometry) Anything b d told c.force_log.ensures.keeps
     (λ image left. tt))

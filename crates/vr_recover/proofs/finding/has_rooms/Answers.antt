@@ -3,8 +3,8 @@ use Rattle.vr_types.proofs.CallerLemmas.{keeps-none}
 use Rattle.vr_history.specs.State.{BeforeImage}
 use Rattle.vr_space.specs.Part.{HasRoom, KeyedShape}
 use Rattle.vr_volume.specs.PutBack.{lengths_kept}
+use Rattle.vr_mount.proofs.CallerLemmas.{part-fits}
 use Rattle.vr_recover.proofs.Refusals.{none-live}
-use Rattle.vr_recover.proofs.Safe.{part-fits}
 use Rattle.vr_recover.proofs.finding.has_rooms.Goals as goal
 
 pub returns-then-live-eq0-clause-room : goal.returns-then-live-eq0-clause-room

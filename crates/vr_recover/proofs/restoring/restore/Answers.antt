@@ -5,10 +5,10 @@ use Rattle.vr_attach.specs.Owning.{IsPastLog, owner_of}
 use Rattle.vr_log.specs.LogNow.{LogNow}
 use Rattle.vr_undo.specs.Records.{images_in}
 use Rattle.vr_undo.specs.declared.record.KeptRecord.{KeptRecord}
+use Rattle.vr_mount.proofs.CallerLemmas.{areas-own}
 use Rattle.vr_recover.specs.Found.{IsPartReady}
 use Rattle.vr_recover.proofs.Clearing.{IsCleared, cleared-guards, then-moments, then-ready}
 use Rattle.vr_recover.proofs.Clearing.{then-settled, undoable}
-use Rattle.vr_recover.proofs.Owning.{areas-own}
 use Rattle.vr_recover.proofs.Refusals.{log-long}
 use Rattle.vr_recover.proofs.restoring.restore.Goals as goal
 

@@ -4,7 +4,7 @@ use Rattle.vr_space.specs.Part.{part_no}
 use Rattle.vr_volume.specs.Safe.{IsSafeImage}
 use Rattle.vr_volume.specs.Volume.{Recovers}
 use Rattle.vr_volume.proofs.Calls.{stays-part}
-use Rattle.vr_recover.specs.Formatted.{Anything}
+use Rattle.vr_mount.specs.Touched.{Anything}
 use Rattle.vr_recover.specs.Undone.{IsUndone, alike}
 use Rattle.vr_recover.proofs.BackingOut.{safe-recovers}
 use Rattle.vr_recover.proofs.PartsBack.{ready-stays}

@@ -15,10 +15,11 @@ use Rattle.vr_volume.specs.Laying.{IsFreeIn, IsLaidSo}
 use Rattle.vr_volume.specs.PutBack.{image_in, images_of}
 use Rattle.vr_volume.specs.Safe.{IsSafeImage}
 use Rattle.vr_volume.proofs.Recovering.{each_image_is_safe}
-use Rattle.vr_recover.specs.Formatted.{Anything}
+use Rattle.vr_mount.specs.Touched.{Anything}
+use Rattle.vr_types.proofs.CallerLemmas.{touches-then}
+use Rattle.vr_mount.proofs.CallerLemmas.{touches-none}
 use Rattle.vr_recover.specs.Undone.{ArePutBack, FitsPart, HasKeptFor, IsItemIn, IsReady}
 use Rattle.vr_recover.proofs.KeptLengths.{all-kept}
-use Rattle.vr_recover.proofs.Made.{touches-both, touches-none}
 use Rattle.vr_recover.proofs.PuttingBack.{all-free, at-record, back-more, none-back}
 use Rattle.vr_recover.proofs.undone.put_back.Goals as goal
 
@@ -106,7 +107,7 @@ loop-rec-preserved g c =
       ready = λ told owners ready. subst
           (λ (s : Shape). IsReady s owners (g.P.Part.known c.put_record.new.part) kept d) same
           (c.in_ok-put_record.ensures.ready told owners (then told owners ready));
-      touches = λ told owners ready. touches-both (InPart shape owners) a b d
+      touches = λ told owners ready. touches-then (InPart shape owners) Anything a b d
           (c.loop-rec.invariant.touches told owners ready)
           (subst (λ (s : Shape). Touches (InPart s owners) Anything b d) same
           (c.put_record.ensures.touches told owners (then told owners ready)));

@@ -12,7 +12,7 @@ use Rattle.vr_log.specs.declared.record.LogRecord.{LogRecord}
 use Rattle.vr_volume.specs.Laying.{IsLaidSo}
 use Rattle.vr_volume.specs.PutBack.{image_in, images_of}
 use Rattle.vr_volume.specs.Safe.{IsSafe, IsSafeImage}
-use Rattle.vr_recover.specs.Formatted.{Anything}
+use Rattle.vr_mount.specs.Touched.{Anything}
 use Rattle.vr_recover.specs.Undone.{ArePutBack, HasAllRecords, IsItemIn, IsReady}
 use Rattle.vr_recover.proofs.undone.put_back.Given as goal
 

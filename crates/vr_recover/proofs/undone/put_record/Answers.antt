@@ -9,8 +9,8 @@ use Rattle.vr_volume.specs.Laying.{IsFreeIn, IsLaidSo}
 use Rattle.vr_volume.specs.Safe.{IsSafeImage}
 use Rattle.vr_volume.proofs.Images.{image_of}
 use Rattle.vr_volume.proofs.Recovering.{each_image_is_safe}
+use Rattle.vr_mount.proofs.CallerLemmas.{touches-none}
 use Rattle.vr_recover.specs.Undone.{ArePutBack, IsItemIn}
-use Rattle.vr_recover.proofs.Made.{touches-none}
 use Rattle.vr_recover.proofs.PuttingBack.{live-has, live-list, one-back}
 use Rattle.vr_recover.proofs.undone.put_record.Goals as goal
 

@@ -4,7 +4,7 @@ use Rattle.vr_space.specs.Owners.{Owners}
 use Rattle.vr_space.specs.Part.{HasRoom, InPart, part_no}
 use Rattle.vr_space.proofs.CallerLemmas.{due-at-more, knows-keeps, rest-keeps, rest-sound, room-keeps}
 use Rattle.vr_volume.specs.Safe.{IsSafeImage}
-use Rattle.vr_recover.specs.Formatted.{Anything}
+use Rattle.vr_mount.specs.Touched.{Anything}
 use Rattle.vr_recover.proofs.PuttingBack.{firm-forced}
 use Rattle.vr_recover.proofs.undone.set_forced.Goals as goal
 

@@ -17,7 +17,7 @@ use Rattle.vr_volume.specs.PutBack.{images_of}
 use Rattle.vr_volume.specs.Safe.{IsSafeImage}
 use Rattle.vr_volume.proofs.Recovering.{each_image_is_safe}
 use Rattle.vr_volume.proofs.Rested.{stands-part, stays-apart}
-use Rattle.vr_recover.specs.Formatted.{Anything}
+use Rattle.vr_mount.specs.Touched.{Anything}
 use Rattle.vr_recover.specs.Undone.{FitsPart, HasContent, IsAllFirm, IsReady}
 use Rattle.vr_recover.specs.Undone.{alike}
 use Rattle.vr_recover.proofs.PartsBack.{all-at, all-before, all-others, all-parts, all-safe, all-set}

@@ -19,7 +19,7 @@ use Rattle.vr_event.specs.Acting.{IsActed}
 use Rattle.vr_event.specs.Getting.{IsEntered}
 use Rattle.vr_event.specs.Lacking.{IfNoSpace, IsLacking, LacksRoomIn}
 use Rattle.vr_event.specs.Putting.{IfAgain, IsReadyFor, MayLackRoom, MayWeigh}
-use Rattle.vr_event.specs.Store.{StoreNow}
+use Rattle.vr_store.specs.Store.{StoreNow}
 use Rattle.vr_event.specs.declared.act.Act.{Act}
 use Rattle.vr_event.specs.declared.act.Act.TheVariants.{Again, Done}
 use Rattle.vr_event.specs.declared.weighing.Weighed.TheVariants as weighed

@@ -3,9 +3,9 @@ use Rattle.vr_types.specs.Space.{free_count}
 use Rattle.vr_history.specs.Step.{case_of}
 use Rattle.vr_record_file.specs.Now.{FileNow, state_now}
 use Rattle.vr_event.specs.Getting.{IsAsked, MayEnd}
-use Rattle.vr_event.specs.Store.{IsStored, StoreNow}
+use Rattle.vr_store.specs.Store.{IsStored, StoreNow}
 use Rattle.vr_event.specs.Volume.{IsHeld, VolumeNow}
-use Rattle.vr_event.proofs.Keeping.{stored-keeps}
+use Rattle.vr_store.proofs.CallerLemmas.{stored-keeps}
 use Rattle.vr_event.specs.Cause.{HasReplyCause, reply_of}
 use Rattle.vr_event.proofs.volume.Volume.decide_read.Goals as goal
 

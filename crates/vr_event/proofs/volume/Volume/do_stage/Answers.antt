@@ -10,14 +10,14 @@ use Rattle.vr_record_file.specs.Now.{FileNow, state_now, with_event}
 use Rattle.vr_volume.specs.Crashes.{RecoversTo}
 use Rattle.vr_event.specs.Acting.{IsActed}
 use Rattle.vr_event.specs.Putting.{IsChanging}
-use Rattle.vr_event.specs.Store.{StoreNow}
+use Rattle.vr_store.specs.Store.{StoreNow}
 use Rattle.vr_event.specs.Volume.{IsHeld, IsWhole, VolumeNow}
 use Rattle.vr_event.specs.declared.act.Act.TheVariants as acts
-use Rattle.vr_event.specs.declared.no.LookNo.TheVariants.{Fault}
+use Rattle.vr_store.specs.declared.no.LookNo.TheVariants.{Fault}
 use Rattle.vr_event.proofs.Acted.{failed-for}
 use Rattle.vr_event.proofs.Causes.{entered-refused}
 use Rattle.vr_event.proofs.Entering.{held-refused}
-use Rattle.vr_event.proofs.Placing.{shapes-same}
+use Rattle.vr_store.proofs.CallerLemmas.{shapes-same}
 use Rattle.vr_event.proofs.Recovering.{stored-recovers}
 use Rattle.vr_event.proofs.Replied.{not-failed, not-same, not-split, replied-over}
 use Rattle.vr_event.proofs.UnitEnded.{held-stopped}

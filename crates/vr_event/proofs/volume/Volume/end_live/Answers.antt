@@ -6,7 +6,7 @@ use Rattle.vr_record_file.specs.Now.{FileNow, MayBeAsked, state_now}
 use Rattle.vr_volume.specs.Committed.{KeepsNoneIf}
 use Rattle.vr_volume.specs.Steps.{IsEndedIn}
 use Rattle.vr_event.specs.Acting.{IsActed, IsLeftIn}
-use Rattle.vr_event.specs.Store.{StoreNow}
+use Rattle.vr_store.specs.Store.{StoreNow}
 use Rattle.vr_event.specs.Volume.{IsHeld, VolumeNow}
 use Rattle.vr_event.specs.declared.act.Act.TheVariants as acts
 use Rattle.vr_event.proofs.Acts.{acted-ended, acted-failed, write-counted}

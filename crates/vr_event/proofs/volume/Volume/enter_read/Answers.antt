@@ -4,7 +4,7 @@ use Rattle.vr_types.specs.declared.reply.Reply.TheVariants.{Refused}
 use Rattle.vr_history.specs.Step.{case_of}
 use Rattle.vr_record_file.specs.Now.{MayBeAsked, state_now}
 use Rattle.vr_event.specs.Volume.{IsHeld, VolumeNow}
-use Rattle.vr_event.specs.declared.no.LookNo.TheVariants.{Memory}
+use Rattle.vr_store.specs.declared.no.LookNo.TheVariants.{Memory}
 use Rattle.vr_event.proofs.Ended.{may-fail}
 use Rattle.vr_event.proofs.Entries.{may-asked}
 use Rattle.vr_event.specs.Cause.{HasGetCause}

@@ -3,7 +3,7 @@ use Rattle.vr_types.specs.Moments.{Guards}
 use Rattle.vr_types.specs.Space.{free_count}
 use Rattle.vr_record_file.specs.Now.{state_now}
 use Rattle.vr_volume.specs.Crashes.{RecoversTo}
-use Rattle.vr_event.specs.Store.{StoreNow}
+use Rattle.vr_store.specs.Store.{StoreNow}
 use Rattle.vr_event.specs.Volume.{IsHeld, VolumeNow}
 use Rattle.vr_event.proofs.Recovers.{recovers-safe}
 use Rattle.vr_event.proofs.volume.Volume.force_some.Goals as goal

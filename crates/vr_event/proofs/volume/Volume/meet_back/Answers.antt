@@ -1,6 +1,6 @@
 use Rattle.std.proofs.Common.{ap, subst, sym}
 use Rattle.vr_record_file.specs.Now.{state_now}
-use Rattle.vr_event.specs.Store.{StoreNow}
+use Rattle.vr_store.specs.Store.{StoreNow}
 use Rattle.vr_event.specs.Volume.{IsHeld, VolumeNow}
 use Rattle.vr_event.proofs.Stepped.{held-with}
 use Rattle.vr_event.proofs.volume.Volume.meet_back.Goals as goal

@@ -5,7 +5,7 @@ use Rattle.vr_history.specs.Legal.{state_of}
 use Rattle.vr_history.specs.State.{State, opening_state}
 use Rattle.vr_record_file.specs.Now.{state_now}
 use Rattle.vr_event.specs.Opening.{owned_in}
-use Rattle.vr_event.specs.Store.{IsStored, StoreNow, part_now}
+use Rattle.vr_store.specs.Store.{IsStored, StoreNow, part_now}
 use Rattle.vr_event.proofs.Opened.{free-owned, opened-stored}
 use Rattle.vr_event.proofs.volume.Volume.new.Goals as goal
 

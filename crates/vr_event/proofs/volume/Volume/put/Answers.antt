@@ -19,12 +19,12 @@ use Rattle.vr_record_file.specs.Now.{FileNow, IsStateOf, MayBeAsked, failed, sta
 use Rattle.vr_record_file.specs.Now.{with_event}
 use Rattle.vr_volume.specs.Crashes.{RecoversTo}
 use Rattle.vr_event.specs.Acting.{IsActed}
-use Rattle.vr_event.specs.Changing.{IsMadeOf}
+use Rattle.vr_store.specs.Change.{IsMadeOf}
 use Rattle.vr_event.specs.Putting.{IsChanging, IsReadyFor, need_at}
-use Rattle.vr_event.specs.Store.{PartNow, StoreNow, part_among}
+use Rattle.vr_store.specs.Store.{PartNow, StoreNow, part_among}
 use Rattle.vr_event.specs.Volume.{IsHeld, IsWhole, VolumeNow}
 use Rattle.vr_event.specs.declared.act.Act.TheVariants as acts
-use Rattle.vr_event.specs.declared.no.LookNo.TheVariants.{Fault}
+use Rattle.vr_store.specs.declared.no.LookNo.TheVariants.{Fault}
 use Rattle.vr_event.proofs.Causes.{cause-calm}
 use Rattle.vr_event.proofs.Entering.{held-refused}
 use Rattle.vr_event.proofs.Makes.{entered-change, has-room, held-put, may-reply, replied}
@@ -401,7 +401,7 @@ returns-in-Err-Memory-clause-whole g c =
     (ap (λ (f : FileNow). f.catalog) c.refuse.ensures.same
     ∙ ap (λ (f : FileNow). f.catalog) c.put_at_place.ensures.file)
     (λ going. ap (λ (s : StoreNow). s.log.geometry) left.1)
-    (λ going n. ap (λ (s : StoreNow). Rattle.vr_event.specs.Store.shape_among s.parts n) left.1)
+    (λ going n. ap (λ (s : StoreNow). Rattle.vr_store.specs.Store.shape_among s.parts n) left.1)
     (λ going. left.2)
 
 pub returns-in-Ok-clause-acted : goal.returns-in-Ok-clause-acted

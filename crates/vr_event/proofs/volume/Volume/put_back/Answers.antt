@@ -6,10 +6,10 @@ use Rattle.vr_undo.specs.Records.{image_of}
 use Rattle.vr_record_file.specs.Now.{FileNow, state_now}
 use Rattle.vr_volume.specs.Crashes.{RecoversTo}
 use Rattle.vr_event.specs.EndedFile.{IsEnding}
-use Rattle.vr_event.specs.Store.{StoreNow}
+use Rattle.vr_store.specs.Store.{StoreNow}
 use Rattle.vr_event.specs.Volume.{IsHeld, VolumeNow}
 use Rattle.vr_event.proofs.Asking.{write-asked}
-use Rattle.vr_event.proofs.Lasting.{last-state}
+use Rattle.vr_store.proofs.CallerLemmas.{last-state}
 use Rattle.vr_event.proofs.Recovers.{recovers-safe}
 use Rattle.vr_event.proofs.Stepped.{held-at, held-undone, known-with, undone-in}
 use Rattle.vr_event.proofs.volume.Volume.put_back.Goals as goal

@@ -6,7 +6,7 @@ use Rattle.vr_answer.specs.Tried.{file_refusals}
 use Rattle.vr_record_file.specs.Now.{FileNow, state_now}
 use Rattle.vr_event.specs.Lacking.{IfLacks, LacksRoomIn}
 use Rattle.vr_event.specs.Putting.{MayWeigh}
-use Rattle.vr_event.specs.Store.{StoreNow}
+use Rattle.vr_store.specs.Store.{StoreNow}
 use Rattle.vr_event.specs.Volume.{IsHeld, IsWhole, VolumeNow}
 use Rattle.vr_event.proofs.MetParts.{met-shapes}
 use Rattle.vr_event.proofs.Wholes.{held-moved, whole-of}

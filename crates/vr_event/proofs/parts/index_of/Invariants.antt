@@ -1,7 +1,0 @@
-use Rattle.std.proofs.Common.{◌≡◌, ◌==◌, ℕ, false, ◌<◌, get_or}
-use Rattle.vr_event.specs.declared.parts.Laid.{Laid}
-use Rattle.vr_event.proofs.parts.index_of.Given as goal
-
-abbrev pub invariant-loop-at : goal.invariant-loop-at
-invariant-loop-at g l =
-    (k : ℕ) (d : Laid _) → k < l.at → ((get_or l.parts k d).number.0 == l.number.0) ≡ false

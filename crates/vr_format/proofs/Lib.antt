@@ -1,0 +1,10 @@
+pub mod Tops
+pub mod Records
+pub mod OneInterval
+pub mod Steps
+pub mod NewVolume
+pub mod Safety
+pub mod Taken
+pub mod Order
+pub mod Members
+pub mod Plans

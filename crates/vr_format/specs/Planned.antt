@@ -1,0 +1,129 @@
+-- What is to be formatted, for the private functions that write it.
+use Rattle.std.specs.Prelude.{◌≡◌, ◌≢◌, ◌+◌, ◌*◌, ◌-◌, ◌^◌, ◌<◌, ◌≤◌, ℕ, true, IsTrue, List, []}
+use Rattle.std.specs.Prelude.{◌∷◌}
+use Rattle.std.specs.Prelude.{length, replicate, map, All, Some, None, slice_get}
+use Rattle.std.specs.List.Sorted.{IsStrictlySortedBy}
+use Rattle.std.specs.Ordering.{is_le}
+use Rattle.vr_types.specs.BlockSize.{IsBlockSize}
+use Rattle.vr_types.specs.Content.{Content, Placed, Standing, place_cmp}
+use Rattle.vr_types.specs.Geometry.{head_block, area_count}
+use Rattle.vr_types.specs.Image.{Image}
+use Rattle.vr_types.specs.declared.geometry.Geometry.{Geometry}
+use Rattle.vr_ci.specs.Interval as ci
+use Rattle.vr_seqset.specs.Entry.{Entry}
+use Rattle.vr_seqset.specs.Numbers.{intervals_used}
+use Rattle.vr_seqset.specs.SequenceSet.{SequenceSet}
+use Rattle.vr_space.specs.Keyed.{Keyed, IsValid, key_of}
+use Rattle.vr_space.specs.Part.{Shape, KeyedShape, StandsFor}
+use Rattle.vr_catalog.specs.Definition.{catalog_definition}
+use Rattle.vr_catalog.specs.Record.{spelling}
+use Rattle.vr_catalog.specs.declared.entry.CatEntry.{CatEntry}
+use Rattle.vr_attach.specs.Laid.{AreApart, keyed_part}
+use Rattle.vr_volume.specs.CatalogRules.{IsCatalog}
+use Rattle.vr_volume.specs.Laid.{shape_by}
+use Rattle.vr_format.specs.Fit.{AreTaken}
+use Rattle.vr_format.specs.Formatted.{catalog_of}
+
+-- ---- a part with one interval in use
+
+-- interval 0 has all places
+abbrev pub all_places : ℕ → Entry
+all_places key = record { intervals = 0 ∷ []; high = replicate key 255 }
+
+-- the head of a part that has this entry alone
+abbrev pub one_head : Keyed → SequenceSet
+one_head part = record {
+  first = true;
+  part = part.part;
+  next = None;
+  top = 0;
+  index_area = None;
+  low = replicate part.key 0;
+  entries = all_places part.key ∷ [];
+}
+
+-- A part may have such a head.
+pub record HasHead (part : Keyed) : Type 0 where
+  pub size : IsBlockSize part.size
+  pub key : 0 < part.key
+  pub used : 0 < intervals_used part.area part.size part.key
+  pub number : part.part < 2 ^ 32
+
+-- the record of an entry, as an item of an interval
+abbrev pub item_of : CatEntry → ci.Item
+item_of entry = record { bytes = spelling entry; live = true }
+
+-- the record of an entry at its key
+abbrev pub record_of : Keyed → CatEntry → Placed
+record_of part entry = (key_of part (spelling entry), Standing (spelling entry))
+
+abbrev pub content_of : Keyed → List CatEntry → Content
+content_of part entries = map (record_of part) entries
+
+-- The records of these entries may stand in interval 0 of the part.
+pub record MayStand (part : Keyed) (entries : List CatEntry) : Type 0 where
+  pub valid : All (λ (entry : CatEntry). IsValid part (spelling entry)) entries
+  pub ascends : IsStrictlySortedBy place_cmp
+      (map (λ (entry : CatEntry). key_of part (spelling entry)) entries)
+  pub within : All (λ (entry : CatEntry).
+      IsTrue (is_le (place_cmp (key_of part (spelling entry)) (replicate part.key 255)))) entries
+  pub room : 207 * length entries ≤ part.size - 4
+
+-- ---- a volume
+
+abbrev pub catalog_keyed : Geometry → Keyed
+catalog_keyed geometry = keyed_part geometry 0 0 catalog_definition
+
+-- a key-sequenced cluster in this area
+abbrev pub cluster_keyed : Geometry → ℕ → CatEntry → Keyed
+cluster_keyed geometry area entry = record {
+  part = entry.part.0;
+  head = head_block geometry area;
+  area = geometry.area;
+  size = geometry.size;
+  key = entry.key_length;
+  offset = entry.key_offset;
+  most = entry.maximum;
+}
+
+-- It may have a head, and each of its records has room in an interval of its own.
+pub record IsCluster (geometry : Geometry) (entry : CatEntry) : Type 0 where
+  pub head : HasHead (cluster_keyed geometry 0 entry)
+  pub most : entry.maximum + 7 ≤ geometry.size
+
+-- the first clusters, this many, have no record
+abbrev pub AreEmpty : Geometry → List CatEntry → ℕ → Image → Type 0
+AreEmpty geometry clusters n image = (at : ℕ) (entry : CatEntry) → at < n
+    → slice_get clusters at ≡ Some entry
+    → StandsFor (KeyedShape (cluster_keyed geometry (at + 1) entry)) image []
+
+-- the areas of this many clusters
+abbrev pub InClusters : Geometry → ℕ → ℕ → Type 0
+InClusters geometry clusters n =
+    (head_block geometry 1 ≤ n) × (n < head_block geometry (clusters + 1))
+
+-- a part of the volume is one of these clusters: the first in area 1, and so on
+pub record IsOneOf (geometry : Geometry) (clusters : List CatEntry) (shape : Shape) : Type 0 where
+  pub at : ℕ
+  pub entry : CatEntry
+  pub there : slice_get clusters at ≡ Some entry
+  pub shape_is : shape ≡ KeyedShape (cluster_keyed geometry (at + 1) entry)
+
+-- A volume may be formatted with this catalog and these clusters.
+pub record ArePlanned (geometry : Geometry) (entries clusters : List CatEntry) : Type 0 where
+  pub catalog : IsCatalog geometry (catalog_of entries)
+  pub apart : AreApart (shape_by geometry (catalog_of entries))
+  pub content : catalog_of entries ≡ content_of (catalog_keyed geometry) entries
+  pub records : MayStand (catalog_keyed geometry) entries
+  pub keyed : All (IsCluster geometry) clusters
+  pub areas : length clusters < area_count geometry
+  pub laid : (part : ℕ) (shape : Shape) → part ≢ 0
+      → shape_by geometry (catalog_of entries) part ≡ Some shape → IsOneOf geometry clusters shape
+
+-- A volume may be formatted with these clusters, which the entries are taken as, and with this order
+-- of them in its catalog.
+pub record ArePlannedFor (geometry : Geometry) (entries clusters ordered : List CatEntry) : Type 0
+  where
+    pub taken : AreTaken geometry entries clusters
+    pub same : catalog_of ordered ≡ catalog_of clusters
+    pub planned : ArePlanned geometry ordered clusters

@@ -1,5 +1,0 @@
-use Rattle.vr_recover.proofs.NewVolume.{none-stand}
-use Rattle.vr_recover.proofs.clusters.write_cluster.Goals as goal
-
-pub write_part-requires-clause-records : goal.write_part-requires-clause-records
-write_part-requires-clause-records g c = none-stand c.cluster_layout-layout.result

@@ -1,8 +1,0 @@
-use Rattle.vr_recover.proofs.Safe.{formatted-safe, owned}
-use Rattle.vr_recover.proofs.laws.formatted_is_safe.Goals as goal
-
-pub returns : goal.returns
-returns c geometry number entries image formatted = (
-  (owned geometry number entries image formatted).0,
-  formatted-safe geometry number entries image formatted,
-)

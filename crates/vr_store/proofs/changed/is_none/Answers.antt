@@ -1,0 +1,21 @@
+use Rattle.std.proofs.Common.{◌≡◌, ◌∷◌, ◌∙◌, [], List, arith, length, refl, sym}
+use Rattle.std.proofs.lemmas.Bool.Decides.{Decides-eqb}
+use Rattle.vr_store.proofs.Listed.{none-listed, unit-listed}
+use Rattle.vr_store.proofs.changed.is_none.Goals as goal
+
+empty-of : {X : Type 0} (xs : List X) → length xs ≡ 0 → xs ≡ []
+empty-of [] none = refl
+empty-of (x ∷ xs) none = absurd (omega (arith, none))
+
+pub returns-in-Some : goal.returns-in-Some
+returns-in-Some c empty =
+    unit-listed c.args.unit c.args.changed.now.items c.deref.result.now c.place_of.result
+    c.deref.ensures.value c.place_of.ensures c.in-Some.at c.index.result.now c.in-Some.is
+    c.index.ensures
+    ∙ (let none = empty-of c.as_slice.result.now
+    ((Decides-eqb (length c.as_slice.result.now) 0).0 (sym c.is_empty.ensures ∙ empty)) in
+    cc)
+
+pub returns-in-None : goal.returns-in-None
+returns-in-None c told = none-listed c.args.unit c.args.changed.now.items c.deref.result.now
+    c.place_of.result c.deref.ensures.value c.place_of.ensures c.in-None.is

@@ -1,0 +1,94 @@
+use Rattle.std.proofs.Common.{◌≡◌, ℕ, List, Option, sym, ap, subst, ◌∙◌, map}
+use Rattle.std.proofs.lemmas.Result.{IfOk-weaker}
+use Rattle.vr_types.specs.Content.{record_at}
+use Rattle.vr_types.proofs.CallerLemmas.{keeps-none}
+use Rattle.vr_space.specs.Part.{IsPlaceOf, Shape, record_read}
+use Rattle.vr_history.specs.State.{State}
+use Rattle.vr_log.specs.LogNow.{LogNow}
+use Rattle.vr_undo.specs.declared.record.KeptRecord.{KeptRecord}
+use Rattle.vr_types.specs.declared.unit.PartNo.{PartNo}
+use Rattle.vr_store.specs.Store.{ChangedBy, IsSet, IsStored, PartNow, StoreNow, changed_by}
+use Rattle.vr_store.specs.Store.{part_now}
+use Rattle.vr_store.proofs.PutNothing.{set-keeps, stored-keeps}
+use Rattle.vr_store.proofs.PartsAt.{laid-found, laid-same, none-laid}
+use Rattle.vr_store.proofs.Recorded.{at-shape, none-read, record-read, set-at, stand-at}
+use Rattle.vr_store.proofs.store.Store.look.Goals as goal
+
+pub copy_at-requires : goal.copy_at-requires
+copy_at-requires g c =
+    let shape = g.P.Part.shape in
+    let known = g.P.Part.known in
+    let store = c.args.self.now in
+    let a = g.B.Blocks.seen c.args.blocks.now in
+    let laid = c.index_mut.result.now in
+    let number = c.args.number.0 in
+    let part = part_now shape known laid in
+    let found = laid-found shape known c.self.inside.parts.items number c.deref.result.now
+    c.index_of.result store.parts c.deref.ensures.value
+    (ap (λ (s : StoreNow). s.parts) c.self.view_is) c.index_of.ensures c.in-Some.at c.in-Some.is
+    laid c.index_mut.ensures.value in
+    record {
+      on = (set-at store a c.requires.set number part found).on;
+      place = at-shape (λ (s : Shape). IsPlaceOf s c.args.place.now) store.parts number part found
+          c.requires.place;
+      stands = λ told. stand-at store a c.requires.set number part found
+          (g.met.B.Blocks.cur_may c.args.blocks.now told) (c.requires.stands told);
+    }
+
+abbrev store-of : LogNow → List KeptRecord → List ChangedBy → List (Option PartNo)
+    → List PartNow → StoreNow
+store-of log undo changed space parts =
+    record { log = log; undo = undo; parts = parts; changed = changed; space = space }
+
+pub returns-in-Some : goal.returns-in-Some
+returns-in-Some g c =
+    let shape = g.P.Part.shape in
+    let known = g.P.Part.known in
+    let store = c.args.self.now in
+    let inside = c.self.inside in
+    let a = g.B.Blocks.seen c.args.blocks.now in
+    let b = g.B.Blocks.seen c.copy_at.new.blocks in
+    let laid = c.index_mut.result.now in
+    let number = c.args.number.0 in
+    let part = part_now shape known laid in
+    let found = laid-found shape known inside.parts.items number c.deref.result.now
+    c.index_of.result store.parts c.deref.ensures.value
+    (ap (λ (s : StoreNow). s.parts) c.self.view_is) c.index_of.ensures c.in-Some.at c.in-Some.is
+    laid c.index_mut.ensures.value in
+    let same = ap
+    (store-of inside.log inside.undo (map changed_by inside.changed.items) inside.space)
+    (laid-same shape known inside.parts.items c.in-Some.at laid c.copy_at.new.part
+    c.index_mut.ensures.value c.copy_at.ensures.shape c.copy_at.ensures.known)
+    ∙ c.self.view_is in
+    record {
+      found = λ told. IfOk-weaker c.copy_at.result
+          (λ (got : Option (List ℕ)). got ≡ record_read part.shape a.cur c.args.place.now)
+          (λ (got : Option (List ℕ)). (volume : ℕ) (state : State) → IsStored volume store state a
+          → got ≡ record_at (state.contents number) c.args.place.now)
+          (λ got is volume state stored. is
+          ∙ record-read store a c.requires.set volume state number part found stored
+          c.args.place.now)
+          (c.copy_at.ensures.found told);
+      same = same;
+      set = subst (λ (s : StoreNow). IsSet s b) (sym same)
+          (set-keeps g.B.Blocks.tells store a b c.copy_at.ensures.keeps c.requires.set);
+      stored = λ told volume state stored. subst (λ (s : StoreNow). IsStored volume s state b)
+          (sym same)
+          (stored-keeps g.B.Blocks.tells told a b c.copy_at.ensures.keeps volume store state
+          (g.met.B.Blocks.cur_may c.args.blocks.now told) stored);
+      keeps = c.copy_at.ensures.keeps;
+      cause = c.copy_at.ensures.cause;
+    }
+
+pub returns-in-None-clause-found : goal.returns-in-None-clause-found
+returns-in-None-clause-found g c told volume state stored =
+    none-read c.args.self.now (g.B.Blocks.seen c.args.blocks.now) volume state c.args.number.0
+    (none-laid g.P.Part.shape g.P.Part.known c.self.inside.parts.items c.args.number.0
+    c.deref.result.now c.index_of.result c.args.self.now.parts c.deref.ensures.value
+    (ap (λ (s : StoreNow). s.parts) c.self.view_is) c.index_of.ensures c.in-None.is) stored
+    c.args.place.now
+
+pub returns-in-None-clause-keeps : goal.returns-in-None-clause-keeps
+returns-in-None-clause-keeps g c =
+    keeps-none g.B.Blocks.tells (g.B.Blocks.seen c.args.blocks.now)
+    (λ told image is. g.met.B.Blocks.images_may c.args.blocks.now image told is)

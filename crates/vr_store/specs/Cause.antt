@@ -1,0 +1,18 @@
+-- When a call that copies what a store has may answer what it answers. The rules are this project's
+-- own.
+use Rattle.std.specs.Prelude.{◌≡◌, ◌<◌, ◌≤◌, Result, IsErrOf, OnOk}
+use Rattle.vr_types.specs.Faults.{Faults}
+use Rattle.vr_types.specs.declared.fault.DeviceFault.TheVariants.{Read, Write}
+use Rattle.vr_store.specs.declared.no.LookNo.{LookNo}
+use Rattle.vr_store.specs.declared.no.LookNo.TheVariants.{Fault, Memory}
+
+-- Neither count falls, and neither rose where there is no fault; a fault comes only where the count
+-- of it rose.
+pub record HasLookCause {T : Type 0} (before now : Faults) (result : Result T LookNo) : Type 0
+  where
+    pub reads : before.reads ≤ now.reads
+    pub writes : before.writes ≤ now.writes
+    pub ok : OnOk result (now ≡ before)
+    pub memory : IsErrOf result Memory → now ≡ before
+    pub read : IsErrOf result (Fault Read) → before.reads < now.reads
+    pub write : IsErrOf result (Fault Write) → before.writes < now.writes

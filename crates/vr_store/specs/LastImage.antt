@@ -1,0 +1,51 @@
+-- The last before-image that a unit keeps, and what putting it back makes of the state. The rules are
+-- those of the record file; that the stages of a split come first is this project's own.
+use Rattle.std.specs.Prelude.{◌≡◌, ℕ, Bool, true, false, List, Option, Some, None, IfSome}
+use Rattle.vr_types.specs.Image.{Image}
+use Rattle.vr_types.specs.declared.unit.Unit.{Unit as UnitOfRecovery}
+use Rattle.vr_space.specs.Part.{stage_of}
+use Rattle.vr_space.specs.declared.room.Room.{Room}
+use Rattle.vr_space.specs.declared.room.Room.TheVariants.{NoSpace, Ready, Stage}
+use Rattle.vr_history.specs.Effects.{last_kept, with_change, without_last}
+use Rattle.vr_history.specs.State.{BeforeImage, State}
+use Rattle.vr_undo.specs.Records.{befores_of, last_in}
+use Rattle.vr_store.specs.Room.{IsDueAt}
+use Rattle.vr_store.specs.Store.{PartNow, StoreNow, part_among}
+
+abbrev pub last_of_unit : StoreNow → UnitOfRecovery → Option BeforeImage
+last_of_unit store unit = last_in unit (befores_of store.undo)
+
+-- it is so of the last one, where there is one
+abbrev pub OnLast : StoreNow → UnitOfRecovery → (BeforeImage → Type 0) → Type 0
+OnLast store unit P = IfSome (last_of_unit store unit) P
+
+-- a stage of a split comes before it
+abbrev pub IsDueAtLast : StoreNow → Image → UnitOfRecovery → ℕ → Type 0
+IsDueAtLast store image unit n =
+    OnLast store unit (λ last. IsDueAt store image last.part last.place n)
+
+abbrev pub is_stage : Room → Bool
+is_stage (Stage kind) = true
+is_stage Ready = false
+is_stage (NoSpace need free) = false
+
+-- no stage of a split is left at a place
+abbrev pub HasNoStage : StoreNow → Image → ℕ → List ℕ → Type 0
+HasNoStage store image number place = IfSome (part_among store.parts number)
+    (λ (part : PartNow). stage_of part.shape part.known image place ≡ None)
+
+-- where a record of a length is to be set at a place, a stage comes first, or none
+abbrev pub IsMetBy : Bool → StoreNow → Image → ℕ → List ℕ → ℕ → Type 0
+IsMetBy true store image number place n = IsDueAt store image number place n
+IsMetBy false store image number place n = HasNoStage store image number place
+
+-- The last before-image that the unit keeps is put back, and kept no more.
+pub record IsBackIn (unit : UnitOfRecovery) (old new : State) : Type 0 where
+  pub last : BeforeImage
+  pub is : last_kept old unit ≡ Some last
+  pub contents : new.contents
+      ≡ with_change (record { part = last.part; place = last.place; new = last.old }) old.contents
+  pub befores : new.befores ≡ without_last unit old.befores
+  pub logged : new.logged ≡ old.logged
+  pub used : new.used ≡ old.used
+  pub numbers : new.numbers ≡ old.numbers

@@ -1,0 +1,253 @@
+//! Room for a record of a store, and the stages that come before it.
+ghost use Rattle.std.specs.Prelude.{◌≡◌, ◌≢◌, ℕ, None, IsTrue, IfErr, IfOk, IfSome, OnErr, OnOk, map};
+ghost use Rattle.vr_types.specs.Blocks.{Keeps};
+ghost use Rattle.vr_types.specs.Faults.{HasCause};
+ghost use Rattle.vr_types.specs.Moments.{Guards};
+ghost use Rattle.vr_types.specs.declared.fault.DeviceFault.TheVariants.{Read};
+ghost use Rattle.vr_space.specs.Known.{HasMet};
+ghost use Rattle.vr_space.specs.Part.{IsLengthOf, IsPlaceOf, OwnersAfter};
+ghost use Rattle.vr_space.specs.Split.{IsIntervalStage};
+ghost use Rattle.vr_space.specs.declared.room.Room.TheVariants as answers;
+ghost use Rattle.vr_attach.specs.Owning.{owner_of};
+ghost use Rattle.vr_history.specs.State.{State};
+ghost use Rattle.vr_volume.specs.Committed.{committed_by};
+ghost use Rattle.vr_volume.specs.Safe.{IsSafeImage};
+ghost use Rattle.vr_store.specs.Parts.{OnlyMet, OnlySplit};
+ghost use Rattle.vr_store.specs.Room.{IsDueAt, IsRoomAt};
+ghost use Rattle.vr_store.specs.Store.{IsSet, IsStored, Stands, part_among, part_now, shape_among};
+ghost use Rattle.vr_store.specs.Store.{owners_of, store_of};
+
+use crate::changed::UnitBlocks;
+use crate::parts::{Laid, index_of};
+use crate::store::Store;
+use vr_log::UndoLog;
+use vr_space::{Part, Room};
+use vr_types::{Blocks, DeviceFault, PartNo, Place, Space, StageKind};
+use vr_undo::Undo;
+use vr_volume::do_stage;
+
+/// Asks a part of a store for room, beside what stands there and what units may put back. A fault is
+/// the device's.
+pub(crate) fn ask_at<B: Blocks, P: Part>(
+    blocks: &mut B,
+    log: &UndoLog,
+    undo: &Undo,
+    parts: &mut Vec<Laid<P>>,
+    changed: &Vec<UnitBlocks>,
+    space: &Space,
+    number: PartNo,
+    place: &Place,
+    length: u32,
+) -> Result<Room, DeviceFault>
+    requires set { IsSet (store_of P.shape P.known log.now undo.now parts.old.items
+        changed.now.items space.now) (B.seen blocks.old) }
+    requires part { part_among (map (part_now P.shape P.known) parts.old.items) number.0
+        ≢ None }
+    requires place { IfSome (shape_among (map (part_now P.shape P.known) parts.old.items)
+        number.0) (λ shape. IsPlaceOf shape place.now) }
+    requires length { IfSome (shape_among (map (part_now P.shape P.known) parts.old.items)
+        number.0) (λ shape. IsLengthOf shape length) }
+    requires stands { IsTrue B.tells → Stands (store_of P.shape P.known log.now undo.now
+        parts.old.items changed.now.items space.now) (B.seen blocks.old) }
+    ensures answer { IsTrue B.tells → IfOk result (λ room. IsRoomAt (store_of P.shape P.known
+        log.now undo.now parts.old.items changed.now.items space.now) (B.seen blocks.old).cur
+        number.0 place.now length room) }
+    ensures still { IsTrue B.tells → IfOk result (λ room. IsRoomAt (store_of P.shape P.known
+        log.now undo.now parts.new.items changed.now.items space.now) (B.seen blocks.new).cur
+        number.0 place.now length room) }
+    ensures met { OnOk result (IfSome
+        (part_among (map (part_now P.shape P.known) parts.new.items) number.0)
+        (λ part. HasMet part.known place.now)) }
+    ensures set { IsSet (store_of P.shape P.known log.now undo.now parts.new.items
+        changed.now.items space.now) (B.seen blocks.new) }
+    ensures stored { IsTrue B.tells → (volume : ℕ) (state : State)
+        → IsStored volume (store_of P.shape P.known log.now undo.now parts.old.items
+        changed.now.items space.now) state (B.seen blocks.old)
+        → IsStored volume (store_of P.shape P.known log.now undo.now parts.new.items
+        changed.now.items space.now) state (B.seen blocks.new) }
+    ensures parts { OnlyMet number.0 (map (part_now P.shape P.known) parts.old.items)
+        (map (part_now P.shape P.known) parts.new.items) }
+    ensures keeps { Keeps B.tells (B.seen blocks.old) (B.seen blocks.new) }
+    ensures cause { HasCause (B.faults blocks.old) (B.faults blocks.new) result }
+{
+    match index_of(parts, number) {
+        Some(at) => parts[at].part.room(blocks, space, undo, place, length),
+        None => unreachable!("the part is laid"),
+    }
+}
+
+/// Does the stage that comes before a record of this length at a place of a part of a store, and
+/// answers it. A fault is the device's.
+pub(crate) fn advance_at<B: Blocks, P: Part>(
+    blocks: &mut B,
+    log: &UndoLog,
+    undo: &Undo,
+    parts: &mut Vec<Laid<P>>,
+    changed: &Vec<UnitBlocks>,
+    space: &mut Space,
+    number: PartNo,
+    place: &Place,
+    length: u32,
+) -> Result<StageKind, DeviceFault>
+    requires set { IsSet (store_of P.shape P.known log.now undo.now parts.old.items
+        changed.now.items space.old) (B.seen blocks.old) }
+    requires part { part_among (map (part_now P.shape P.known) parts.old.items) number.0
+        ≢ None }
+    requires place { IfSome (shape_among (map (part_now P.shape P.known) parts.old.items)
+        number.0) (λ shape. IsPlaceOf shape place.now) }
+    requires length { IfSome (shape_among (map (part_now P.shape P.known) parts.old.items)
+        number.0) (λ shape. IsLengthOf shape length) }
+    requires stands { IsTrue B.tells → Stands (store_of P.shape P.known log.now undo.now
+        parts.old.items changed.now.items space.old) (B.seen blocks.old) }
+    requires due { IsTrue B.tells → IsDueAt (store_of P.shape P.known log.now undo.now
+        parts.old.items changed.now.items space.old) (B.seen blocks.old).cur number.0 place.now
+        length }
+    ensures stage { IsTrue B.tells → IfOk result (λ kind. IsRoomAt (store_of P.shape P.known
+        log.now undo.now parts.old.items changed.now.items space.old) (B.seen blocks.old).cur
+        number.0 place.now length (answers.Stage kind)) }
+    ensures owners { IfOk result (λ kind. OwnersAfter number kind space.old space.new) }
+    ensures owners_stay { OnErr result (space.new ≡ space.old) }
+    ensures interval { IsTrue B.tells → IfOk result IsIntervalStage }
+    ensures set { IsSet (store_of P.shape P.known log.now undo.now parts.new.items
+        changed.now.items space.new) (B.seen blocks.new) }
+    ensures stored { IsTrue B.tells → OnOk result ((volume : ℕ) (state : State)
+        → IsStored volume (store_of P.shape P.known log.now undo.now parts.old.items
+        changed.now.items space.old) state (B.seen blocks.old)
+        → IsStored volume (store_of P.shape P.known log.now undo.now parts.new.items
+        changed.now.items space.new) state (B.seen blocks.new)) }
+    // At every moment, whether it fails or not.
+    ensures moments { IsTrue B.tells → (volume : ℕ) (state : State)
+        → IsStored volume (store_of P.shape P.known log.now undo.now parts.old.items
+        changed.now.items space.old) state (B.seen blocks.old)
+        → Guards (B.seen blocks.old) (B.seen blocks.new)
+        (IsSafeImage log.now.geometry volume (owner_of log.now.geometry space.old) log.now
+        (committed_by state)) }
+    // It reads before it puts.
+    ensures unread { IfErr result (λ fault. fault ≡ Read
+        → Keeps B.tells (B.seen blocks.old) (B.seen blocks.new)
+        × (IsTrue B.tells → (volume : ℕ) (state : State)
+        → IsStored volume (store_of P.shape P.known log.now undo.now parts.old.items
+        changed.now.items space.old) state (B.seen blocks.old)
+        → IsStored volume (store_of P.shape P.known log.now undo.now parts.new.items
+        changed.now.items space.new) state (B.seen blocks.new))) }
+    ensures parts { OnlySplit number.0 (map (part_now P.shape P.known) parts.old.items)
+        (map (part_now P.shape P.known) parts.new.items) }
+    ensures cause { HasCause (B.faults blocks.old) (B.faults blocks.new) result }
+{
+    match index_of(parts, number) {
+        Some(at) => {
+            let part = &mut parts[at].part;
+            let kind = do_stage(blocks, part, space, undo, place, length)?;
+            Ok(kind)
+        }
+        None => unreachable!("the part is laid"),
+    }
+}
+
+impl<P: Part> Store<P> {
+    /// Whether a record of this length has room at a place of a part, beside what stands there and
+    /// what units may put back. The part keeps what it met, so that it may be set at the place
+    /// without a read. A fault is the device's.
+    pub fn ask_room<B: Blocks>(
+        &mut self,
+        blocks: &mut B,
+        number: PartNo,
+        place: &Place,
+        length: u32,
+    ) -> Result<Room, DeviceFault>
+        requires set { IsSet self.old (B.seen blocks.old) }
+        requires part { part_among self.old.parts number.0 ≢ None }
+        requires place { IfSome (shape_among self.old.parts number.0)
+            (λ shape. IsPlaceOf shape place.now) }
+        requires length { IfSome (shape_among self.old.parts number.0)
+            (λ shape. IsLengthOf shape length) }
+        requires stands { IsTrue B.tells → Stands self.old (B.seen blocks.old) }
+        ensures answer { IsTrue B.tells → IfOk result (λ room.
+            IsRoomAt self.old (B.seen blocks.old).cur number.0 place.now length room) }
+        // So it is once it was asked.
+        ensures still { IsTrue B.tells → IfOk result (λ room.
+            IsRoomAt self.new (B.seen blocks.new).cur number.0 place.now length room) }
+        ensures met { OnOk result (IfSome (part_among self.new.parts number.0)
+            (λ part. HasMet part.known place.now)) }
+        ensures set { IsSet self.new (B.seen blocks.new) }
+        ensures stored { IsTrue B.tells → (volume : ℕ) (state : State)
+            → IsStored volume self.old state (B.seen blocks.old)
+            → IsStored volume self.new state (B.seen blocks.new) }
+        ensures parts { OnlyMet number.0 self.old.parts self.new.parts }
+        ensures rest { self.new ≡ record self.old { parts = self.new.parts } }
+        ensures keeps { Keeps B.tells (B.seen blocks.old) (B.seen blocks.new) }
+        ensures cause { HasCause (B.faults blocks.old) (B.faults blocks.new) result }
+    {
+        ask_at(
+            blocks,
+            &self.log,
+            &self.undo,
+            &mut self.parts,
+            &self.changed,
+            &self.space,
+            number,
+            place,
+            length,
+        )
+    }
+
+    /// Does the stage that comes before a record of this length at a place of a part, and answers
+    /// it. The caller asks for room again. A fault is the device's.
+    pub fn advance<B: Blocks>(
+        &mut self,
+        blocks: &mut B,
+        number: PartNo,
+        place: &Place,
+        length: u32,
+    ) -> Result<StageKind, DeviceFault>
+        requires set { IsSet self.old (B.seen blocks.old) }
+        requires part { part_among self.old.parts number.0 ≢ None }
+        requires place { IfSome (shape_among self.old.parts number.0)
+            (λ shape. IsPlaceOf shape place.now) }
+        requires length { IfSome (shape_among self.old.parts number.0)
+            (λ shape. IsLengthOf shape length) }
+        requires stands { IsTrue B.tells → Stands self.old (B.seen blocks.old) }
+        requires due { IsTrue B.tells
+            → IsDueAt self.old (B.seen blocks.old).cur number.0 place.now length }
+        ensures stage { IsTrue B.tells → IfOk result (λ kind. IsRoomAt self.old
+            (B.seen blocks.old).cur number.0 place.now length (answers.Stage kind)) }
+        ensures owners { IfOk result (λ kind.
+            OwnersAfter number kind self.old.space self.new.space) }
+        ensures owners_stay { OnErr result (self.new.space ≡ self.old.space) }
+        // It is a stage of the split of one interval, which takes no area.
+        ensures interval { IsTrue B.tells → IfOk result IsIntervalStage }
+        ensures owners_same { IsTrue B.tells → self.new.space ≡ self.old.space }
+        ensures set { IsSet self.new (B.seen blocks.new) }
+        ensures stored { IsTrue B.tells → OnOk result ((volume : ℕ) (state : State)
+            → IsStored volume self.old state (B.seen blocks.old)
+            → IsStored volume self.new state (B.seen blocks.new)) }
+        // At every moment, whether it fails or not.
+        ensures moments { IsTrue B.tells → (volume : ℕ) (state : State)
+            → IsStored volume self.old state (B.seen blocks.old)
+            → Guards (B.seen blocks.old) (B.seen blocks.new)
+            (IsSafeImage self.old.log.geometry volume (owners_of self.old) self.old.log
+            (committed_by state)) }
+        // It reads before it puts.
+        ensures unread { IfErr result (λ fault. fault ≡ Read
+            → Keeps B.tells (B.seen blocks.old) (B.seen blocks.new)
+            × (IsTrue B.tells → (volume : ℕ) (state : State)
+            → IsStored volume self.old state (B.seen blocks.old)
+            → IsStored volume self.new state (B.seen blocks.new))) }
+        ensures parts { OnlySplit number.0 self.old.parts self.new.parts }
+        ensures rest { self.new
+            ≡ record self.old { parts = self.new.parts; space = self.new.space } }
+        ensures cause { HasCause (B.faults blocks.old) (B.faults blocks.new) result }
+    {
+        advance_at(
+            blocks,
+            &self.log,
+            &self.undo,
+            &mut self.parts,
+            &self.changed,
+            &mut self.space,
+            number,
+            place,
+            length,
+        )
+    }
+}
