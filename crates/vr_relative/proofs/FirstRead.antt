@@ -19,9 +19,9 @@ use Rattle.vr_space.proofs.CallerLemmas.{number-four, slots-some}
 use Rattle.vr_relative.specs.Chain.{ChainNow, IsChainNow, IsChainOf}
 use Rattle.vr_relative.specs.Searched.{HasNoneRead, IsFirstRead}
 use Rattle.vr_relative.specs.Written.{IsFirstLive}
-use Rattle.vr_relative.proofs.ChainReads.{IsReadIn, number-of-slot, place-read}
-use Rattle.vr_relative.proofs.ChainReads.{place-unread}
 use Rattle.vr_relative.proofs.Counted.{slots-under}
+use Rattle.vr_relative.proofs.Looking.{IsInBlock, look-past, look-there}
+use Rattle.vr_relative.proofs.NumberOf.{number-of-slot}
 
 -- a slot in which no record is read is empty
 empty-read : (item : Option ci.Item)
@@ -58,29 +58,24 @@ module _ (chain : ChainNow) (image : Image) (stands : Stands (RelativeShape chai
       let numbered =
       number-of-slot chain.part interval slot number inside same (omega (arith, inside, same, under))
       in
-      let read : IsReadIn chain image (four number) =
-      place-read chain image (four number) stands is numbered.place
-      (subst (λ (n : ℕ). n < chain.used) (sym numbered.interval_is) within) in
+      let found : IsInBlock chain image (four number)
+      (chain_block chain.part chain.areas interval) =
+      look-there chain image stands is (four number) (chain_block chain.part chain.areas interval)
+      numbered.place (subst (λ (n : ℕ). n < chain.used) (sym numbered.interval_is) within)
+      (ap (chain_block chain.part chain.areas) (sym numbered.interval_is)) in
       record {
-        slots_are =
-            subst (λ (n : ℕ). IsSlots chain.part
-            (block_at image (chain_block chain.part chain.areas n))) numbered.interval_is
-            read.slots;
+        slots_are = found.slots;
         reads =
-            read.reads
-            ∙ ap (λ (n : ℕ). option_and_then record_of (slot_item n (block_at image
-            (chain_block chain.part chain.areas (interval_of chain.part (four number))))))
-            numbered.slot_is
-            ∙ ap (λ (n : ℕ). option_and_then record_of (slot_item slot (block_at image
-            (chain_block chain.part chain.areas n)))) numbered.interval_is;
+            ap (λ (item : Option Item). option_and_then record_of item) found.item
+            ∙ ap (λ (n : ℕ). option_and_then record_of (slot_item n block)) numbered.slot_is;
       }
 
   -- the interval is one of slots
-  pub slots-here : 0 < slots → IsSlots chain.part block
+  slots-here : 0 < slots → IsSlots chain.part block
   slots-here some = (slot-read 0 (interval * slots + 0 + 1) some refl).slots_are
 
   -- where slots from one on are empty, no record is read there
-  pub none-read : (slot end : ℕ) → end ≤ slots → ((other : ℕ) → slot ≤ other → other < end
+  none-read : (slot end : ℕ) → end ≤ slots → ((other : ℕ) → slot ≤ other → other < end
       → slot_item other block ≡ None)
       → HasNoneRead chain.part image (interval * slots + slot + 1) (interval * slots + end + 1)
   none-read slot end most empty number least below =
@@ -90,7 +85,7 @@ module _ (chain : ChainNow) (image : Image) (stands : Stands (RelativeShape chai
       (empty other (omega (arith, least)) (omega (arith, least, below)))
 
   -- the first slot with a record is the first that is read
-  pub first-read : (slot found : ℕ) → IsFirstLive chain.part block slot found
+  first-read : (slot found : ℕ) → IsFirstLive chain.part block slot found
       → IsFirstRead chain.part image (interval * slots + slot + 1) ((interval + 1) * slots + 1)
       (interval * slots + found + 1)
   first-read slot found first = record {
@@ -100,6 +95,33 @@ module _ (chain : ChainNow) (image : Image) (stands : Stands (RelativeShape chai
         (sym (slot-read found (interval * slots + found + 1) first.below_is refl).reads ∙ none));
     none = none-read slot found (omega (arith, first.below_is)) first.none;
   }
+
+  -- the same by what was read of the interval
+  read-slots : (layout : Numbered) (bytes : Block) → layout ≡ chain.part → bytes ≡ block
+      → IsSlots layout bytes
+  read-slots layout bytes laid at =
+      subst (λ (p : Numbered). IsSlots p bytes) (sym laid)
+      (subst (IsSlots chain.part) (sym at) (slots-here (slots-some chain.part now.part_is)))
+
+  pub read-first : (layout : Numbered) (bytes : Block) → layout ≡ chain.part → bytes ≡ block
+      → (slot found : ℕ) → (IsSlots layout bytes → IsFirstLive layout bytes slot found)
+      → IsFirstRead chain.part image (interval * slots + slot + 1) ((interval + 1) * slots + 1)
+      (interval * slots + found + 1)
+  read-first layout bytes laid at slot found first =
+      first-read slot found
+      (subst (λ (b : Block). IsFirstLive chain.part b slot found) at
+      (subst (λ (p : Numbered). IsFirstLive p bytes slot found) laid
+      (first (read-slots layout bytes laid at))))
+
+  pub read-none : (layout : Numbered) (bytes : Block) → layout ≡ chain.part → bytes ≡ block
+      → (slot : ℕ) → (IsSlots layout bytes → (other : ℕ) → slot ≤ other
+      → slot_item other bytes ≡ None)
+      → HasNoneRead chain.part image (interval * slots + slot + 1) ((interval + 1) * slots + 1)
+  read-none layout bytes laid at slot empty number least below =
+      none-read slot slots (omega arith)
+      (λ other from within.
+      ap (slot_item other) (sym at) ∙ empty (read-slots layout bytes laid at) other from)
+      number least (omega (arith, below))
 
 -- ---- from a number on
 
@@ -130,6 +152,6 @@ pub none-past : (chain : ChainNow) (image : Image) → Stands (RelativeShape cha
     → IsChainOf chain image → (interval : ℕ) → chain.used ≤ interval
     → HasNoneRead chain.part image (interval * slots_of chain.part + 1) (2 ^ 32)
 none-past chain image stands is interval past number least below =
-    place-unread chain image (four number) stands is
+    look-past chain image stands is (four number)
     (omega (arith, past, (le-div_iff_mul-le {x = interval} {y = number_of (four number) - 1}
     (slots-some chain.part stands.1.part_is)).1 (omega (arith, least, number-four number below))))

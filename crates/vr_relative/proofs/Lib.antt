@@ -4,7 +4,7 @@ pub mod Ordered
 pub mod Reading
 pub mod Reached
 pub mod PlaceBlock
-pub mod ChainReads
+pub mod NumberOf
 pub mod FirstRead
 pub mod NextPlaces
 pub mod SlotSet

@@ -3,7 +3,6 @@ use Rattle.std.proofs.Common.{◌≡◌, ◌⊎◌, inl, inr, ◌↔◌, ◌+◌
 use Rattle.std.proofs.Common.{true, false, IsTrue, List, [], ◌∷◌, ◌++◌, length, take, replicate, refl}
 use Rattle.std.proofs.Common.{sym, ap, ◌∙◌, arith, true≢false}
 use Rattle.std.proofs.Common.{Option, Some, None, IfSome, subst}
-use Rattle.std.specs.Prelude.{cond}
 use Rattle.std.specs.Option.{SomeIff}
 use Rattle.std.specs.Cmp.{nat_cmp_is}
 use Rattle.std.specs.Ordering.{is_le, is_lt, nat_cmp, ordering_reverse, ordering_then}
@@ -14,7 +13,7 @@ use Rattle.std.proofs.lemmas.Cmp.{nat_list_cmp_total, ranked}
 use Rattle.vr_types.specs.Content.{place_cmp}
 use Rattle.vr_types.specs.Fields.{IsBytes, four}
 use Rattle.vr_space.proofs.CallerLemmas.{four_of-is, higher-after, lower-before}
-use Rattle.vr_relative.specs.Searched.{is_from, number_from}
+use Rattle.vr_relative.specs.Searched.{is_from, longest, number_from}
 
 suc-cmp : (m n : ℕ) → nat_cmp m n ≡ nat_cmp (suc m) (suc n)
 suc-cmp m n = grind (arith, ranked)
@@ -64,10 +63,6 @@ by-order : (past : Bool) (bytes place : List ℕ)
     → is_from past bytes place ≡ found_by past (place_cmp bytes place)
 by-order false bytes place = refl
 by-order true bytes place = refl
-
--- the most bytes that have the place of their own number among those that may be found
-abbrev pub longest : Bool → ℕ
-longest past = cond past 3 4
 
 less-found : (past : Bool) → found_by past Less ≡ true
 less-found false = refl
