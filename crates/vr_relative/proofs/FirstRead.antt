@@ -4,7 +4,7 @@ use Rattle.std.proofs.Common.{None, refl, sym, ap, subst, ◌∙◌, arith}
 use Rattle.std.proofs.Common.{◌⊎◌, inl, inr}
 use Rattle.std.proofs.Math.Nat.{le-div_iff_mul-le}
 use Rattle.std.proofs.lemmas.Bool.{cases_lt}
-use Rattle.std.specs.Prelude.{◌≢◌, cond, option_and_then, slice_get}
+use Rattle.std.specs.Prelude.{cond, option_and_then, slice_get}
 use Rattle.vr_types.specs.Content.{Item, record_of}
 use Rattle.vr_types.specs.Content.Item.{Standing}
 use Rattle.vr_types.specs.Fields.{four}
@@ -12,7 +12,7 @@ use Rattle.vr_types.specs.Image.{Block, Image, block_at}
 use Rattle.vr_ci.specs.Interval as ci
 use Rattle.vr_space.specs.Keyed.{items_of}
 use Rattle.vr_space.specs.Part.{RelativeShape, Stands, record_read}
-use Rattle.vr_space.specs.Slots.{IsSlots, chain_block, interval_of, number_of, slot_in, slot_item}
+use Rattle.vr_space.specs.Slots.{IsSlots, chain_block, number_of, slot_item}
 use Rattle.vr_space.specs.Slots.{slots_of, standing_in}
 use Rattle.vr_space.specs.Rosters.{Numbered}
 use Rattle.vr_space.proofs.CallerLemmas.{number-four, slots-some}
