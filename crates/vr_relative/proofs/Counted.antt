@@ -33,5 +33,9 @@ slots-under part areas used interval is within =
     let area = part.geometry.area in
     let intervals : interval + 1 ≤ area_count part.geometry * area =
     omega (arith, within, is.within, mul-le-mul_right area is.few) in
-    omega (arith, mul-le-mul_right (slots_of part) intervals, slots-below part is.part_is,
-    slots-up part (area_count part.geometry))
+    omega (
+      arith,
+      mul-le-mul_right (slots_of part) intervals,
+      slots-below part is.part_is,
+      slots-up part (area_count part.geometry),
+    )

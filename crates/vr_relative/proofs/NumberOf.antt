@@ -24,8 +24,12 @@ number-of-slot part interval slot number within is below =
     record {
       place = slot-place number (omega (arith, is)) below;
       interval_is = quotient;
-      slot_is = omega (arith, spelled, div-add-mod' (number_of (four number) - 1) slots,
-          ap (λ (n : ℕ). n * slots) quotient);
+      slot_is = omega (
+        arith,
+        spelled,
+        div-add-mod' (number_of (four number) - 1) slots,
+        ap (λ (n : ℕ). n * slots) quotient,
+      );
     }
 
 -- the interval and the slot of a number lead back to it
@@ -33,5 +37,10 @@ pub number-parts : (number slots interval slot : ℕ) → 0 < number
     → interval ≡ (number - 1) / slots → slot ≡ (number - 1) % slots
     → interval * slots + slot + 1 ≡ number
 number-parts number slots interval slot some quotient remainder =
-    omega (arith, some, div-add-mod' (number - 1) slots, remainder,
-    ap (λ (n : ℕ). n * slots) quotient)
+    omega (
+      arith,
+      some,
+      div-add-mod' (number - 1) slots,
+      remainder,
+      ap (λ (n : ℕ). n * slots) quotient,
+    )
