@@ -8,3 +8,6 @@ pub mod Meeting
 pub mod Refreshing
 pub mod Looking
 pub mod WritingSlots
+pub mod Counted
+pub mod Numbers
+pub mod Ordered
