@@ -14,3 +14,4 @@ pub mod Meeting
 pub mod Refreshing
 pub mod Looking
 pub mod WritingSlots
+pub mod Owning
