@@ -3,6 +3,7 @@ pub mod Reached
 pub mod PlaceBlock
 pub mod SlotSet
 pub mod SetAdds
+pub mod HeldBlocks
 pub mod Setting
 pub mod Meeting
 pub mod Refreshing

@@ -303,37 +303,6 @@ on-keeps part tells a m call on = record {
   size = call.size_same ∙ on.size;
 }
 
--- a used interval is one of the areas that are held
-pub block-held : (chain : ChainNow) (known : Known) (interval n : ℕ)
-    → chain.used ≤ length chain.areas * chain.part.geometry.area → interval < chain.used
-    → n ≡ chain_block chain.part chain.areas interval → known.areas ≡ chain.areas
-    → InHeld (RelativeShape chain.part) known n
-block-held chain known interval n fits within is same =
-    let whole : ℕ = chain.part.geometry.area in
-    let some : 0 < whole = some-area (length chain.areas) whole (omega (arith, fits, within)) in
-    let there : interval / whole < length chain.areas =
-    div-below interval (length chain.areas) whole some (omega (arith, fits, within)) in (
-      slice_index chain.areas (interval / whole),
-      subst (λ (areas : List ℕ). Contains areas (slice_index chain.areas (interval / whole)))
-          (sym same) (Contains-get_or chain.areas (interval / whole) 0 there),
-      subst (IsInArea chain.part (slice_index chain.areas (interval / whole))) (sym is)
-          (interval-inside chain.part (slice_index chain.areas (interval / whole))
-          (interval % whole) (mod-lt interval some)),
-    )
-  where
-    some-area : (count whole : ℕ) → 0 < count * whole → 0 < whole
-    some-area count zero less = omega (arith, less)
-    some-area count (suc whole) less = omega arith
-
-    div-below : (n count whole : ℕ) → 0 < whole → n < count * whole → n / whole < count
-    div-below n count whole some less = ⊎_elim (λ below. below)
-        (λ past. absurd (omega (
-          arith,
-          less,
-          div-mul-le_self n whole,
-          mul-le-mul_right {m = count} {n = n / whole} whole past,
-        ))) (cases_lt (n / whole) count)
-
 -- the same chain
 pub chain-keeps : (chain : ChainNow) (tells : Bool) → IsTrue tells → (a m : Seen)
     → Keeps tells a m → IsChainOf chain a.cur → IsChainOf chain m.cur

@@ -24,7 +24,8 @@ use Rattle.vr_ci.proofs.CallerLemmas.{interval_says, room-append, written_item}
 use Rattle.vr_space.specs.Keyed.{items_of}
 use Rattle.vr_space.specs.Rosters.{IsNumbered, Numbered}
 use Rattle.vr_space.specs.Slots.{IsSlots, slots_of}
-use Rattle.vr_relative.specs.Written.{AreSlotItems, HasSlotRoom, empty_slot, slot_given, slot_made}
+use Rattle.vr_relative.specs.Written.{AreSlotItems, HasSlotRoom, IsSlotSet, empty_slot, slot_given}
+use Rattle.vr_relative.specs.Written.{slot_made}
 use Rattle.vr_relative.proofs.Reading.{drop-first, drop-next}
 
 -- ---- one slot
@@ -117,7 +118,7 @@ module _ (part : Numbered) (slot : ℕ) (bytes : Option (List ℕ)) (all : List 
   making-starts left w same holds = record {
     left_is = same;
     holds = holds;
-    room = refl;
+    room = omega arith;
   }
 
   module _ (left after : List ci.Item) (at : ℕ) (w : CiWriter) (item : ci.Item)
@@ -213,7 +214,7 @@ pub record IsEmptying (part : Numbered) (at : ℕ) (w : CiWriter) : Type 0 where
   pub room : ci.room (replicate at (empty_slot part)) ≡ at * (part.most + 3)
 
 pub emptying-starts : (part : Numbered) (w : CiWriter) → Holds w [] → IsEmptying part 0 w
-emptying-starts part w holds = record { holds = holds; room = refl }
+emptying-starts part w holds = record { holds = holds; room = omega arith }
 
 pub emptying-room : (part : Numbered) (at : ℕ) (w : CiWriter) → IsEmptying part at w
     → 0 < part.most → at < slots_of part → size_of w ≡ part.geometry.size → HasSlotRoom part w
@@ -286,3 +287,22 @@ slots-written part form out items same long is =
       },
       sym said,
     )
+
+-- with one of them set
+pub set-written : (part : Numbered) (form : Form) (old out : Block) (slot : ℕ)
+    (bytes : Option (List ℕ)) (items : List ci.Item) → form ≡ forms.Slots part.most
+    → length out ≡ part.geometry.size
+    → ci.IsInterval form out (record {
+      shape = shapes.Records;
+      items = slice_set items slot (slot_given part bytes);
+      busy = false;
+    })
+    → items ≡ items_of old → IsSlotSet part slot bytes old out
+set-written part form old out slot bytes items same long is read =
+    let both = slots-written part form out (slice_set items slot (slot_given part bytes)) same long
+    is in
+    record {
+      slots = both.0;
+      items = both.1
+          ∙ ap (λ (xs : List ci.Item). slice_set xs slot (slot_given part bytes)) read;
+    }

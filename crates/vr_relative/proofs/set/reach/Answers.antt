@@ -15,6 +15,3 @@ returns-clause-has g c =
     on-ok-more c.meet.result _ _
     (λ first. first-has mets.filled (met_in mets.first) (met_in mets.second) c.args.place.now
     first.some first.here) c.meet.ensures.first
-
-pub returns-clause-known : goal.returns-clause-known
-returns-clause-known g c = λ has. absurd (c.has.ensures.none c.if-has.false has)

@@ -53,3 +53,21 @@ returns-clause-added c =
     making-ends c.args.layout.now c.args.slot (given c.args.bytes) c.args.view.now.items
     c.requires.items c.loop-at.slots c.loop-at.at c.loop-at.writer
     (omega (arith, c.slots-at-end.ensures.count)) c.loop-at.invariant.making
+
+pub loop-at-preserved : goal.loop-at-preserved
+loop-at-preserved c =
+    let item : ci.Item = record { bytes = c.in-Some.item.now; live = c.in-Some.live } in
+    let cut : c.loop-at.slots ≡ item ∷ c.next.new.self = search rules in
+    let making = c.loop-at.invariant.making in
+    record {
+      form = c.add_made.ensures.form ∙ c.loop-at.invariant.form;
+      size = c.add_made.ensures.size ∙ c.loop-at.invariant.size;
+      buffer = c.add_made.ensures.buffer ∙ c.loop-at.invariant.buffer;
+      making = making-more c.args.layout.now c.args.slot (given c.args.bytes)
+          c.args.view.now.items c.requires.items c.loop-at.slots c.next.new.self c.loop-at.at
+          c.loop-at.writer item cut making c.add_made.new.writer c.requires.given
+          (c.add_made.ensures.added _ item making.holds refl refl
+          (next-item c.args.layout.now c.args.slot (given c.args.bytes) c.args.view.now.items
+          c.requires.items c.loop-at.slots c.next.new.self c.loop-at.at c.loop-at.writer item cut
+          making));
+    }
