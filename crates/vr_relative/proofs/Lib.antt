@@ -1,6 +1,12 @@
+pub mod Counted
+pub mod Numbers
+pub mod Ordered
 pub mod Reading
 pub mod Reached
 pub mod PlaceBlock
+pub mod NumberOf
+pub mod FirstRead
+pub mod NextPlaces
 pub mod SlotSet
 pub mod SetAdds
 pub mod HeldBlocks
@@ -9,6 +15,3 @@ pub mod Meeting
 pub mod Refreshing
 pub mod Looking
 pub mod WritingSlots
-pub mod Counted
-pub mod Numbers
-pub mod Ordered

@@ -1,6 +1,8 @@
 -- The number that a slot's place spells.
-use Rattle.std.proofs.Common.{◌≡◌, ◌+◌, ◌*◌, ◌<◌, ℕ, List, [], ◌∷◌, length, refl, sym, ap, ◌∙◌, arith}
+use Rattle.std.proofs.Common.{◌≡◌, ◌+◌, ◌*◌, ◌<◌, ℕ, List, [], ◌∷◌, length, refl, sym, ap}
+use Rattle.std.proofs.Common.{◌∙◌, arith}
 use Rattle.std.proofs.lemmas.Nat.{be_bytes_4}
+use Rattle.std.specs.Int.{to_be_bytes, w32}
 use Rattle.vr_types.specs.Fields.{IsBytes, four, four_at}
 use Rattle.vr_types.proofs.CallerLemmas.{length-four}
 use Rattle.vr_space.specs.Slots.{IsSlotPlace, number_of}
@@ -40,3 +42,8 @@ start-bytes (a ∷ []) = omega arith
 start-bytes (a ∷ b ∷ []) = omega arith
 start-bytes (a ∷ b ∷ c ∷ []) = omega arith
 start-bytes (a ∷ b ∷ c ∷ d ∷ rest) = omega arith
+
+-- a number as it is written
+pub four-bytes : (n : ℕ) → four n ≡ to_be_bytes w32 n
+unfolding four
+four-bytes n = refl

@@ -1,9 +1,8 @@
 -- Which numbers of slots have places at given bytes or past them.
 use Rattle.std.proofs.Common.{◌≡◌, ◌⊎◌, inl, inr, ◌↔◌, ◌+◌, ◌<◌, ◌≤◌, ◌^◌, ℕ, zero, suc, Bool}
-use Rattle.std.proofs.Common.{true, false, IsTrue, List, [], ◌∷◌, ◌++◌, length, take, replicate, refl}
-use Rattle.std.proofs.Common.{sym, ap, ◌∙◌, arith, true≢false}
-use Rattle.std.proofs.Common.{Option, Some, None, IfSome, subst}
-use Rattle.std.specs.Prelude.{cond}
+use Rattle.std.proofs.Common.{true, false, IsTrue, List, [], ◌∷◌, ◌++◌, length, take, replicate}
+use Rattle.std.proofs.Common.{Option, Some, None, IfSome, refl, sym, ap, subst, ◌∙◌, arith}
+use Rattle.std.proofs.Common.{true≢false}
 use Rattle.std.specs.Option.{SomeIff}
 use Rattle.std.specs.Cmp.{nat_cmp_is}
 use Rattle.std.specs.Ordering.{is_le, is_lt, nat_cmp, ordering_reverse, ordering_then}
@@ -14,12 +13,13 @@ use Rattle.std.proofs.lemmas.Cmp.{nat_list_cmp_total, ranked}
 use Rattle.vr_types.specs.Content.{place_cmp}
 use Rattle.vr_types.specs.Fields.{IsBytes, four}
 use Rattle.vr_space.proofs.CallerLemmas.{four_of-is, higher-after, lower-before}
-use Rattle.vr_relative.specs.Searched.{is_from, number_from}
+use Rattle.vr_relative.specs.Searched.{is_from, longest, number_from}
 
 suc-cmp : (m n : ℕ) → nat_cmp m n ≡ nat_cmp (suc m) (suc n)
 suc-cmp m n = grind (arith, ranked)
 
--- Bytes are beside themselves, cut to a length or filled up to it, as their own length is beside it.
+-- Bytes are beside themselves, cut to a length or filled up to it, as their own length is beside
+-- that.
 cut-order : (k fill : ℕ) (from : List ℕ) → k ≤ fill
     → place_cmp from (take k (from ++ replicate fill 0)) ≡ nat_cmp (length from) k
 cut-order zero fill [] fits = refl
@@ -65,10 +65,6 @@ by-order : (past : Bool) (bytes place : List ℕ)
 by-order false bytes place = refl
 by-order true bytes place = refl
 
--- the most bytes that have the place of their own number among those that may be found
-abbrev pub longest : Bool → ℕ
-longest past = cond past 3 4
-
 less-found : (past : Bool) → found_by past Less ≡ true
 less-found false = refl
 less-found true = refl
@@ -103,20 +99,23 @@ short-found past bytes r each short below =
     by_order : (r < number_from bytes) ⊎ (number_from bytes ≤ r)
         → (number_from bytes < r) ⊎ (r ≤ number_from bytes)
         → IsTrue (is_from past bytes (four r)) ↔ (number_from bytes ≤ r)
-    by_order (inl lower) turned =
-        ((λ found. absurd (true≢false (sym found ∙ by-order past bytes (four r)
-        ∙ ap (found_by past) (order-lower bytes r each lower) ∙ greater-not past))),
-        (λ most. absurd (omega (arith, lower, most))))
-    by_order (inr least) (inl higher) =
-        ((λ found. least),
-        (λ most. by-order past bytes (four r)
-        ∙ ap (found_by past) (order-higher bytes r each higher below) ∙ less-found past))
+    by_order (inl lower) turned = (
+      (λ found. absurd (true≢false (sym found ∙ by-order past bytes (four r)
+          ∙ ap (found_by past) (order-lower bytes r each lower) ∙ greater-not past))),
+      (λ most. absurd (omega (arith, lower, most))),
+    )
+    by_order (inr least) (inl higher) = (
+      (λ found. least),
+      (λ most. by-order past bytes (four r)
+          ∙ ap (found_by past) (order-higher bytes r each higher below) ∙ less-found past),
+    )
     by_order (inr least) (inr most) =
-        let same : number_from bytes ≡ r = omega (arith, least, most) in
-        ((λ found. least),
-        (λ most. by-order past bytes (four r)
-        ∙ ap (λ (n : ℕ). found_by past (place_cmp bytes (four n))) (sym same)
-        ∙ ap (found_by past) (same-order bytes each) ∙ same-found past (length bytes) short))
+        let same : number_from bytes ≡ r = omega (arith, least, most) in (
+          (λ found. least),
+          (λ most. by-order past bytes (four r)
+              ∙ ap (λ (n : ℕ). found_by past (place_cmp bytes (four n))) (sym same)
+              ∙ ap (found_by past) (same-order bytes each) ∙ same-found past (length bytes) short),
+        )
 
 -- Of longer ones, those past it.
 pub long-found : (past : Bool) (bytes : List ℕ) (r : ℕ) → IsBytes bytes
@@ -128,20 +127,23 @@ long-found past bytes r each long below =
     by_order : (r < number_from bytes) ⊎ (number_from bytes ≤ r)
         → (number_from bytes < r) ⊎ (r ≤ number_from bytes)
         → IsTrue (is_from past bytes (four r)) ↔ (number_from bytes + 1 ≤ r)
-    by_order (inl lower) turned =
-        ((λ found. absurd (true≢false (sym found ∙ by-order past bytes (four r)
-        ∙ ap (found_by past) (order-lower bytes r each lower) ∙ greater-not past))),
-        (λ most. absurd (omega (arith, lower, most))))
-    by_order (inr least) (inl higher) =
-        ((λ found. omega (arith, higher)),
-        (λ most. by-order past bytes (four r)
-        ∙ ap (found_by past) (order-higher bytes r each higher below) ∙ less-found past))
+    by_order (inl lower) turned = (
+      (λ found. absurd (true≢false (sym found ∙ by-order past bytes (four r)
+          ∙ ap (found_by past) (order-lower bytes r each lower) ∙ greater-not past))),
+      (λ most. absurd (omega (arith, lower, most))),
+    )
+    by_order (inr least) (inl higher) = (
+      (λ found. omega (arith, higher)),
+      (λ most. by-order past bytes (four r)
+          ∙ ap (found_by past) (order-higher bytes r each higher below) ∙ less-found past),
+    )
     by_order (inr least) (inr most) =
-        let same : number_from bytes ≡ r = omega (arith, least, most) in
-        ((λ found. absurd (true≢false (sym found ∙ by-order past bytes (four r)
-        ∙ ap (λ (n : ℕ). found_by past (place_cmp bytes (four n))) (sym same)
-        ∙ ap (found_by past) (same-order bytes each) ∙ same-not past (length bytes) long))),
-        (λ more. absurd (omega (arith, more, most))))
+        let same : number_from bytes ≡ r = omega (arith, least, most) in (
+          (λ found. absurd (true≢false (sym found ∙ by-order past bytes (four r)
+              ∙ ap (λ (n : ℕ). found_by past (place_cmp bytes (four n))) (sym same)
+              ∙ ap (found_by past) (same-order bytes each) ∙ same-not past (length bytes) long))),
+          (λ more. absurd (omega (arith, more, most))),
+        )
 
 -- ---- the least of them
 

@@ -19,6 +19,11 @@ is_from true bytes place = is_lt (place_cmp bytes place)
 abbrev pub number_from : List ℕ → ℕ
 number_from bytes = number_of (take 4 (bytes ++ replicate 4 0))
 
+-- the most bytes whose own number has a place at them or past them, or past them alone
+abbrev pub longest : Bool → ℕ
+longest false = 4
+longest true = 3
+
 -- ---- the slots with a record, by their numbers
 
 -- none of the slots from a number on, below another, has a record

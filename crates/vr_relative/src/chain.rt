@@ -79,7 +79,8 @@ impl Chain {
         self.used
     }
 
-    /// The block of a used interval, by its number over the whole chain. None where that isn't used.
+    /// The block of a used interval, by its number over the whole chain. None where that isn't
+    /// used.
     pub fn block_of(&self, interval: u32) -> Option<u32>
         ensures used { IfSome result (λ n. interval < self.now.used) }
         ensures block { IfSome result
@@ -123,6 +124,15 @@ impl Chain {
         ensures below { result < slots_of self.now.part }
     {
         (number - 1) % self.layout.slots()
+    }
+
+    /// The number of a slot of a used interval.
+    pub(crate) fn number_of(&self, interval: u32, slot: u32) -> u32
+        requires used { interval < self.now.used }
+        requires there { slot < slots_of self.now.part }
+        ensures { result ≡ interval * slots_of self.now.part + slot + 1 }
+    {
+        interval * self.layout.slots() + slot + 1
     }
 
     /// The block of a place's interval. None where the place is that of no slot, or its interval

@@ -4,7 +4,7 @@ ghost use Rattle.std.specs.Prelude.{slice_index};
 ghost use Rattle.vr_types.specs.Fields.{four};
 ghost use Rattle.vr_space.specs.Slots.{IsSlotPlace, number_of};
 ghost use Rattle.vr_space.specs.Whence.{allows};
-ghost use Rattle.vr_relative.specs.Searched.{is_from, number_from};
+ghost use Rattle.vr_relative.specs.Searched.{is_from, longest, number_from};
 
 use vr_space::Whence;
 use vr_types::four_at;
@@ -40,8 +40,16 @@ fn start_number(bytes: &[u8]) -> u32
     ])
 }
 
-/// The least number whose four bytes are at these bytes or past them, or past them alone. None where
-/// there is none.
+/// The most bytes that are at the place of their own number, or before it where those past them
+/// alone count.
+fn longest_at(past: bool) -> usize
+    ensures { result ≡ longest past }
+{
+    if past { 3 } else { 4 }
+}
+
+/// The least number whose four bytes are at these bytes or past them, or past them alone. None
+/// where there is none.
 fn least_from(bytes: &[u8], past: bool) -> Option<u32>
     ensures some { IfSome result (λ n. (r : ℕ) → r < 4294967296
         → (IsTrue (is_from past bytes.now (four r)) ↔ (n ≤ r))) }
@@ -49,8 +57,7 @@ fn least_from(bytes: &[u8], past: bool) -> Option<u32>
         → IsTrue (is_from past bytes.now (four r)) → ⊥ }
 {
     let number = start_number(bytes);
-    let longest = if past { 3 } else { 4 };
-    if bytes.len() > longest {
+    if bytes.len() > longest_at(past) {
         number.checked_add(1)
     } else {
         Some(number)

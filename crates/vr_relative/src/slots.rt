@@ -1,9 +1,9 @@
 //! Reading the slots of an interval.
-ghost use Rattle.std.specs.Prelude.{◌≡◌, ◌≤◌, ◌↔◌, ℕ, true, false, Some, None, IfSome, IsTrue};
+ghost use Rattle.std.specs.Prelude.{◌≡◌, ◌≤◌, ◌<◌, ◌↔◌, ℕ, true, false, Some, None, IfSome, IsTrue};
 ghost use Rattle.std.specs.Prelude.{MatchOption};
 ghost use Rattle.vr_types.specs.Content.Item.{Standing};
 ghost use Rattle.vr_space.specs.Keyed.{items_of};
-ghost use Rattle.vr_space.specs.Slots.{IsSlots, slot_item};
+ghost use Rattle.vr_space.specs.Slots.{IsSlots, slot_item, slots_of};
 ghost use Rattle.vr_relative.specs.Written.{IsFirstLive, IsOfRecords};
 
 use vr_ci::{CiView, Form, Shape};
@@ -70,6 +70,7 @@ fn is_found(slot: u32, live: bool, from: u32) -> bool
 pub(crate) fn first_live(layout: &ChainLayout, block: &[u8], from: u32) -> Option<u32>
     ensures some { IsSlots layout.now block.now → IfSome result
         (IsFirstLive layout.now block.now from) }
+    ensures below { IfSome result (λ slot. slot < slots_of layout.now) }
     ensures none { IsSlots layout.now block.now → result ≡ None → (other : ℕ) → from ≤ other
         → slot_item other block.now ≡ None }
 {
