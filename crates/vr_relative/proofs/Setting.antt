@@ -1,14 +1,14 @@
 -- A record set in a slot of the chain, or none where the slot isn't there.
 use Rattle.std.proofs.Common.{◌≡◌, ◌<◌, ◌≤◌, ◌-◌, ◌*◌, ◌/◌, ◌%◌, ℕ, zero, suc, ⊎_elim}
-use Rattle.std.proofs.Common.{ Bool, IsTrue, true, false, List, [], ◌∷◌}
+use Rattle.std.proofs.Common.{Bool, IsTrue, true, false, List, [], ◌∷◌}
 use Rattle.std.proofs.Common.{length}
 use Rattle.std.proofs.Common.{Option, Some, None, refl, sym, ap, subst, ◌∙◌, arith, eqb-true}
 use Rattle.std.proofs.Common.{eq-eqb, true≢false}
-use Rattle.std.specs.Prelude.{Contains, IfSome, cond, nat_eq, nat_lt, slice_index}
+use Rattle.std.specs.Prelude.{IfSome, cond, nat_eq, nat_lt}
 use Rattle.std.specs.Option.{option_map}
-use Rattle.std.proofs.Math.Nat.{div-mul-le_self, mod-lt, mul-le-mul_right}
-use Rattle.std.proofs.lemmas.Bool.{cases_lt, ltb-true}
-use Rattle.std.proofs.lemmas.List.Elements.{All-nil, Contains-get_or}
+use Rattle.std.proofs.Math.Nat.{mod-lt}
+use Rattle.std.proofs.lemmas.Bool.{ltb-true}
+use Rattle.std.proofs.lemmas.List.Elements.{All-nil}
 use Rattle.vr_types.specs.Blocks.{Keeps, Puts}
 use Rattle.vr_types.specs.Content.Item.{Standing}
 use Rattle.vr_types.specs.Image.{Block, Image, block_at}
@@ -19,15 +19,16 @@ use Rattle.vr_space.specs.Known.{Known}
 use Rattle.vr_space.specs.Met.{Met}
 use Rattle.vr_space.specs.Owners.{Owners}
 use Rattle.vr_space.specs.Part.{CanSet, HasRoom, InPart, IsRecordOf, IsSound, Just, Nothing}
-use Rattle.vr_space.specs.Part.{InHeld, RelativeShape, SetsOne}
+use Rattle.vr_space.specs.Part.{RelativeShape, SetsOne}
 use Rattle.vr_space.specs.Room.{Lengths}
-use Rattle.vr_space.specs.Rosters.{IsChained, IsInArea, IsOf, Numbered, chain_of, used_of}
-use Rattle.vr_space.specs.Slots.{AreSlotsAtRest, IsNumberedOn, IsRestingArea, IsSlotMet, IsSlotPlace, IsSlots}
-use Rattle.vr_space.specs.Slots.{KnowsChain, chain_block, interval_of, number_of, slot_fits, slot_in}
-use Rattle.vr_space.specs.Slots.{slot_read, slots_of}
+use Rattle.vr_space.specs.Rosters.{IsChained, IsOf, Numbered, chain_of, used_of}
+use Rattle.vr_space.specs.Slots.{IsNumberedOn, IsRestingArea, IsSlotMet, IsSlotPlace, IsSlots}
+use Rattle.vr_space.specs.Slots.{KnowsChain, chain_block, interval_of, number_of, slot_fits}
+use Rattle.vr_space.specs.Slots.{slot_in}
+use Rattle.vr_space.specs.Slots.{slot_read}
 use Rattle.vr_space.specs.Way.{found_on}
 use Rattle.vr_space.proofs.CallerLemmas.{adds-weaken, due-at-then, due-keeps, keeps-adds}
-use Rattle.vr_space.proofs.CallerLemmas.{interval-inside, keeps-rooms, nothing-then, rest-keeps}
+use Rattle.vr_space.proofs.CallerLemmas.{keeps-rooms, nothing-then, rest-keeps}
 use Rattle.vr_space.proofs.CallerLemmas.{rest-sound, room-keeps, set-fits, slots-some}
 use Rattle.vr_relative.specs.Chain.{ChainNow, IsChainOf}
 use Rattle.vr_relative.specs.Setting.{IsReady, IsSetNow, MaySet, refreshed}

@@ -1,5 +1,5 @@
 -- Writing slots one after another.
-use Rattle.std.proofs.Common.{◌≡◌, ◌≢◌, ◌<◌, ◌≤◌, ◌+◌, ◌-◌, ◌*◌, ◌/◌, ◌++◌, ℕ, zero, suc, Bool, true}
+use Rattle.std.proofs.Common.{◌≡◌, ◌<◌, ◌≤◌, ◌+◌, ◌-◌, ◌*◌, ◌++◌, ℕ, zero, suc, Bool, true}
 use Rattle.std.proofs.Common.{false, List, [], ◌∷◌, length, drop, take, Option, Some, None, refl}
 use Rattle.std.proofs.Common.{sym, ap, subst, ◌∙◌, arith, replicate, true≢false, ◌↔◌, eqb-true}
 use Rattle.std.proofs.Common.{eq-eqb}
@@ -18,11 +18,12 @@ use Rattle.vr_ci_match.specs.declared.form.Form.TheVariants as forms
 use Rattle.vr_ci_match.specs.declared.form.Shape.TheVariants as shapes
 use Rattle.vr_ci_match.specs.Laid.{slots_in}
 use Rattle.vr_ci.specs.Interval as ci
-use Rattle.vr_ci.specs.Writer.{Holds, IsComplete, IsItemLength, SlotsAdded, form_of, size_of, written}
+use Rattle.vr_ci.specs.Writer.{Holds, IsComplete, IsItemLength, SlotsAdded, form_of, size_of}
+use Rattle.vr_ci.specs.Writer.{written}
 use Rattle.vr_ci.specs.declared.writer.CiWriter.{CiWriter}
 use Rattle.vr_ci.proofs.CallerLemmas.{interval_says, room-append, written_item}
 use Rattle.vr_space.specs.Keyed.{items_of}
-use Rattle.vr_space.specs.Rosters.{IsNumbered, Numbered}
+use Rattle.vr_space.specs.Rosters.{Numbered}
 use Rattle.vr_space.specs.Slots.{IsSlots, slots_of}
 use Rattle.vr_relative.specs.Written.{AreSlotItems, HasSlotRoom, IsSlotSet, empty_slot, slot_given}
 use Rattle.vr_relative.specs.Written.{slot_made}
@@ -182,8 +183,11 @@ module _ (part : Numbered) (slot : ℕ) (bytes : Option (List ℕ)) (all : List 
     making-more new given holds =
         let one : ci.Item = slot_made part (nat_eq at slot) bytes item in
         let more : take (at + 1) set ≡ take at set ++ one ∷ [] =
-        take_more set at item (omega (arith, next-below,
-        length-set all slot (slot_given part bytes)))
+        take_more set at item (omega (
+          arith,
+          next-below,
+          length-set all slot (slot_given part bytes),
+        ))
         ∙ ap (λ (x : ci.Item). take at set ++ x ∷ []) made-is in
         let next : suc at ≡ at + 1 = omega arith in
         record {
@@ -203,8 +207,12 @@ module _ (part : Numbered) (slot : ℕ) (bytes : Option (List ℕ)) (all : List 
       → IsMaking part slot bytes all left at w → Holds w set
   making-ends left at w whole making =
       subst (Holds w)
-      (take_all at set (omega (arith, whole, are.count,
-      length-set all slot (slot_given part bytes)))) making.holds
+      (take_all at set (omega (
+        arith,
+        whole,
+        are.count,
+        length-set all slot (slot_given part bytes),
+      ))) making.holds
 
 -- ---- empty slots
 

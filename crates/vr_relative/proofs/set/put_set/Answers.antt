@@ -1,5 +1,5 @@
-use Rattle.std.proofs.Common.{All, [], refl, sym, ap, ◌∙◌, subst, true≢false, arith}
-use Rattle.std.proofs.lemmas.List.Elements.{All-map, All-nil, All-weaker}
+use Rattle.std.proofs.Common.{All, refl, sym, ap, ◌∙◌, subst, true≢false, arith}
+use Rattle.std.proofs.lemmas.List.Elements.{All-map, All-weaker}
 use Rattle.vr_types.specs.Seen.{Left}
 use Rattle.vr_types.proofs.CallerLemmas.{all-one, cur-put, keeps-none}
 use Rattle.vr_space.specs.Met.{Met}

@@ -1,4 +1,3 @@
-use Rattle.std.proofs.Common.{refl, sym, ◌∙◌}
 use Rattle.vr_types.proofs.CallerLemmas.{keeps-none}
 use Rattle.vr_relative.specs.Met.{met_in}
 use Rattle.vr_relative.proofs.Meeting.{first-has, on-ok-more}

@@ -1,4 +1,4 @@
-use Rattle.std.proofs.Common.{All, refl, sym, ◌∙◌, subst}
+use Rattle.std.proofs.Common.{All, sym, subst}
 use Rattle.vr_types.specs.Image.{Image}
 use Rattle.vr_space.specs.Part.{given}
 use Rattle.vr_space.specs.Slots.{IsSlotMet}

@@ -1,7 +1,5 @@
-use Rattle.std.proofs.Common.{◌≡◌, ◌≤◌, ◌<◌, [], ◌∷◌, arith, length, rules, refl, sym, ◌∙◌}
-use Rattle.std.specs.Prelude.{nat_eq}
+use Rattle.std.proofs.Common.{◌≡◌, [], ◌∷◌, arith, rules, refl, sym, ◌∙◌}
 use Rattle.vr_ci.specs.Interval as ci
-use Rattle.vr_ci.specs.Writer.{size_of}
 use Rattle.vr_space.specs.Part.{given}
 use Rattle.vr_relative.proofs.Reading.{drop-none}
 use Rattle.vr_relative.proofs.WritingSlots.{making-ends, making-more, making-starts, next-item}
@@ -14,7 +12,7 @@ unreachable-requires c =
     omega (
       arith,
       drop-none c.args.view.now.items c.loop-at.at
-      (sym c.loop-at.invariant.making.left_is ∙ gone),
+          (sym c.loop-at.invariant.making.left_is ∙ gone),
       c.requires.items.count,
       c.slots-at-end.ensures.count,
     )

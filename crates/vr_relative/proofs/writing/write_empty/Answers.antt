@@ -1,4 +1,4 @@
-use Rattle.std.proofs.Common.{refl, rules, sym, ap, subst, ◌∙◌, replicate}
+use Rattle.std.proofs.Common.{rules, ap, subst, ◌∙◌, replicate}
 use Rattle.vr_ci_match.specs.declared.form.Form.TheVariants as forms
 use Rattle.vr_ci.specs.Writer.{form_of}
 use Rattle.vr_space.specs.Rosters.{Numbered}

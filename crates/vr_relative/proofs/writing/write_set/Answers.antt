@@ -1,12 +1,9 @@
-use Rattle.std.proofs.Common.{List, refl, rules, sym, ap, subst, ◌∙◌}
-use Rattle.std.specs.Prelude.{length, slice_set, ◌≡◌}
-use Rattle.vr_types.specs.Image.{Block}
+use Rattle.std.proofs.Common.{refl, rules, ap, subst, ◌∙◌}
 use Rattle.vr_ci_match.specs.declared.form.Form.TheVariants as forms
-use Rattle.vr_ci.specs.Interval as ci
 use Rattle.vr_ci.specs.Writer.{form_of}
 use Rattle.vr_space.specs.Part.{given}
 use Rattle.vr_space.specs.Rosters.{Numbered}
-use Rattle.vr_relative.specs.Written.{IsSlotSet, slot_given}
+use Rattle.vr_relative.specs.Written.{IsSlotSet}
 use Rattle.vr_relative.proofs.WritingSlots.{set-written}
 use Rattle.vr_relative.proofs.writing.write_set.Goals as goal
 
