@@ -295,15 +295,6 @@ module _ (part : Numbered) (kept : Lengths) (known : Known) (place : List ℕ)
         done.rests owners (rest-keeps tells told (RelativeShape part) owners a m call rests);
   }
 
--- the blocks are there
-pub on-keeps : (part : Numbered) (tells : Bool) (a m : Seen) → Keeps tells a m
-    → IsNumberedOn part a → IsNumberedOn part m
-on-keeps part tells a m call on = record {
-  part_is = on.part_is;
-  blocks = omega (arith, on.blocks, call.count_same);
-  size = call.size_same ∙ on.size;
-}
-
 -- the same chain
 pub chain-keeps : (chain : ChainNow) (tells : Bool) → IsTrue tells → (a m : Seen)
     → Keeps tells a m → IsChainOf chain a.cur → IsChainOf chain m.cur

@@ -37,41 +37,6 @@ pub item-length : (form : Form) (most n : ℕ) → form ≡ forms.Slots most →
 item-length form most n same some is =
     subst (λ (f : Form). IsItemLength f n) (sym same) (omega (arith, some, is), is)
 
--- it has room
-pub not-full : (part : Numbered) (w : CiWriter) (n : ℕ) {E : Type 0} (result : Result Unit E)
-    → ((items : List ci.Item) → Holds w items
-    → (IsErr result ↔ (size_of w - 4 < ci.room items + (n + 3))))
-    → n ≡ part.most → HasSlotRoom part w → is_err result ≡ true → ⊥
-not-full part w n result full long has err =
-    omega (arith, (full has.items has.holds).0 err, long, has.room)
-
-pub was-added : {X E : Type 0} (result : Result X E) (P : Type 0) → is_err result ≡ false
-    → OnOk result P → P
-was-added (Ok x) P ok is = is
-was-added (Err e) P ok is = absurd (true≢false ok)
-
--- what is written is a slot, or what is made of it
-pub made-kept : (part : Numbered) (bytes : Option (List ℕ)) (one : ci.Item) (item : List ℕ)
-    (live made : Bool) → one.bytes ≡ item → one.live ≡ live → ci.IsItem one → made ≡ false
-    → written item live ≡ slot_made part made bytes one
-made-kept part bytes one item live made same lives fits is =
-    ap (λ (b : List ℕ). written b live) (sym same)
-    ∙ ap (λ (b : Bool). written one.bytes b) (sym lives)
-    ∙ written_item one fits
-    ∙ sym (ap (λ (b : Bool). slot_made part b bytes one) is)
-
-pub made-some : (part : Numbered) (one : ci.Item) (bytes : List ℕ) (made : Bool)
-    → made ≡ true → written bytes true ≡ slot_made part made (Some bytes) one
-made-some part one bytes made is =
-    sym (ap (λ (b : Bool). slot_made part b (Some bytes) one) is)
-
-pub made-none : (part : Numbered) (one : ci.Item) (item : List ℕ) (made : Bool)
-    → length item ≡ part.most → made ≡ true
-    → written item false ≡ slot_made part made None one
-made-none part one item made long is =
-    ap (λ (n : ℕ). let empty : ci.Item = record { bytes = replicate n 0; live = false } in empty)
-    long ∙ sym (ap (λ (b : Bool). slot_made part b None one) is)
-
 -- ---- the room of several
 
 -- as many as an interval has need no more than its size
@@ -233,39 +198,7 @@ emptying-room part at w emptying some below size = record {
   room = omega (arith, emptying.room, size, slots-room part at below);
 }
 
-pub emptying-more : (part : Numbered) (at : ℕ) (w new : CiWriter) (slot : List ℕ)
-    → IsEmptying part at w → length slot ≡ part.most
-    → Holds new (replicate at (empty_slot part) ++ written slot false ∷ [])
-    → IsEmptying part (at + 1) new
-emptying-more part at w new slot emptying long holds =
-    let one : written slot false ≡ empty_slot part =
-    ap (λ (n : ℕ). let empty : ci.Item = record { bytes = replicate n 0; live = false } in empty)
-    long in
-    let more : replicate at (empty_slot part) ++ written slot false ∷ []
-    ≡ replicate (at + 1) (empty_slot part) =
-    ap (λ (x : ci.Item). replicate at (empty_slot part) ++ x ∷ []) one
-    ∙ replicate-append-replicate at 1 (empty_slot part) in
-    record {
-      holds = subst (Holds new) more holds;
-      room = omega (
-        arith,
-        ap ci.room (sym more),
-        room-append (replicate at (empty_slot part)) (written slot false ∷ []),
-        emptying.room,
-        ap (λ (x : ci.Item). length x.bytes) one,
-        length-replicate {A = ℕ} part.most 0,
-      );
-    }
-
 -- ---- the whole interval
-
--- as many slots as the form has
-pub slots-complete : (part : Numbered) (w : CiWriter) (items : List ci.Item)
-    → form_of w ≡ forms.Slots part.most → size_of w ≡ part.geometry.size → Holds w items
-    → length items ≡ slots_of part → IsComplete w
-slots-complete part w items form size holds count =
-    subst (λ (f : Form). SlotsAdded f (size_of w) w.added) (sym form)
-    (holds.added ∙ count ∙ ap (λ (n : ℕ). slots_in n part.most) (sym size))
 
 pub slots-written : (part : Numbered) (form : Form) (out : Block) (items : List ci.Item)
     → form ≡ forms.Slots part.most → length out ≡ part.geometry.size
