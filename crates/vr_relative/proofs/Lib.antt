@@ -9,6 +9,7 @@ pub mod FirstRead
 pub mod NextPlaces
 pub mod SlotSet
 pub mod SetAdds
+pub mod HeldBlocks
 pub mod Setting
 pub mod Meeting
 pub mod Refreshing

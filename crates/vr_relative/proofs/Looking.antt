@@ -1,10 +1,16 @@
 -- The record that is read in a slot, by the areas that are kept.
 use Rattle.std.proofs.Common.{◌≡◌, ◌<◌, ◌≤◌, ℕ, List, Option, Some, None, ap, sym, ◌∙◌, Bor}
-use Rattle.std.specs.Prelude.{MatchOption, option_and_then}
+use Rattle.std.proofs.Common.{subst}
+use Rattle.std.specs.Prelude.{MatchOption, OnOk, option_and_then}
+use Rattle.std.specs.declared.result.Result.{Result}
+use Rattle.std.specs.declared.result.Result.TheVariants.{Ok}
 use Rattle.vr_types.specs.Content.{Item, record_of}
 use Rattle.vr_types.specs.Content.Item.{Standing}
+use Rattle.vr_types.specs.Faults.{Faults, HasCause}
 use Rattle.vr_types.specs.Geometry.{area_count}
 use Rattle.vr_types.specs.Image.{Image, block_at}
+use Rattle.vr_types.specs.declared.fault.DeviceFault.{DeviceFault}
+use Rattle.vr_types.proofs.CallerLemmas.{cause-ok}
 use Rattle.vr_space.specs.Part.{RelativeShape, Stands, item_of, record_read}
 use Rattle.vr_space.specs.Slots.{IsSlotPlace, IsSlots, chain_block, interval_of, slot_in, slot_item}
 use Rattle.vr_space.specs.Slots.{slot_read}
@@ -62,3 +68,9 @@ pub found-read : (item : Option Item) (found : Option (Bor (List ℕ)))
     (λ s. option_and_then record_of item ≡ Some s.now)
 found-read item None is = ap (option_and_then record_of) is
 found-read item (Some s) is = ap (option_and_then record_of) is
+
+-- an answer without a fault, by way of another
+pub cause-answered : {T U : Type 0} (a b : Faults) (result : Result T DeviceFault) (x : T) (y : U)
+    → result ≡ Ok x → HasCause a b result → HasCause a b (Ok y)
+cause-answered {T} {U} a b result x y is call =
+    cause-ok a b y (subst (λ (r : Result T DeviceFault). OnOk r (b ≡ a)) is call.ok)

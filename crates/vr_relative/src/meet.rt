@@ -8,8 +8,8 @@ ghost use Rattle.vr_space.specs.Met.{met_next};
 ghost use Rattle.vr_space.specs.Rosters.{Numbered};
 ghost use Rattle.vr_space.specs.Slots.{IsNumberedOn, IsSlotMet, IsSlotPlace};
 ghost use Rattle.vr_relative.specs.Chain.{IsChainOf};
-ghost use Rattle.vr_relative.specs.Met.{AreMetsOf, HasMetPlace, IsFirst, IsMetOf, met_in, met_places};
-ghost use Rattle.vr_relative.specs.Met.{mets_in};
+ghost use Rattle.vr_relative.specs.Met.{AreMetsOf, HasMetPlace, IsFirst, IsMetOf, met_in};
+ghost use Rattle.vr_relative.specs.Met.{met_places, mets_in};
 
 use crate::chain::Chain;
 use crate::met::{MetBlock, Mets};

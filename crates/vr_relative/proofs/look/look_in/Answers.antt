@@ -1,4 +1,4 @@
-use Rattle.std.proofs.Common.{◌≡◌, ℕ, List, Option, Some, None, MatchOption, refl, rules, sym, ap}
+use Rattle.std.proofs.Common.{◌≡◌, ℕ, Option, Some, None, MatchOption, refl, rules, sym, ap}
 use Rattle.std.proofs.Common.{subst, ◌∙◌}
 use Rattle.vr_types.specs.Content.{Item}
 use Rattle.vr_types.specs.Content.Item.{Standing}
@@ -7,7 +7,7 @@ use Rattle.vr_types.proofs.CallerLemmas.{keeps-none}
 use Rattle.vr_space.specs.Part.{RelativeShape, item_of}
 use Rattle.vr_space.specs.Rosters.{Numbered}
 use Rattle.vr_space.specs.Slots.{IsSlots, slot_item}
-use Rattle.vr_relative.proofs.Looking.{found-read, look-past, look-there}
+use Rattle.vr_relative.proofs.Looking.{cause-answered, found-read, look-past, look-there}
 use Rattle.vr_relative.proofs.look.look_in.Goals as goal
 
 pub returns-in_default : goal.returns-in_default
@@ -37,7 +37,16 @@ returns g c =
     let a = B.seen c.args.blocks.now in
     let part = c.args.chain.now.part in
     let place = c.args.place.now in (
-      (refl, λ x. tt, (c.get.follows.holds-at-none.0, search rules)),
+      (
+        refl,
+        λ x. tt,
+        (
+          c.get.follows.holds-at-none.0,
+          cause-answered (B.faults c.args.blocks.now) (B.faults c.get.follows.lender-at-none)
+              c.get.result c.in_ok-slots.slots c.slot_at.result c.in_ok-slots.was
+              c.get.follows.holds-at-none.1,
+        ),
+      ),
       record {
         item = λ told.
             let it = look-there c.args.chain.now a.cur (c.requires.stands told)
