@@ -1,10 +1,9 @@
-use Rattle.std.proofs.Common.{◌≡◌, All, IsTrue, List, ℕ, ap, refl, sym, subst}
+use Rattle.std.proofs.Common.{◌≡◌, ◌∙◌, All, IsTrue, List, ℕ, ap, refl, sym, subst}
 use Rattle.vr_types.specs.Seen.{Seen}
 use Rattle.vr_space.specs.Known.{Known}
-use Rattle.vr_space.specs.Met.{Met}
 use Rattle.vr_space.specs.Part.{DueMoreAt, InHeld, RelativeShape, given, part_no}
 use Rattle.vr_space.specs.Room.{Lengths}
-use Rattle.vr_space.specs.Slots.{IsSlotMet, KnowsChain}
+use Rattle.vr_space.specs.Slots.{IsSlotMet}
 use Rattle.vr_relative.specs.Chain.{ChainNow, IsChainOf}
 use Rattle.vr_relative.specs.Met.{mets_in}
 use Rattle.vr_relative.specs.Owned.{OwnedSlots, known_of}
@@ -140,13 +139,13 @@ returns-clause-rooms g c told = (may g c told).rooms
 
 pub returns-clause-knows : goal.returns-clause-knows
 returns-clause-knows g c told =
-    let chain : ChainNow = c.self.inside.chain in
-    let image = (g.B.Blocks.seen c.set_in.new.blocks).cur in
-    let of : IsChainOf chain image =
-    subst (λ (n : ChainNow). IsChainOf n image) (sym (same g c)) (chained g c told) in
-    subst (λ (n : ChainNow). KnowsChain n.part (record {
-      split = None;
-      met = mets_in c.set_in.new.mets;
-      areas = chain.areas;
-      used = chain.used;
-    }) image) (same g c) (record { areas = of.areas; used = of.used; met = ? })
+    let chain : ChainNow = c.args.self.now.chain in
+    let of : IsChainOf chain (new g c).cur = chained g c told in
+    record {
+      way = tt;
+      blocks = record {
+        areas = ap (λ (n : ChainNow). n.areas) (same g c) ∙ of.areas;
+        used = ap (λ (n : ChainNow). n.used) (same g c) ∙ of.used;
+        met = are-met g c told;
+      };
+    }
