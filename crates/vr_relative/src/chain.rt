@@ -3,6 +3,8 @@ ghost use Rattle.std.specs.Prelude.{◌≡◌, ◌≤◌, ◌<◌, ◌+◌, ◌-
 ghost use Rattle.std.specs.Prelude.{IfOk, IfSome, IsTrue, None, false, length, nat_lt};
 ghost use Rattle.std.specs.Int.{div_ceil};
 ghost use Rattle.vr_types.specs.Geometry.{area_count};
+ghost use Rattle.vr_space.specs.Known.{Known};
+ghost use Rattle.vr_space.specs.Part.{InHeld, RelativeShape};
 ghost use Rattle.vr_space.specs.Rosters.{roster_block};
 ghost use Rattle.vr_space.specs.Slots.{IsSlotPlace, chain_block, interval_of, slot_room_by};
 ghost use Rattle.vr_space.specs.Slots.{slots_of};
@@ -63,6 +65,13 @@ pub fn first_chain(alloc: Global, layout: ChainLayout) -> Result<Chain, OutOfMem
 impl Chain {
     ghost use Rattle.vr_relative.specs.Chain.{ChainNow};
 
+    /// Where the part is.
+    pub(crate) fn layout(&self) -> &ChainLayout
+        ensures { result.now ≡ self.now.part }
+    {
+        &self.layout
+    }
+
     /// How many intervals are used.
     pub fn used(&self) -> u32
         ensures { result ≡ self.now.used }
@@ -70,20 +79,34 @@ impl Chain {
         self.used
     }
 
-    /// The block of a used interval, by its number over the whole chain. None where that isn't used.
+    /// The block of a used interval, by its number over the whole chain. None where that isn't
+    /// used.
     pub fn block_of(&self, interval: u32) -> Option<u32>
         ensures used { IfSome result (λ n. interval < self.now.used) }
         ensures block { IfSome result
             (λ n. n ≡ chain_block self.now.part self.now.areas interval) }
+        ensures held { IfSome result (λ n. (known : Known) → known.areas ≡ self.now.areas
+            → InHeld (RelativeShape self.now.part) known n) }
         ensures below { IfSome result (λ n. n < self.now.part.geometry.blocks) }
         ensures none { result ≡ None → self.now.used ≤ interval }
     {
         if interval >= self.used {
             return None;
         }
+        Some(self.block_in(interval))
+    }
+
+    /// The same of an interval that is used. Its area is one of the chain, and has it.
+    fn block_in(&self, interval: u32) -> u32
+        requires { interval < self.now.used }
+        ensures block { result ≡ chain_block self.now.part self.now.areas interval }
+        ensures area { interval / self.now.part.geometry.area < length self.now.areas }
+        ensures inside { interval % self.now.part.geometry.area < self.now.part.geometry.area }
+        ensures below { result < self.now.part.geometry.blocks }
+    {
         let whole = self.layout.geometry.area;
         let area = self.areas[(interval / whole) as usize];
-        Some(self.layout.interval_in(area, interval % whole))
+        self.layout.interval_in(area, interval % whole)
     }
 
     /// The interval of a slot, by the slot's number.
@@ -103,6 +126,15 @@ impl Chain {
         (number - 1) % self.layout.slots()
     }
 
+    /// The number of a slot of a used interval.
+    pub(crate) fn number_of(&self, interval: u32, slot: u32) -> u32
+        requires used { interval < self.now.used }
+        requires there { slot < slots_of self.now.part }
+        ensures { result ≡ interval * slots_of self.now.part + slot + 1 }
+    {
+        interval * self.layout.slots() + slot + 1
+    }
+
     /// The block of a place's interval. None where the place is that of no slot, or its interval
     /// isn't used.
     pub(crate) fn block_at(&self, place: &[u8]) -> Option<u32>
@@ -110,6 +142,8 @@ impl Chain {
             × (interval_of self.now.part place.now < self.now.used)) }
         ensures block { IfSome result (λ n. n ≡ chain_block self.now.part self.now.areas
             (interval_of self.now.part place.now)) }
+        ensures held { IfSome result (λ n. (known : Known) → known.areas ≡ self.now.areas
+            → InHeld (RelativeShape self.now.part) known n) }
         ensures below { IfSome result (λ n. n < self.now.part.geometry.blocks) }
         ensures none { result ≡ None → IsSlotPlace place.now
             → self.now.used ≤ interval_of self.now.part place.now }
@@ -127,9 +161,9 @@ impl Chain {
             return Room::Ready;
         }
         let whole = u64::from(self.layout.geometry.area);
-        let wanted = (u64::from(interval) + 1).div_ceil(whole) as u32;
-        let need = wanted.saturating_sub(self.areas.len() as u32);
-        if need <= free {
+        let wanted = (u64::from(interval) + 1).div_ceil(whole);
+        let need = wanted.saturating_sub(self.areas.len() as u64);
+        if need <= u64::from(free) {
             Room::Stage(StageKind::Extend)
         } else {
             Room::NoSpace { need, free }
