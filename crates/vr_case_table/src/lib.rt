@@ -14,4 +14,6 @@ pub use answers::Answers;
 pub use beside::{Beside, Both, judge, judge_up_to};
 pub use stop::{Answer, Stop};
 pub use table::{Desk, run};
-pub use words::{byte_of, digits_of, long_of, numbers_of, parted, size_of, small_of, word_of};
+pub use words::{
+    byte_of, digits_of, long_of, longs_of, numbers_of, parted, size_of, small_of, word_of,
+};

@@ -49,6 +49,22 @@ fn add_numbers(numbers: &mut Vec<u32>, text: &str) -> Answer {
     Ok(())
 }
 
+/// The numbers of eight bytes that words spell.
+pub fn longs_of(alloc: Global, text: &str) -> Result<Vec<u64>, Stop> {
+    let mut numbers = Vec::new(alloc);
+    match add_longs(&mut numbers, text) {
+        Ok(()) => Ok(numbers),
+        Err(stop) => Err(stop),
+    }
+}
+
+fn add_longs(numbers: &mut Vec<u64>, text: &str) -> Answer {
+    for word in text.split_whitespace() {
+        numbers.push(long_of(word)?)?;
+    }
+    Ok(())
+}
+
 /// The bytes that hexadecimal digits spell.
 pub fn digits_of(alloc: Global, digits: &str) -> Result<Vec<u8>, Stop> {
     match hex::decode(alloc, digits) {

@@ -1,9 +1,9 @@
 //! The calls that sequences are made of: three units ask for either of two names, for both in
 //! either order or for one twice, in either mode, and end.
 
-use crate::answers::Stop;
-use crate::plain::PlainLock;
+use crate::plain_locks::PlainLock;
 use std::alloc::Global;
+use vr_case_table::{Answer, Stop};
 use vr_locks::LockNo;
 use vr_types::{LockName, LockNames, Mode, PartNo, Unit, place};
 
@@ -88,10 +88,17 @@ pub fn name_of(alloc: Global, name: u8) -> Result<LockName, Stop> {
 /// The names of a request.
 pub fn names_of(alloc: Global, names: u32) -> Result<LockNames, Stop> {
     let mut list = LockNames::new(alloc);
+    match add_names(alloc, &mut list, names) {
+        Ok(()) => Ok(list),
+        Err(stop) => Err(stop),
+    }
+}
+
+fn add_names(alloc: Global, list: &mut LockNames, names: u32) -> Answer {
     for name in plain_names(names) {
         list.push(name_of(alloc, *name)?)?;
     }
-    Ok(list)
+    Ok(())
 }
 
 /// Whether a table's answer to a request is the plain program's.

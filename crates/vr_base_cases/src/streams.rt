@@ -1,6 +1,6 @@
 //! A reader and a writer whose calls fail where a script says so.
 
-use crate::question::TEXT;
+use crate::stream_calls::TEXT;
 use std::alloc::{AllocError, Global};
 use std::io;
 use std::io::{Error, ErrorKind, Read, Write};

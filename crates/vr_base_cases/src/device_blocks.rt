@@ -1,10 +1,10 @@
 //! Calls of the blocks of the device in memory, written through.
 ghost use Rattle.std.specs.Prelude.{◌≡◌};
 
-use crate::answers::{Answer, Stop, say_bytes, say_fault};
+use crate::device_answers::say_fault;
 use crate::held::Held;
-use crate::words::{bytes_of, number, numbers, parted};
 use std::alloc::Global;
+use vr_case_table::{Answer, Answers, Stop, digits_of, numbers_of, parted, word_of};
 use vr_device::{BlockDevice, direct};
 use vr_types::Blocks;
 
@@ -21,7 +21,7 @@ pub fn blocks_call(
     held: &mut Held,
     verb: &str,
     rest: &str,
-    out: &mut String,
+    out: &mut Answers,
 ) -> Answer {
     let device = held.take()?;
     let shape = Shape {
@@ -44,28 +44,29 @@ fn call<B: Blocks>(
     shape: Shape,
     verb: &str,
     rest: &str,
-    out: &mut String,
+    out: &mut Answers,
 ) -> Answer
     requires count { shape.count ≡ (B.seen blocks.old).count }
     requires size { shape.size ≡ (B.seen blocks.old).size }
 {
     match verb {
-        "get" => get(alloc, blocks, shape.count, number(rest)?, out),
+        "get" => get(blocks, shape.count, word_of(rest)?, out),
         "put" => put(alloc, blocks, shape, rest, out),
         _ => force(alloc, blocks, shape.count, rest, out),
     }
 }
 
-fn get<B: Blocks>(alloc: Global, blocks: &mut B, count: u32, n: u32, out: &mut String) -> Answer
+fn get<B: Blocks>(blocks: &mut B, count: u32, n: u32, out: &mut Answers) -> Answer
     requires { count ≡ (B.seen blocks.old).count }
 {
     if n >= count {
         return Err(Stop::Line);
     }
     match blocks.get(n) {
-        Ok(bytes) => say_bytes(alloc, out, bytes),
-        Err(fault) => say_fault(out, Err(fault)),
+        Ok(bytes) => out.say_digits(bytes),
+        Err(fault) => say_fault(Err(fault), out),
     }
+    Ok(())
 }
 
 fn put<B: Blocks>(
@@ -73,14 +74,14 @@ fn put<B: Blocks>(
     blocks: &mut B,
     shape: Shape,
     rest: &str,
-    out: &mut String,
+    out: &mut Answers,
 ) -> Answer
     requires count { shape.count ≡ (B.seen blocks.old).count }
     requires size { shape.size ≡ (B.seen blocks.old).size }
 {
     let (n, digits) = parted(rest);
-    let n = number(n)?;
-    let from = bytes_of(alloc, digits)?;
+    let n = word_of(n)?;
+    let from = digits_of(alloc, digits)?;
     put_bytes(blocks, shape, n, from.as_slice(), out)
 }
 
@@ -89,7 +90,7 @@ fn put_bytes<B: Blocks>(
     shape: Shape,
     n: u32,
     from: &[u8],
-    out: &mut String,
+    out: &mut Answers,
 ) -> Answer
     requires count { shape.count ≡ (B.seen blocks.old).count }
     requires size { shape.size ≡ (B.seen blocks.old).size }
@@ -97,7 +98,8 @@ fn put_bytes<B: Blocks>(
     if n >= shape.count || from.len() != shape.size as usize {
         return Err(Stop::Line);
     }
-    say_fault(out, blocks.put(n, from))
+    say_fault(blocks.put(n, from), out);
+    Ok(())
 }
 
 fn force<B: Blocks>(
@@ -105,19 +107,20 @@ fn force<B: Blocks>(
     blocks: &mut B,
     count: u32,
     rest: &str,
-    out: &mut String,
+    out: &mut Answers,
 ) -> Answer
     requires { count ≡ (B.seen blocks.old).count }
 {
-    let list = numbers(alloc, rest)?;
+    let list = numbers_of(alloc, rest)?;
     force_list(blocks, count, list.as_slice(), out)
 }
 
-fn force_list<B: Blocks>(blocks: &mut B, count: u32, list: &[u32], out: &mut String) -> Answer
+fn force_list<B: Blocks>(blocks: &mut B, count: u32, list: &[u32], out: &mut Answers) -> Answer
     requires { count ≡ (B.seen blocks.old).count }
 {
     if !list.iter().all(|n| *n < count) {
         return Err(Stop::Line);
     }
-    say_fault(out, blocks.force(list))
+    say_fault(blocks.force(list), out);
+    Ok(())
 }

@@ -1,7 +1,7 @@
 //! The device that lines speak of.
 
-use crate::answers::Stop;
 use std::mem;
+use vr_case_table::Stop;
 use vr_device::{BlockDevice, DeviceFile, FileDevice, HostFile, MemoryDevice};
 
 /// What the lines before left.

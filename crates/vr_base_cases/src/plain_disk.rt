@@ -1,9 +1,9 @@
 //! What a crash may leave, plainly and slowly: for each block the list of what it may hold.
 ghost use Rattle.std.specs.Prelude.{◌<◌};
 
-use crate::answers::{Answer, Stop};
-use crate::judge::Judged;
+use crate::device_judge::JudgedCalls;
 use std::alloc::{AllocError, Global};
+use vr_case_table::{Answer, Stop};
 use vr_device::{BlockDevice, DeviceFile, FileDevice, ImageNo, MemoryDevice, memory_device};
 
 /// A write of two bytes to block 0 or 1, or a sync.
@@ -84,7 +84,7 @@ impl Disk {
 }
 
 /// Judges each run of four calls, whichever of them fail; over a file or not.
-pub fn judge(alloc: Global, over_file: bool, judged: &mut Judged) -> Answer {
+pub fn judge(alloc: Global, over_file: bool, judged: &mut JudgedCalls) -> Answer {
     for number in 0..256u32 {
         judge_number(alloc, over_file, number, judged)?;
     }
@@ -92,7 +92,7 @@ pub fn judge(alloc: Global, over_file: bool, judged: &mut Judged) -> Answer {
 }
 
 /// Judges the run of that number, whichever of its calls fail.
-fn judge_number(alloc: Global, over_file: bool, number: u32, judged: &mut Judged) -> Answer {
+fn judge_number(alloc: Global, over_file: bool, number: u32, judged: &mut JudgedCalls) -> Answer {
     let fails: [&[u64]; 6] = [&[], &[0], &[1], &[3], &[0, 2], &[1, 2, 3]];
     for failing in fails {
         let run = Run {
@@ -113,13 +113,13 @@ struct Run<'a> {
     failing: &'a [u64],
 }
 
-fn judge_run(alloc: Global, run: Run<'_>, judged: &mut Judged) -> Answer {
+fn judge_run(alloc: Global, run: Run<'_>, judged: &mut JudgedCalls) -> Answer {
     let mut disk = Disk::new(alloc)?;
     judge_device(alloc, run, &mut disk, judged)
 }
 
 /// Judges a run on a device in memory, or on one over a file that is made of it.
-fn judge_device(alloc: Global, run: Run<'_>, disk: &mut Disk, judged: &mut Judged) -> Answer {
+fn judge_device(alloc: Global, run: Run<'_>, disk: &mut Disk, judged: &mut JudgedCalls) -> Answer {
     let device = memory_device(alloc, 2, 2, run.failing)?;
     if run.over_file {
         judge_file(alloc, device, run, disk, judged)
@@ -133,7 +133,7 @@ fn judge_memory(
     mut device: MemoryDevice,
     run: Run<'_>,
     disk: &mut Disk,
-    judged: &mut Judged,
+    judged: &mut JudgedCalls,
 ) -> Answer {
     let called = judge_calls(&mut device, run, disk, judged);
     judge_images(alloc, &device, disk, called, judged)
@@ -144,7 +144,7 @@ fn judge_file(
     device: MemoryDevice,
     run: Run<'_>,
     disk: &mut Disk,
-    judged: &mut Judged,
+    judged: &mut JudgedCalls,
 ) -> Answer
     requires { 0 < (⟦<MemoryDevice as BlockDevice>⟧.seen device).size }
 {
@@ -167,7 +167,7 @@ fn judge_calls<D: BlockDevice>(
     device: &mut D,
     run: Run<'_>,
     disk: &mut Disk,
-    judged: &mut Judged,
+    judged: &mut JudgedCalls,
 ) -> Answer {
     let mut shut = false;
     for place in 0..4u64 {
@@ -198,7 +198,7 @@ fn judge_images(
     device: &MemoryDevice,
     disk: &Disk,
     called: Answer,
-    judged: &mut Judged,
+    judged: &mut JudgedCalls,
 ) -> Answer {
     called?;
     for (number, first) in (0..8u32).zip(disk.first.left.iter()) {
@@ -214,7 +214,7 @@ fn judge_row(
     number: u32,
     first: [u8; 2],
     block: &Block,
-    judged: &mut Judged,
+    judged: &mut JudgedCalls,
 ) -> Answer {
     for (other, second) in (0..8u32).zip(block.left.iter()) {
         let blocks = image_blocks(alloc, device, &[number, other])?;
@@ -224,7 +224,12 @@ fn judge_row(
 }
 
 /// That a choice one too high for the first block gives no image.
-fn judge_past(alloc: Global, device: &MemoryDevice, count: usize, judged: &mut Judged) -> Answer {
+fn judge_past(
+    alloc: Global,
+    device: &MemoryDevice,
+    count: usize,
+    judged: &mut JudgedCalls,
+) -> Answer {
     let past = u32::try_from(count).unwrap_or(u32::MAX);
     judged.count(matches!(
         device.image(alloc, &[past, 0]),

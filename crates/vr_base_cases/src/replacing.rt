@@ -4,18 +4,18 @@ ghost use Rattle.vr_device.specs.Past.{unwritten};
 ghost use Rattle.vr_device.specs.PastEvent.{blocks_of};
 ghost use Rattle.vr_device.specs.Memory.{past_in};
 
-use crate::answers::{Answer, Stop, say_fault};
+use crate::device_answers::say_fault;
 use crate::held::Held;
-use crate::words::{long_number, parted};
 use std::alloc::Global;
+use vr_case_table::{Answer, Answers, Stop, long_of, parted};
 use vr_device::{Direct, MemoryDevice, direct, memory_device, replace_all};
 use vr_types::DeviceFault;
 
 /// Replaces block 1 of a new device of three blocks of two bytes, whose log is block 0, by two
 /// contents, and leaves the device: `STOP`, the number of the first call that fails.
-pub fn replace(alloc: Global, held: &mut Held, rest: &str, out: &mut String) -> Answer {
+pub fn replace(alloc: Global, held: &mut Held, rest: &str, out: &mut Answers) -> Answer {
     let (stop, rest) = parted(rest);
-    let stop = long_number(stop)?;
+    let stop = long_of(stop)?;
     if !rest.is_empty() {
         return Err(Stop::Line);
     }
@@ -28,14 +28,15 @@ fn replace_by(
     held: &mut Held,
     contents: &[Vec<u8>],
     stop: u64,
-    out: &mut String,
+    out: &mut Answers,
 ) -> Answer
     requires { blocks_of contents.now ≡ (0 ∷ 1 ∷ []) ∷ (0 ∷ 2 ∷ []) ∷ [] }
 {
     let mut blocks = new_blocks(alloc, stop)?;
     let done = replace_each(&mut blocks, contents);
     held.set(Held::Memory(blocks.into_inner()));
-    say_fault(out, done)
+    say_fault(done, out);
+    Ok(())
 }
 
 /// The contents 0001 and 0002.

@@ -1,21 +1,20 @@
-//! The crate beside plain, slow programs, over all short runs of calls.
+//! Devices beside plain, slow programs, over all short runs of calls.
 
-use crate::answers::{Answer, Stop, say, say_number};
 use crate::{plain_disk, plain_log};
-use std::alloc::Global;
+use vr_case_table::{Answer, Answers, Stop};
 
 /// How many answers were judged, and how many of them the crate gives otherwise than the plain
 /// program.
 #[derive(Clone, Copy)]
-pub struct Judged {
+pub struct JudgedCalls {
     answers: u64,
     differ: u64,
 }
 
-impl Judged {
+impl JudgedCalls {
     /// Nothing judged yet.
-    pub fn new() -> Judged {
-        Judged {
+    pub fn new() -> JudgedCalls {
+        JudgedCalls {
             answers: 0,
             differ: 0,
         }
@@ -29,22 +28,23 @@ impl Judged {
         }
     }
 
-    fn say(&self, out: &mut String) -> Answer {
-        say_number(out, self.differ)?;
-        say(out, " differ of ")?;
-        say_number(out, self.answers)
+    fn say(&self, out: &mut Answers) {
+        out.say_number("", self.differ);
+        out.say_number(" differ of ", self.answers);
     }
 }
 
 /// Judges all short runs: `memory`, of a device in memory; `file`, of one over a file; `log`, of a
 /// block that is replaced through a log on a device that stops.
-pub fn judge(alloc: Global, kind: &str, out: &mut String) -> Answer {
-    let mut judged = Judged::new();
+pub fn judge(kind: &str, out: &mut Answers) -> Answer {
+    let alloc = out.alloc();
+    let mut judged = JudgedCalls::new();
     match kind {
         "memory" => plain_disk::judge(alloc, false, &mut judged)?,
         "file" => plain_disk::judge(alloc, true, &mut judged)?,
         "log" => plain_log::judge(alloc, &mut judged)?,
         _ => return Err(Stop::Line),
     }
-    judged.say(out)
+    judged.say(out);
+    Ok(())
 }

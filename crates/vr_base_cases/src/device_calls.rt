@@ -1,9 +1,9 @@
 //! Calls of the device that lines speak of.
 
-use crate::answers::{Answer, Stop, say, say_bytes, say_done};
+use crate::device_answers::say_done;
 use crate::held::Held;
-use crate::words::{bytes_of, number, parted};
 use std::alloc::Global;
+use vr_case_table::{Answer, Answers, Stop, digits_of, parted, word_of};
 use vr_device::BlockDevice;
 
 /// A call of the device: `read N`, `write N HEX`, `sync`.
@@ -12,7 +12,7 @@ pub fn device_call(
     held: &mut Held,
     verb: &str,
     rest: &str,
-    out: &mut String,
+    out: &mut Answers,
 ) -> Answer {
     match held {
         Held::Nothing => Err(Stop::Line),
@@ -27,37 +27,42 @@ fn call<D: BlockDevice>(
     device: &mut D,
     verb: &str,
     rest: &str,
-    out: &mut String,
+    out: &mut Answers,
 ) -> Answer {
     match verb {
-        "read" => read(alloc, device, number(rest)?, out),
+        "read" => read(alloc, device, word_of(rest)?, out),
         "write" => write(alloc, device, rest, out),
-        _ => say_done(out, device.sync()),
+        _ => {
+            say_done(device.sync(), out);
+            Ok(())
+        }
     }
 }
 
 /// Reads a block, and writes its bytes.
-pub fn read<D: BlockDevice>(alloc: Global, device: &mut D, n: u32, out: &mut String) -> Answer {
+pub fn read<D: BlockDevice>(alloc: Global, device: &mut D, n: u32, out: &mut Answers) -> Answer {
     if n >= device.blocks() {
         return Err(Stop::Line);
     }
     let mut into = vec![in alloc; 0; device.size() as usize]?;
     match device.read(n, &mut into) {
-        Ok(()) => say_bytes(alloc, out, into.as_slice()),
-        Err(_) => say(out, "failed"),
+        Ok(()) => out.say_digits(into.as_slice()),
+        Err(_) => out.say("failed"),
     }
+    Ok(())
 }
 
-fn write<D: BlockDevice>(alloc: Global, device: &mut D, rest: &str, out: &mut String) -> Answer {
+fn write<D: BlockDevice>(alloc: Global, device: &mut D, rest: &str, out: &mut Answers) -> Answer {
     let (n, digits) = parted(rest);
-    let n = number(n)?;
-    let from = bytes_of(alloc, digits)?;
+    let n = word_of(n)?;
+    let from = digits_of(alloc, digits)?;
     write_bytes(device, n, from.as_slice(), out)
 }
 
-fn write_bytes<D: BlockDevice>(device: &mut D, n: u32, from: &[u8], out: &mut String) -> Answer {
+fn write_bytes<D: BlockDevice>(device: &mut D, n: u32, from: &[u8], out: &mut Answers) -> Answer {
     if n >= device.blocks() || from.len() != device.size() as usize {
         return Err(Stop::Line);
     }
-    say_done(out, device.write(n, from))
+    say_done(device.write(n, from), out);
+    Ok(())
 }

@@ -6,7 +6,7 @@ use Rattle.vr_device.specs.Past.{Past, seen_of, fresh, unwritten}
 use Rattle.vr_device.specs.PastEvent.{blocks_of}
 use Rattle.vr_device.specs.Memory.{past_in}
 use Rattle.vr_device.specs.WriteAhead.{IsContent, IsSettled, kept}
-use Rattle.vr_device_cases.proofs.replacing.replace_each.Goals as goal
+use Rattle.vr_base_cases.proofs.replacing.replace_each.Goals as goal
 
 abbrev zeros : Block
 zeros = 0 ∷ 0 ∷ []
