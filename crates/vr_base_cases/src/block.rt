@@ -1,52 +1,15 @@
-//! The block that lines speak of, and numbers and bytes in a line.
+//! The block that lines speak of.
 
-use crate::answers::{Answer, Stop, say, say_bytes};
 use std::alloc::Global;
+use std::fmt::Debug;
+use vr_case_table::{Answer, Answers, Stop, digits_of, parted, size_of, small_of};
 
 /// The largest block, in bytes.
 const LIMIT: usize = 32_768;
 
-/// A number that a word spells.
-pub fn size_of(word: &str) -> Result<usize, Stop> {
-    match word.parse::<usize>() {
-        Ok(value) => Ok(value),
-        Err(_) => Err(Stop::Line),
-    }
-}
-
-/// A number of two bytes that a word spells.
-pub fn small_of(word: &str) -> Result<u16, Stop> {
-    match word.parse::<u16>() {
-        Ok(value) => Ok(value),
-        Err(_) => Err(Stop::Line),
-    }
-}
-
-/// A number of four bytes that a word spells.
-pub fn word_of(word: &str) -> Result<u32, Stop> {
-    match word.parse::<u32>() {
-        Ok(value) => Ok(value),
-        Err(_) => Err(Stop::Line),
-    }
-}
-
-/// The first word of a text and what stands after it, which may be nothing.
-pub fn first_word(text: &str) -> (&str, &str) {
-    text.split_once(' ').unwrap_or((text, ""))
-}
-
-/// The bytes that hexadecimal digits spell.
-pub fn bytes_of(alloc: Global, digits: &str) -> Result<Vec<u8>, Stop> {
-    match hex::decode(alloc, digits) {
-        Ok(bytes) => Ok(bytes),
-        Err(hex::FromHexError::OutOfMemory) => Err(Stop::Memory),
-        Err(_) => Err(Stop::Line),
-    }
-}
-
 /// Makes the block: `SIZE EDIT..`.
-pub fn make_block(alloc: Global, block: &mut Vec<u8>, rest: &str, out: &mut String) -> Answer {
-    let (size, edits) = first_word(rest);
+pub fn make_block(alloc: Global, block: &mut Vec<u8>, rest: &str, out: &mut Answers) -> Answer {
+    let (size, edits) = parted(rest);
     let size = size_of(size)?;
     if size > LIMIT {
         return Err(Stop::Line);
@@ -54,15 +17,17 @@ pub fn make_block(alloc: Global, block: &mut Vec<u8>, rest: &str, out: &mut Stri
     block.clear();
     block.resize(size, 0)?;
     put_edits(alloc, block, edits)?;
-    say(out, "ok")
+    out.ok()
 }
 
 /// The block with other bytes: `@PLACE` says where the next ones stand, `HEX` and `HEX*COUNT` what
 /// they are.
 pub fn edited(alloc: Global, block: &[u8], edits: &str) -> Result<Vec<u8>, Stop> {
     let mut edited = Vec::from_slice(alloc, block)?;
-    put_edits(alloc, edited.as_mut_slice(), edits)?;
-    Ok(edited)
+    match put_edits(alloc, edited.as_mut_slice(), edits) {
+        Ok(()) => Ok(edited),
+        Err(stop) => Err(stop),
+    }
 }
 
 /// Puts edits into the block.
@@ -81,7 +46,7 @@ fn put_edits(alloc: Global, block: &mut [u8], edits: &str) -> Answer {
 fn put_edit(alloc: Global, block: &mut [u8], at: usize, edit: &str) -> Result<usize, Stop> {
     let (digits, count) = edit.split_once('*').unwrap_or((edit, "1"));
     let count = small_of(count)?;
-    let bytes = bytes_of(alloc, digits)?;
+    let bytes = digits_of(alloc, digits)?;
     let mut at = at;
     for _ in 0..count {
         at = put_bytes(block, at, bytes.as_slice())?;
@@ -100,12 +65,21 @@ fn put_bytes(block: &mut [u8], at: usize, bytes: &[u8]) -> Result<usize, Stop> {
 }
 
 /// Some bytes of the block: `PLACE COUNT`.
-pub fn bytes_at(alloc: Global, block: &[u8], rest: &str, out: &mut String) -> Answer {
-    let (at, count) = first_word(rest);
+pub fn bytes_at(block: &[u8], rest: &str, out: &mut Answers) -> Answer {
+    let (at, count) = parted(rest);
     let at = size_of(at)?;
     let end = at.saturating_add(size_of(count)?);
     match block.get(at..end) {
-        Some(bytes) => say_bytes(alloc, out, "", bytes),
-        None => Err(Stop::Line),
+        Some(bytes) => out.say_digits(bytes),
+        None => return Err(Stop::Line),
+    }
+    Ok(())
+}
+
+/// Writes a value as `Debug` shows it.
+pub fn say_debug<T: Debug>(value: &T, out: &mut Answers) {
+    match format!(in out.alloc(); "{value:?}") {
+        Ok(text) => out.say(text.as_str()),
+        Err(_) => out.note_no_memory(),
     }
 }

@@ -1,9 +1,8 @@
 //! The crates beside plain, slow programs, over all small inputs.
 
-use crate::answers::{Answer, Stop, say, say_number};
-use crate::block::{first_word, small_of};
 use crate::{plain_intervals, plain_literals, plain_names, plain_records, plain_rosters};
 use std::alloc::{AllocError, Global};
+use vr_case_table::{Answer, Answers, Stop, parted, small_of};
 use vr_ci::Form;
 
 /// How many inputs were judged, how many of them the crate judges otherwise than the plain program,
@@ -52,30 +51,31 @@ impl Judged {
     }
 
     /// Writes the two counts, and the first input that differs.
-    fn say(&self, out: &mut String) -> Answer {
-        say_number(out, "", self.differ)?;
-        say_number(out, " differ of ", self.inputs)?;
+    fn say(&self, out: &mut Answers) {
+        out.say_number("", self.differ);
+        out.say_number(" differ of ", self.inputs);
         if self.differ > 0 {
-            say(out, ", first ")?;
-            say(out, self.first.as_str())?;
+            out.say(", first ");
+            out.say(self.first.as_str());
         }
-        Ok(())
     }
 }
 
 /// Judges all small inputs of a kind, or all blocks close to the block: `names`, `literals`,
 /// `spellings`, `numbers`, `sizes`, `record INTERVALS`, `roster INTERVALS`, `plain` or
 /// `slots LENGTH`.
-pub fn judge(alloc: Global, block: &[u8], rest: &str, out: &mut String) -> Answer {
-    let (kind, number) = first_word(rest);
+pub fn judge(block: &[u8], rest: &str, out: &mut Answers) -> Answer {
+    let alloc = out.alloc();
+    let (kind, number) = parted(rest);
     let judged = match kind {
         "record" | "roster" | "plain" | "slots" => judge_blocks(alloc, block, kind, number),
         _ => judge_inputs(alloc, kind),
     };
     match judged {
         Ok(judged) => judged.say(out),
-        Err(stop) => Err(stop),
+        Err(stop) => return Err(stop),
     }
+    Ok(())
 }
 
 /// Judges the blocks close to the block.

@@ -1,8 +1,8 @@
 //! Questions to `vr_types` about values. Each shows a copy of the value that it builds.
 
-use crate::answers::{Answer, Stop, say, say_bytes, say_debug, say_number};
-use crate::block::{bytes_of, first_word, small_of, word_of};
+use crate::block::say_debug;
 use std::alloc::Global;
+use vr_case_table::{Answer, Answers, Stop, digits_of, parted, small_of, word_of};
 use vr_types::{
     Bound, Bytes, FaultCount, FileRef, Find, Integrity, Kind, LockName, Mode, PartNo, Position,
     Refusal, Reply, Request, SharedRequest, Stand, Unit, Words, bytes, empty_place, number_place,
@@ -20,97 +20,116 @@ const FILE: FileRef = FileRef {
 };
 
 /// A place of bytes: `HEX`.
-pub fn place_of(alloc: Global, digits: &str, out: &mut String) -> Answer {
-    let from = bytes_of(alloc, digits)?;
+pub fn place_of(alloc: Global, digits: &str, out: &mut Answers) -> Answer {
+    let from = digits_of(alloc, digits)?;
     let place = place(alloc, from.as_slice())?;
     let copy = place.copy(alloc)?;
-    say_bytes(alloc, out, "", copy.as_slice())
+    out.say_digits(copy.as_slice());
+    Ok(())
 }
 
 /// The place of a number: `NUMBER`.
-pub fn numbered(alloc: Global, word: &str, out: &mut String) -> Answer {
+pub fn numbered(alloc: Global, word: &str, out: &mut Answers) -> Answer {
     let place = number_place(alloc, word_of(word)?)?;
-    say_bytes(alloc, out, "", place.as_slice())
+    out.say_digits(place.as_slice());
+    Ok(())
 }
 
 /// A place in room that was taken for it: `NUMBER HEX`.
-pub fn roomy(alloc: Global, rest: &str, out: &mut String) -> Answer {
-    let (room, digits) = first_word(rest);
+pub fn roomy(alloc: Global, rest: &str, out: &mut Answers) -> Answer {
+    let (room, digits) = parted(rest);
     let room = word_of(room)?;
-    let from = bytes_of(alloc, digits)?;
+    let from = digits_of(alloc, digits)?;
     if from.len() > room as usize {
         return Err(Stop::Line);
     }
     let mut buffer = empty_place(alloc, room)?;
-    say_bytes(alloc, out, "empty", buffer.as_slice())?;
+    out.say("empty");
+    out.say_digits(buffer.as_slice());
     buffer.set(from.as_slice());
     let place = buffer.into_place();
-    say_bytes(alloc, out, " then ", place.as_slice())
+    out.say(" then ");
+    out.say_digits(place.as_slice());
+    Ok(())
 }
 
 /// Bytes that are copied, grow by a list and by `45`, and lose that again: `HEX HEX`.
-pub fn grown(alloc: Global, rest: &str, out: &mut String) -> Answer {
-    let (first, second) = first_word(rest);
+pub fn grown(alloc: Global, rest: &str, out: &mut Answers) -> Answer {
+    let (first, second) = parted(rest);
     let mut grown = copied_bytes(alloc, first)?;
     grow(alloc, &mut grown, second, out)
 }
 
 fn copied_bytes(alloc: Global, digits: &str) -> Result<Bytes, Stop> {
-    let from = bytes_of(alloc, digits)?;
+    let from = digits_of(alloc, digits)?;
     let first = bytes(alloc, from.as_slice())?;
     Ok(first.copy(alloc)?)
 }
 
-fn grow(alloc: Global, grown: &mut Bytes, digits: &str, out: &mut String) -> Answer {
-    let more = bytes_of(alloc, digits)?;
+fn grow(alloc: Global, grown: &mut Bytes, digits: &str, out: &mut Answers) -> Answer {
+    let more = digits_of(alloc, digits)?;
     grown.extend(more.as_slice())?;
-    shrink(alloc, grown, out)
+    shrink(grown, out)
 }
 
-fn shrink(alloc: Global, grown: &mut Bytes, out: &mut String) -> Answer {
+fn shrink(grown: &mut Bytes, out: &mut Answers) -> Answer {
     let length = grown.len();
     grown.push(b'E')?;
-    say_number(out, "", grown.len() as u64)?;
+    out.say_number("", grown.len() as u64);
     grown.truncate(length);
-    say_bytes(alloc, out, " ", grown.as_slice())
+    out.say(" ");
+    out.say_digits(grown.as_slice());
+    Ok(())
 }
 
 /// How many words, and the words: `WORD..`.
-pub fn words(alloc: Global, rest: &str, out: &mut String) -> Answer {
+pub fn words(alloc: Global, rest: &str, out: &mut Answers) -> Answer {
     let mut words = Words::new(alloc);
-    for word in rest.split_whitespace() {
-        words.push(word)?;
-    }
-    say_number(out, "", words.len() as u64)?;
-    for at in 0..words.len() {
-        out.push_str(" ")?;
-        say(out, words.word(at))?;
+    match add_words(&mut words, rest) {
+        Ok(()) => say_words(&words, out),
+        Err(stop) => return Err(stop),
     }
     Ok(())
 }
 
+fn add_words(words: &mut Words, rest: &str) -> Answer {
+    for word in rest.split_whitespace() {
+        words.push(word)?;
+    }
+    Ok(())
+}
+
+fn say_words(words: &Words, out: &mut Answers) {
+    out.say_number("", words.len() as u64);
+    for at in 0..words.len() {
+        out.say(" ");
+        out.say(words.word(at));
+    }
+}
+
 /// A count of faults that was raised NUMBER times: `NUMBER`.
-pub fn faults(word: &str, out: &mut String) -> Answer {
+pub fn faults(word: &str, out: &mut Answers) -> Answer {
     let mut faults = FaultCount::new();
     for _ in 0..word_of(word)? {
         faults.raise();
     }
-    say_number(out, "", faults.shown())
+    out.say_number("", faults.shown());
+    Ok(())
 }
 
 /// A request of a kind, with a place or record, copied and shared: `KIND HEX`.
-pub fn request(alloc: Global, rest: &str, out: &mut String) -> Answer {
-    let (kind, digits) = first_word(rest);
+pub fn request(alloc: Global, rest: &str, out: &mut Answers) -> Answer {
+    let (kind, digits) = parted(rest);
     let request = request_in(alloc, kind, digits)?;
     say_request(alloc, &request, out)
 }
 
 fn request_in(alloc: Global, kind: &str, digits: &str) -> Result<Request, Stop> {
-    let from = bytes_of(alloc, digits)?;
+    let from = digits_of(alloc, digits)?;
     request_of(alloc, kind, from.as_slice())
 }
 
-fn say_request(alloc: Global, request: &Request, out: &mut String) -> Answer {
+fn say_request(alloc: Global, request: &Request, out: &mut Answers) -> Answer {
     let copy = request.copy(alloc)?;
     let bound = Bound {
         volume: 1,
@@ -120,9 +139,10 @@ fn say_request(alloc: Global, request: &Request, out: &mut String) -> Answer {
     say_shared(&bound, out)
 }
 
-fn say_shared(bound: &Bound, out: &mut String) -> Answer {
+fn say_shared(bound: &Bound, out: &mut Answers) -> Answer {
     let shared = bound.share()?;
-    say_debug(out, shared.request.get())
+    say_debug(shared.request.get(), out);
+    Ok(())
 }
 
 fn request_of(alloc: Global, kind: &str, from: &[u8]) -> Result<Request, Stop> {
@@ -157,15 +177,16 @@ fn request_of(alloc: Global, kind: &str, from: &[u8]) -> Result<Request, Stop> {
 }
 
 /// A copy of a position, with a place: `STAND HEX`.
-pub fn position(alloc: Global, rest: &str, out: &mut String) -> Answer {
-    let (stand, digits) = first_word(rest);
+pub fn position(alloc: Global, rest: &str, out: &mut Answers) -> Answer {
+    let (stand, digits) = parted(rest);
     let position = position_in(alloc, stand, digits)?;
     let copy = position.copy(alloc)?;
-    say_debug(out, &copy)
+    say_debug(&copy, out);
+    Ok(())
 }
 
 fn position_in(alloc: Global, stand: &str, digits: &str) -> Result<Position, Stop> {
-    let from = bytes_of(alloc, digits)?;
+    let from = digits_of(alloc, digits)?;
     position_of(alloc, stand, from.as_slice())
 }
 
@@ -197,21 +218,18 @@ fn get(find: Find) -> Request {
 }
 
 /// The feedback number and a copy of a refusal: `NUMBER`, with `key` for a lock on a key.
-pub fn refusal(alloc: Global, rest: &str, out: &mut String) -> Answer {
+pub fn refusal(alloc: Global, rest: &str, out: &mut Answers) -> Answer {
     let refusal = refusal_of(alloc, rest)?;
     let copy = refusal.copy(alloc)?;
-    say_refusal(&copy, out)
-}
-
-fn say_refusal(refusal: &Refusal, out: &mut String) -> Answer {
-    say_number(out, "", u64::from(refusal.code()))?;
-    say(out, " ")?;
-    say_debug(out, refusal)
+    out.say_number("", u64::from(copy.code()));
+    out.say(" ");
+    say_debug(&copy, out);
+    Ok(())
 }
 
 /// A refusal that is to have that number.
 fn refusal_of(alloc: Global, rest: &str) -> Result<Refusal, Stop> {
-    let (code, name) = first_word(rest);
+    let (code, name) = parted(rest);
     let code = small_of(code)?;
     if code != 901 {
         return plain_refusal(code).ok_or(Stop::Line);
@@ -259,18 +277,19 @@ fn plain_refusal(code: u16) -> Option<Refusal> {
 }
 
 /// A copy of a reply: `refused KIND`, or `done` with a place and a record or with none.
-pub fn reply(alloc: Global, rest: &str, out: &mut String) -> Answer {
-    let (kind, rest) = first_word(rest);
+pub fn reply(alloc: Global, rest: &str, out: &mut Answers) -> Answer {
+    let (kind, rest) = parted(rest);
     let reply = reply_of(alloc, kind, rest)?;
     let copy = reply.copy(alloc)?;
-    say_debug(out, &copy)
+    say_debug(&copy, out);
+    Ok(())
 }
 
 fn reply_of(alloc: Global, kind: &str, rest: &str) -> Result<Reply, Stop> {
     match kind {
         "refused" => Ok(Reply::Refused(refusal_of(alloc, rest)?)),
         "done" => {
-            let from = bytes_of(alloc, rest)?;
+            let from = digits_of(alloc, rest)?;
             Ok(Reply::Done {
                 feedback: 8,
                 place: Some(place(alloc, b"K1")?),

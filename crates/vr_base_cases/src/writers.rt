@@ -1,26 +1,26 @@
 //! Questions to the writers of `vr_ci`, which write into the block.
 
-use crate::answers::{Answer, Stop, say, say_number};
-use crate::block::{bytes_of, first_word, size_of, small_of};
 use crate::intervals;
 use std::alloc::Global;
+use vr_case_table::{Answer, Answers, Stop, digits_of, parted, size_of, small_of};
 use vr_ci::{CiWriter, Form, NoRoom, Piece, slots, write_segment};
 
-fn say_no_room(room: NoRoom, out: &mut String) -> Answer {
-    say_number(out, "need ", room.need as u64)?;
-    say_number(out, " free ", room.free as u64)
+fn say_no_room(room: NoRoom, out: &mut Answers) -> Answer {
+    out.say_number("need ", room.need as u64);
+    out.say_number(" free ", room.free as u64);
+    Ok(())
 }
 
 /// Writes plain records: `BUSY RECORD..`, each `+HEX`, or `-HEX` if it is withdrawn. One that has
 /// no room ends it.
-pub fn records(alloc: Global, block: &mut [u8], rest: &str, out: &mut String) -> Answer {
-    let (busy, items) = first_word(rest);
+pub fn records(alloc: Global, block: &mut [u8], rest: &str, out: &mut Answers) -> Answer {
+    let (busy, items) = parted(rest);
     if !vr_types::is_block_size(block.len()) {
         return Err(Stop::Line);
     }
     let mut writer = CiWriter::begin(Form::Plain, block);
     for word in items.split_whitespace() {
-        let bytes = bytes_of(alloc, word.get(1..).unwrap_or(""))?;
+        let bytes = digits_of(alloc, word.get(1..).unwrap_or(""))?;
         if bytes.is_empty() {
             return Err(Stop::Line);
         }
@@ -29,12 +29,12 @@ pub fn records(alloc: Global, block: &mut [u8], rest: &str, out: &mut String) ->
         }
     }
     writer.end(busy == "busy");
-    say(out, "ok")
+    out.ok()
 }
 
 /// Writes plain records of one byte, the last byte of each one's number from 0 on: `COUNT`. One
 /// that has no room ends it.
-pub fn single_bytes(block: &mut [u8], rest: &str, out: &mut String) -> Answer {
+pub fn single_bytes(block: &mut [u8], rest: &str, out: &mut Answers) -> Answer {
     let count = small_of(rest)?;
     if !vr_types::is_block_size(block.len()) {
         return Err(Stop::Line);
@@ -46,14 +46,14 @@ pub fn single_bytes(block: &mut [u8], rest: &str, out: &mut String) -> Answer {
         }
     }
     writer.end(false);
-    say(out, "ok")
+    out.ok()
 }
 
 /// Writes slots of `5A` bytes: `LENGTH BUSY SIGN..`, where `-` is an empty slot. One that has no
 /// room ends it. A block that is not complete is not a question.
-pub fn slots_of(alloc: Global, block: &mut [u8], rest: &str, out: &mut String) -> Answer {
-    let (length, rest) = first_word(rest);
-    let (busy, signs) = first_word(rest);
+pub fn slots_of(alloc: Global, block: &mut [u8], rest: &str, out: &mut Answers) -> Answer {
+    let (length, rest) = parted(rest);
+    let (busy, signs) = parted(rest);
     let length = small_of(length)?;
     let signs = signs.as_bytes();
     let size = block.len();
@@ -71,16 +71,16 @@ pub fn slots_of(alloc: Global, block: &mut [u8], rest: &str, out: &mut String) -
         return Err(Stop::Line);
     }
     writer.end(busy == "busy");
-    say(out, "ok")
+    out.ok()
 }
 
 /// Writes a segment of `5A` bytes: `PIECE SIGN BUSY NUMBER LENGTH`, where `-` is a withdrawn
 /// record.
-pub fn segment(alloc: Global, block: &mut [u8], rest: &str, out: &mut String) -> Answer {
-    let (piece, rest) = first_word(rest);
-    let (sign, rest) = first_word(rest);
-    let (busy, rest) = first_word(rest);
-    let (number, length) = first_word(rest);
+pub fn segment(alloc: Global, block: &mut [u8], rest: &str, out: &mut Answers) -> Answer {
+    let (piece, rest) = parted(rest);
+    let (sign, rest) = parted(rest);
+    let (busy, rest) = parted(rest);
+    let (number, length) = parted(rest);
     let number = small_of(number)?;
     let length = usize::from(small_of(length)?);
     let size = block.len();
@@ -102,25 +102,26 @@ pub fn segment(alloc: Global, block: &mut [u8], rest: &str, out: &mut String) ->
         busy == "busy",
         block,
     ) {
-        Ok(()) => say(out, "ok"),
+        Ok(()) => out.ok(),
         Err(room) => say_no_room(room, out),
     }
 }
 
 /// How many slots of a length a block of a size has: `SIZE LENGTH`.
-pub fn slot_count(rest: &str, out: &mut String) -> Answer {
-    let (size, length) = first_word(rest);
+pub fn slot_count(rest: &str, out: &mut Answers) -> Answer {
+    let (size, length) = parted(rest);
     let size = size_of(size)?;
     let length = small_of(length)?;
-    say_number(out, "", slots(size, length) as u64)
+    out.say_number("", slots(size, length) as u64);
+    Ok(())
 }
 
 /// A record in a block of a size that held other bytes, written and read again: `SIZE RECORD`.
-pub fn sized(alloc: Global, rest: &str, out: &mut String) -> Answer {
-    let (size, record) = first_word(rest);
+pub fn sized(alloc: Global, rest: &str, out: &mut Answers) -> Answer {
+    let (size, record) = parted(rest);
     let size = small_of(size)?;
     let mut block = vec![in alloc; 0xEE; usize::from(size)]?;
     records(alloc, block.as_mut_slice(), record, out)?;
-    say(out, " ")?;
+    out.say(" ");
     intervals::plain(alloc, block.as_slice(), "", out)
 }

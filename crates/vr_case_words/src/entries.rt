@@ -1,9 +1,9 @@
 //! Entries as the table writes them: `UNIT WHAT`, and of a request ` = ` and its reply after it.
 
-use crate::answers::Stop;
 use crate::replies::reply_of;
-use crate::words::{file_of, parted, place_of, place_or_none, record_of, unit_of, word_of};
+use crate::words::{file_of, parted, place_of, place_or_none, record_of, unit_of};
 use std::alloc::Global;
+use vr_case_table::{Stop, word_of};
 use vr_history::{Entry, What};
 use vr_types::{AreaNo, DeviceFault, FileRef, Find, Integrity, PartNo, Request, SharedRequest};
 

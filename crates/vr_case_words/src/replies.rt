@@ -1,10 +1,8 @@
 //! Replies as the table writes them.
 
-use crate::answers::Stop;
-use crate::words::{
-    long_of, parted, place_of, place_or_none, record_or_none, small_of, unit_of, word_of,
-};
+use crate::words::{parted, place_of, place_or_none, record_or_none, unit_of};
 use std::alloc::Global;
+use vr_case_table::{Stop, long_of, small_of, word_of};
 use vr_types::{LockName, Mode, PartNo, Refusal, Reply};
 
 /// The reply that a text spells: `done FEEDBACK PLACE RECORD`, or the name of a refusal with its

@@ -1,13 +1,13 @@
 //! Words of a line: numbers, places, records, files.
 ghost use Rattle.std.specs.Prelude.{◌≤◌, length};
 
-use crate::answers::Stop;
 use std::alloc::Global;
-use vr_text::{LiteralFault, number, plain_text, read_literal};
+use vr_case_table::{Stop, small_of, word_of};
+use vr_text::{LiteralFault, plain_text, read_literal};
 use vr_types::{Bytes, FileRef, Kind, PartNo, Place, Unit};
 
-/// The first word of a text and what stands after it, which may be nothing. A word that is a literal
-/// goes on to its closing quote, blanks and all.
+/// The first word of a text and what stands after it, which may be nothing. A word that is a
+/// literal goes on to its closing quote, blanks and all.
 pub fn parted(text: &str) -> (&str, &str) {
     if begins_literal(text) {
         return after_literal(text);
@@ -48,25 +48,8 @@ fn literal_len(bytes: &[u8]) -> usize
     bytes.len()
 }
 
-/// The number that a word spells.
-pub fn long_of(word: &str) -> Result<u64, Stop> {
-    number(word).ok_or(Stop::Line)
-}
-
-/// A number of four bytes that a word spells.
-pub fn word_of(word: &str) -> Result<u32, Stop> {
-    let value = number(word).ok_or(Stop::Line)?;
-    u32::try_from(value).ok().ok_or(Stop::Line)
-}
-
-/// A number of two bytes that a word spells.
-pub fn small_of(word: &str) -> Result<u16, Stop> {
-    let value = number(word).ok_or(Stop::Line)?;
-    u16::try_from(value).ok().ok_or(Stop::Line)
-}
-
-/// The bytes that a word spells: `C'..'` and `X'..'` those of the literal, `#N` a number of four bytes,
-/// `TEXT+N` a text and N full stops after it, `.` nothing, and another word its characters.
+/// The bytes that a word spells: `C'..'` and `X'..'` those of the literal, `#N` a number of four
+/// bytes, `TEXT+N` a text and N full stops after it, `.` nothing, and another word its characters.
 pub fn bytes_of(alloc: Global, word: &str) -> Result<Vec<u8>, Stop> {
     if word == "." {
         return Ok(Vec::new(alloc));

@@ -2,7 +2,8 @@
 
 use std::alloc::Global;
 use std::mem::replace;
-use vr_case_words::{Answer, Stop, long_of, parted, place_of, record_of, say, small_of, word_of};
+use vr_case_table::{Answer, Answers, Stop, small_of, word_of};
+use vr_case_words::{parted, place_of, record_of};
 use vr_catalog::{
     CatEntry, EntryKind, FreeSpace, RECORD_LENGTH, ShareOptions, SpaceUnit, write_entry,
 };
@@ -13,7 +14,7 @@ use vr_types::{AreaNo, Bytes, Geometry, Kind, NAME_LIMIT, NameFault, PartNo, Pla
 /// A volume as it was opened, the entries that were taken since, as it stands, and what the next
 /// volume is opened with.
 #[derive(Drop)]
-pub struct Desk {
+pub struct ModelDesk {
     pub opening: FileState,
     pub entries: Vec<Entry>,
     pub state: FileState,
@@ -23,16 +24,16 @@ pub struct Desk {
     pub owned: Vec<OwnedArea>,
 }
 
-impl Desk {
+impl ModelDesk {
     /// An empty volume of 129 blocks of 512 bytes, with a log of 8 blocks and areas of 7 intervals.
-    pub fn new(alloc: Global) -> Desk {
+    pub fn new(alloc: Global) -> ModelDesk {
         let geometry = Geometry {
             size: 512,
             blocks: 129,
             log: 8,
             area: 7,
         };
-        Desk {
+        ModelDesk {
             opening: FileState::opening(alloc, geometry, Vec::new(alloc), Vec::new(alloc)),
             entries: Vec::new(alloc),
             state: FileState::opening(alloc, geometry, Vec::new(alloc), Vec::new(alloc)),
@@ -44,7 +45,7 @@ impl Desk {
     }
 
     /// `volume SIZE BLOCKS LOG AREA`: the shape of the volumes that are opened from here on.
-    pub fn shape(&mut self, text: &str, out: &mut String) -> Answer {
+    pub fn shape(&mut self, text: &str, out: &mut Answers) -> Answer {
         let (size, rest) = parted(text);
         let (blocks, rest) = parted(rest);
         let (log, area) = parted(rest);
@@ -58,11 +59,11 @@ impl Desk {
             return Err(Stop::Line);
         }
         self.geometry = geometry;
-        say(out, "ok")
+        out.ok()
     }
 
     /// Opens a volume with the contents and areas of the lines before.
-    pub fn open(&mut self, alloc: Global, out: &mut String) -> Answer {
+    pub fn open(&mut self, alloc: Global, out: &mut Answers) -> Answer {
         let geometry = self.geometry;
         if !geometry.is_allowed() {
             return Err(Stop::Line);
@@ -73,27 +74,27 @@ impl Desk {
         self.entries.clear();
         self.state = self.opening.copy(alloc)?;
         self.stamp = 1;
-        say(out, "ok")
+        out.ok()
     }
 
     /// `area AREA PART`: the part owns the area.
-    pub fn area(&mut self, text: &str, out: &mut String) -> Answer {
+    pub fn area(&mut self, text: &str, out: &mut Answers) -> Answer {
         let (area, part) = parted(text);
         let area = word_of(area)?;
         let part = word_of(part)?;
         self.owned.push(OwnedArea { area, part })?;
-        say(out, "ok")
+        out.ok()
     }
 
     /// `record PART PLACE RECORD`: the part has the record, after those before.
-    pub fn record(&mut self, alloc: Global, text: &str, out: &mut String) -> Answer {
+    pub fn record(&mut self, alloc: Global, text: &str, out: &mut Answers) -> Answer {
         let (part, rest) = parted(text);
         let (place, record) = parted(rest);
         let part = word_of(part)?;
         let place = place_of(alloc, place)?;
         let record = record_of(alloc, record)?;
         self.put(alloc, part, place, record)?;
-        say(out, "ok")
+        out.ok()
     }
 
     /// Adds a record at the end of a part.
@@ -112,7 +113,7 @@ impl Desk {
     }
 
     /// `cluster NAME PART KIND KEYLENGTH KEYOFFSET MAXIMUM`: the catalog has the cluster.
-    pub fn cluster(&mut self, alloc: Global, text: &str, out: &mut String) -> Answer {
+    pub fn cluster(&mut self, alloc: Global, text: &str, out: &mut Answers) -> Answer {
         let (name, rest) = parted(text);
         let (part, rest) = parted(rest);
         let (kind, rest) = parted(rest);
@@ -136,7 +137,7 @@ impl Desk {
 
     /// `alternate NAME PART BASE KEYLENGTH KEYOFFSET unique|shared`: the catalog has the built
     /// alternate index.
-    pub fn alternate(&mut self, alloc: Global, text: &str, out: &mut String) -> Answer {
+    pub fn alternate(&mut self, alloc: Global, text: &str, out: &mut Answers) -> Answer {
         let (name, rest) = parted(text);
         let (part, rest) = parted(rest);
         let (base, rest) = parted(rest);
@@ -157,19 +158,19 @@ impl Desk {
     }
 
     /// Adds an entry to the catalog.
-    fn catalog(&mut self, alloc: Global, entry: CatEntry, out: &mut String) -> Answer {
+    fn catalog(&mut self, alloc: Global, entry: CatEntry, out: &mut Answers) -> Answer {
         let mut bytes = [0u8; RECORD_LENGTH];
         write_entry(&entry, &mut bytes);
         self.enter(alloc, &bytes, out)
     }
 
     /// Adds a catalog record, whose place is the name in its first bytes.
-    fn enter(&mut self, alloc: Global, record: &[u8], out: &mut String) -> Answer {
+    fn enter(&mut self, alloc: Global, record: &[u8], out: &mut Answers) -> Answer {
         let end = record.len().min(NAME_LIMIT);
         let place = Place::from_vec(Vec::from_slice(alloc, &record[..end])?);
         let record = Bytes::from_vec(Vec::from_slice(alloc, record)?);
         self.put(alloc, 0, place, record)?;
-        say(out, "ok")
+        out.ok()
     }
 }
 

@@ -1,7 +1,7 @@
 //! What the entries that were taken are as a history.
 
 use std::alloc::Global;
-use vr_case_words::{Answer, Stop, say, say_number};
+use vr_case_table::{Answer, Answers, Stop};
 use vr_history::{Entry, History};
 use vr_merge::{NumberedEntry, is_stamped, merge};
 use vr_model::{FileState, are_steps, is_legal};
@@ -13,44 +13,52 @@ pub fn judge(
     opening: &FileState,
     entries: &[Entry],
     asked: &str,
-    out: &mut String,
+    out: &mut Answers,
 ) -> Answer {
     match asked {
         "legal" => say_whether(out, is_legal(alloc, opening, entries)?),
         "steps" => say_whether(out, are_steps(alloc, opening, entries)?),
         "stamped" => say_whether(out, is_stamped(0, entries)),
-        "merged" => merged_twice(alloc, entries, out),
-        _ => Err(Stop::Line),
+        "merged" => merged_twice(alloc, entries, out)?,
+        _ => return Err(Stop::Line),
     }
+    Ok(())
 }
 
-fn say_whether(out: &mut String, is: bool) -> Answer {
-    say(out, if is { "yes" } else { "no" })
+fn say_whether(out: &mut Answers, is: bool) {
+    out.say(if is { "yes" } else { "no" });
 }
 
 /// The history of the entries, as far as their stamps rise.
 fn history_of(alloc: Global, entries: &[Entry]) -> Result<History, Stop> {
     let mut history = History::new(alloc);
+    match add_entries(alloc, &mut history, entries) {
+        Ok(()) => Ok(history),
+        Err(stop) => Err(stop),
+    }
+}
+
+fn add_entries(alloc: Global, history: &mut History, entries: &[Entry]) -> Answer {
     for entry in entries {
         if history.last() < entry.stamp {
             history.reserve(1)?;
             history.push(entry.copy(alloc)?);
         }
     }
-    Ok(history)
+    Ok(())
 }
 
-fn merged_twice(alloc: Global, entries: &[Entry], out: &mut String) -> Answer {
+fn merged_twice(alloc: Global, entries: &[Entry], out: &mut Answers) -> Answer {
     let first = history_of(alloc, entries)?;
     let second = history_of(alloc, entries)?;
     let histories = Vec::from_array(alloc, [first, second])?;
     let merged = merge(alloc, &histories)?;
-    say_volumes(&merged, out)
+    say_volumes(&merged, out);
+    Ok(())
 }
 
-fn say_volumes(merged: &[NumberedEntry], out: &mut String) -> Answer {
+fn say_volumes(merged: &[NumberedEntry], out: &mut Answers) {
     for entry in merged {
-        say_number(out, "/", entry.volume())?;
+        out.say_number("/", entry.volume());
     }
-    Ok(())
 }

@@ -1,36 +1,39 @@
 //! Which call a question asks.
 
-use crate::desk::Desk;
+use crate::desk::ModelDesk;
 use crate::{histories, views};
 use std::alloc::Global;
-use vr_case_words::{Answer, Stop, entry_of, parted, say};
+use vr_case_table::{Answer, Answers, Desk};
+use vr_case_words::{entry_of, parted};
 use vr_model::apply;
 
-/// Writes the answer to a line.
-pub fn answer(alloc: Global, desk: &mut Desk, line: &str, out: &mut String) -> Answer {
-    let (verb, rest) = parted(line);
-    match verb {
-        "volume" => desk.shape(rest, out),
-        "cluster" => desk.cluster(alloc, rest, out),
-        "alternate" => desk.alternate(alloc, rest, out),
-        "record" => desk.record(alloc, rest, out),
-        "area" => desk.area(rest, out),
-        "open" => desk.open(alloc, out),
-        "show" => views::show(alloc, &desk.state, rest, out),
-        "history" => histories::judge(alloc, &desk.opening, &desk.entries, rest, out),
-        _ => enter(alloc, desk, line, out),
+impl Desk for ModelDesk {
+    fn answer(&mut self, line: &str, out: &mut Answers) -> Answer {
+        let alloc = out.alloc();
+        let (verb, rest) = parted(line);
+        match verb {
+            "volume" => self.shape(rest, out),
+            "cluster" => self.cluster(alloc, rest, out),
+            "alternate" => self.alternate(alloc, rest, out),
+            "record" => self.record(alloc, rest, out),
+            "area" => self.area(rest, out),
+            "open" => self.open(alloc, out),
+            "show" => views::show(alloc, &self.state, rest, out),
+            "history" => histories::judge(alloc, &self.opening, &self.entries, rest, out),
+            _ => enter(alloc, self, line, out),
+        }
     }
 }
 
 /// Takes an entry, and says whether it is a step.
-fn enter(alloc: Global, desk: &mut Desk, line: &str, out: &mut String) -> Answer {
+fn enter(alloc: Global, desk: &mut ModelDesk, line: &str, out: &mut Answers) -> Answer {
     let entry = entry_of(alloc, desk.stamp, 0, line)?;
-    let taken = apply(alloc, &mut desk.state, &entry)?;
-    if taken {
-        desk.stamp = desk.stamp.saturating_add(1);
-        desk.entries.push(entry)?;
-        say(out, "step")
-    } else {
-        say(out, "no step")
+    if !apply(alloc, &mut desk.state, &entry)? {
+        out.say("no step");
+        return Ok(());
     }
+    desk.stamp = desk.stamp.saturating_add(1);
+    out.say("step");
+    desk.entries.push(entry)?;
+    Ok(())
 }

@@ -1,64 +1,69 @@
 //! What a state has, as the table writes it.
 
 use std::alloc::Global;
-use vr_case_words::{Answer, Stop, parted, place_of, say, say_number, say_text, word_of};
+use vr_case_table::{Answer, Answers, Stop, word_of};
+use vr_case_words::{parted, place_of};
 use vr_model::{FileState, Stored};
 use vr_types::{Place, Stand};
 
 /// Writes what a state has.
-pub fn show(alloc: Global, state: &FileState, text: &str, out: &mut String) -> Answer {
+pub fn show(alloc: Global, state: &FileState, text: &str, out: &mut Answers) -> Answer {
     let (verb, rest) = parted(text);
     match verb {
-        "used" => say_number(out, "", state.used),
-        "locks" => say_number(out, "", state.locks.len() as u64),
-        "befores" => say_number(out, "", state.befores.len() as u64),
-        "logged" => say_number(out, "", state.logged.len() as u64),
-        "owned" => say_number(out, "", state.owned.len() as u64),
-        "number" => say_number(out, "", state.number(word_of(rest)?)),
-        "items" => say_number(out, "", state.content(word_of(rest)?).len() as u64),
-        "at" => item(alloc, state, rest, out),
-        "stand" => stand(alloc, state, rest, out),
-        "held" => held(alloc, state, rest, out),
-        _ => Err(Stop::Line),
+        "used" => out.say_number("", state.used),
+        "locks" => out.say_number("", state.locks.len() as u64),
+        "befores" => out.say_number("", state.befores.len() as u64),
+        "logged" => out.say_number("", state.logged.len() as u64),
+        "owned" => out.say_number("", state.owned.len() as u64),
+        "number" => out.say_number("", state.number(word_of(rest)?)),
+        "items" => out.say_number("", state.content(word_of(rest)?).len() as u64),
+        "at" => item(alloc, state, rest, out)?,
+        "stand" => stand(alloc, state, rest, out)?,
+        "held" => held(alloc, state, rest, out)?,
+        _ => return Err(Stop::Line),
     }
+    Ok(())
 }
 
 /// `at PART PLACE`: what stands there.
-fn item(alloc: Global, state: &FileState, text: &str, out: &mut String) -> Answer {
+fn item(alloc: Global, state: &FileState, text: &str, out: &mut Answers) -> Answer {
     let (part, place) = parted(text);
     let part = word_of(part)?;
     let place = place_of(alloc, place)?;
     match state.item_at(part, &place) {
-        None => say(out, "nothing"),
-        Some(Stored::Withdrawn(length)) => say_number(out, "withdrawn ", *length),
-        Some(Stored::Standing(bytes)) => say_number(out, "a record of ", bytes.len() as u64),
+        None => out.say("nothing"),
+        Some(Stored::Withdrawn(length)) => out.say_number("withdrawn ", *length),
+        Some(Stored::Standing(bytes)) => out.say_number("a record of ", bytes.len() as u64),
     }
+    Ok(())
 }
 
-fn say_place(out: &mut String, text: &str, place: &Place) -> Answer {
-    say(out, text)?;
-    say_text(out, place.as_slice())
+fn say_place(out: &mut Answers, text: &str, place: &Place) {
+    out.say(text);
+    out.say_bytes(place.as_slice());
 }
 
 /// `stand DECK SLOT`: where the file stands.
-fn stand(alloc: Global, state: &FileState, text: &str, out: &mut String) -> Answer {
+fn stand(alloc: Global, state: &FileState, text: &str, out: &mut Answers) -> Answer {
     let (deck, slot) = parted(text);
     let position = state.position(alloc, word_of(deck)?, word_of(slot)?)?;
     match &position.stand {
-        Stand::Start => say(out, "start"),
+        Stand::Start => out.say("start"),
         Stand::At(place) => say_place(out, "at ", place),
         Stand::After(place) => say_place(out, "after ", place),
-        Stand::End => say(out, "end"),
-        Stand::None => say(out, "nowhere"),
+        Stand::End => out.say("end"),
+        Stand::None => out.say("nowhere"),
     }
+    Ok(())
 }
 
 /// `held DECK SLOT`: the place of the record that the file holds for update.
-fn held(alloc: Global, state: &FileState, text: &str, out: &mut String) -> Answer {
+fn held(alloc: Global, state: &FileState, text: &str, out: &mut Answers) -> Answer {
     let (deck, slot) = parted(text);
     let position = state.position(alloc, word_of(deck)?, word_of(slot)?)?;
     match &position.held {
-        None => say(out, "nothing"),
+        None => out.say("nothing"),
         Some(place) => say_place(out, "", place),
     }
+    Ok(())
 }
