@@ -16,14 +16,14 @@ use Rattle.vr_types.specs.declared.geometry.Geometry.{Geometry}
 use Rattle.vr_types.proofs.CallerLemmas.{during-weaken}
 use Rattle.vr_types.proofs.CallerLemmas.{puts-touches}
 use Rattle.vr_catalog.specs.declared.entry.CatEntry.{CatEntry}
-use Rattle.vr_space.specs.Keyed.{InArea}
-use Rattle.vr_space.specs.Part.{InFirstArea, KeyedShape, Shape, StandsFor}
+use Rattle.vr_space.specs.Keyed.{InArea, Keyed}
+use Rattle.vr_space.specs.Part.{KeyedShape, Shape, StandsFor}
 use Rattle.vr_volume.specs.Header.{header_block}
 use Rattle.vr_catalog.specs.Catalog.{entries_in, entry_with_part}
 use Rattle.vr_volume.specs.Laid.{catalog_shape, shape_by, shape_of}
 use Rattle.vr_volume.specs.Volume.{IsInside}
 use Rattle.vr_mount.specs.Touched.{Anything}
-use Rattle.vr_mount.proofs.CallerLemmas.{area-before, area-on, stands-same, two-areas}
+use Rattle.vr_mount.proofs.CallerLemmas.{area-before, area-on, keyed-same, two-areas}
 use Rattle.vr_format.specs.Formatted.{IsFormatted, IsWritten, catalog_of}
 use Rattle.vr_format.specs.Planned.{AreEmpty, ArePlanned, InClusters, IsOneOf, catalog_keyed}
 use Rattle.vr_format.specs.Planned.{cluster_keyed, content_of}
@@ -61,12 +61,12 @@ pub touches-put : (tells : Bool) (region : ℕ → Type 0) (n : ℕ) (bytes : Bl
 touches-put tells region n bytes a b told inside call =
     puts-touches tells region Anything n bytes a b told inside call (λ image left. tt)
 
--- a part of the volume that isn't written stays
-pub part-stays : (shape : Shape) (region : ℕ → Type 0) (old new : Seen) (content : Content)
-    → ((n : ℕ) → InFirstArea shape n → region n → ⊥) → Touches region Anything old new
-    → StandsFor shape old.cur content → StandsFor shape new.cur content
-part-stays shape region old new content apart call =
-    stands-same shape old.cur new.cur content (λ n here. call.content n (apart n here))
+-- a keyed part of the volume that isn't written stays
+pub part-stays : (part : Keyed) (region : ℕ → Type 0) (old new : Seen) (content : Content)
+    → ((n : ℕ) → InArea part n → region n → ⊥) → Touches region Anything old new
+    → StandsFor (KeyedShape part) old.cur content → StandsFor (KeyedShape part) new.cur content
+part-stays part region old new content apart call =
+    keyed-same part old.cur new.cur (λ n here. call.content n (apart n here)) content
 
 -- ---- clusters
 
@@ -100,7 +100,7 @@ pub empty-more : (geometry : Geometry) (clusters : List CatEntry) (n : ℕ) (ent
     → AreEmpty geometry clusters (n + 1) new.cur
 empty-more geometry clusters n entry old new is so_far call stands at other below there =
     ⊎_elim
-    (λ (before : at < n). part-stays (KeyedShape (cluster_keyed geometry (at + 1) other)) _ old new
+    (λ (before : at < n). part-stays (cluster_keyed geometry (at + 1) other) _ old new
     [] (λ m here also. clusters-apart geometry (at + 1) (n + 1) m other entry
     (omega (arith, before)) here also) call (so_far at other before there))
     (λ (last : n ≤ at). let same : at ≡ n = omega (arith, last, below) in
@@ -158,7 +158,7 @@ module _ (geometry : Geometry) (number : ℕ) (entries clusters : List CatEntry)
   catalog-stays : StandsFor (catalog_shape geometry) last.cur (catalog_of entries)
   catalog-stays =
       subst (StandsFor (catalog_shape geometry) last.cur) (sym planned.content)
-      (part-stays (KeyedShape (catalog_keyed geometry)) (InClusters geometry (length clusters))
+      (part-stays (catalog_keyed geometry) (InClusters geometry (length clusters))
       third last (content_of (catalog_keyed geometry) entries)
       (λ n here also. let before = area-before geometry 0 1 (omega arith) in
       absurd (omega (arith, here.1, also.0, before))) steps.to_last steps.catalog)

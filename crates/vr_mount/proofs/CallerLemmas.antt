@@ -1,8 +1,8 @@
 -- What the crates above cite: the areas of a volume, the parts of a catalog and who owns their blocks,
 -- and calls of which only the blocks are said.
 pub use Rattle.vr_mount.proofs.Blocks.{area-before, area-on, two-areas}
-pub use Rattle.vr_mount.proofs.PartContents.{keyed-same, none-ascend, part-fits, rooms-same}
-pub use Rattle.vr_mount.proofs.PartContents.{stands-same, stays-same}
+pub use Rattle.vr_mount.proofs.PartContents.{AreSame, keyed-same, none-ascend, part-fits}
+pub use Rattle.vr_mount.proofs.PartContents.{rooms-same, stands-same, stays-same}
 pub use Rattle.vr_mount.proofs.Touched.{image-same, touches-none}
 use Rattle.std.proofs.Common.{◌≡◌, ◌∙◌, ℕ, ◌+◌, ◌≤◌, List, Option, Some, sym, ap, arith}
 use Rattle.vr_types.specs.Geometry.{head_block}

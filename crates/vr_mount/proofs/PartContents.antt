@@ -6,6 +6,7 @@ use Rattle.std.specs.List.Sorted.{IsStrictlySortedBy}
 use Rattle.vr_types.specs.Content.{Content, Ascends, Placed}
 use Rattle.vr_types.specs.Geometry.{area_count}
 use Rattle.vr_types.specs.Image.{Block, Image, block_at}
+use Rattle.vr_types.specs.declared.geometry.Geometry.{Geometry}
 use Rattle.vr_ci_match.specs.declared.form.Form.TheVariants.{Plain}
 use Rattle.vr_ci.specs.Interval as ci
 use Rattle.vr_ci.proofs.CallerLemmas.{interval_room}
@@ -18,7 +19,9 @@ use Rattle.vr_space.specs.Part.{HasRoom, InPart, KeyedShape, RelativeShape, Shap
 use Rattle.vr_space.specs.Room.{HaveRoom, Lengths, Range, is_in, weight}
 use Rattle.vr_space.specs.Rosters.{IsChained, IsInArea, IsOf, IsOwnArea, Numbered, roster_block}
 use Rattle.vr_space.specs.Slots.{IsSlots, KeepsSlots, SlotsStandFor, SlotsStayIn}
-use Rattle.vr_space.proofs.CallerLemmas.{AreIn, chain-less, head-in, roster-inside, slots-less}
+use Rattle.vr_space.proofs.CallerLemmas.{AreIn, area-below, chain-less, head-in, roster-inside}
+use Rattle.vr_space.proofs.CallerLemmas.{slots-less}
+use Rattle.vr_attach.specs.Laid.{IsInside}
 use Rattle.vr_mount.proofs.SlotRecords.{records-same}
 
 -- no content ascends
@@ -93,24 +96,23 @@ module _ (part : Keyed) (old new : Image)
 -- what a part of chained areas stands for and keeps room for, where the blocks that it owns stay
 module _ (part : Numbered) (owners : Owners) (old new : Image)
     (within : SlotsStayIn part owners old)
-    (same : (n : ℕ) → InPart (RelativeShape part) owners n → block_at new n ≡ block_at old n) where
-  block-here : (area : ℕ) → IsOwnArea part owners area → (n : ℕ) → IsInArea part area n
-      → (block : Block) → IsOf new n block → IsOf old n block
-  block-here area own n inside block is = is ∙ same n (own.owned n inside)
-
-  top-same : (area : ℕ) → IsOwnArea part owners area
-      → block_at new (roster_block part area) ≡ block_at old (roster_block part area)
-  top-same area own =
-      same (roster_block part area) (own.owned (roster_block part area) (roster-inside part area))
+    (same : (n : ℕ) → n < part.geometry.blocks → InPart (RelativeShape part) owners n
+    → block_at new n ≡ block_at old n) where
+  own-same : (area : ℕ) → IsOwnArea part owners area → (n : ℕ) → IsInArea part area n
+      → block_at new n ≡ block_at old n
+  own-same area own n inside =
+      same n (area-below part area n own.there inside) (own.owned n inside)
 
   chain-same : (Wider : ℕ → Type 0) → ((area : ℕ) → IsOwnArea part owners area → Wider area)
       → IsChained part Wider (IsSlots part) (IsOf new)
   chain-same Wider wider = chain-less part (IsOwnArea part owners) Wider (IsSlots part) (IsOf new)
-      (IsOf old) wider block-here (area_count part.geometry) part.first within
+      (IsOf old) wider (λ area own n inside block is. is ∙ own-same area own n inside)
+      (area_count part.geometry) part.first within
 
   slots-room : (kept : Lengths) → KeepsSlots part kept (IsOf old) → KeepsSlots part kept (IsOf new)
   slots-room kept room = slots-less part (IsOwnArea part owners) (IsSlots part) (IsOf new)
-      (IsOf old) kept (λ area own top is. is ∙ top-same area own) within room
+      (IsOf old) kept (λ area own top is. is
+      ∙ own-same area own (roster_block part area) (roster-inside part area)) within room
 
   slots-same : (content : Content) → SlotsStandFor part old content
       → SlotsStandFor part new content
@@ -118,37 +120,60 @@ module _ (part : Numbered) (owners : Owners) (old new : Image)
     part_is = stands.part_is;
     chain = chain-same (λ area. area < area_count part.geometry) (λ area own. own.there);
     records = stands.records ∙ sym (records-same part (IsOwnArea part owners) old new
-        (λ area own n inside. same n (own.owned n inside)) (area_count part.geometry) 1 part.first
-        within);
+        own-same (area_count part.geometry) 1 part.first within);
   }
 
+-- the blocks that the part owns are as they were, where the volume has them
+abbrev pub AreSame : Geometry → Shape → Owners → Image → Image → Type 0
+AreSame geometry shape owners old new = (n : ℕ) → n < geometry.blocks → InPart shape owners n
+    → block_at new n ≡ block_at old n
+
+keyed-blocks : (geometry : Geometry) (part : Keyed) (owners : Owners) (old new : Image)
+    → IsInside geometry (KeyedShape part) → StaysIn (KeyedShape part) owners old
+    → AreSame geometry (KeyedShape part) owners old new → (n : ℕ) → InArea part n
+    → block_at new n ≡ block_at old n
+keyed-blocks geometry part owners old new inside within same n here =
+    same n (omega (arith, inside.0, here.1)) (within n here)
+
+numbered-blocks : (geometry : Geometry) (part : Numbered) (owners : Owners) (old new : Image)
+    → IsInside geometry (RelativeShape part)
+    → AreSame geometry (RelativeShape part) owners old new
+    → AreSame part.geometry (RelativeShape part) owners old new
+numbered-blocks geometry part owners old new inside same n below =
+    same n (subst (λ (g : Geometry). n < g.blocks) inside.1 below)
+
 -- A part that stays in its own blocks does so where these are as they were,
-pub stays-same : (shape : Shape) (owners : Owners) (old new : Image) → StaysIn shape owners old
-    → ((n : ℕ) → InPart shape owners n → block_at new n ≡ block_at old n)
-    → StaysIn shape owners new
-stays-same (KeyedShape part) owners old new within same = within
-stays-same (RelativeShape part) owners old new within same =
-    chain-same part owners old new within same (IsOwnArea part owners) (λ area own. own)
+pub stays-same : (geometry : Geometry) (shape : Shape) (owners : Owners) (old new : Image)
+    → IsInside geometry shape → StaysIn shape owners old
+    → AreSame geometry shape owners old new → StaysIn shape owners new
+stays-same geometry (KeyedShape part) owners old new inside within same = within
+stays-same geometry (RelativeShape part) owners old new inside within same =
+    chain-same part owners old new within
+    (numbered-blocks geometry part owners old new inside same) (IsOwnArea part owners)
+    (λ area own. own)
 
 -- stands for what it stood for,
-pub stands-same : (shape : Shape) (owners : Owners) (old new : Image) (content : Content)
-    → StaysIn shape owners old
-    → ((n : ℕ) → InPart shape owners n → block_at new n ≡ block_at old n)
+pub stands-same : (geometry : Geometry) (shape : Shape) (owners : Owners) (old new : Image)
+    → IsInside geometry shape → StaysIn shape owners old
+    → AreSame geometry shape owners old new → (content : Content)
     → StandsFor shape old content → StandsFor shape new content
-stands-same (KeyedShape part) owners old new content within same stands =
-    keyed-same part old new (λ n inside. same n (within n inside)) content stands
-stands-same (RelativeShape part) owners old new content within same stands =
-    slots-same part owners old new within same content stands
+stands-same geometry (KeyedShape part) owners old new inside within same =
+    keyed-same part old new (keyed-blocks geometry part owners old new inside within same)
+stands-same geometry (RelativeShape part) owners old new inside within same =
+    slots-same part owners old new within
+    (numbered-blocks geometry part owners old new inside same)
 
 -- and has the room that it had.
-pub rooms-same : (shape : Shape) (owners : Owners) (kept : Lengths) (old new : Image)
-    (content : Content) → StaysIn shape owners old
-    → ((n : ℕ) → InPart shape owners n → block_at new n ≡ block_at old n)
+pub rooms-same : (geometry : Geometry) (shape : Shape) (owners : Owners) (old new : Image)
+    → IsInside geometry shape → StaysIn shape owners old
+    → AreSame geometry shape owners old new → (kept : Lengths) (content : Content)
     → StandsFor shape old content → HasRoom shape kept old → HasRoom shape kept new
-rooms-same (KeyedShape part) owners kept old new content within same stands rooms =
-    keyed-rooms part old new (λ n inside. same n (within n inside)) kept content stands rooms
-rooms-same (RelativeShape part) owners kept old new content within same stands rooms =
-    slots-room part owners old new within same kept rooms
+rooms-same geometry (KeyedShape part) owners old new inside within same kept content stands =
+    keyed-rooms part old new (keyed-blocks geometry part owners old new inside within same) kept
+    content stands
+rooms-same geometry (RelativeShape part) owners old new inside within same kept content stands =
+    slots-room part owners old new within
+    (numbered-blocks geometry part owners old new inside same) kept
 
 -- ---- room
 

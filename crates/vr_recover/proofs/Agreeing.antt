@@ -1,6 +1,6 @@
 -- What a volume that recovers has in common with what is found as it is opened, and why what is
 -- shown refuses it.
-use Rattle.std.proofs.Common.{◌≡◌, ◌≢◌, ⊎_elim, ℕ, ◌≤◌, Bool, true, false}
+use Rattle.std.proofs.Common.{◌≡◌, ◌≢◌, ⊎_elim, ℕ, ◌+◌, ◌<◌, ◌≤◌, Bool, true, false}
 use Rattle.std.proofs.Common.{List, [], ◌∷◌, Some, length, refl, sym, ap, subst, ◌∙◌}
 use Rattle.std.proofs.Common.{cond, map, get_or}
 use Rattle.std.specs.Prelude.{All, IfSome, nat_eq, slice_get}
@@ -10,7 +10,7 @@ use Rattle.std.proofs.lemmas.Bool.{ne_eqb, true≢false}
 use Rattle.std.proofs.lemmas.List.Elements.{All-head, All-tail}
 use Rattle.std.proofs.lemmas.Option.{slice_get-get_or, slice_get-map}
 use Rattle.vr_types.specs.Content.{Content, record_of}
-use Rattle.vr_types.specs.Geometry.{IsAllowed, area_count}
+use Rattle.vr_types.specs.Geometry.{IsAllowed, area_count, head_block}
 use Rattle.vr_types.specs.Image.{Image, block_at}
 use Rattle.vr_types.specs.Seen.{Seen}
 use Rattle.vr_types.specs.declared.geometry.Geometry.{Geometry}
@@ -28,9 +28,11 @@ use Rattle.vr_log.specs.Content.{Content as LogContent}
 use Rattle.vr_log.specs.Spells.{Spells}
 use Rattle.vr_log.proofs.CallerLemmas.{one_log}
 use Rattle.vr_mount.specs.Areas.{AreOn, EndsBefore}
+use Rattle.vr_mount.proofs.CallerLemmas.{area-on}
 use Rattle.vr_mount.proofs.Headers.{one_shape}
 use Rattle.vr_space.specs.Keyed.{Keyed}
-use Rattle.vr_space.specs.Part.{HasRoom, KeyedShape, Shape, Stands, StandsFor, part_no}
+use Rattle.vr_space.specs.Part.{HasRoom, KeyedShape, RelativeShape, Shape, Stands, StandsFor}
+use Rattle.vr_space.specs.Part.{part_no}
 use Rattle.vr_volume.specs.PutBack.{AreAlone, images_of, lengths_kept, put_back}
 use Rattle.vr_volume.specs.Volume.{CanPutBack, IsInside, Recovers, catalog_back, shapes_by}
 use Rattle.vr_recover.specs.Found.{AreEntriesOf, AreOff, HasRoomFor, IsAreaNo}
@@ -124,6 +126,10 @@ module _ (geometry : Geometry) (number : ℕ) (image : Image) (recovered : ℕ �
       where
         ends : (shape : Shape) → IsInside geometry shape → EndsBefore geometry.blocks shape
         ends (KeyedShape part) inside = inside.0
+        ends (RelativeShape part) inside = subst
+            (λ (g : Geometry). head_block part.geometry part.first + part.geometry.area < g.blocks)
+            inside.1
+            (area-on part.geometry part.first inside.0.first)
 
     pub are-apart : AreApart (shape_in geometry entries)
     are-apart = owned-apart geometry entries is.stands.owners image

@@ -5,17 +5,16 @@ use Rattle.std.specs.Prelude.{All, filter}
 use Rattle.std.proofs.lemmas.Bool.{true≢false}
 use Rattle.std.proofs.lemmas.List.{take_all}
 use Rattle.std.proofs.lemmas.List.Elements.{All-filter, All-head, All-tail}
-use Rattle.vr_types.specs.Content.{Content, Item}
+use Rattle.vr_types.specs.Content.{Content}
 use Rattle.vr_types.specs.Image.{Block, Image}
 use Rattle.vr_types.specs.Locks.{same_unit}
 use Rattle.vr_types.specs.Regions.{Outside}
 use Rattle.vr_types.specs.Seen.{Left, Seen}
 use Rattle.vr_types.specs.declared.geometry.Geometry.{Geometry}
 use Rattle.vr_types.specs.declared.unit.Unit.{Unit as UnitOfRecovery}
-use Rattle.vr_space.specs.Keyed.{keyed_way}
 use Rattle.vr_space.specs.Owners.{Owners}
-use Rattle.vr_space.specs.Part.{InPart, IsSound, KeyedShape, MayHold, Shape, part_no}
-use Rattle.vr_space.proofs.CallerLemmas.{IsBlock, find-more, keyed-within, within-less}
+use Rattle.vr_space.specs.Part.{part_no}
+use Rattle.vr_space.proofs.CallerLemmas.{holds-less}
 use Rattle.vr_history.proofs.CallerLemmas.{unit_self}
 use Rattle.vr_history.proofs.Same.{unit_same}
 use Rattle.vr_history.specs.Effects.{is_other}
@@ -46,18 +45,6 @@ pub safe-recovers : (geometry : Geometry) (number : ℕ) (owners : Owners) (log 
 safe-recovers geometry number owners log contents image safe =
     image_recovers geometry number owners image safe.0 contents safe.2
 
--- a crash leaves no more of a part, so no more is held
-pub may-less : (shape : Shape) (owners : Owners) (a b : Seen) → IsSound shape owners a
-    → ((n : ℕ) (block : Block) → n < a.count → InPart shape owners n → b.may n block
-    → a.may n block) → (place : List ℕ) (found : Option Item) → MayHold shape b.may place found
-    → MayHold shape a.may place found
-may-less (KeyedShape part) owners a b (sound, owned) fewer place found held =
-    let less : (n : ℕ) (block : Block) → IsBlock part a n → b.may n block → a.may n block =
-    λ n block is. fewer n block is.0 (owned n is.1) in
-    find-more (IsBlock part a) b.may a.may found less (keyed_way part place)
-    (within-less (IsBlock part a) b.may a.may less (keyed_way part place)
-    (keyed-within part a sound place)) held
-
 module _ (number : ℕ) (owners : Owners) (log : LogNow) (contents : ℕ → Content) (a : Seen)
     (undone : IsUndone number owners log contents a) where
   pub left-recovers : (image : Image) → Left a image
@@ -82,9 +69,9 @@ module _ (number : ℕ) (owners : Owners) (log : LogNow) (contents : ℕ → Con
         → ((n : ℕ) (block : Block) → n < a.count → Outside (InLog log.geometry) n
         → b.may n block → a.may n block) → HasAll log.geometry contents b
     all-stays b fewer part shape laid place found may = undone.all part shape laid place found
-        (may-less shape owners a b (by-all.parts part shape laid).sound
-        (λ n block below inside is. fewer n block below (λ there.
-        omega (arith, there.1, undone.safe.past n (part_no shape).0 inside)) is)
+        (holds-less shape owners a b.may (by-all.parts part shape laid).sound
+        (λ n block is may. fewer n block is.0 (λ there.
+        omega (arith, there.1, undone.safe.past n (part_no shape).0 is.1)) may)
         place found may)
 
     module _ (unit : UnitOfRecovery) (kind : EndKind) where

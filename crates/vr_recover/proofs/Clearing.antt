@@ -15,7 +15,8 @@ use Rattle.vr_types.specs.declared.geometry.Geometry.{Geometry}
 use Rattle.vr_types.specs.declared.unit.PartNo.{PartNo}
 use Rattle.vr_types.proofs.CallerLemmas.{during-weaken, guards-then}
 use Rattle.vr_catalog.specs.declared.entry.CatEntry.{CatEntry}
-use Rattle.vr_attach.specs.Laid.{catalog_shape, shape_in}
+use Rattle.vr_catalog.specs.Definition.{catalog_definition}
+use Rattle.vr_attach.specs.Laid.{catalog_shape, keyed_part, shape_in}
 use Rattle.vr_history.specs.State.{BeforeImage}
 use Rattle.vr_keyed.specs.Owned.{Owned}
 use Rattle.vr_log.specs.Content.{Content as LogContent}
@@ -31,13 +32,13 @@ use Rattle.vr_space.specs.Split.{SplitNow}
 use Rattle.vr_space.specs.Part.{IsOn, KeyedShape, Shape, StaysIn, part_no}
 use Rattle.vr_volume.specs.PutBack.{images_of, lengths_kept}
 use Rattle.vr_volume.specs.Volume.{Recovers, shapes_by}
-use Rattle.vr_mount.proofs.CallerLemmas.{OwnParts, area-on, stands-same, two-areas}
+use Rattle.vr_mount.proofs.CallerLemmas.{OwnParts, area-on, first_at, keyed-same, two-areas}
 use Rattle.vr_recover.specs.Found.{AreAttached, AreEntriesOf, IsFound, IsPartReady, IsPlanned}
 use Rattle.vr_recover.specs.Found.{IsUndoable}
 use Rattle.vr_recover.specs.Opening.{shape_owned, shapes_laid}
 use Rattle.vr_recover.specs.Undone.{FitsPart, HaveOwnNumbers, IsCovered, IsLaidPastLog, IsReady}
 use Rattle.vr_recover.specs.Undone.{IsSettled}
-use Rattle.vr_recover.specs.Undone.{nothing_known}
+use Rattle.vr_recover.specs.Undone.{attached_known}
 use Rattle.vr_recover.proofs.Agreeing.{log-same, shapes-same}
 use Rattle.vr_recover.proofs.Keeping.{all-more}
 use Rattle.vr_recover.proofs.Settled.{part-opened, settled-undone}
@@ -65,11 +66,11 @@ module _ (geometry : Geometry) (content : LogContent) (a b : Seen) (allowed : Is
   pub entries-still : (entries : List CatEntry) → AreEntriesOf geometry a.cur entries
       → AreEntriesOf geometry b.cur entries
   entries-still entries are one stands = are one
-      (stands-same (catalog_shape geometry) b.cur a.cur one
+      (keyed-same (keyed_part geometry 0 0 catalog_definition) b.cur a.cur
       (λ n here. sym (off-now n
       (λ logged. omega (arith, here.0, logged.1))
       (omega (arith, here.1, area-on geometry 0 (omega (arith, two-areas geometry allowed))))))
-      stands)
+      one stands)
 
   module _ (number : ℕ) (recovered : ℕ → Content)
       (is : Recovers geometry number a.cur recovered) where
@@ -110,7 +111,7 @@ owned-shapes (keyed ∷ parts) =
 
 past-at : (geometry : Geometry) (a : ℕ) (shape : Shape) → IsAt geometry a shape
     → IsLaidPastLog geometry shape
-past-at geometry a (KeyedShape part) at n here = omega (arith, at.0, here.0)
+past-at geometry a shape at n here = omega (arith, (first_at geometry a n shape at here).0)
 
 module _ (geometry : Geometry) (content : LogContent) (entries : List CatEntry)
     (layouts : List Keyed) (planned : IsPlanned geometry content entries layouts)
@@ -212,11 +213,14 @@ module _ (geometry : Geometry) (content : LogContent) (entries : List CatEntry)
         let opened = part-opened geometry number now recovered is of forced owners own.past
         stays-by (KeyedShape keyed.part) laid in
         subst (λ (split : Option SplitNow). IsReady (KeyedShape keyed.part) owners
-        (record { split = split; met = keyed.met }) (lengths_kept images keyed.part.part) now)
+        (record { split = split; met = keyed.met; areas = []; used = 0 })
+        (lengths_kept images keyed.part.part) now)
         (sym no-split)
         (subst (λ (met : List Met). IsReady (KeyedShape keyed.part) owners
-        (record { split = None; met = met }) (lengths_kept images keyed.part.part) now) (sym none)
-        (subst (λ (l : LogContent). IsReady (KeyedShape keyed.part) owners nothing_known
+        (record { split = None; met = met; areas = []; used = 0 })
+        (lengths_kept images keyed.part.part) now) (sym none)
+        (subst (λ (l : LogContent). IsReady (KeyedShape keyed.part) owners
+        (attached_known (KeyedShape keyed.part) now.cur)
         (lengths_kept (images_of l.records) keyed.part.part) now) logs opened.ready))
 
     pub ready-now : All (IsPartReady owners images now) parts

@@ -11,6 +11,7 @@ use Rattle.std.proofs.lemmas.List.Elements.{All-cons, All-nil, All-weaker}
 use Rattle.std.proofs.lemmas.Option.{get_or_from_slice_get, slice_get-get_or, slice_get-map}
 use Rattle.std.proofs.lemmas.Option.{slice_get_within}
 use Rattle.vr_types.specs.Content.{Content, item_at}
+use Rattle.vr_types.specs.Image.{Block}
 use Rattle.vr_types.specs.Seen.{Left, Seen}
 use Rattle.vr_types.specs.declared.geometry.Geometry.{Geometry}
 use Rattle.vr_types.specs.declared.unit.PartNo.{PartNo}
@@ -18,8 +19,8 @@ use Rattle.vr_space.specs.Known.{Known}
 use Rattle.vr_space.specs.Owners.{Owners}
 use Rattle.vr_space.specs.Part.{IsSound, MayHold, Shape, part_no}
 use Rattle.vr_space.specs.Room.{Lengths}
-use Rattle.vr_space.proofs.CallerLemmas.{StaysPart, knows-stays, rest-sound, rest-stays, room-stays}
-use Rattle.vr_space.proofs.CallerLemmas.{same-stays}
+use Rattle.vr_space.proofs.CallerLemmas.{IsPartBlock, StaysPart, holds-less, knows-stays}
+use Rattle.vr_space.proofs.CallerLemmas.{rest-sound, rest-stays, room-stays, same-stays}
 use Rattle.vr_history.specs.State.{BeforeImage}
 use Rattle.vr_log.specs.LogNow.{HasLog, LogNow}
 use Rattle.vr_log.specs.declared.record.LogRecord.{LogRecord}
@@ -30,7 +31,6 @@ use Rattle.vr_volume.specs.Safe.{AreCommitted, IsSafe, IsSafeBy}
 use Rattle.vr_volume.proofs.Alone.{is-own, is-there}
 use Rattle.vr_recover.specs.Undone.{AreOpened, HasAll, HasAllRecords, HasContent, IsAllFirm}
 use Rattle.vr_recover.specs.Undone.{IsCovered, IsItemIn, IsKeptOf, IsReady, alike}
-use Rattle.vr_recover.proofs.BackingOut.{may-less}
 use Rattle.vr_recover.proofs.PuttingBack.{found-passes}
 
 -- ---- another part
@@ -48,15 +48,19 @@ module _ (shape : Shape) (owners : Owners) (a b : Seen) (stays : StaysPart shape
   }
 
   module _ (sound : IsSound shape owners a) where
+    fewer : (n : ℕ) (block : Block) → IsPartBlock shape owners a n → b.may n block
+        → a.may n block
+    fewer n block is may = stays.fewer n block is.0 is.1 may
+
     pub firm-stays : Left a a.cur → IsAllFirm shape a → IsAllFirm shape b
     firm-stays left firm place found held =
-        firm place found (may-less shape owners a b sound stays.fewer place found held)
+        firm place found (holds-less shape owners a b.may sound fewer place found held)
         ∙ sym (same-stays a b shape owners stays sound left place)
 
     pub content-stays : (content : Content) → HasContent shape content a
         → HasContent shape content b
     content-stays content has place found held =
-        has place found (may-less shape owners a b sound stays.fewer place found held)
+        has place found (holds-less shape owners a b.may sound fewer place found held)
 
 -- ---- all parts
 

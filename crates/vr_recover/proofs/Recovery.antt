@@ -13,24 +13,20 @@ use Rattle.vr_catalog.specs.Catalog.{entries_in}
 use Rattle.vr_catalog.specs.declared.entry.CatEntry.{CatEntry}
 use Rattle.vr_attach.specs.CatalogRules.{IsCatalog}
 use Rattle.vr_attach.specs.Laid.{catalog_shape, shape_by, shape_in}
-use Rattle.vr_attach.proofs.CallerLemmas.{first-stays, stays-owned}
 use Rattle.vr_history.specs.State.{BeforeImage}
 use Rattle.vr_log.specs.Content.{Content as LogContent}
 use Rattle.vr_log.specs.Spells.{Spells}
 use Rattle.vr_log.specs.Standing.{InLog}
 use Rattle.vr_mount.specs.Areas.{EndsBefore}
 use Rattle.vr_mount.proofs.Laying.{IsAt, shape_at}
-use Rattle.vr_seqset.specs.Entry.{Entry}
-use Rattle.vr_space.specs.Keyed.{HaveRooms, InArea, Keyed, entries_of, entry_block, lengths_of}
-use Rattle.vr_space.specs.Keyed.{range_of}
+use Rattle.vr_space.specs.Keyed.{Keyed}
 use Rattle.vr_space.specs.Owners.{Owners}
-use Rattle.vr_space.specs.Part.{HasRoom, InFirstArea, IsPlaceOf, IsRecordOf, KeyedShape, Shape}
+use Rattle.vr_space.specs.Part.{HasRoom, IsPlaceOf, IsRecordOf, KeyedShape, Shape}
 use Rattle.vr_space.specs.Part.{Stands, StandsFor, part_no}
-use Rattle.vr_space.specs.Room.{HaveRoom, Lengths}
-use Rattle.vr_space.proofs.CallerLemmas.{AreIn, head-in}
 use Rattle.vr_volume.specs.PutBack.{images_of, lengths_kept, put_back}
 use Rattle.vr_volume.specs.Volume.{CanPutBack, IsInside, Recovers, catalog_back, shapes_by}
-use Rattle.vr_mount.proofs.CallerLemmas.{OwnParts, some-own, stands-same}
+use Rattle.vr_mount.proofs.CallerLemmas.{AreSame, OwnParts, rooms-same, some-own, stands-same}
+use Rattle.vr_mount.proofs.CallerLemmas.{stays-same}
 use Rattle.vr_recover.specs.Found.{HasRoomOf, IsFound, IsPlanned}
 use Rattle.vr_recover.specs.Opening.{shapes_laid}
 use Rattle.vr_recover.specs.Undone.{FitsPart, HasPart}
@@ -137,9 +133,18 @@ module _ (geometry : Geometry) (content : LogContent) (entries : List CatEntry)
     laid-same part = ap (λ (c : Content). shape_by geometry c part) catalog-same
         ∙ ap (λ (es : List CatEntry). shape_in geometry es part) (sym entries-same)
 
-    inside-at : (a : ℕ) (shape : Shape) → IsAt geometry a shape
-        → EndsBefore geometry.blocks shape → IsInside geometry shape
-    inside-at a (KeyedShape part) at ends = (ends, at.2)
+    inside-at : (a : ℕ) (part : Keyed) → IsAt geometry a (KeyedShape part)
+        → EndsBefore geometry.blocks (KeyedShape part) → IsInside geometry (KeyedShape part)
+    inside-at a part at ends = (ends, at.2)
+
+    inside-of : (part : ℕ) (shape : Shape) → shape_in geometry entries part ≡ Some shape
+        → IsInside geometry shape
+    inside-of part shape laid =
+        let one = among part shape laid in
+        let at = shape_at geometry entries part shape laid in
+        subst (IsInside geometry) (sym one.shape_is)
+        (inside-at at.0 one.part (subst (IsAt geometry at.0) one.shape_is at.2)
+        (subst (EndsBefore geometry.blocks) one.shape_is (planned.on part shape laid)))
 
     can-at : (one : BeforeImage) (at : ℕ) (shape : Shape) (mine : IsAmong shape)
         → slice_get (map KeyedShape layouts) at ≡ Some shape → one.part ≡ (part_no shape).0
@@ -199,9 +204,7 @@ module _ (geometry : Geometry) (content : LogContent) (entries : List CatEntry)
         others = λ part is. none-held part (shape_in geometry entries part) refl
             (sym (laid-same part) ∙ is);
       };
-      inside = λ part shape is. let laid = sym (laid-same part) ∙ is in
-          let at = shape_at geometry entries part shape laid in
-          inside-at at.0 shape at.2 (planned.on part shape laid);
+      inside = λ part shape is. inside-of part shape (sym (laid-same part) ∙ is);
       images = can-back;
       alone = planned.back.alone;
       room = λ part shape is. room-at part shape (sym (laid-same part) ∙ is);
@@ -214,55 +217,17 @@ module _ (geometry : Geometry) (content : LogContent) (entries : List CatEntry)
 
 -- ---- where only blocks of the log changed
 
-module _ (part : Keyed) (kept : Lengths) (old new : Image)
-    (same : (n : ℕ) → InArea part n → block_at new n ≡ block_at old n) where
-  rooms-under : (low : Option (List ℕ)) (entries : List Entry) → AreIn part.area entries
-      → HaveRooms part kept old low entries → HaveRooms part kept new low entries
-  rooms-under low [] inside rooms = tt
-  rooms-under low (entry ∷ entries) inside rooms = (
-    subst (λ (b : Block). HaveRoom part.size (lengths_of part kept (range_of low entry) b))
-        (sym (same (entry_block part entry) (omega (arith, inside.0), omega (arith, inside.0))))
-        rooms.0,
-    rooms-under (Some entry.high) entries inside.1 rooms.1,
-  )
-
-  keyed-rooms : (content : Content) → StandsFor (KeyedShape part) old content
-      → HasRoom (KeyedShape part) kept old → HasRoom (KeyedShape part) kept new
-  keyed-rooms content stands rooms =
-      let top : block_at new part.head ≡ block_at old part.head =
-      same part.head (omega arith, omega arith) in
-      subst (λ (b : Block). HaveRooms part kept new None (entries_of b)) (sym top)
-      (rooms-under None (entries_of (block_at old part.head))
-      (head-in part (block_at old part.head) stands.head) rooms)
-
--- a part has the room that it had
-pub rooms-same : (shape : Shape) (kept : Lengths) (old new : Image) (content : Content)
-    → ((n : ℕ) → InFirstArea shape n → block_at new n ≡ block_at old n)
-    → StandsFor shape old content → HasRoom shape kept old → HasRoom shape kept new
-rooms-same (KeyedShape part) kept old new content same stands rooms =
-    keyed-rooms part kept old new same content stands rooms
-
 -- the blocks of the volume that aren't the log's are as they were
 abbrev pub AreOffLog : Geometry → Image → Image → Type 0
 AreOffLog geometry old new = (n : ℕ) → (InLog geometry n → ⊥) → n < geometry.blocks
     → block_at new n ≡ block_at old n
 
-inside-below : (geometry : Geometry) (shape : Shape) (n : ℕ) → IsInside geometry shape
-    → InFirstArea shape n → n < geometry.blocks
-inside-below geometry (KeyedShape part) n inside here = omega (arith, inside.0, here.1)
-
 module _ (geometry : Geometry) (number : ℕ) (old new : Image) (recovered : ℕ → Content)
     (is : Recovers geometry number old recovered) (allowed : IsAllowed geometry)
     (same : AreOffLog geometry old new) (spelled : Spells geometry new is.log) where
-  part-same : (part : ℕ) (shape : Shape) → shapes_by geometry is.log is.contents part ≡ Some shape
-      → (n : ℕ) → InFirstArea shape n → block_at new n ≡ block_at old n
-  part-same part shape laid n here = same n
-      (λ logged. omega (
-        arith,
-        is.stands.past n (part_no shape).0
-            (stays-owned shape is.stands.owners old (is.stands.within part shape laid) n here),
-        logged.1,
-      )) (inside-below geometry shape n (is.inside part shape laid) here)
+  part-same : (shape : Shape) → AreSame geometry shape is.stands.owners old new
+  part-same shape n below own =
+      same n (λ logged. omega (arith, is.stands.past n (part_no shape).0 own, logged.1)) below
 
   -- it recovers to the same
   pub moved-recovers : Recovers geometry number new recovered
@@ -276,17 +241,19 @@ module _ (geometry : Geometry) (number : ℕ) (old new : Image) (recovered : ℕ
       catalog = is.stands.catalog;
       owners = is.stands.owners;
       past = is.stands.past;
-      laid = λ part shape laid. stands-same shape old new (is.contents part)
-          (part-same part shape laid) (is.stands.laid part shape laid);
-      within = λ part shape laid. first-stays shape is.stands.owners new
-          (stays-owned shape is.stands.owners old (is.stands.within part shape laid));
+      laid = λ part shape laid. stands-same geometry shape is.stands.owners old new
+          (is.inside part shape laid) (is.stands.within part shape laid) (part-same shape)
+          (is.contents part) (is.stands.laid part shape laid);
+      within = λ part shape laid. stays-same geometry shape is.stands.owners old new
+          (is.inside part shape laid) (is.stands.within part shape laid) (part-same shape);
       others = is.stands.others;
     };
     inside = is.inside;
     images = is.images;
     alone = is.alone;
-    room = λ part shape laid. rooms-same shape (lengths_kept (images_of is.log.records) part) old
-        new (is.contents part) (part-same part shape laid) (is.stands.laid part shape laid)
-        (is.room part shape laid);
+    room = λ part shape laid. rooms-same geometry shape is.stands.owners old new
+        (is.inside part shape laid) (is.stands.within part shape laid) (part-same shape)
+        (lengths_kept (images_of is.log.records) part) (is.contents part)
+        (is.stands.laid part shape laid) (is.room part shape laid);
     back = is.back;
   }

@@ -263,7 +263,7 @@ pub layouts-on : (geometry : Geometry) (entries : List CatEntry) (layouts : List
     → All (λ (part : Keyed). IsOn (KeyedShape part) now) layouts
 layouts-on geometry entries layouts now of shapes distinct on k d below =
     let part = get_or layouts k d in
-    on_blocks geometry entries now of on part.part (KeyedShape part)
+    on_blocks geometry entries now of on part.part part
     (layout-laid geometry entries distinct layouts shapes k part
     (slice_get-get_or layouts k d below))
 

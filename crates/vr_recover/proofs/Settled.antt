@@ -12,23 +12,29 @@ use Rattle.std.proofs.lemmas.List.{take_all}
 use Rattle.std.proofs.lemmas.List.Elements.{All-cons, All-head, All-nil, All-tail, All-weaker}
 use Rattle.vr_types.specs.Blocks.{AllForced}
 use Rattle.vr_types.specs.Content.{Content, Item, item_at, place_cmp, record_of}
-use Rattle.vr_types.specs.Geometry.{IsAllowed}
-use Rattle.vr_types.specs.Image.{Block, block_at}
+use Rattle.vr_types.specs.Geometry.{IsAllowed, area_count}
+use Rattle.vr_types.specs.Image.{Block, Image, block_at}
 use Rattle.vr_types.specs.Seen.{Seen}
 use Rattle.vr_types.specs.declared.geometry.Geometry.{Geometry}
 use Rattle.vr_seqset.specs.Entry.{Entry}
 use Rattle.vr_attach.specs.Owning.{IsPastLog}
+use Rattle.vr_attach.proofs.CallerLemmas.{inside-on}
 use Rattle.vr_space.specs.Owners.{Owners}
 use Rattle.vr_space.specs.Room.{HaveRoom, Lengths, lengthen_by, with_length, with_lengths}
 use Rattle.vr_space.specs.Way.{Found, IsWithin, MayFind, Reads, Way, found_on}
-use Rattle.vr_space.specs.Keyed.{EachMayLeave, HaveRooms, HoldRanges, HoldsRange, InArea, IsHead}
-use Rattle.vr_space.specs.Keyed.{IsKeyedSound, Keyed, entries_of, entry_block, keyed_way}
+use Rattle.vr_space.specs.Keyed.{EachMayLeave, HaveRooms, HoldRanges, HoldsRange, IsHead}
+use Rattle.vr_space.specs.Keyed.{IsKeyedSound, Keyed, entries_of, entry_block}
 use Rattle.vr_space.specs.Keyed.{lengths_of, range_of}
-use Rattle.vr_space.specs.Part.{HasKeptRoom, HasRoom, IsOn, IsPlaceOf, KeyedShape}
 use Rattle.vr_space.specs.Met.{IsMet}
-use Rattle.vr_space.specs.Part.{IsRecordOf, Shape, StandsFor, StaysIn, part_no}
-use Rattle.vr_space.proofs.CallerLemmas.{AreIn, content_item, head-in, keyed-within}
-use Rattle.vr_space.proofs.CallerLemmas.{stands_content}
+use Rattle.vr_space.specs.Part.{HasKeptRoom, HasRoom, IsAtRest, IsOn, IsPlaceOf, IsRecordOf, IsSound}
+use Rattle.vr_space.specs.Part.{KeyedShape, Knows, MayHold, RelativeShape, Shape, StandsFor, StaysIn}
+use Rattle.vr_space.specs.Part.{item_of, part_no, way_to}
+use Rattle.vr_space.specs.Rosters.{IsInArea, IsOf as IsOfImage, IsOwnArea, Numbered, roster_block}
+use Rattle.vr_space.specs.Slots.{AreSlotsAtRest, IsNumberedOn, IsRestingArea, IsSlotMet, IsSlots}
+use Rattle.vr_space.specs.Slots.{KeepsSlots, SlotsStayIn}
+use Rattle.vr_space.proofs.CallerLemmas.{AreIn, IsPartBlock, area-owned, chain-less, content_item}
+use Rattle.vr_space.proofs.CallerLemmas.{first-owned, head-in, rest-sound, roster-inside, slots-less}
+use Rattle.vr_space.proofs.CallerLemmas.{stands_content, way-within}
 use Rattle.vr_history.specs.Committed.{kept_or}
 use Rattle.vr_history.specs.State.{BeforeImage}
 use Rattle.vr_log.specs.Content.{Content as LogContent}
@@ -40,10 +46,11 @@ use Rattle.vr_volume.specs.CatalogRules.{IsCatalog}
 use Rattle.vr_volume.specs.Laid.{shape_by}
 use Rattle.vr_volume.specs.PutBack.{images_of, length_in, length_of, lengths_kept, oldest, put_back}
 use Rattle.vr_volume.specs.Safe.{AreCommitted, IsItemOf, IsPartSafe, IsSafe, IsSafeBy}
-use Rattle.vr_volume.specs.Volume.{CanPutBack, IsInside, Recovers, shapes_by}
+use Rattle.vr_volume.specs.Volume.{CanPutBack, Recovers, shapes_by}
 use Rattle.vr_volume.proofs.PuttingBack.{back-ascends, back-item}
 use Rattle.vr_mount.proofs.CallerLemmas.{none-ascend}
 use Rattle.vr_recover.specs.Undone.{FitsPart, IsAllFirm, IsCovered, IsOpenedPart, IsSettled}
+use Rattle.vr_recover.specs.Undone.{attached_known}
 
 -- ---- a part
 
@@ -109,6 +116,81 @@ found-here now region there forced found (Found item) within is = is
 found-here now region there forced found (Reads n next) within is =
     found-here now region there forced found (next is.0) (within.1 is.0 is.1) is.2
     ∙ ap (λ (b : Block). found_on now.cur (next b)) (forced n is.0 (there n within.0) is.1)
+
+-- so is the item at each place of a part that is sound
+item-here : (shape : Shape) (owners : Owners) (now : Seen)
+    → AllForced now.count now.cur now.may → IsSound shape owners now → (place : List ℕ)
+    → (found : Option Item) → MayHold shape now.may place found
+    → found ≡ item_of shape now.cur place
+item-here shape owners now forced sound place found held =
+    found-here now (IsPartBlock shape owners now) (λ n inside. inside.0) forced found
+    (way_to shape place) (way-within shape owners now sound place) held
+
+-- ---- parts of any shape
+
+-- A part of chained areas, of whose blocks a crash leaves what is read alone.
+module _ (part : Numbered) (owners : Owners) (now : Seen) (on : IsNumberedOn part now)
+    (forced : AllForced now.count now.cur now.may) (stays : SlotsStayIn part owners now.cur) where
+  own-forced : (area : ℕ) → IsOwnArea part owners area → (n : ℕ) → IsInArea part area n
+      → (block : Block) → now.may n block → block ≡ block_at now.cur n
+  own-forced area own n inside block may =
+      forced n block (area-owned part owners now on area own n inside).0 may
+
+  slots-rest : AreSlotsAtRest part owners now
+  slots-rest = record {
+    on = on;
+    chain = chain-less part (IsOwnArea part owners) (IsRestingArea part owners now) (IsSlots part)
+        now.may (IsOfImage now.cur)
+        (λ area own. record {
+          own = own;
+          roster = own-forced area own (roster_block part area) (roster-inside part area);
+        })
+        own-forced (area_count part.geometry) part.first stays;
+  }
+
+  slots-room : (kept : Lengths) → KeepsSlots part kept (IsOfImage now.cur)
+      → KeepsSlots part kept now.may
+  slots-room kept room = slots-less part (IsOwnArea part owners) (IsSlots part) now.may
+      (IsOfImage now.cur) kept
+      (λ area own top may.
+      own-forced area own (roster_block part area) (roster-inside part area) top may) stays room
+
+-- A part that stands in blocks of its own is at rest where a crash leaves what is read alone,
+forced-rests : (shape : Shape) (owners : Owners) (now : Seen) → IsOn shape now
+    → AllForced now.count now.cur now.may → (content : Content) → StandsFor shape now.cur content
+    → StaysIn shape owners now.cur → IsAtRest shape owners now
+forced-rests (KeyedShape part) owners now on forced content stands stays = (
+  record {
+    sound = part-sound part now on forced content stands;
+    one_head = λ top may. forced part.head top (omega (arith, on.0)) may;
+  },
+  stays,
+)
+forced-rests (RelativeShape part) owners now on forced content stands stays =
+    slots-rest part owners now on forced stays
+
+-- has the room that it has in what is read,
+forced-room : (shape : Shape) (owners : Owners) (now : Seen) → IsOn shape now
+    → AllForced now.count now.cur now.may → (content : Content) → StandsFor shape now.cur content
+    → StaysIn shape owners now.cur → (kept : Lengths)
+    → All (λ (entry : List ℕ × ℕ). IsPlaceOf shape entry.0) kept
+    → HasRoom shape kept now.cur → HasKeptRoom shape kept now
+forced-room (KeyedShape part) owners now on forced content stands stays kept places room =
+    part-room part now on forced content stands kept places room
+forced-room (RelativeShape part) owners now on forced content stands stays kept places room =
+    slots-room part owners now on forced stays kept room
+
+-- and knows its blocks as it is attached.
+attached-knows : (shape : Shape) (now : Seen) → Knows shape (attached_known shape now.cur) now
+attached-knows (KeyedShape part) now = record { way = tt; blocks = All-nil (IsMet part now.cur) }
+attached-knows (RelativeShape part) now = record {
+  way = tt;
+  blocks = record { areas = refl; used = refl; met = All-nil (IsSlotMet part now.cur) };
+}
+
+attached-no-split : (shape : Shape) (image : Image) → (attached_known shape image).split ≡ None
+attached-no-split (KeyedShape part) image = refl
+attached-no-split (RelativeShape part) image = refl
 
 -- ---- what is kept
 
@@ -196,12 +278,6 @@ module _ (shapes : ℕ → Option Shape) (part : ℕ) where
 
 -- ---- the volume
 
--- a part is on the blocks of a device of the volume's shape
-pub on-by : (geometry : Geometry) (now : Seen) → IsOf geometry now → (shape : Shape)
-    → IsInside geometry shape → IsOn shape now
-on-by geometry now of (KeyedShape part) inside =
-    (omega (arith, inside.0, of.count), of.size ∙ sym inside.1)
-
 module _ (geometry : Geometry) (number : ℕ) (now : Seen) (recovered : ℕ → Content)
     (is : Recovers geometry number now.cur recovered) (of : IsOf geometry now)
     (forced : AllForced now.count now.cur now.may) where
@@ -259,29 +335,31 @@ module _ (geometry : Geometry) (number : ℕ) (now : Seen) (recovered : ℕ → 
     part-by : (part : ℕ) (shape : Shape) → IsOn shape now
         → shapes_by geometry is.log is.contents part ≡ Some shape
         → IsPartSafe shape owners part images (recovered part) now
-    part-by part (KeyedShape keyed) on laid =
-        let there = is.stands.laid part (KeyedShape keyed) laid in
-        let sound = part-sound keyed now on forced (is.contents part) there in
+    part-by part shape on laid =
+        let there = is.stands.laid part shape laid in
+        let stays = within part shape laid in
+        let sound = rest-sound shape owners now
+        (forced-rests shape owners now on forced (is.contents part) there stays) in
         record {
-          sound = (sound, within part (KeyedShape keyed) laid);
+          sound = sound;
           items = λ place found may. item-of part place found
-              (found-here now (λ n. (n < now.count) × InArea keyed n)
-              (λ n inside. inside.0) forced found (keyed_way keyed place)
-              (keyed-within keyed now sound place) may
-              ∙ sym (content_item (KeyedShape keyed) now.cur (is.contents part) there place));
-          room = part-room keyed now on forced (is.contents part) there (lengths_kept images part)
-              (with-all (IsPlaceOf (KeyedShape keyed)) [] (filter_map (length_in part) images)
-              (All-nil (λ (entry : List ℕ × ℕ). length entry.0 ≡ keyed.key))
-              (kept-places (shapes_by geometry is.log is.contents) part (KeyedShape keyed) laid
-              images is.images))
-              (is.room part (KeyedShape keyed) laid);
+              (item-here shape owners now forced sound place found may
+              ∙ sym (content_item shape now.cur (is.contents part) there place));
+          room = forced-room shape owners now on forced (is.contents part) there stays
+              (lengths_kept images part)
+              (with-all (IsPlaceOf shape) [] (filter_map (length_in part) images)
+              (All-nil (λ (entry : List ℕ × ℕ). IsPlaceOf shape entry.0))
+              (kept-places (shapes_by geometry is.log is.contents) part shape laid images
+              is.images))
+              (is.room part shape laid);
         }
 
     safe-by : IsSafeBy geometry owners is.log.records recovered now
     safe-by = record {
       committed = committed-by;
       parts = λ part shape laid. let found = sym (laid-same part) ∙ laid in
-          part-by part shape (on-by geometry now of shape (is.inside part shape found)) found;
+          part-by part shape
+          (inside-on geometry shape now of.count of.size (is.inside part shape found)) found;
     }
 
     -- each log that an image may have has the same records
@@ -305,28 +383,20 @@ module _ (geometry : Geometry) (number : ℕ) (now : Seen) (recovered : ℕ → 
         → shapes_by geometry is.log is.contents (part_no shape).0 ≡ Some shape
         → IsPartSafe shape owners (part_no shape).0 images (recovered (part_no shape).0) now
         → IsOpenedPart geometry owners images shape now
-    opened-by (KeyedShape part) on laid safe = record {
+    opened-by shape on laid safe = record {
       on = on;
-      past = λ n inside. past n part.part (safe.sound.1 n inside);
+      past = λ n inside. past n (part_no shape).0 (first-owned shape owners now safe.sound n inside);
       ready = record {
-        rests = (
-          record {
-            sound = safe.sound.0;
-            one_head = λ top may. forced part.head top (omega (arith, on.0)) may;
-          },
-          safe.sound.1,
-        );
+        rests = forced-rests shape owners now on forced (is.contents (part_no shape).0)
+            (is.stands.laid (part_no shape).0 shape laid) (within (part_no shape).0 shape laid);
         room = safe.room;
-        knows = record { way = tt; blocks = All-nil (IsMet part now.cur) };
-        no_split = refl;
+        knows = attached-knows shape now;
+        no_split = attached-no-split shape now.cur;
       };
-      firm = λ place found held. found-here now (λ n. (n < now.count) × InArea part n)
-          (λ n inside. inside.0) forced found (keyed_way part place)
-          (keyed-within part now safe.sound.0 place) held;
-      fits = All-weaker (CanPutBack (shapes_by geometry is.log is.contents))
-          (FitsPart (KeyedShape part))
+      firm = λ place found held. item-here shape owners now forced safe.sound place found held;
+      fits = All-weaker (CanPutBack (shapes_by geometry is.log is.contents)) (FitsPart shape)
           (λ image can mine.
-          let same : can.shape ≡ KeyedShape part = shape-is can.shape (KeyedShape part)
+          let same : can.shape ≡ shape = shape-is can.shape shape
           (sym can.laid ∙ ap (shapes_by geometry is.log is.contents) mine ∙ laid) in
           record {
             place = subst (λ (s : Shape). IsPlaceOf s image.place) same can.place;
@@ -341,7 +411,8 @@ module _ (geometry : Geometry) (number : ℕ) (now : Seen) (recovered : ℕ → 
         → IsOpenedPart geometry owners images shape now
     part-opened shape laid =
         let on : IsOn shape now =
-        on-by geometry now of shape (is.inside (part_no shape).0 shape laid) in
+        inside-on geometry shape now of.count of.size
+        (is.inside (part_no shape).0 shape laid) in
         opened-by shape on laid (part-by (part_no shape).0 shape on laid)
 
     -- ---- its log

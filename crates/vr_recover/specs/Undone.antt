@@ -12,8 +12,10 @@ use Rattle.vr_types.specs.declared.unit.Unit.{Unit as UnitOfRecovery}
 use Rattle.vr_space.specs.Known.{Known}
 use Rattle.vr_space.specs.Owners.{Owners}
 use Rattle.vr_space.specs.Part.{HasKeptRoom, InFirstArea, IsAtRest, IsFirm, IsOn, IsPlaceOf}
-use Rattle.vr_space.specs.Part.{IsRecordOf, Knows, MayHold, Shape, item_of, part_no}
+use Rattle.vr_space.specs.Part.{IsRecordOf, KeyedShape, Knows, MayHold, RelativeShape, Shape}
+use Rattle.vr_space.specs.Part.{item_of, part_no}
 use Rattle.vr_space.specs.Room.{Lengths, length_at}
+use Rattle.vr_space.specs.Rosters.{chain_of, used_of}
 use Rattle.vr_history.specs.State.{BeforeImage}
 use Rattle.vr_log.specs.Content.{Content as LogContent}
 use Rattle.vr_log.specs.Live.{is_in, live_in}
@@ -33,9 +35,13 @@ pub record IsReady (shape : Shape) (owners : Owners) (known : Known) (kept : Len
   pub knows : Knows shape known now
   pub no_split : known.split ≡ None
 
--- what a part knows as it is attached: no split is under way, and nothing was met yet
-abbrev pub nothing_known : Known
-nothing_known = record { split = None; met = [] }
+-- what a part knows of its blocks as it is attached: no split is under way, nothing was met yet, and
+-- where it has a chain of areas, these are they
+abbrev pub attached_known : Shape → Image → Known
+attached_known (KeyedShape part) image =
+    record { split = None; met = []; areas = []; used = 0 }
+attached_known (RelativeShape part) image =
+    record { split = None; met = []; areas = chain_of part image; used = used_of part image }
 
 -- room is kept for the record at the place, or there is none
 abbrev pub IsKeptAt : Lengths → List ℕ → Option (List ℕ) → Type 0
@@ -154,7 +160,8 @@ pub record IsOpenedPart (geometry : Geometry) (owners : Owners) (images : List B
     (shape : Shape) (now : Seen) : Type 0 where
   pub on : IsOn shape now
   pub past : IsLaidPastLog geometry shape
-  pub ready : IsReady shape owners nothing_known (lengths_kept images (part_no shape).0) now
+  pub ready : IsReady shape owners (attached_known shape now.cur)
+      (lengths_kept images (part_no shape).0) now
   pub firm : IsAllFirm shape now
   pub fits : All (FitsPart shape) images
 

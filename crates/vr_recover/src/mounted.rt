@@ -1,5 +1,5 @@
 //! The catalog of a volume that is opened, and the parts that it lays.
-ghost use Rattle.std.specs.Prelude.{◌≡◌, ◌∷◌, [], All, IsTrue, IfOk, IfErr, OnOk, map, nat_eq};
+ghost use Rattle.std.specs.Prelude.{◌≡◌, ◌∷◌, [], All, IsTrue, IfOk, IfErr, None, OnOk, map, nat_eq};
 ghost use Rattle.std.specs.List.{IsDistinct};
 ghost use Rattle.vr_types.specs.Blocks.{Keeps};
 ghost use Rattle.vr_types.specs.Geometry.{IsAllowed, head_block};
@@ -53,6 +53,8 @@ fn list<B: Blocks>(alloc: Global, blocks: &mut B, part: &mut Keyed) -> Result<Ve
     requires on { IsOn (KeyedShape part.old.part) (B.seen blocks.old) }
     requires key { part.old.part.key ≡ 44 }
     requires stands { IsTrue B.tells → Stands (KeyedShape part.old.part) (B.seen blocks.old).cur }
+    requires split { part.old.split ≡ None }
+    requires met { part.old.met ≡ [] }
     ensures records { IsTrue B.tells → IfOk result (λ found.
         AreRecords (KeyedShape part.old.part) (B.seen blocks.old).cur found.items) }
     ensures silent { IfErr result IsSilentNo }
@@ -107,6 +109,8 @@ fn read_entries<B: Blocks>(
     requires on { IsOn (KeyedShape part.old.part) (B.seen blocks.old) }
     requires part { part.old.part ≡ part_of geometry.now 0 0 definition_of_catalog }
     requires stands { IsTrue B.tells → Stands (KeyedShape part.old.part) (B.seen blocks.old).cur }
+    requires split { part.old.split ≡ None }
+    requires met { part.old.met ≡ [] }
     ensures entries { IsTrue B.tells → IfOk result (λ catalog.
         AreEntriesOf geometry.now (B.seen blocks.old).cur catalog.value) }
     ensures parts { IfOk result (λ catalog. IsDistinct nat_eq (0 ∷ parts_in catalog.value)) }
