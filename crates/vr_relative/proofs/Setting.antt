@@ -22,7 +22,7 @@ use Rattle.vr_space.specs.Part.{CanSet, HasRoom, InPart, IsRecordOf, IsSound, Ju
 use Rattle.vr_space.specs.Part.{RelativeShape, SetsOne}
 use Rattle.vr_space.specs.Room.{Lengths}
 use Rattle.vr_space.specs.Rosters.{IsChained, IsOf, Numbered, chain_of, used_of}
-use Rattle.vr_space.specs.Slots.{IsNumberedOn, IsRestingArea, IsSlotMet, IsSlotPlace, IsSlots}
+use Rattle.vr_space.specs.Slots.{IsRestingArea, IsSlotMet, IsSlotPlace, IsSlots}
 use Rattle.vr_space.specs.Slots.{KnowsChain, chain_block, interval_of, number_of, slot_fits}
 use Rattle.vr_space.specs.Slots.{slot_in}
 use Rattle.vr_space.specs.Slots.{slot_read}
