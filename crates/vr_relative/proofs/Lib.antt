@@ -15,3 +15,4 @@ pub mod Meeting
 pub mod Refreshing
 pub mod Looking
 pub mod WritingSlots
+pub mod Owning
