@@ -1,8 +1,6 @@
 -- The places that were met, as another is.
-use Rattle.std.proofs.Common.{◌≡◌, ◌<◌, ◌≤◌, ◌+◌, ℕ, zero, suc, Bool, true, false, List, []}
-use Rattle.std.proofs.Common.{◌∷◌, take, All, refl, sym, ap, ◌∙◌, arith, min}
-use Rattle.std.proofs.Common.{subst}
-use Rattle.std.proofs.Common.{length}
+use Rattle.std.proofs.Common.{◌≡◌, ◌<◌, ◌≤◌, ◌+◌, ℕ, zero, suc, Bool, true, false, List, [], ◌∷◌}
+use Rattle.std.proofs.Common.{take, All, refl, sym, ap, ◌∙◌, arith, min, subst, length}
 use Rattle.std.proofs.lemmas.List.Elements.{All-cons, All-head, All-nil, All-tail}
 use Rattle.std.specs.Prelude.{IfOk, OnOk, bytes_eq, cond, filter, not}
 use Rattle.std.specs.declared.result.Result.{Result}
