@@ -126,11 +126,6 @@ pub first-has : (n : ℕ) (a b : Met) (place : List ℕ) → 0 < n → a.place �
 first-has zero a b place some here = absurd (omega (arith, some))
 first-has (suc n) a b place some here = (0, omega arith, here)
 
--- a place of a slot has four bytes
-pub slot-length : (place : List ℕ) → IsSlotPlace place → length place ≡ 4
-slot-length place is =
-    ap (λ (bytes : List ℕ). length bytes) is.bytes ∙ length-four (number_of place)
-
 -- what follows where there is an answer
 pub on-ok-more : {X E : Type 0} (r : Result X E) (P Q : Type 0) → (P → Q) → OnOk r P → OnOk r Q
 on-ok-more (Ok x) P Q more is = more is

@@ -134,7 +134,13 @@ impl Part for Relative {
     ) -> Result<StageKind, DeviceFault> {
         let mets = &self.mets;
         let sample = mets.first.bytes.as_slice();
-        extend(&mut self.chain, blocks, space, sample, self.out.as_mut_slice())?;
+        extend(
+            &mut self.chain,
+            blocks,
+            space,
+            sample,
+            self.out.as_mut_slice(),
+        )?;
         forget(&mut self.mets);
         Ok(StageKind::Extend)
     }
