@@ -1,8 +1,6 @@
 -- The places that were met, as another is.
-use Rattle.std.proofs.Common.{◌≡◌, ◌<◌, ◌≤◌, ◌+◌, ℕ, zero, suc, Bool, true, false, List, []}
-use Rattle.std.proofs.Common.{◌∷◌, take, All, refl, sym, ap, ◌∙◌, arith, min}
-use Rattle.std.proofs.Common.{subst}
-use Rattle.std.proofs.Common.{length}
+use Rattle.std.proofs.Common.{◌≡◌, ◌<◌, ◌≤◌, ◌+◌, ℕ, zero, suc, Bool, true, false, List, [], ◌∷◌}
+use Rattle.std.proofs.Common.{take, All, refl, sym, ap, ◌∙◌, arith, min, subst, length}
 use Rattle.std.proofs.lemmas.List.Elements.{All-cons, All-head, All-nil, All-tail}
 use Rattle.std.specs.Prelude.{IfOk, OnOk, bytes_eq, cond, filter, not}
 use Rattle.std.specs.declared.result.Result.{Result}
@@ -127,11 +125,6 @@ pub first-has : (n : ℕ) (a b : Met) (place : List ℕ) → 0 < n → a.place �
     → HasMetPlace (take n (a ∷ b ∷ [])) place
 first-has zero a b place some here = absurd (omega (arith, some))
 first-has (suc n) a b place some here = (0, omega arith, here)
-
--- a place of a slot has four bytes
-pub slot-length : (place : List ℕ) → IsSlotPlace place → length place ≡ 4
-slot-length place is =
-    ap (λ (bytes : List ℕ). length bytes) is.bytes ∙ length-four (number_of place)
 
 -- what follows where there is an answer
 pub on-ok-more : {X E : Type 0} (r : Result X E) (P Q : Type 0) → (P → Q) → OnOk r P → OnOk r Q

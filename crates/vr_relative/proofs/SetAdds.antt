@@ -1,5 +1,5 @@
 -- A put into an interval of the chain with one slot set: what a crash may find on each way then.
-use Rattle.std.proofs.Common.{◌≡◌, ◌≢◌, ◌⊎◌, inl, inr, ⊎_elim, ◌<◌, ◌≤◌, ℕ, zero, suc, Bool, IsTrue}
+use Rattle.std.proofs.Common.{◌≡◌, ◌≢◌, ◌⊎◌, inl, inr, ⊎_elim, ◌<◌, ℕ, zero, suc, Bool, IsTrue}
 use Rattle.std.proofs.Common.{true, false, List, [], ◌∷◌, length, Option, Some, None, refl, sym, ap}
 use Rattle.std.proofs.Common.{subst, ◌∙◌, arith, true≢false}
 use Rattle.std.specs.Prelude.{Contains, nat_eq}
@@ -30,10 +30,9 @@ use Rattle.vr_space.specs.Slots.{AreSlotsAtRest, AreSlotsSound, IsRestingArea, I
 use Rattle.vr_space.specs.Slots.{slot_in, slot_item, slot_read, slot_way}
 use Rattle.vr_space.specs.Way.{MayFind, MayOnceForced, found_on}
 use Rattle.vr_space.proofs.CallerLemmas.{IsPartBlock, area-owned, areas-same, chain-here}
-use Rattle.vr_space.proofs.CallerLemmas.{chain-less}
-use Rattle.vr_space.proofs.CallerLemmas.{holds-less, interval-inside, only-weaken, rest-sound}
-use Rattle.vr_space.proofs.CallerLemmas.{room-image, roster-inside, slots-put, sound-image}
-use Rattle.vr_space.proofs.CallerLemmas.{sound-less, used-most, used-same}
+use Rattle.vr_space.proofs.CallerLemmas.{chain-less, holds-less, interval-inside, only-weaken}
+use Rattle.vr_space.proofs.CallerLemmas.{rest-sound, room-image, roster-inside, slots-put}
+use Rattle.vr_space.proofs.CallerLemmas.{sound-image, sound-less, used-most, used-same}
 use Rattle.vr_relative.specs.Written.{IsSlotSet}
 use Rattle.vr_relative.proofs.PlaceBlock.{block_for, one-place, place-finds, place-from, place-may}
 use Rattle.vr_relative.proofs.PlaceBlock.{place-reads, place-same, way_for}

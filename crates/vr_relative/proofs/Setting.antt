@@ -1,9 +1,7 @@
 -- A record set in a slot of the chain, or none where the slot isn't there.
-use Rattle.std.proofs.Common.{◌≡◌, ◌<◌, ◌≤◌, ◌-◌, ◌*◌, ◌/◌, ◌%◌, ℕ, zero, suc, ⊎_elim}
-use Rattle.std.proofs.Common.{Bool, IsTrue, true, false, List, [], ◌∷◌}
-use Rattle.std.proofs.Common.{length}
-use Rattle.std.proofs.Common.{Option, Some, None, refl, sym, ap, subst, ◌∙◌, arith, eqb-true}
-use Rattle.std.proofs.Common.{eq-eqb, true≢false}
+use Rattle.std.proofs.Common.{◌≡◌, ◌<◌, ◌≤◌, ◌-◌, ℕ, Bool, IsTrue, true, false, List, [], ◌∷◌}
+use Rattle.std.proofs.Common.{length, Option, Some, None, refl, sym, ap, subst, ◌∙◌, arith}
+use Rattle.std.proofs.Common.{eqb-true, eq-eqb, true≢false}
 use Rattle.std.specs.Prelude.{IfSome, cond, nat_eq, nat_lt}
 use Rattle.std.specs.Option.{option_map}
 use Rattle.std.proofs.Math.Nat.{mod-lt}
@@ -22,14 +20,12 @@ use Rattle.vr_space.specs.Part.{CanSet, HasRoom, InPart, IsRecordOf, IsSound, Ju
 use Rattle.vr_space.specs.Part.{RelativeShape, SetsOne}
 use Rattle.vr_space.specs.Room.{Lengths}
 use Rattle.vr_space.specs.Rosters.{IsChained, IsOf, Numbered, chain_of, used_of}
-use Rattle.vr_space.specs.Slots.{IsNumberedOn, IsRestingArea, IsSlotMet, IsSlotPlace, IsSlots}
-use Rattle.vr_space.specs.Slots.{KnowsChain, chain_block, interval_of, number_of, slot_fits}
-use Rattle.vr_space.specs.Slots.{slot_in}
-use Rattle.vr_space.specs.Slots.{slot_read}
+use Rattle.vr_space.specs.Slots.{IsRestingArea, IsSlotMet, IsSlotPlace, IsSlots, KnowsChain}
+use Rattle.vr_space.specs.Slots.{chain_block, interval_of, number_of, slot_fits, slot_in, slot_read}
 use Rattle.vr_space.specs.Way.{found_on}
 use Rattle.vr_space.proofs.CallerLemmas.{adds-weaken, due-at-then, due-keeps, keeps-adds}
-use Rattle.vr_space.proofs.CallerLemmas.{keeps-rooms, nothing-then, rest-keeps}
-use Rattle.vr_space.proofs.CallerLemmas.{rest-sound, room-keeps, set-fits, slots-some}
+use Rattle.vr_space.proofs.CallerLemmas.{keeps-rooms, nothing-then, rest-keeps, rest-sound}
+use Rattle.vr_space.proofs.CallerLemmas.{room-keeps, set-fits, slots-some}
 use Rattle.vr_relative.specs.Chain.{ChainNow, IsChainOf}
 use Rattle.vr_relative.specs.Setting.{IsReady, IsSetNow, MaySet, refreshed}
 use Rattle.vr_relative.specs.Written.{IsSlotSet}

@@ -1,27 +1,21 @@
 -- Writing slots one after another.
-use Rattle.std.proofs.Common.{◌≡◌, ◌<◌, ◌≤◌, ◌+◌, ◌-◌, ◌*◌, ◌++◌, ℕ, zero, suc, Bool, true}
-use Rattle.std.proofs.Common.{false, List, [], ◌∷◌, length, drop, take, Option, Some, None, refl}
-use Rattle.std.proofs.Common.{sym, ap, subst, ◌∙◌, arith, replicate, true≢false, ◌↔◌, eqb-true}
-use Rattle.std.proofs.Common.{eq-eqb}
-use Rattle.std.specs.Prelude.{IfSome, IsErr, OnOk, get_or, nat_eq, slice_get, slice_set}
+use Rattle.std.proofs.Common.{◌≡◌, ◌<◌, ◌≤◌, ◌+◌, ◌-◌, ◌*◌, ◌++◌, ℕ, zero, suc, Bool, true, false}
+use Rattle.std.proofs.Common.{List, [], ◌∷◌, length, drop, take, Option, Some, None, refl, sym, ap}
+use Rattle.std.proofs.Common.{subst, ◌∙◌, arith, replicate, true≢false, eqb-true, eq-eqb}
+use Rattle.std.specs.Prelude.{IfSome, get_or, nat_eq, slice_get, slice_set}
 use Rattle.std.specs.List.{AllByRecursion}
-use Rattle.std.specs.Result.{is_err}
-use Rattle.std.specs.declared.result.Result.{Result}
-use Rattle.std.specs.declared.result.Result.TheVariants.{Ok, Err}
 use Rattle.std.proofs.Math.Nat.{div-mul-le_self, mul-le-mul_right}
 use Rattle.std.proofs.lemmas.List.{get_or-set_other, get_or-set_same, length-replicate, length-set}
-use Rattle.std.proofs.lemmas.List.{replicate-append-replicate, take_all, take_more}
+use Rattle.std.proofs.lemmas.List.{take_all, take_more}
 use Rattle.std.proofs.lemmas.Option.{get_or_from_slice_get, slice_get_within}
 use Rattle.vr_types.specs.Image.{Block}
 use Rattle.vr_ci_match.specs.declared.form.Form.{Form}
 use Rattle.vr_ci_match.specs.declared.form.Form.TheVariants as forms
 use Rattle.vr_ci_match.specs.declared.form.Shape.TheVariants as shapes
-use Rattle.vr_ci_match.specs.Laid.{slots_in}
 use Rattle.vr_ci.specs.Interval as ci
-use Rattle.vr_ci.specs.Writer.{Holds, IsComplete, IsItemLength, SlotsAdded, form_of, size_of}
-use Rattle.vr_ci.specs.Writer.{written}
+use Rattle.vr_ci.specs.Writer.{Holds, IsItemLength, size_of}
 use Rattle.vr_ci.specs.declared.writer.CiWriter.{CiWriter}
-use Rattle.vr_ci.proofs.CallerLemmas.{interval_says, room-append, written_item}
+use Rattle.vr_ci.proofs.CallerLemmas.{interval_says, room-append}
 use Rattle.vr_space.specs.Keyed.{items_of}
 use Rattle.vr_space.specs.Rosters.{Numbered}
 use Rattle.vr_space.specs.Slots.{IsSlots, slots_of}

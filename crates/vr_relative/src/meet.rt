@@ -42,6 +42,14 @@ pub(crate) fn no_mets(alloc: Global, layout: &ChainLayout) -> Result<Mets, OutOf
     })
 }
 
+/// Forgets what was met.
+pub(crate) fn forget(mets: &mut Mets)
+    ensures none { mets_in mets.new ≡ [] }
+    ensures room { (part : Numbered) → AreMetsOf part mets.old → AreMetsOf part mets.new }
+{
+    mets.filled = 0;
+}
+
 /// Makes the interval of a place the one that was met last, if it is one of the two.
 fn recall(mets: &mut Mets, place: &[u8]) -> bool
     ensures found { IsTrue result → IsFirst place.now mets.new

@@ -1,7 +1,7 @@
 use Rattle.std.proofs.Common.{◌≡◌, ◌∙◌, All, IsTrue, List, ℕ, ap, refl, sym, subst}
 use Rattle.vr_types.specs.Seen.{Seen}
 use Rattle.vr_space.specs.Known.{Known}
-use Rattle.vr_space.specs.Part.{DueMoreAt, InHeld, RelativeShape, given, part_no}
+use Rattle.vr_space.specs.Part.{InHeld, RelativeShape, given, part_no}
 use Rattle.vr_space.specs.Room.{Lengths}
 use Rattle.vr_space.specs.Slots.{IsSlotMet}
 use Rattle.vr_relative.specs.Chain.{ChainNow, IsChainOf}
