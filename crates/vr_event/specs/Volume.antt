@@ -20,8 +20,8 @@ pub record VolumeNow (B : Type 0) : Type 0 where
   pub file : FileNow
 
 -- Whether or not the device reports its contents: all clusters are key-sequenced, and as long as no
--- write failed, the store is set, and its parts are those of the catalog. Of a volume that stopped no
--- call looks at the store.
+-- write failed, the store is set, and its parts are those of the catalog. Of a volume that stopped
+-- no call looks at the store.
 pub record IsWhole {B : Type 0} (seen : B → Seen) (volume : VolumeNow B) : Type 0 where
   pub keyed : AreKeyedClusters volume.file.catalog
   pub geometry : volume.file.stopped ≡ None
