@@ -1,10 +1,10 @@
--- The parts of a volume whose clusters are all key-sequenced are keyed, so that no stage of them takes
--- an area.
+-- The parts of a volume whose clusters are all key-sequenced are keyed, so that no stage of them
+-- takes an area.
 use Rattle.std.proofs.Common.{◌≡◌, ◌≢◌, ◌==◌, ℕ, Bool, true, false, cond, List, Option, Some, None}
 use Rattle.std.proofs.Common.{refl, sym, subst}
 use Rattle.std.specs.Option.{option_and_then, option_map}
 use Rattle.std.specs.Prelude.{IfSome}
-use Rattle.vr_catalog.specs.Catalog.{cluster_definition, definition_of, entry_with_part}
+use Rattle.vr_catalog.specs.Catalog.{cluster_definition, entry_with_part}
 use Rattle.vr_catalog.specs.Definition.{catalog_definition}
 use Rattle.vr_catalog.specs.declared.definition.Definition.{Definition}
 use Rattle.vr_catalog.specs.declared.entry.CatEntry.{CatEntry}

@@ -257,7 +257,8 @@ keyed-none case definition on keyed =
     ∙ no-need case definition keyed (place_changed case) (new_record case.request))
 
 pub refused-else : (case : CaseInHand) (state : State) → IsCaseOf case state
-    → AreKeyedClusters case.catalog.now → IsChange case.request.now → first_of (file_refusals (whole case state)) ≡ None
+    → AreKeyedClusters case.catalog.now → IsChange case.request.now
+    → first_of (file_refusals (whole case state)) ≡ None
     → AreElse (first_of (record_refusals (whole case state)))
 refused-else case state is keyed change none =
     let on = on-keyed case state is keyed change none in

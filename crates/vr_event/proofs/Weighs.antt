@@ -181,7 +181,8 @@ pub record IsOnKeyed (case : Case) : Type 0 where
   pub keyed : definition.kind ≡ Keyed
 
 pub on-keyed : (case : CaseInHand) (state : State) → IsCaseOf case state
-    → AreKeyedClusters case.catalog.now → IsChange case.request.now → first_of (file_refusals (whole case state)) ≡ None
+    → AreKeyedClusters case.catalog.now → IsChange case.request.now
+    → first_of (file_refusals (whole case state)) ≡ None
     → IsOnKeyed (whole case state)
 on-keyed case state is keyed change none =
     by_found (definition_here case) (opened_is case state is.file)

@@ -40,7 +40,7 @@ module _ {B : Type 0} (seen : B → Seen) where
       → (file.stopped ≡ None → IsSet store (seen blocks))
       → IsWhole seen (record volume { blocks = blocks; store = store; file = file })
   whole-of volume store blocks file whole was geometry catalog log parts set = record {
-    keyed = λ going. subst AreKeyedClusters (sym catalog) (whole.keyed (was going));
+    keyed = subst AreKeyedClusters (sym catalog) whole.keyed;
     geometry = λ going. log going ∙ whole.geometry (was going) ∙ sym geometry;
     laid = λ going n. parts going n ∙ whole.laid (was going) n
         ∙ sym (ap (λ (g : Geometry). shape_in g file.catalog n) geometry

@@ -19,11 +19,11 @@ pub record VolumeNow (B : Type 0) : Type 0 where
   pub store : StoreNow
   pub file : FileNow
 
--- Whether or not the device reports its contents: as long as no write failed, all clusters are
--- key-sequenced, the store is set, and its parts are those of the catalog. Of a volume that stopped
+-- Whether or not the device reports its contents: all clusters are key-sequenced, and as long as no
+-- write failed, the store is set, and its parts are those of the catalog. Of a volume that stopped
 -- no call looks at the store.
 pub record IsWhole {B : Type 0} (seen : B → Seen) (volume : VolumeNow B) : Type 0 where
-  pub keyed : volume.file.stopped ≡ None → AreKeyedClusters volume.file.catalog
+  pub keyed : AreKeyedClusters volume.file.catalog
   pub geometry : volume.file.stopped ≡ None
       → volume.store.log.geometry ≡ volume.file.geometry
   pub laid : volume.file.stopped ≡ None → (part : ℕ) → shape_among volume.store.parts part

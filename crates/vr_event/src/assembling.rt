@@ -37,7 +37,8 @@ impl<B: Blocks, P: Part> Volume<B, P> {
         log: UndoLog,
         space: Space,
     ) -> Volume<B, P>
-        ensures whole { AreKeyedClusters catalog → IsSet (opened_store log (map (part_now P.shape P.known) parts.items)
+        ensures whole { AreKeyedClusters catalog
+            → IsSet (opened_store log (map (part_now P.shape P.known) parts.items)
             space) (B.seen blocks) → log.geometry ≡ geometry
             → ((part : ℕ) → shape_among (map (part_now P.shape P.known) parts.items) part
             ≡ shape_in geometry catalog part) → IsWhole B.seen result }

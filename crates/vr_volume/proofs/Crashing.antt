@@ -142,8 +142,8 @@ module _ (geometry : Geometry) (number : ℕ) (owners : Owners) (log : LogNow)
       (counted-end log.records rec counted state.befores is
       (none-ended geometry state rest.laid log rest.logged))
 
-  -- An image that is safe by the log, whoever owns the areas in it, recovers to what is committed in
-  -- the state.
+  -- An image that is safe by the log, whoever owns the areas in it, recovers to what is committed
+  -- in the state.
   pub safe-recovers : (grown : Owners) (image : Image)
       → IsSafeImage geometry number grown log (committed_by state) image
       → RecoversTo geometry number state [] image

@@ -10,7 +10,8 @@ use Rattle.vr_event.proofs.weighing.crowded.Goals as goal
 pub returns-in-Some-clause-may : goal.returns-in-Some-clause-may
 returns-in-Some-clause-may c state is at lacks ready =
     let w = whole c.args.case.now state in
-    refuse-space c.args.case.now state is c.requires (asks-change w w.request c.args.place ready.place_is)
+    refuse-space c.args.case.now state is c.requires
+    (asks-change w w.request c.args.place ready.place_is)
     ready.unheld c.in-Some.given.now
     (sym c.new_record.ensures
     ∙ ap (λ (o : Option (Bor (List ℕ))). option_copied o) c.in-Some.is)

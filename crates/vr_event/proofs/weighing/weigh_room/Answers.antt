@@ -20,7 +20,8 @@ returns-in-Err-clause-may g c told state is at ready =
 pub returns-in-Ok-Stage-clause-may : goal.returns-in-Ok-Stage-clause-may
 returns-in-Ok-Stage-clause-may g c told state is at ready =
     let w = whole c.args.case.now state in
-    fills c.args.case.now state is c.requires.keyed (asks-change w w.request c.args.place ready.place_is)
+    fills c.args.case.now state is c.requires.keyed
+    (asks-change w w.request c.args.place ready.place_is)
     ready.unheld
 
 pub returns-in-Ok-Stage-clause-fits : goal.returns-in-Ok-Stage-clause-fits

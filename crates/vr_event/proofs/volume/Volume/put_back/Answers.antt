@@ -49,7 +49,7 @@ returns-in-Ok-clause-held g c told opening held ending =
     (c.in-Ok.ensures.back told before.number state (puts_back unit state) stored mine.current
     (undone-in state unit image (keyed_now opening before.file was.file
     (subst (λ (v : VolumeNow g.row.B.Denot). AreKeyedClusters v.file.catalog) (sym c.self.view_is)
-    (c.requires.whole.keyed c.requires.going))) last)))
+    c.requires.whole.keyed)) last)))
 
 pub returns-in-Ok-clause-moments : goal.returns-in-Ok-clause-moments
 returns-in-Ok-clause-moments g c told opening held ending =

@@ -1,4 +1,4 @@
-use Rattle.std.proofs.Common.{ap, refl, subst, sym, ◌∙◌}
+use Rattle.std.proofs.Common.{ap, subst, sym, ◌∙◌}
 use Rattle.std.specs.Option.{option_and_then}
 use Rattle.vr_history.specs.Case.{Case}
 use Rattle.vr_history.specs.Replies.{first_of}
