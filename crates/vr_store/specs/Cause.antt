@@ -7,7 +7,7 @@ use Rattle.vr_store.specs.declared.no.LookNo.{LookNo}
 use Rattle.vr_store.specs.declared.no.LookNo.TheVariants.{Fault, Memory}
 
 -- Neither count falls, and neither rose where there is no fault; a fault comes only where the count
--- of it rose.
+-- of it rose. A call ends with its first fault: where that is of a read, no write failed.
 pub record HasLookCause {T : Type 0} (before now : Faults) (result : Result T LookNo) : Type 0
   where
     pub reads : before.reads ≤ now.reads
@@ -16,3 +16,4 @@ pub record HasLookCause {T : Type 0} (before now : Faults) (result : Result T Lo
     pub memory : IsErrOf result Memory → now ≡ before
     pub read : IsErrOf result (Fault Read) → before.reads < now.reads
     pub write : IsErrOf result (Fault Write) → before.writes < now.writes
+    pub unwritten : IsErrOf result (Fault Read) → now.writes ≡ before.writes
