@@ -12,7 +12,7 @@ use vr_trace::{Histories, KeptDecks, KeptStep, KeptSteps, listing, trace_lines};
 /// How many things a volume may have at a stamp, for each place of the largest histories.
 const SIZES: [u8; 6] = [6; 6];
 
-/// Histories of so many volumes and stamps, over which a job has these steps.
+/// Histories of a number of volumes and stamps, over which a job has these steps.
 #[derive(Drop)]
 struct SmallHistories {
     volumes: u32,
@@ -35,7 +35,7 @@ impl Beside for SmallHistories {
     }
 }
 
-/// `histories VOLUMES STAMPS`: how many of all histories of so many volumes and stamps the two
+/// `histories VOLUMES STAMPS`: how many of all histories of that many volumes and stamps the two
 /// programs print otherwise.
 pub fn judge_histories(text: &str, out: &mut Answers) -> Answer {
     let (volumes, stamps) = parted(text);
