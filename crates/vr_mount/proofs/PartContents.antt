@@ -15,7 +15,8 @@ use Rattle.vr_space.specs.Keyed.{HoldRanges, InArea, IsHead, Keyed, KeyedStandsF
 use Rattle.vr_space.specs.Keyed.{entries_of, entry_block, range_of, records_in, HoldsRange}
 use Rattle.vr_space.specs.Keyed.{HaveRooms, items_of, key_of, length_of, lengths_of, placed}
 use Rattle.vr_space.specs.Owners.{Owners}
-use Rattle.vr_space.specs.Part.{HasRoom, InPart, KeyedShape, RelativeShape, Shape, StandsFor, StaysIn}
+use Rattle.vr_space.specs.Part.{HasRoom, InPart, KeyedShape, RelativeShape, Shape, StandsFor}
+use Rattle.vr_space.specs.Part.{StaysIn}
 use Rattle.vr_space.specs.Room.{HaveRoom, Lengths, Range, is_in, weight}
 use Rattle.vr_space.specs.Rosters.{IsChained, IsInArea, IsOf, IsOwnArea, Numbered, roster_block}
 use Rattle.vr_space.specs.Slots.{IsSlots, KeepsSlots, SlotsStandFor, SlotsStayIn}
@@ -217,4 +218,5 @@ pub part-fits : (shape : Shape) (image : Image) (content : Content) → StandsFo
     → HasRoom shape [] image
 part-fits (KeyedShape part) image content stands =
     have-rooms part image None (entries_of (block_at image part.head)) stands.intervals
-part-fits (RelativeShape part) image content stands = λ at entry below. absurd (omega (arith, below))
+part-fits (RelativeShape part) image content stands = λ at entry below.
+    absurd (omega (arith, below))

@@ -1,5 +1,5 @@
 -- The records of a chain of areas: no block outside the areas changes them.
-use Rattle.std.proofs.Common.{◌≡◌, ◌<◌, ◌≤◌, ◌+◌, ◌*◌, ℕ, zero, suc, List, [], ◌++◌, refl, ap, ◌∙◌}
+use Rattle.std.proofs.Common.{◌≡◌, ◌<◌, ◌≤◌, ◌+◌, ◌*◌, ℕ, zero, suc, [], ◌++◌, refl, ap, ◌∙◌}
 use Rattle.std.proofs.Common.{arith, Option, Some, None}
 use Rattle.vr_types.specs.Content.{Content}
 use Rattle.vr_types.specs.Image.{Block, Image, block_at}
@@ -8,7 +8,7 @@ use Rattle.vr_space.specs.Keyed.{items_of}
 use Rattle.vr_space.specs.Rosters.{Chains, IsInArea, IsNextOf, IsOf, Numbered, after_next}
 use Rattle.vr_space.specs.Rosters.{interval_in, roster_at, roster_block}
 use Rattle.vr_space.specs.Slots.{IsSlots, records_from, records_over, slots_from, slots_of}
-use Rattle.vr_space.proofs.CallerLemmas.{interval-inside, roster-inside, used-most}
+use Rattle.vr_space.proofs.CallerLemmas.{roster-inside, used-most}
 
 -- those of so many intervals, block after block
 over-same : (part : Numbered) (old new : Image) (number n k : ℕ)
@@ -17,7 +17,8 @@ over-same : (part : Numbered) (old new : Image) (number n k : ℕ)
 over-same part old new number n zero same = refl
 over-same part old new number n (suc k) same =
     ap (λ (block : Block). records_from number (items_of block)
-    ++ records_over part new (number + slots_of part) (suc n) k) (same n (omega arith) (omega arith))
+    ++ records_over part new (number + slots_of part) (suc n) k)
+    (same n (omega arith) (omega arith))
     ∙ ap (λ (later : Content). records_from number (items_of (block_at old n)) ++ later)
     (over-same part old new (number + slots_of part) (suc n) k
     (λ m from to. same m (omega (arith, from)) (omega (arith, to))))

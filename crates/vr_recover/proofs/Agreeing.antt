@@ -32,7 +32,6 @@ use Rattle.vr_mount.proofs.CallerLemmas.{area-on}
 use Rattle.vr_mount.proofs.Headers.{one_shape}
 use Rattle.vr_space.specs.Keyed.{Keyed}
 use Rattle.vr_space.specs.Part.{HasRoom, KeyedShape, RelativeShape, Shape, Stands, StandsFor}
-use Rattle.vr_space.specs.Part.{part_no}
 use Rattle.vr_volume.specs.PutBack.{AreAlone, images_of, lengths_kept, put_back}
 use Rattle.vr_volume.specs.Volume.{CanPutBack, IsInside, Recovers, catalog_back, shapes_by}
 use Rattle.vr_recover.specs.Found.{AreEntriesOf, AreOff, HasRoomFor, IsAreaNo}

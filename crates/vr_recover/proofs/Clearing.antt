@@ -16,7 +16,7 @@ use Rattle.vr_types.specs.declared.unit.PartNo.{PartNo}
 use Rattle.vr_types.proofs.CallerLemmas.{during-weaken, guards-then}
 use Rattle.vr_catalog.specs.declared.entry.CatEntry.{CatEntry}
 use Rattle.vr_catalog.specs.Definition.{catalog_definition}
-use Rattle.vr_attach.specs.Laid.{catalog_shape, keyed_part, shape_in}
+use Rattle.vr_attach.specs.Laid.{keyed_part, shape_in}
 use Rattle.vr_history.specs.State.{BeforeImage}
 use Rattle.vr_keyed.specs.Owned.{Owned}
 use Rattle.vr_log.specs.Content.{Content as LogContent}

@@ -26,15 +26,15 @@ use Rattle.vr_space.specs.Keyed.{EachMayLeave, HaveRooms, HoldRanges, HoldsRange
 use Rattle.vr_space.specs.Keyed.{IsKeyedSound, Keyed, entries_of, entry_block}
 use Rattle.vr_space.specs.Keyed.{lengths_of, range_of}
 use Rattle.vr_space.specs.Met.{IsMet}
-use Rattle.vr_space.specs.Part.{HasKeptRoom, HasRoom, IsAtRest, IsOn, IsPlaceOf, IsRecordOf, IsSound}
-use Rattle.vr_space.specs.Part.{KeyedShape, Knows, MayHold, RelativeShape, Shape, StandsFor, StaysIn}
-use Rattle.vr_space.specs.Part.{item_of, part_no, way_to}
+use Rattle.vr_space.specs.Part.{HasKeptRoom, HasRoom, IsAtRest, IsOn, IsPlaceOf, IsRecordOf}
+use Rattle.vr_space.specs.Part.{IsSound, KeyedShape, Knows, MayHold, RelativeShape, Shape}
+use Rattle.vr_space.specs.Part.{StandsFor, StaysIn, item_of, part_no, way_to}
 use Rattle.vr_space.specs.Rosters.{IsInArea, IsOf as IsOfImage, IsOwnArea, Numbered, roster_block}
 use Rattle.vr_space.specs.Slots.{AreSlotsAtRest, IsNumberedOn, IsRestingArea, IsSlotMet, IsSlots}
 use Rattle.vr_space.specs.Slots.{KeepsSlots, SlotsStayIn}
 use Rattle.vr_space.proofs.CallerLemmas.{AreIn, IsPartBlock, area-owned, chain-less, content_item}
-use Rattle.vr_space.proofs.CallerLemmas.{first-owned, head-in, rest-sound, roster-inside, slots-less}
-use Rattle.vr_space.proofs.CallerLemmas.{stands_content, way-within}
+use Rattle.vr_space.proofs.CallerLemmas.{first-owned, head-in, rest-sound, roster-inside}
+use Rattle.vr_space.proofs.CallerLemmas.{slots-less, stands_content, way-within}
 use Rattle.vr_history.specs.Committed.{kept_or}
 use Rattle.vr_history.specs.State.{BeforeImage}
 use Rattle.vr_log.specs.Content.{Content as LogContent}
@@ -385,7 +385,8 @@ module _ (geometry : Geometry) (number : ℕ) (now : Seen) (recovered : ℕ → 
         → IsOpenedPart geometry owners images shape now
     opened-by shape on laid safe = record {
       on = on;
-      past = λ n inside. past n (part_no shape).0 (first-owned shape owners now safe.sound n inside);
+      past = λ n inside. past n (part_no shape).0
+          (first-owned shape owners now safe.sound n inside);
       ready = record {
         rests = forced-rests shape owners now on forced (is.contents (part_no shape).0)
             (is.stands.laid (part_no shape).0 shape laid) (within (part_no shape).0 shape laid);

@@ -35,8 +35,8 @@ pub record IsReady (shape : Shape) (owners : Owners) (known : Known) (kept : Len
   pub knows : Knows shape known now
   pub no_split : known.split ≡ None
 
--- what a part knows of its blocks as it is attached: no split is under way, nothing was met yet, and
--- where it has a chain of areas, these are they
+-- what a part knows of its blocks as it is attached: no split is under way, nothing was met yet,
+-- and where it has a chain of areas, these are they
 abbrev pub attached_known : Shape → Image → Known
 attached_known (KeyedShape part) image =
     record { split = None; met = []; areas = []; used = 0 }

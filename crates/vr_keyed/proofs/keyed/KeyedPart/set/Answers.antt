@@ -332,7 +332,12 @@ returns-in_err-put-clause-unread g c =
     let now = c.args.self.now in
     let same : c.self.inside.layout ≡ now.part = ap (λ (o : Owned). o.part) c.self.view_is in
     let here : Known =
-    record { split = c.self.inside.split.split; met = mets c.set.new.slots; areas = []; used = 0 } in
+    record {
+      split = c.self.inside.split.split;
+      met = mets c.set.new.slots;
+      areas = [];
+      used = 0;
+    } in
     let unread : IfErr c.set.result (λ fault. fault ≡ Read → Keeps B.tells a b
     × (Rattle.std.specs.Prelude.IsTrue B.tells
     → Knows (KeyedShape now.part) here b)) =
