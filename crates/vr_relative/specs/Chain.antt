@@ -2,7 +2,7 @@
 use Rattle.std.specs.Prelude.{◌≡◌, ℕ, ◌<◌, ◌≤◌, ◌*◌, List, All, length}
 use Rattle.vr_types.specs.Geometry.{area_count}
 use Rattle.vr_types.specs.Image.{Image}
-use Rattle.vr_space.specs.Rosters.{Numbered, chain_of, used_of}
+use Rattle.vr_space.specs.Rosters.{IsNumbered, Numbered, chain_of, used_of}
 
 -- where the part is, the areas of its chain in their order, and how many of their intervals are
 -- used
@@ -13,10 +13,11 @@ pub record ChainNow : Type 0 where
 
 -- There is an area at least, each is one of the volume, and they have the intervals that are used.
 pub record IsChainNow (part : Numbered) (areas : List ℕ) (used : ℕ) : Type 0 where
+  pub part_is : IsNumbered part
   pub some : 0 < length areas
   pub few : length areas ≤ area_count part.geometry
   pub each : All (λ area. area < area_count part.geometry) areas
-  pub used : used ≤ length areas * part.geometry.area
+  pub within : used ≤ length areas * part.geometry.area
 
 -- it is the chain that the blocks have
 pub record IsChainOf (chain : ChainNow) (image : Image) : Type 0 where

@@ -63,6 +63,13 @@ pub fn first_chain(alloc: Global, layout: ChainLayout) -> Result<Chain, OutOfMem
 impl Chain {
     ghost use Rattle.vr_relative.specs.Chain.{ChainNow};
 
+    /// Where the part is.
+    pub(crate) fn layout(&self) -> &ChainLayout
+        ensures { result.now ≡ self.now.part }
+    {
+        &self.layout
+    }
+
     /// How many intervals are used.
     pub fn used(&self) -> u32
         ensures { result ≡ self.now.used }
@@ -103,6 +110,15 @@ impl Chain {
         (number - 1) % self.layout.slots()
     }
 
+    /// The number of a slot of a used interval.
+    pub(crate) fn number_of(&self, interval: u32, slot: u32) -> u32
+        requires used { interval < self.now.used }
+        requires there { slot < slots_of self.now.part }
+        ensures { result ≡ interval * slots_of self.now.part + slot + 1 }
+    {
+        interval * self.layout.slots() + slot + 1
+    }
+
     /// The block of a place's interval. None where the place is that of no slot, or its interval
     /// isn't used.
     pub(crate) fn block_at(&self, place: &[u8]) -> Option<u32>
@@ -127,9 +143,9 @@ impl Chain {
             return Room::Ready;
         }
         let whole = u64::from(self.layout.geometry.area);
-        let wanted = (u64::from(interval) + 1).div_ceil(whole) as u32;
-        let need = wanted.saturating_sub(self.areas.len() as u32);
-        if need <= free {
+        let wanted = (u64::from(interval) + 1).div_ceil(whole);
+        let need = wanted.saturating_sub(self.areas.len() as u64);
+        if need <= u64::from(free) {
             Room::Stage(StageKind::Extend)
         } else {
             Room::NoSpace { need, free }

@@ -42,14 +42,14 @@ fn add_interval<B: Blocks>(
 {
     let area = chain.last();
     let used = chain.used_of_last();
-    let whole = chain.layout.geometry.area;
+    let whole = chain.layout().geometry.area;
     if used >= whole {
         return Ok(());
     }
-    write_empty(&chain.layout, sample, out);
-    settle(blocks, chain.layout.interval_in(area, used), out)?;
-    write_roster(used as u16 + 1, chain.layout.part.0, None, whole as u16, out);
-    settle(blocks, chain.layout.roster_block(area), out)?;
+    write_empty(chain.layout(), sample, out);
+    settle(blocks, chain.layout().interval_in(area, used), out)?;
+    write_roster(used as u16 + 1, chain.layout().part.0, None, whole as u16, out);
+    settle(blocks, chain.layout().roster_block(area), out)?;
     chain.use_next();
     Ok(())
 }
@@ -89,18 +89,18 @@ fn add_area<B: Blocks>(
     let Some(area) = space.least_free() else {
         return Ok(());
     };
-    if area.0 >= chain.layout.geometry.areas() || !chain.has_room() {
+    if area.0 >= chain.layout().geometry.areas() || !chain.has_room() {
         return Ok(());
     }
-    let whole = chain.layout.geometry.area as u16;
-    let part = chain.layout.part.0;
-    write_empty(&chain.layout, sample, out);
-    settle(blocks, chain.layout.interval_in(area.0, 0), out)?;
+    let whole = chain.layout().geometry.area as u16;
+    let part = chain.layout().part.0;
+    write_empty(chain.layout(), sample, out);
+    settle(blocks, chain.layout().interval_in(area.0, 0), out)?;
     write_roster(1, part, None, whole, out);
-    settle(blocks, chain.layout.roster_block(area.0), out)?;
+    settle(blocks, chain.layout().roster_block(area.0), out)?;
     write_roster(whole, part, Some(area.0), whole, out);
-    settle(blocks, chain.layout.roster_block(chain.last()), out)?;
-    space.claim(chain.layout.part);
+    settle(blocks, chain.layout().roster_block(chain.last()), out)?;
+    space.claim(chain.layout().part);
     chain.add_area(area.0);
     chain.use_next();
     Ok(())

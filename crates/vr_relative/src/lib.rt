@@ -6,6 +6,7 @@
 mod chain;
 mod extend;
 mod look;
+mod meet;
 mod met;
 mod next;
 mod number;

@@ -5,13 +5,24 @@ ghost use Rattle.std.specs.Io.BufRead.{Rests};
 ghost use Rattle.vr_types.specs.Blocks.{Keeps};
 ghost use Rattle.vr_types.specs.Faults.{HasCause};
 ghost use Rattle.vr_space.specs.Part.{RelativeShape, Stands, record_read};
-ghost use Rattle.vr_space.specs.Slots.{IsNumberedOn, IsSlotPlace};
+ghost use Rattle.vr_space.specs.Slots.{IsNumberedOn, IsSlotPlace, slot_in};
 ghost use Rattle.vr_relative.specs.Chain.{IsChainOf};
 
 use crate::chain::Chain;
 use crate::number::slot_number;
 use crate::slots::slot_at;
 use vr_types::{Blocks, DeviceFault};
+
+/// Which slot of its interval a place is.
+pub(crate) fn slot_of(chain: &Chain, place: &[u8]) -> u32
+    requires { IsSlotPlace place.now }
+    ensures { result ≡ slot_in chain.now.part place.now }
+{
+    match slot_number(place) {
+        Some(number) => chain.slot_in(number),
+        None => unreachable!("it is the place of a slot"),
+    }
+}
 
 /// Lends the record in the slot of a place, by reading one interval. The blocks come first, since
 /// they lend it.
@@ -33,12 +44,9 @@ pub(crate) fn look_in<'a, B: Blocks>(
         Keeps B.tells (B.seen blocks.old) (B.seen new)
         × HasCause (B.faults blocks.old) (B.faults new) result)) }
 {
-    let Some(number) = slot_number(place) else {
-        return Ok(None);
-    };
-    let Some(block) = chain.block_of(chain.interval_of(number)) else {
+    let Some(block) = chain.block_at(place) else {
         return Ok(None);
     };
     let slots = blocks.get(block)?;
-    Ok(slot_at(&chain.layout, slots, chain.slot_in(number)))
+    Ok(slot_at(chain.layout(), slots, slot_of(chain, place)))
 }

@@ -1,22 +1,8 @@
-//! The intervals of the slots that were met last, so that `set` at one of them reads nothing.
-ghost use Rattle.std.specs.Prelude.{◌≡◌, ◌<◌, false, [], ℕ, IsTrue, IsOk, IfOk, OnOk, All, map};
-ghost use Rattle.std.specs.Prelude.{length, vec_len};
-ghost use Rattle.vr_types.specs.Image.{Image};
-ghost use Rattle.vr_types.specs.Blocks.{Keeps};
-ghost use Rattle.vr_types.specs.Faults.{HasCause};
-ghost use Rattle.vr_space.specs.Met.{met_next};
-ghost use Rattle.vr_space.specs.Rosters.{Numbered};
-ghost use Rattle.vr_space.specs.Slots.{IsNumberedOn, IsSlotMet, IsSlotPlace};
-ghost use Rattle.vr_relative.specs.Chain.{IsChainOf};
-ghost use Rattle.vr_relative.specs.Met.{AreMetsOf, HasMetPlace, IsFirst, IsMetOf, met_in, met_places};
-ghost use Rattle.vr_relative.specs.Met.{mets_in};
+//! What is kept of the intervals of the slots that were met last.
+ghost use Rattle.std.specs.Prelude.{◌≡◌, ◌≤◌, IsTrue, false};
+ghost use Rattle.std.proofs.Props.{props};
 
-use crate::chain::Chain;
-use crate::number::slot_number;
-use std::alloc::Global;
-use std::mem::swap;
-use vr_space::ChainLayout;
-use vr_types::{Blocks, DeviceFault, OutOfMemory, PlaceBuffer, empty_place};
+use vr_types::PlaceBuffer;
 
 /// The interval of a slot's place, as it was met: its block, and what that had. Where the interval
 /// isn't in the chain, the place alone counts.
@@ -37,133 +23,53 @@ pub(crate) struct Mets {
     ghost apart: { filled ≡ 2 → first.place.place ≡ second.place.place → ⊥ } by { Prim.hlevel props },
 }
 
-fn empty_block(alloc: Global, layout: &ChainLayout) -> Result<MetBlock, OutOfMemory>
-    ensures { IfOk result (IsMetOf layout.now) }
-{
-    Ok(MetBlock {
-        place: empty_place(alloc, 4)?,
-        number: 0,
-        bytes: vec![in alloc; 0; layout.geometry.size as usize]?,
-    })
-}
+impl Mets {
+    ghost use Rattle.std.specs.Prelude.{All};
+    ghost use Rattle.vr_types.specs.Image.{Image};
+    ghost use Rattle.vr_space.specs.Rosters.{Numbered};
+    ghost use Rattle.vr_space.specs.Slots.{IsSlotMet};
+    ghost use Rattle.vr_relative.specs.Met.{AreMetsOf, HasMetPlace, IsFirst, IsMetOf, met_in};
+    ghost use Rattle.vr_relative.specs.Met.{mets_in};
 
-/// Room for two intervals, none met. It fails only if memory runs out.
-pub(crate) fn no_mets(alloc: Global, layout: &ChainLayout) -> Result<Mets, OutOfMemory>
-    ensures room { IfOk result (AreMetsOf layout.now) }
-    ensures none { IfOk result (λ mets. mets_in mets ≡ []) }
-{
-    let first = empty_block(alloc, layout)?;
-    let second = empty_block(alloc, layout)?;
-    Ok(Mets {
-        first,
-        second,
-        filled: 0,
-    })
-}
-
-/// Makes the interval of a place the one that was met last, if it is one of the two.
-fn recall(mets: &mut Mets, place: &[u8]) -> bool
-    ensures found { IsTrue result → IsFirst place.now mets.new
-        × (met_places (mets_in mets.new) ≡ met_next (met_places (mets_in mets.old)) place.now) }
-    ensures none { result ≡ false
-        → (mets.new ≡ mets.old) × (HasMetPlace (mets_in mets.old) place.now → ⊥) }
-    ensures met { (part : Numbered) (image : Image) → All (IsSlotMet part image) (mets_in mets.old)
-        → All (IsSlotMet part image) (mets_in mets.new) }
-    ensures room { (part : Numbered) → AreMetsOf part mets.old → AreMetsOf part mets.new }
-{
-    if mets.filled > 0 && mets.first.place.as_slice() == place {
-        return true;
+    /// Whether the place was met last.
+    pub(crate) fn is_first(&self, place: &[u8]) -> bool
+        ensures some { IsTrue result → IsFirst place.now self.now }
+        ensures none { result ≡ false → IsFirst place.now self.now → ⊥ }
+    {
+        self.filled > 0 && self.first.place.as_slice() == place
     }
-    if mets.filled < 2 || mets.second.place.as_slice() != place {
-        return false;
+
+    /// Whether it was met before the last.
+    pub(crate) fn is_second(&self, place: &[u8]) -> bool
+        ensures some { IsTrue result
+            → (self.now.filled ≡ 2) × (self.now.second.place.place ≡ place.now) }
+        ensures none { result ≡ false
+            → self.now.filled ≡ 2 → self.now.second.place.place ≡ place.now → ⊥ }
+    {
+        self.filled > 1 && self.second.place.as_slice() == place
     }
-    swap(&mut mets.first, &mut mets.second);
-    true
-}
 
-/// Reads the interval of a place, where it is in the chain.
-fn fill<B: Blocks>(
-    met: &mut MetBlock,
-    chain: &Chain,
-    blocks: &mut B,
-    place: &[u8],
-) -> Result<(), DeviceFault>
-    requires on { IsNumberedOn chain.now.part (B.seen blocks.old) }
-    requires place { IsSlotPlace place.now }
-    requires room { IsMetOf chain.now.part met.old }
-    requires chain { IsTrue B.tells → IsChainOf chain.now (B.seen blocks.old).cur }
-    ensures room { IsMetOf chain.now.part met.new }
-    ensures place { OnOk result (met.new.place.place ≡ place.now) }
-    ensures met { IsTrue B.tells → OnOk result
-        (IsSlotMet chain.now.part (B.seen blocks.old).cur (met_in met.new)) }
-    ensures keeps { Keeps B.tells (B.seen blocks.old) (B.seen blocks.new) }
-    ensures cause { HasCause (B.faults blocks.old) (B.faults blocks.new) result }
-{
-    met.place.set(place);
-    let Some(number) = chain.block_at(place) else {
-        return Ok(());
-    };
-    met.bytes.copy_from_slice(blocks.get(number)?);
-    met.number = number;
-    Ok(())
-}
-
-/// Fills the second of the two, and makes its interval the one that was met last.
-fn read_in<B: Blocks>(
-    mets: &mut Mets,
-    chain: &Chain,
-    blocks: &mut B,
-    place: &[u8],
-) -> Result<(), DeviceFault>
-    requires on { IsNumberedOn chain.now.part (B.seen blocks.old) }
-    requires place { IsSlotPlace place.now }
-    requires room { AreMetsOf chain.now.part mets.old }
-    requires chain { IsTrue B.tells → IsChainOf chain.now (B.seen blocks.old).cur }
-    requires met { IsTrue B.tells
-        → All (IsSlotMet chain.now.part (B.seen blocks.old).cur) (mets_in mets.old) }
-    requires none { HasMetPlace (mets_in mets.old) place.now → ⊥ }
-    ensures room { AreMetsOf chain.now.part mets.new }
-    ensures first { OnOk result (IsFirst place.now mets.new) }
-    ensures places { OnOk result
-        (met_places (mets_in mets.new) ≡ met_next (met_places (mets_in mets.old)) place.now) }
-    ensures met { IsTrue B.tells
-        → All (IsSlotMet chain.now.part (B.seen blocks.old).cur) (mets_in mets.new) }
-    ensures keeps { Keeps B.tells (B.seen blocks.old) (B.seen blocks.new) }
-    ensures cause { HasCause (B.faults blocks.old) (B.faults blocks.new) result }
-{
-    mets.filled = mets.filled.min(1);
-    fill(&mut mets.second, chain, blocks, place)?;
-    swap(&mut mets.first, &mut mets.second);
-    mets.filled += 1;
-    Ok(())
-}
-
-/// Makes the interval of a place the one that was met last. Where it is one of the two that were
-/// met, nothing is read; else one block is, where the interval is in the chain.
-pub(crate) fn meet<B: Blocks>(
-    mets: &mut Mets,
-    chain: &Chain,
-    blocks: &mut B,
-    place: &[u8],
-) -> Result<(), DeviceFault>
-    requires on { IsNumberedOn chain.now.part (B.seen blocks.old) }
-    requires place { IsSlotPlace place.now }
-    requires room { AreMetsOf chain.now.part mets.old }
-    requires chain { IsTrue B.tells → IsChainOf chain.now (B.seen blocks.old).cur }
-    requires met { IsTrue B.tells
-        → All (IsSlotMet chain.now.part (B.seen blocks.old).cur) (mets_in mets.old) }
-    ensures room { AreMetsOf chain.now.part mets.new }
-    ensures first { OnOk result (IsFirst place.now mets.new) }
-    ensures places { OnOk result
-        (met_places (mets_in mets.new) ≡ met_next (met_places (mets_in mets.old)) place.now) }
-    ensures met { IsTrue B.tells
-        → All (IsSlotMet chain.now.part (B.seen blocks.old).cur) (mets_in mets.new) }
-    ensures known { HasMetPlace (mets_in mets.old) place.now → IsOk result }
-    ensures keeps { Keeps B.tells (B.seen blocks.old) (B.seen blocks.new) }
-    ensures cause { HasCause (B.faults blocks.old) (B.faults blocks.new) result }
-{
-    if recall(mets, place) {
-        return Ok(());
+    /// Whether it is one of the two.
+    pub(crate) fn has(&self, place: &[u8]) -> bool
+        ensures some { IsTrue result → HasMetPlace (mets_in self.now) place.now }
+        ensures none { result ≡ false → HasMetPlace (mets_in self.now) place.now → ⊥ }
+    {
+        self.is_first(place) || self.is_second(place)
     }
-    read_in(mets, chain, blocks, place)
+
+    /// What is kept of the interval of a place that was met.
+    pub(crate) fn met_at(&self, place: &[u8]) -> &MetBlock
+        requires { HasMetPlace (mets_in self.now) place.now }
+        ensures place { result.now.place.place ≡ place.now }
+        ensures met { (part : Numbered) (image : Image)
+            → All (IsSlotMet part image) (mets_in self.now)
+            → IsSlotMet part image (met_in result.now) }
+        ensures room { (part : Numbered) → AreMetsOf part self.now → IsMetOf part result.now }
+    {
+        if self.is_first(place) {
+            &self.first
+        } else {
+            &self.second
+        }
+    }
 }

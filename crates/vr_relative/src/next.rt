@@ -41,7 +41,7 @@ fn first_in<B: Blocks>(
     };
     let block = blocks.get(number)?;
     match first_live(&chain.layout, block, slot) {
-        Some(found) => Ok(Some(interval * chain.layout.slots() + found + 1)),
+        Some(found) => Ok(Some(chain.number_of(interval, found))),
         None => Ok(None),
     }
 }

@@ -1,9 +1,10 @@
 //! The numbers of slots, and the places that spell them.
 ghost use Rattle.std.specs.Prelude.{◌≡◌, ◌≤◌, ◌<◌, ◌↔◌, ℕ, None, IsTrue, IfSome};
+ghost use Rattle.std.specs.Prelude.{slice_index};
 ghost use Rattle.vr_types.specs.Fields.{four};
 ghost use Rattle.vr_space.specs.Slots.{IsSlotPlace, number_of};
 ghost use Rattle.vr_space.specs.Whence.{allows};
-ghost use Rattle.vr_relative.specs.Searched.{is_from};
+ghost use Rattle.vr_relative.specs.Searched.{is_from, longest, number_from};
 
 use vr_space::Whence;
 use vr_types::four_at;
@@ -20,6 +21,33 @@ pub(crate) fn slot_number(place: &[u8]) -> Option<u32>
     if number == 0 { None } else { Some(number) }
 }
 
+/// A byte of these, or zero past their end.
+fn byte_at(bytes: &[u8], i: usize) -> u8
+    ensures { result ≡ slice_index bytes.now i }
+{
+    bytes.get(i).copied().unwrap_or(0)
+}
+
+/// The number of the first four bytes, with zeros after them where there are fewer.
+fn start_number(bytes: &[u8]) -> u32
+    ensures { result ≡ number_from bytes.now }
+{
+    u32::from_be_bytes([
+        byte_at(bytes, 0),
+        byte_at(bytes, 1),
+        byte_at(bytes, 2),
+        byte_at(bytes, 3),
+    ])
+}
+
+/// The most bytes that are at the place of their own number, or before it where those past them
+/// alone count.
+fn longest_at(past: bool) -> usize
+    ensures { result ≡ longest past }
+{
+    if past { 3 } else { 4 }
+}
+
 /// The least number whose four bytes are at these bytes or past them, or past them alone. None where
 /// there is none.
 fn least_from(bytes: &[u8], past: bool) -> Option<u32>
@@ -28,11 +56,8 @@ fn least_from(bytes: &[u8], past: bool) -> Option<u32>
     ensures none { result ≡ None → (r : ℕ) → r < 4294967296
         → IsTrue (is_from past bytes.now (four r)) → ⊥ }
 {
-    let mut start = [0; 4];
-    let n = bytes.len().min(4);
-    start[..n].copy_from_slice(&bytes[..n]);
-    let number = u32::from_be_bytes(start);
-    if bytes.len() > 4 || (past && bytes.len() == 4) {
+    let number = start_number(bytes);
+    if bytes.len() > longest_at(past) {
         number.checked_add(1)
     } else {
         Some(number)

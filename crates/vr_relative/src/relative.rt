@@ -6,7 +6,8 @@ ghost use Rattle.vr_relative.specs.Setting.{put_of};
 use crate::chain::Chain;
 use crate::extend::extend;
 use crate::look::look_in;
-use crate::met::{Mets, meet, no_mets};
+use crate::meet::{meet, no_mets};
+use crate::met::Mets;
 use crate::next::next_in;
 use crate::number::slot_number;
 use crate::set::set_in;
@@ -131,7 +132,8 @@ impl Part for Relative {
         _place: &Place,
         _length: u32,
     ) -> Result<StageKind, DeviceFault> {
-        let sample = self.mets.first.bytes.as_slice();
+        let mets = &self.mets;
+        let sample = mets.first.bytes.as_slice();
         extend(&mut self.chain, blocks, space, sample, self.out.as_mut_slice())?;
         self.mets.filled = 0;
         Ok(StageKind::Extend)

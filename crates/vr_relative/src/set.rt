@@ -1,6 +1,6 @@
 //! Setting a record in a slot, or taking it away.
 ghost use Rattle.std.specs.Prelude.{◌≡◌, ◌<◌, IsTrue, All, length, map, vec_len, IfOk, OnOk};
-ghost use Rattle.std.specs.Prelude.{IfErr};
+ghost use Rattle.std.specs.Prelude.{IfErr, IsOk};
 ghost use Rattle.vr_types.specs.Blocks.{Keeps};
 ghost use Rattle.vr_types.specs.Faults.{HasCause, HasWriteCause};
 ghost use Rattle.vr_types.specs.declared.fault.DeviceFault.TheVariants.{Read, Write};
@@ -10,13 +10,14 @@ ghost use Rattle.vr_space.specs.Room.{Lengths};
 ghost use Rattle.vr_space.specs.Rosters.{Numbered};
 ghost use Rattle.vr_space.specs.Slots.{IsNumberedOn, IsSlotMet, IsSlotPlace};
 ghost use Rattle.vr_relative.specs.Chain.{IsChainOf};
-ghost use Rattle.vr_relative.specs.Met.{AreMetsOf, HasMetPlace, IsFirst, IsMetOf, met_in, met_places};
+ghost use Rattle.vr_relative.specs.Met.{AreMetsOf, HasMetPlace, IsMetOf, met_in, met_places};
 ghost use Rattle.vr_relative.specs.Met.{mets_in};
 ghost use Rattle.vr_relative.specs.Setting.{IsReady, IsSetNow, MaySet, put_of, refreshed};
 
 use crate::chain::Chain;
-use crate::met::{MetBlock, Mets, meet};
-use crate::number::slot_number;
+use crate::look::slot_of;
+use crate::meet::meet;
+use crate::met::{MetBlock, Mets};
 use crate::writing::write_set;
 use vr_types::{Blocks, DeviceFault};
 
@@ -44,8 +45,8 @@ fn refresh(mets: &mut Mets, number: u32, bytes: &[u8])
     refresh_block(&mut mets.second, number, bytes);
 }
 
-/// Sets what is given in the slot of the place that was met last: by one put, and without a read.
-/// It answers the block that it put; None where the slot isn't there, and nothing is to be set.
+/// Sets what is given in the slot of a place that was met: by one put, and without a read. It
+/// answers the block that it put; None where the slot isn't there, and nothing is to be set.
 fn put_set<B: Blocks>(
     mets: &mut Mets,
     chain: &Chain,
@@ -58,7 +59,7 @@ fn put_set<B: Blocks>(
     requires place { IsSlotPlace place.now }
     requires room { AreMetsOf chain.now.part mets.old }
     requires out { length out.old ≡ chain.now.part.geometry.size }
-    requires first { IsFirst place.now mets.old }
+    requires has { HasMetPlace (mets_in mets.old) place.now }
     requires chain { IsTrue B.tells → IsChainOf chain.now (B.seen blocks.old).cur }
     requires met { IsTrue B.tells
         → All (IsSlotMet chain.now.part (B.seen blocks.old).cur) (mets_in mets.old) }
@@ -85,19 +86,44 @@ fn put_set<B: Blocks>(
     ensures size { (B.seen blocks.new).size ≡ (B.seen blocks.old).size }
     ensures cause { HasWriteCause (B.faults blocks.old) (B.faults blocks.new) result }
 {
-    let Some(number) = slot_number(place) else {
+    let Some(block) = chain.block_at(place) else {
         return Ok(None);
     };
-    let Some(block) = chain.block_of(chain.interval_of(number)) else {
-        return Ok(None);
-    };
-    let met = mets.first.bytes.as_slice();
-    if !write_set(&chain.layout, met, chain.slot_in(number), bytes, out) {
+    let met = mets.met_at(place).bytes.as_slice();
+    if !write_set(chain.layout(), met, slot_of(chain, place), bytes, out) {
         return Ok(None);
     }
     blocks.put(block, out)?;
     refresh(mets, block, out);
     Ok(Some(block))
+}
+
+/// Meets the interval of a place, unless it is one of the two that were met.
+fn reach<B: Blocks>(
+    mets: &mut Mets,
+    chain: &Chain,
+    blocks: &mut B,
+    place: &[u8],
+) -> Result<(), DeviceFault>
+    requires on { IsNumberedOn chain.now.part (B.seen blocks.old) }
+    requires place { IsSlotPlace place.now }
+    requires room { AreMetsOf chain.now.part mets.old }
+    requires chain { IsTrue B.tells → IsChainOf chain.now (B.seen blocks.old).cur }
+    requires met { IsTrue B.tells
+        → All (IsSlotMet chain.now.part (B.seen blocks.old).cur) (mets_in mets.old) }
+    ensures room { AreMetsOf chain.now.part mets.new }
+    ensures has { OnOk result (HasMetPlace (mets_in mets.new) place.now) }
+    ensures met { IsTrue B.tells
+        → All (IsSlotMet chain.now.part (B.seen blocks.old).cur) (mets_in mets.new) }
+    ensures known { HasMetPlace (mets_in mets.old) place.now
+        → IsOk result × (met_places (mets_in mets.new) ≡ met_places (mets_in mets.old)) }
+    ensures keeps { Keeps B.tells (B.seen blocks.old) (B.seen blocks.new) }
+    ensures cause { HasCause (B.faults blocks.old) (B.faults blocks.new) result }
+{
+    if mets.has(place) {
+        return Ok(());
+    }
+    meet(mets, chain, blocks, place)
 }
 
 /// Makes what is given the record in the slot of a place, or takes the record there away: by one
@@ -147,6 +173,6 @@ pub(crate) fn set_in<B: Blocks>(
     ensures size { (B.seen blocks.new).size ≡ (B.seen blocks.old).size }
     ensures cause { HasCause (B.faults blocks.old) (B.faults blocks.new) result }
 {
-    meet(mets, chain, blocks, place)?;
+    reach(mets, chain, blocks, place)?;
     put_set(mets, chain, blocks, out, place, bytes)
 }

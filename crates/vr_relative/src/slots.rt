@@ -1,23 +1,41 @@
 //! Reading the slots of an interval.
-ghost use Rattle.std.specs.Prelude.{◌≡◌, ◌≢◌, ◌≤◌, ◌<◌, ℕ, Some, None, IfSome, MatchOption};
+ghost use Rattle.std.specs.Prelude.{◌≡◌, ◌≤◌, ◌<◌, ◌↔◌, ℕ, true, false, Some, None, IfSome, IsTrue};
+ghost use Rattle.std.specs.Prelude.{MatchOption};
 ghost use Rattle.vr_types.specs.Content.Item.{Standing};
-ghost use Rattle.vr_ci_match.specs.declared.form.Form.TheVariants as forms;
-ghost use Rattle.vr_ci.specs.Interval as ci;
 ghost use Rattle.vr_space.specs.Keyed.{items_of};
 ghost use Rattle.vr_space.specs.Slots.{IsSlots, slot_item, slots_of};
+ghost use Rattle.vr_relative.specs.Written.{IsFirstLive, IsOfRecords};
 
-use vr_ci::{CiView, Form};
+use vr_ci::{CiView, Form, Shape};
 use vr_space::ChainLayout;
+
+/// Whether an interval is one of records or slots, and isn't busy.
+fn is_of_records(view: &CiView<'_>) -> bool
+    ensures some { IsTrue result → IsOfRecords view.now }
+    ensures none { result ≡ false → IsOfRecords view.now → ⊥ }
+{
+    view.shape() == Shape::Records && !view.busy()
+}
 
 /// The interval that a block is. None where it isn't one of slots of the part's length.
 pub(crate) fn interval_of<'a>(layout: &ChainLayout, block: &'a [u8]) -> Option<CiView<'a>>
-    ensures items { IsSlots layout.now block.now → IfSome result
-        (λ view. view.items ≡ items_of block.now) }
-    ensures some { IsSlots layout.now block.now → result ≡ None → ⊥ }
-    ensures spelled { IfSome result
-        (ci.IsInterval (forms.Slots layout.now.most) block.now) }
+    ensures items { IfSome result (λ view. view.items ≡ items_of block.now) }
+    ensures some { IfSome result (λ view. IsSlots layout.now block.now) }
+    ensures none { result ≡ None → IsSlots layout.now block.now → ⊥ }
 {
-    CiView::read(Form::Slots { length: layout.most }, block).ok()
+    if block.len() != layout.geometry.size as usize {
+        return None;
+    }
+    let form = Form::Slots {
+        length: layout.most,
+    };
+    let Ok(view) = CiView::read(form, block) else {
+        return None;
+    };
+    if !is_of_records(&view) {
+        return None;
+    }
+    Some(view)
 }
 
 /// The record in a slot, lent from the block. None where the slot is empty.
@@ -26,27 +44,47 @@ pub(crate) fn slot_at<'a>(layout: &ChainLayout, block: &'a [u8], slot: u32) -> O
         (slot_item slot block.now ≡ None)
         (λ found. slot_item slot block.now ≡ Some (Standing found.now)) }
 {
-    let view = interval_of(layout, block)?;
-    let (bytes, live) = view.iter().nth(slot as usize)?;
-    if live { Some(bytes) } else { None }
+    let Some(view) = interval_of(layout, block) else {
+        return None;
+    };
+    match view.iter().nth(slot as usize) {
+        Some((bytes, live)) => {
+            if live {
+                Some(bytes)
+            } else {
+                None
+            }
+        }
+        None => None,
+    }
+}
+
+/// Whether a slot is one from another on, and has a record.
+fn is_found(slot: u32, live: bool, from: u32) -> bool
+    ensures { IsTrue result ↔ ((from ≤ slot) × (live ≡ true)) }
+{
+    slot >= from && live
 }
 
 /// The first slot with a record, from this one on.
 pub(crate) fn first_live(layout: &ChainLayout, block: &[u8], from: u32) -> Option<u32>
-    ensures some { IsSlots layout.now block.now → IfSome result (λ slot. (from ≤ slot)
-        × (slot < slots_of layout.now)
-        × (slot_item slot block.now ≢ None)
-        × ((other : ℕ) → from ≤ other → other < slot → slot_item other block.now ≡ None)) }
+    ensures some { IsSlots layout.now block.now → IfSome result
+        (IsFirstLive layout.now block.now from) }
+    ensures below { IfSome result (λ slot. slot < slots_of layout.now) }
     ensures none { IsSlots layout.now block.now → result ≡ None → (other : ℕ) → from ≤ other
         → slot_item other block.now ≡ None }
 {
-    let view = interval_of(layout, block)?;
-    let mut slot = 0;
-    for (_, live) in view.iter() {
-        if live && slot >= from {
+    let Some(view) = interval_of(layout, block) else {
+        return None;
+    };
+    let mut slots = view.iter();
+    for slot in 0..layout.slots() {
+        let Some((_, live)) = slots.next() else {
+            return None;
+        };
+        if is_found(slot, live, from) {
             return Some(slot);
         }
-        slot += 1;
     }
     None
 }

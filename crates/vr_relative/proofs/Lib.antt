@@ -1,0 +1,16 @@
+pub mod Counted
+pub mod Numbers
+pub mod Ordered
+pub mod Reading
+pub mod Reached
+pub mod PlaceBlock
+pub mod NumberOf
+pub mod FirstRead
+pub mod NextPlaces
+pub mod SlotSet
+pub mod SetAdds
+pub mod Setting
+pub mod Meeting
+pub mod Refreshing
+pub mod Looking
+pub mod WritingSlots

@@ -1,0 +1,120 @@
+use Rattle.std.proofs.Common.{◌≡◌, ◌≤◌, ◌<◌, ◌+◌, ◌-◌, ◌*◌, ◌/◌, ◌%◌, ◌^◌, ℕ, Option, subst, sym, ◌∙◌}
+use Rattle.std.proofs.Common.{ap, arith, refl, rules, None, Some, IfSome}
+use Rattle.std.proofs.lemmas.Nat.{div-add-mod'}
+use Rattle.vr_types.specs.Image.{Image}
+use Rattle.vr_types.proofs.CallerLemmas.{keeps-none, keeps-then}
+use Rattle.vr_space.specs.Part.{RelativeShape, Stands, record_read}
+use Rattle.vr_space.specs.Slots.{slots_of}
+use Rattle.vr_relative.specs.Chain.{IsChainOf}
+use Rattle.vr_relative.specs.Searched.{HasNoneRead, IsFirstRead}
+use Rattle.vr_relative.proofs.FirstRead.{first-later, none-further, none-past}
+use Rattle.vr_types.specs.Fields.{four}
+use Rattle.vr_relative.proofs.next.first_from.Goals as goal
+
+none-of : (found : Option ℕ) → ((x : ℕ) → found ≡ Some x → ⊥) → found ≡ None
+none-of None not = refl
+none-of (Some x) not = absurd (not x refl)
+
+pub loop-interval-init : goal.loop-interval-init
+loop-interval-init g c =
+    let slots : ℕ = slots_of c.args.chain.now.part in
+    let next : c.interval_of-interval.result * slots + c.slot_in-slot.result + 1
+    ≡ c.args.number =
+    omega (arith, c.requires.some, div-add-mod' (c.args.number - 1) slots, c.slot_in-slot.ensures.place,
+    ap (λ (n : ℕ). n * slots) c.interval_of-interval.ensures) in
+    record {
+      keeps = keeps-none g.B.Blocks.tells (g.B.Blocks.seen c.args.blocks.now)
+          (λ told image left. g.met.B.Blocks.images_may c.args.blocks.now image told left);
+      faults = refl;
+      slot = c.slot_in-slot.ensures.below;
+      past = omega (arith, next);
+      none = λ told n least below. absurd (omega (arith, next, least, below));
+    }
+
+pub first_in-requires-clause-on : goal.first_in-requires-clause-on
+first_in-requires-clause-on g c = search rules
+
+pub first_in-requires-clause-stands : goal.first_in-requires-clause-stands
+first_in-requires-clause-stands g c told =
+    subst (Stands (RelativeShape c.args.chain.now.part))
+    (sym (c.loop-interval.invariant.keeps.content told)) (c.requires.stands told)
+
+pub first_in-requires-clause-chain : goal.first_in-requires-clause-chain
+first_in-requires-clause-chain g c told =
+    subst (IsChainOf c.args.chain.now) (sym (c.loop-interval.invariant.keeps.content told))
+    (c.requires.chain told)
+
+pub returns-in_err-found-clause-keeps : goal.returns-in_err-found-clause-keeps
+returns-in_err-found-clause-keeps g c =
+    keeps-then g.B.Blocks.tells (g.B.Blocks.seen c.args.blocks.now)
+    (g.B.Blocks.seen c.loop-interval.blocks) (g.B.Blocks.seen c.first_in.new.blocks)
+    c.loop-interval.invariant.keeps c.first_in.ensures.keeps
+
+pub returns-in_err-found-clause-cause : goal.returns-in_err-found-clause-cause
+returns-in_err-found-clause-cause g c = search rules
+
+pub returns-in-Some-clause-some : goal.returns-in-Some-clause-some
+returns-in-Some-clause-some g c told =
+    let part = c.args.chain.now.part in
+    let slots : ℕ = slots_of part in
+    let next : ℕ = c.loop-interval.interval * slots + c.loop-interval.slot + 1 in
+    let end : ℕ = (c.loop-interval.interval + 1) * slots + 1 in
+    let fits : c.in-Some.found < 2 ^ 32 = search rules in
+    let first : IsFirstRead part (g.B.Blocks.seen c.loop-interval.blocks).cur next end
+    c.in-Some.found =
+    subst (λ (found : Option ℕ). IfSome found
+    (IsFirstRead part (g.B.Blocks.seen c.loop-interval.blocks).cur next end)) c.in-Some.is
+    (c.in_ok-found.ensures.some told) in
+    first-later part (g.B.Blocks.seen c.args.blocks.now).cur c.args.number next end (2 ^ 32)
+    c.in-Some.found c.loop-interval.invariant.past fits (c.loop-interval.invariant.none told)
+    (subst (λ (image : Image). IsFirstRead part image next end c.in-Some.found)
+    (c.loop-interval.invariant.keeps.content told) first)
+
+pub returns-in-Some-clause-keeps : goal.returns-in-Some-clause-keeps
+returns-in-Some-clause-keeps g c =
+    keeps-then g.B.Blocks.tells (g.B.Blocks.seen c.args.blocks.now)
+    (g.B.Blocks.seen c.loop-interval.blocks) (g.B.Blocks.seen c.first_in.new.blocks)
+    c.loop-interval.invariant.keeps c.first_in.ensures.keeps
+
+pub returns-in-Some-clause-cause : goal.returns-in-Some-clause-cause
+returns-in-Some-clause-cause g c = search rules
+
+pub loop-interval-preserved : goal.loop-interval-preserved
+loop-interval-preserved g c =
+    let part = c.args.chain.now.part in
+    let slots : ℕ = slots_of part in
+    let next : ℕ = c.loop-interval.interval * slots + c.loop-interval.slot + 1 in
+    let empty : c.in_ok-found.field-0 ≡ None = none-of c.in_ok-found.field-0 c.in_default.not-Some in
+    record {
+      keeps = keeps-then g.B.Blocks.tells (g.B.Blocks.seen c.args.blocks.now)
+          (g.B.Blocks.seen c.loop-interval.blocks) (g.B.Blocks.seen c.first_in.new.blocks)
+          c.loop-interval.invariant.keeps c.first_in.ensures.keeps;
+      faults = search rules;
+      slot = omega (arith, c.slot_in-slot.ensures.below);
+      past = omega (arith, c.loop-interval.invariant.past, c.loop-interval.invariant.slot);
+      none = λ told. none-further part (g.B.Blocks.seen c.args.blocks.now).cur c.args.number next
+          ((c.loop-interval.interval + 1) * slots + 0 + 1) (c.loop-interval.invariant.none told)
+          (λ n least below. subst (λ (image : Image).
+          record_read (RelativeShape part) image (four n) ≡ None)
+          (c.loop-interval.invariant.keeps.content told)
+          (c.in_ok-found.ensures.none told empty n least (omega (arith, below))));
+    }
+
+pub returns-clause-none : goal.returns-clause-none
+returns-clause-none g c told none =
+    let chain = c.args.chain.now in
+    let cur = (g.B.Blocks.seen c.args.blocks.now).cur in
+    let slots : ℕ = slots_of chain.part in
+    none-further chain.part cur c.args.number
+    (c.loop-interval.interval * slots + c.loop-interval.slot + 1) (2 ^ 32)
+    (c.loop-interval.invariant.none told)
+    (λ n least below. none-past chain cur (c.requires.stands told) (c.requires.chain told)
+    c.loop-interval.interval
+    (omega (arith, c.loop-interval-test.false, c.used-interval-end.ensures)) n
+    (omega (arith, least)) below)
+
+pub returns-clause-keeps : goal.returns-clause-keeps
+returns-clause-keeps g c = c.loop-interval.invariant.keeps
+
+pub returns-clause-cause : goal.returns-clause-cause
+returns-clause-cause g c = search rules

@@ -1,0 +1,174 @@
+use Rattle.std.proofs.Common.{All, [], refl, sym, ap, ◌∙◌, subst, true≢false, arith}
+use Rattle.std.proofs.lemmas.List.Elements.{All-map, All-nil, All-weaker}
+use Rattle.vr_types.specs.Seen.{Left}
+use Rattle.vr_types.proofs.CallerLemmas.{all-one, cur-put, keeps-none}
+use Rattle.vr_space.specs.Met.{Met}
+use Rattle.vr_space.specs.Part.{given}
+use Rattle.vr_space.specs.Slots.{IsSlotMet}
+use Rattle.vr_relative.specs.Met.{met_in, met_places, mets_in}
+use Rattle.vr_relative.specs.Setting.{refreshed}
+use Rattle.vr_relative.proofs.Refreshing.{places-refreshed}
+use Rattle.vr_relative.proofs.Setting.{block-held, chain-set, done-set, may-keeps, may-set, past-set}
+use Rattle.vr_relative.proofs.Setting.{refresh-met, written-set}
+use Rattle.vr_relative.proofs.set.put_set.Goals as goal
+
+pub returns-in_default-clause-may : goal.returns-in_default-clause-may
+returns-in_default-clause-may g c told kept known ready =
+    let B = g.B.Blocks in
+    let a = B.seen c.args.blocks.now in
+    may-keeps c.args.chain.now.part kept known c.args.place.now (given c.args.bytes) B.tells told a
+    a (keeps-none B.tells a
+    (λ told image left. g.met.B.Blocks.images_may c.args.blocks.now image told left)) ready
+
+pub returns-in_default-clause-done : goal.returns-in_default-clause-done
+returns-in_default-clause-done g c told kept known ready =
+    let a = g.B.Blocks.seen c.args.blocks.now in
+    past-set c.args.chain.now kept known c.args.place.now (given c.args.bytes) a ready
+    (c.requires.chain told) c.requires.place (g.met.B.Blocks.cur_may c.args.blocks.now told)
+    (c.in_default.ensures.none refl c.requires.place)
+
+pub returns-then-not-write_set-clause-may : goal.returns-then-not-write_set-clause-may
+returns-then-not-write_set-clause-may g c told kept known ready =
+    let chain = c.args.chain.now in
+    let place = c.args.place.now in
+    let item = given c.args.bytes in
+    let a = g.B.Blocks.seen c.args.blocks.now in
+    let left : Left a a.cur = g.met.B.Blocks.cur_may c.args.blocks.now told in
+    let of = c.requires.chain told in
+    let n = c.in-Some.block in
+    let wrote = written-set chain kept known place item a ready of c.requires.place left n
+    c.write_set.new.out c.write_set.result c.layout.result.now c.as_slice.result.now
+    c.slot_of.result (met_in c.met_at.result.now) c.in-Some.ensures.used.1 c.in-Some.ensures.block
+    c.layout.ensures c.met_at.ensures.place
+    (c.met_at.ensures.met chain.part a.cur (c.requires.met told)) c.as_slice.ensures.value
+    c.slot_of.ensures c.write_set.ensures.written in
+    absurd (true≢false (sym wrote.ok ∙ c.if-not-write_set.true))
+
+pub returns-then-not-write_set-clause-done : goal.returns-then-not-write_set-clause-done
+returns-then-not-write_set-clause-done g c told kept known ready =
+    let chain = c.args.chain.now in
+    let place = c.args.place.now in
+    let item = given c.args.bytes in
+    let a = g.B.Blocks.seen c.args.blocks.now in
+    let left : Left a a.cur = g.met.B.Blocks.cur_may c.args.blocks.now told in
+    let of = c.requires.chain told in
+    let n = c.in-Some.block in
+    let wrote = written-set chain kept known place item a ready of c.requires.place left n
+    c.write_set.new.out c.write_set.result c.layout.result.now c.as_slice.result.now
+    c.slot_of.result (met_in c.met_at.result.now) c.in-Some.ensures.used.1 c.in-Some.ensures.block
+    c.layout.ensures c.met_at.ensures.place
+    (c.met_at.ensures.met chain.part a.cur (c.requires.met told)) c.as_slice.ensures.value
+    c.slot_of.ensures c.write_set.ensures.written in
+    absurd (true≢false (sym wrote.ok ∙ c.if-not-write_set.true))
+
+pub returns-in_err-put-clause-may : goal.returns-in_err-put-clause-may
+returns-in_err-put-clause-may g c told kept known ready =
+    let chain = c.args.chain.now in
+    let place = c.args.place.now in
+    let item = given c.args.bytes in
+    let a = g.B.Blocks.seen c.args.blocks.now in
+    let left : Left a a.cur = g.met.B.Blocks.cur_may c.args.blocks.now told in
+    let of = c.requires.chain told in
+    let n = c.in-Some.block in
+    let wrote = written-set chain kept known place item a ready of c.requires.place left n
+    c.write_set.new.out c.write_set.result c.layout.result.now c.as_slice.result.now
+    c.slot_of.result (met_in c.met_at.result.now) c.in-Some.ensures.used.1 c.in-Some.ensures.block
+    c.layout.ensures c.met_at.ensures.place
+    (c.met_at.ensures.met chain.part a.cur (c.requires.met told)) c.as_slice.ensures.value
+    c.slot_of.ensures c.write_set.ensures.written in
+    may-set chain kept known place item a ready of c.requires.place left n wrote.at
+    c.write_set.new.out wrote.set g.B.Blocks.tells told (g.B.Blocks.seen c.put.new.self)
+    c.put.ensures.after
+
+pub returns-clause-may : goal.returns-clause-may
+returns-clause-may g c told kept known ready =
+    let chain = c.args.chain.now in
+    let place = c.args.place.now in
+    let item = given c.args.bytes in
+    let a = g.B.Blocks.seen c.args.blocks.now in
+    let left : Left a a.cur = g.met.B.Blocks.cur_may c.args.blocks.now told in
+    let of = c.requires.chain told in
+    let n = c.in-Some.block in
+    let wrote = written-set chain kept known place item a ready of c.requires.place left n
+    c.write_set.new.out c.write_set.result c.layout.result.now c.as_slice.result.now
+    c.slot_of.result (met_in c.met_at.result.now) c.in-Some.ensures.used.1 c.in-Some.ensures.block
+    c.layout.ensures c.met_at.ensures.place
+    (c.met_at.ensures.met chain.part a.cur (c.requires.met told)) c.as_slice.ensures.value
+    c.slot_of.ensures c.write_set.ensures.written in
+    may-set chain kept known place item a ready of c.requires.place left n wrote.at
+    c.write_set.new.out wrote.set g.B.Blocks.tells told (g.B.Blocks.seen c.put.new.self)
+    c.put.ensures.after
+
+pub returns-clause-places : goal.returns-clause-places
+returns-clause-places g c =
+    ap met_places c.refresh.ensures.met
+    ∙ places-refreshed c.in-Some.block c.write_set.new.out (mets_in c.args.mets.now)
+
+pub returns-clause-done : goal.returns-clause-done
+returns-clause-done g c told kept known ready =
+    let chain = c.args.chain.now in
+    let place = c.args.place.now in
+    let item = given c.args.bytes in
+    let a = g.B.Blocks.seen c.args.blocks.now in
+    let left : Left a a.cur = g.met.B.Blocks.cur_may c.args.blocks.now told in
+    let of = c.requires.chain told in
+    let n = c.in-Some.block in
+    let wrote = written-set chain kept known place item a ready of c.requires.place left n
+    c.write_set.new.out c.write_set.result c.layout.result.now c.as_slice.result.now
+    c.slot_of.result (met_in c.met_at.result.now) c.in-Some.ensures.used.1 c.in-Some.ensures.block
+    c.layout.ensures c.met_at.ensures.place
+    (c.met_at.ensures.met chain.part a.cur (c.requires.met told)) c.as_slice.ensures.value
+    c.slot_of.ensures c.write_set.ensures.written in
+    let b = g.B.Blocks.seen c.put.new.self in
+    let now = cur-put a n c.write_set.new.out
+    (omega (arith, c.in-Some.ensures.below, c.requires.on.blocks)) left.length_is b.cur
+    (c.in_ok-put.ensures.put told) in
+    done-set chain kept known place item a ready of c.requires.place left n wrote.at
+    c.write_set.new.out wrote.set g.B.Blocks.tells told b c.put.ensures.after now
+
+pub returns-clause-chain : goal.returns-clause-chain
+returns-clause-chain g c told kept known ready =
+    let chain = c.args.chain.now in
+    let place = c.args.place.now in
+    let item = given c.args.bytes in
+    let a = g.B.Blocks.seen c.args.blocks.now in
+    let left : Left a a.cur = g.met.B.Blocks.cur_may c.args.blocks.now told in
+    let of = c.requires.chain told in
+    let n = c.in-Some.block in
+    let wrote = written-set chain kept known place item a ready of c.requires.place left n
+    c.write_set.new.out c.write_set.result c.layout.result.now c.as_slice.result.now
+    c.slot_of.result (met_in c.met_at.result.now) c.in-Some.ensures.used.1 c.in-Some.ensures.block
+    c.layout.ensures c.met_at.ensures.place
+    (c.met_at.ensures.met chain.part a.cur (c.requires.met told)) c.as_slice.ensures.value
+    c.slot_of.ensures c.write_set.ensures.written in
+    chain-set chain kept known place item a ready of c.requires.place left n wrote.at
+    c.write_set.new.out wrote.set g.B.Blocks.tells told (g.B.Blocks.seen c.put.new.self)
+    c.put.ensures.after
+
+pub returns-clause-met : goal.returns-clause-met
+returns-clause-met g c told kept known ready =
+    let chain = c.args.chain.now in
+    let place = c.args.place.now in
+    let item = given c.args.bytes in
+    let a = g.B.Blocks.seen c.args.blocks.now in
+    let left : Left a a.cur = g.met.B.Blocks.cur_may c.args.blocks.now told in
+    let of = c.requires.chain told in
+    let n = c.in-Some.block in
+    let wrote = written-set chain kept known place item a ready of c.requires.place left n
+    c.write_set.new.out c.write_set.result c.layout.result.now c.as_slice.result.now
+    c.slot_of.result (met_in c.met_at.result.now) c.in-Some.ensures.used.1 c.in-Some.ensures.block
+    c.layout.ensures c.met_at.ensures.place
+    (c.met_at.ensures.met chain.part a.cur (c.requires.met told)) c.as_slice.ensures.value
+    c.slot_of.ensures c.write_set.ensures.written in
+    let b = g.B.Blocks.seen c.put.new.self in
+    let now = cur-put a n c.write_set.new.out
+    (omega (arith, c.in-Some.ensures.below, c.requires.on.blocks)) left.length_is b.cur
+    (c.in_ok-put.ensures.put told) in
+    subst (All (IsSlotMet chain.part b.cur)) (sym c.refresh.ensures.met)
+    (All-map (IsSlotMet chain.part b.cur) (refreshed n c.write_set.new.out)
+    (mets_in c.args.mets.now)
+    (All-weaker (IsSlotMet chain.part a.cur)
+    (λ (one : Met). IsSlotMet chain.part b.cur (refreshed n c.write_set.new.out one))
+    (refresh-met chain kept known place item a ready of c.requires.place left n wrote.at
+    c.write_set.new.out wrote.set g.B.Blocks.tells told b c.put.ensures.after now)
+    (mets_in c.args.mets.now) (c.requires.met told)))
