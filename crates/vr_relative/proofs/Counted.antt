@@ -1,5 +1,5 @@
 -- How many intervals a chain of areas may have.
-use Rattle.std.proofs.Common.{◌≡◌, ◌+◌, ◌-◌, ◌*◌, ◌/◌, ◌^◌, ◌<◌, ◌≤◌, ℕ, zero, suc}
+use Rattle.std.proofs.Common.{◌≡◌, ◌+◌, ◌-◌, ◌*◌, ◌^◌, ◌<◌, ◌≤◌, ℕ, zero, suc}
 use Rattle.std.proofs.Common.{List, length, arith}
 use Rattle.std.proofs.Math.Nat.{div-mul-le_self, mul-le-mul, mul-le-mul_left}
 use Rattle.std.proofs.Math.Nat.{mul-le-mul_right}
@@ -33,5 +33,9 @@ slots-under part areas used interval is within =
     let area = part.geometry.area in
     let intervals : interval + 1 ≤ area_count part.geometry * area =
     omega (arith, within, is.within, mul-le-mul_right area is.few) in
-    omega (arith, mul-le-mul_right (slots_of part) intervals, slots-below part is.part_is,
-    slots-up part (area_count part.geometry))
+    omega (
+      arith,
+      mul-le-mul_right (slots_of part) intervals,
+      slots-below part is.part_is,
+      slots-up part (area_count part.geometry),
+    )

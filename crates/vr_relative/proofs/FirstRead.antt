@@ -1,10 +1,10 @@
 -- The first slot with a record: of an interval, and from a number on.
-use Rattle.std.proofs.Common.{◌≡◌, ◌+◌, ◌-◌, ◌*◌, ◌^◌, ◌<◌, ◌≤◌, ℕ, Bool, true, false, Option, Some}
-use Rattle.std.proofs.Common.{None, refl, sym, ap, subst, ◌∙◌, arith}
+use Rattle.std.proofs.Common.{◌≡◌, ◌+◌, ◌-◌, ◌*◌, ◌/◌, ◌^◌, ◌<◌, ◌≤◌, ℕ, Bool, true, false, Option}
+use Rattle.std.proofs.Common.{Some, None, refl, sym, ap, subst, ◌∙◌, arith}
 use Rattle.std.proofs.Common.{◌⊎◌, inl, inr}
 use Rattle.std.proofs.Math.Nat.{le-div_iff_mul-le}
 use Rattle.std.proofs.lemmas.Bool.{cases_lt}
-use Rattle.std.specs.Prelude.{◌≢◌, cond, option_and_then, slice_get}
+use Rattle.std.specs.Prelude.{cond, option_and_then, slice_get}
 use Rattle.vr_types.specs.Content.{Item, record_of}
 use Rattle.vr_types.specs.Content.Item.{Standing}
 use Rattle.vr_types.specs.Fields.{four}
@@ -12,7 +12,7 @@ use Rattle.vr_types.specs.Image.{Block, Image, block_at}
 use Rattle.vr_ci.specs.Interval as ci
 use Rattle.vr_space.specs.Keyed.{items_of}
 use Rattle.vr_space.specs.Part.{RelativeShape, Stands, record_read}
-use Rattle.vr_space.specs.Slots.{IsSlots, chain_block, interval_of, number_of, slot_in, slot_item}
+use Rattle.vr_space.specs.Slots.{IsSlots, chain_block, number_of, slot_item}
 use Rattle.vr_space.specs.Slots.{slots_of, standing_in}
 use Rattle.vr_space.specs.Rosters.{Numbered}
 use Rattle.vr_space.proofs.CallerLemmas.{number-four, slots-some}
@@ -56,8 +56,8 @@ module _ (chain : ChainNow) (image : Image) (stands : Stands (RelativeShape chai
   slot-read slot number inside same =
       let under = slots-under chain.part chain.areas chain.used interval now within in
       let numbered =
-      number-of-slot chain.part interval slot number inside same (omega (arith, inside, same, under))
-      in
+      number-of-slot chain.part interval slot number inside same
+      (omega (arith, inside, same, under)) in
       let found : IsInBlock chain image (four number)
       (chain_block chain.part chain.areas interval) =
       look-there chain image stands is (four number) (chain_block chain.part chain.areas interval)
@@ -152,6 +152,7 @@ pub none-past : (chain : ChainNow) (image : Image) → Stands (RelativeShape cha
     → IsChainOf chain image → (interval : ℕ) → chain.used ≤ interval
     → HasNoneRead chain.part image (interval * slots_of chain.part + 1) (2 ^ 32)
 none-past chain image stands is interval past number least below =
-    look-past chain image stands is (four number)
-    (omega (arith, past, (le-div_iff_mul-le {x = interval} {y = number_of (four number) - 1}
-    (slots-some chain.part stands.1.part_is)).1 (omega (arith, least, number-four number below))))
+    let at : number_of (four number) ≡ number = number-four number below in
+    let within : interval ≤ (number_of (four number) - 1) / slots_of chain.part =
+    (le-div_iff_mul-le (slots-some chain.part stands.1.part_is)).1 (omega (arith, least, at)) in
+    look-past chain image stands is (four number) (omega (arith, past, within))

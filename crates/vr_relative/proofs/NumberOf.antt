@@ -1,5 +1,5 @@
 -- The number of a slot, by its interval.
-use Rattle.std.proofs.Common.{◌≡◌, ◌+◌, ◌-◌, ◌*◌, ◌/◌, ◌^◌, ◌<◌, ℕ, ap, ◌∙◌, arith}
+use Rattle.std.proofs.Common.{◌≡◌, ◌+◌, ◌-◌, ◌*◌, ◌/◌, ◌%◌, ◌^◌, ◌<◌, ℕ, ap, ◌∙◌, arith}
 use Rattle.std.proofs.lemmas.Nat.{div-mul-add, div-add-mod'}
 use Rattle.vr_types.specs.Fields.{four}
 use Rattle.vr_space.specs.Rosters.{Numbered}
@@ -24,6 +24,23 @@ number-of-slot part interval slot number within is below =
     record {
       place = slot-place number (omega (arith, is)) below;
       interval_is = quotient;
-      slot_is = omega (arith, spelled, div-add-mod' (number_of (four number) - 1) slots,
-          ap (λ (n : ℕ). n * slots) quotient);
+      slot_is = omega (
+        arith,
+        spelled,
+        div-add-mod' (number_of (four number) - 1) slots,
+        ap (λ (n : ℕ). n * slots) quotient,
+      );
     }
+
+-- the interval and the slot of a number lead back to it
+pub number-parts : (number slots interval slot : ℕ) → 0 < number
+    → interval ≡ (number - 1) / slots → slot ≡ (number - 1) % slots
+    → interval * slots + slot + 1 ≡ number
+number-parts number slots interval slot some quotient remainder =
+    omega (
+      arith,
+      some,
+      div-add-mod' (number - 1) slots,
+      remainder,
+      ap (λ (n : ℕ). n * slots) quotient,
+    )

@@ -1,8 +1,8 @@
 -- Which numbers of slots have places at given bytes or past them.
 use Rattle.std.proofs.Common.{◌≡◌, ◌⊎◌, inl, inr, ◌↔◌, ◌+◌, ◌<◌, ◌≤◌, ◌^◌, ℕ, zero, suc, Bool}
-use Rattle.std.proofs.Common.{true, false, IsTrue, List, [], ◌∷◌, ◌++◌, length, take, replicate, refl}
-use Rattle.std.proofs.Common.{sym, ap, ◌∙◌, arith, true≢false}
-use Rattle.std.proofs.Common.{Option, Some, None, IfSome, subst}
+use Rattle.std.proofs.Common.{true, false, IsTrue, List, [], ◌∷◌, ◌++◌, length, take, replicate}
+use Rattle.std.proofs.Common.{Option, Some, None, IfSome, refl, sym, ap, subst, ◌∙◌, arith}
+use Rattle.std.proofs.Common.{true≢false}
 use Rattle.std.specs.Option.{SomeIff}
 use Rattle.std.specs.Cmp.{nat_cmp_is}
 use Rattle.std.specs.Ordering.{is_le, is_lt, nat_cmp, ordering_reverse, ordering_then}
@@ -18,7 +18,8 @@ use Rattle.vr_relative.specs.Searched.{is_from, longest, number_from}
 suc-cmp : (m n : ℕ) → nat_cmp m n ≡ nat_cmp (suc m) (suc n)
 suc-cmp m n = grind (arith, ranked)
 
--- Bytes are beside themselves, cut to a length or filled up to it, as their own length is beside it.
+-- Bytes are beside themselves, cut to a length or filled up to it, as their own length is beside
+-- that.
 cut-order : (k fill : ℕ) (from : List ℕ) → k ≤ fill
     → place_cmp from (take k (from ++ replicate fill 0)) ≡ nat_cmp (length from) k
 cut-order zero fill [] fits = refl
@@ -98,20 +99,23 @@ short-found past bytes r each short below =
     by_order : (r < number_from bytes) ⊎ (number_from bytes ≤ r)
         → (number_from bytes < r) ⊎ (r ≤ number_from bytes)
         → IsTrue (is_from past bytes (four r)) ↔ (number_from bytes ≤ r)
-    by_order (inl lower) turned =
-        ((λ found. absurd (true≢false (sym found ∙ by-order past bytes (four r)
-        ∙ ap (found_by past) (order-lower bytes r each lower) ∙ greater-not past))),
-        (λ most. absurd (omega (arith, lower, most))))
-    by_order (inr least) (inl higher) =
-        ((λ found. least),
-        (λ most. by-order past bytes (four r)
-        ∙ ap (found_by past) (order-higher bytes r each higher below) ∙ less-found past))
+    by_order (inl lower) turned = (
+      (λ found. absurd (true≢false (sym found ∙ by-order past bytes (four r)
+          ∙ ap (found_by past) (order-lower bytes r each lower) ∙ greater-not past))),
+      (λ most. absurd (omega (arith, lower, most))),
+    )
+    by_order (inr least) (inl higher) = (
+      (λ found. least),
+      (λ most. by-order past bytes (four r)
+          ∙ ap (found_by past) (order-higher bytes r each higher below) ∙ less-found past),
+    )
     by_order (inr least) (inr most) =
-        let same : number_from bytes ≡ r = omega (arith, least, most) in
-        ((λ found. least),
-        (λ most. by-order past bytes (four r)
-        ∙ ap (λ (n : ℕ). found_by past (place_cmp bytes (four n))) (sym same)
-        ∙ ap (found_by past) (same-order bytes each) ∙ same-found past (length bytes) short))
+        let same : number_from bytes ≡ r = omega (arith, least, most) in (
+          (λ found. least),
+          (λ most. by-order past bytes (four r)
+              ∙ ap (λ (n : ℕ). found_by past (place_cmp bytes (four n))) (sym same)
+              ∙ ap (found_by past) (same-order bytes each) ∙ same-found past (length bytes) short),
+        )
 
 -- Of longer ones, those past it.
 pub long-found : (past : Bool) (bytes : List ℕ) (r : ℕ) → IsBytes bytes
@@ -123,20 +127,23 @@ long-found past bytes r each long below =
     by_order : (r < number_from bytes) ⊎ (number_from bytes ≤ r)
         → (number_from bytes < r) ⊎ (r ≤ number_from bytes)
         → IsTrue (is_from past bytes (four r)) ↔ (number_from bytes + 1 ≤ r)
-    by_order (inl lower) turned =
-        ((λ found. absurd (true≢false (sym found ∙ by-order past bytes (four r)
-        ∙ ap (found_by past) (order-lower bytes r each lower) ∙ greater-not past))),
-        (λ most. absurd (omega (arith, lower, most))))
-    by_order (inr least) (inl higher) =
-        ((λ found. omega (arith, higher)),
-        (λ most. by-order past bytes (four r)
-        ∙ ap (found_by past) (order-higher bytes r each higher below) ∙ less-found past))
+    by_order (inl lower) turned = (
+      (λ found. absurd (true≢false (sym found ∙ by-order past bytes (four r)
+          ∙ ap (found_by past) (order-lower bytes r each lower) ∙ greater-not past))),
+      (λ most. absurd (omega (arith, lower, most))),
+    )
+    by_order (inr least) (inl higher) = (
+      (λ found. omega (arith, higher)),
+      (λ most. by-order past bytes (four r)
+          ∙ ap (found_by past) (order-higher bytes r each higher below) ∙ less-found past),
+    )
     by_order (inr least) (inr most) =
-        let same : number_from bytes ≡ r = omega (arith, least, most) in
-        ((λ found. absurd (true≢false (sym found ∙ by-order past bytes (four r)
-        ∙ ap (λ (n : ℕ). found_by past (place_cmp bytes (four n))) (sym same)
-        ∙ ap (found_by past) (same-order bytes each) ∙ same-not past (length bytes) long))),
-        (λ more. absurd (omega (arith, more, most))))
+        let same : number_from bytes ≡ r = omega (arith, least, most) in (
+          (λ found. absurd (true≢false (sym found ∙ by-order past bytes (four r)
+              ∙ ap (λ (n : ℕ). found_by past (place_cmp bytes (four n))) (sym same)
+              ∙ ap (found_by past) (same-order bytes each) ∙ same-not past (length bytes) long))),
+          (λ more. absurd (omega (arith, more, most))),
+        )
 
 -- ---- the least of them
 

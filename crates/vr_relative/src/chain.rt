@@ -77,7 +77,8 @@ impl Chain {
         self.used
     }
 
-    /// The block of a used interval, by its number over the whole chain. None where that isn't used.
+    /// The block of a used interval, by its number over the whole chain. None where that isn't
+    /// used.
     pub fn block_of(&self, interval: u32) -> Option<u32>
         ensures used { IfSome result (λ n. interval < self.now.used) }
         ensures block { IfSome result

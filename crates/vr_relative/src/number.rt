@@ -48,8 +48,8 @@ fn longest_at(past: bool) -> usize
     if past { 3 } else { 4 }
 }
 
-/// The least number whose four bytes are at these bytes or past them, or past them alone. None where
-/// there is none.
+/// The least number whose four bytes are at these bytes or past them, or past them alone. None
+/// where there is none.
 fn least_from(bytes: &[u8], past: bool) -> Option<u32>
     ensures some { IfSome result (λ n. (r : ℕ) → r < 4294967296
         → (IsTrue (is_from past bytes.now (four r)) ↔ (n ≤ r))) }

@@ -1,27 +1,23 @@
-use Rattle.std.proofs.Common.{◌≡◌, ◌≤◌, ◌<◌, ◌+◌, ◌-◌, ◌*◌, ◌/◌, ◌%◌, ◌^◌, ℕ, Option, subst, sym, ◌∙◌}
-use Rattle.std.proofs.Common.{ap, arith, refl, rules, None, Some, IfSome}
-use Rattle.std.proofs.lemmas.Nat.{div-add-mod'}
+use Rattle.std.proofs.Common.{◌≡◌, ◌<◌, ◌+◌, ◌*◌, ◌^◌, ℕ, Option, subst, sym}
+use Rattle.std.proofs.Common.{arith, refl, rules, None, IfSome}
 use Rattle.vr_types.specs.Image.{Image}
 use Rattle.vr_types.proofs.CallerLemmas.{keeps-none, keeps-then}
 use Rattle.vr_space.specs.Part.{RelativeShape, Stands, record_read}
 use Rattle.vr_space.specs.Slots.{slots_of}
 use Rattle.vr_relative.specs.Chain.{IsChainOf}
-use Rattle.vr_relative.specs.Searched.{HasNoneRead, IsFirstRead}
+use Rattle.vr_relative.specs.Searched.{IsFirstRead}
 use Rattle.vr_relative.proofs.FirstRead.{first-later, none-further, none-past}
 use Rattle.vr_types.specs.Fields.{four}
+use Rattle.vr_relative.proofs.NumberOf.{number-parts}
 use Rattle.vr_relative.proofs.next.first_from.Goals as goal
-
-none-of : (found : Option ℕ) → ((x : ℕ) → found ≡ Some x → ⊥) → found ≡ None
-none-of None not = refl
-none-of (Some x) not = absurd (not x refl)
 
 pub loop-interval-init : goal.loop-interval-init
 loop-interval-init g c =
     let slots : ℕ = slots_of c.args.chain.now.part in
     let next : c.interval_of-interval.result * slots + c.slot_in-slot.result + 1
     ≡ c.args.number =
-    omega (arith, c.requires.some, div-add-mod' (c.args.number - 1) slots, c.slot_in-slot.ensures.place,
-    ap (λ (n : ℕ). n * slots) c.interval_of-interval.ensures) in
+    number-parts c.args.number slots c.interval_of-interval.result c.slot_in-slot.result
+    c.requires.some c.interval_of-interval.ensures c.slot_in-slot.ensures.place in
     record {
       keeps = keeps-none g.B.Blocks.tells (g.B.Blocks.seen c.args.blocks.now)
           (λ told image left. g.met.B.Blocks.images_may c.args.blocks.now image told left);
@@ -30,9 +26,6 @@ loop-interval-init g c =
       past = omega (arith, next);
       none = λ told n least below. absurd (omega (arith, next, least, below));
     }
-
-pub first_in-requires-clause-on : goal.first_in-requires-clause-on
-first_in-requires-clause-on g c = search rules
 
 pub first_in-requires-clause-stands : goal.first_in-requires-clause-stands
 first_in-requires-clause-stands g c told =
@@ -49,9 +42,6 @@ returns-in_err-found-clause-keeps g c =
     keeps-then g.B.Blocks.tells (g.B.Blocks.seen c.args.blocks.now)
     (g.B.Blocks.seen c.loop-interval.blocks) (g.B.Blocks.seen c.first_in.new.blocks)
     c.loop-interval.invariant.keeps c.first_in.ensures.keeps
-
-pub returns-in_err-found-clause-cause : goal.returns-in_err-found-clause-cause
-returns-in_err-found-clause-cause g c = search rules
 
 pub returns-in-Some-clause-some : goal.returns-in-Some-clause-some
 returns-in-Some-clause-some g c told =
@@ -76,15 +66,11 @@ returns-in-Some-clause-keeps g c =
     (g.B.Blocks.seen c.loop-interval.blocks) (g.B.Blocks.seen c.first_in.new.blocks)
     c.loop-interval.invariant.keeps c.first_in.ensures.keeps
 
-pub returns-in-Some-clause-cause : goal.returns-in-Some-clause-cause
-returns-in-Some-clause-cause g c = search rules
-
 pub loop-interval-preserved : goal.loop-interval-preserved
 loop-interval-preserved g c =
     let part = c.args.chain.now.part in
     let slots : ℕ = slots_of part in
     let next : ℕ = c.loop-interval.interval * slots + c.loop-interval.slot + 1 in
-    let empty : c.in_ok-found.field-0 ≡ None = none-of c.in_ok-found.field-0 c.in_default.not-Some in
     record {
       keeps = keeps-then g.B.Blocks.tells (g.B.Blocks.seen c.args.blocks.now)
           (g.B.Blocks.seen c.loop-interval.blocks) (g.B.Blocks.seen c.first_in.new.blocks)
@@ -97,7 +83,7 @@ loop-interval-preserved g c =
           (λ n least below. subst (λ (image : Image).
           record_read (RelativeShape part) image (four n) ≡ None)
           (c.loop-interval.invariant.keeps.content told)
-          (c.in_ok-found.ensures.none told empty n least (omega (arith, below))));
+          (c.in_ok-found.ensures.none told c.in_default.is n least (omega (arith, below))));
     }
 
 pub returns-clause-none : goal.returns-clause-none
@@ -112,9 +98,3 @@ returns-clause-none g c told none =
     c.loop-interval.interval
     (omega (arith, c.loop-interval-test.false, c.used-interval-end.ensures)) n
     (omega (arith, least)) below)
-
-pub returns-clause-keeps : goal.returns-clause-keeps
-returns-clause-keeps g c = c.loop-interval.invariant.keeps
-
-pub returns-clause-cause : goal.returns-clause-cause
-returns-clause-cause g c = search rules

@@ -1,4 +1,4 @@
-use Rattle.std.proofs.Common.{◌≡◌, ◌^◌, ◌∙◌, ℕ, List, Option, Some, IfSome, ap, subst, sym, refl}
+use Rattle.std.proofs.Common.{◌≡◌, ◌^◌, ◌∙◌, ℕ, Option, IfSome, ap, subst, sym, refl}
 use Rattle.vr_types.specs.Fields.{four}
 use Rattle.vr_types.specs.PlaceBuffer.{PlaceRoom}
 use Rattle.vr_types.proofs.CallerLemmas.{keeps-none}

@@ -1,4 +1,4 @@
-use Rattle.std.proofs.Common.{◌+◌, ◌^◌, ◌<◌, ◌≤◌, ◌↔◌, ℕ, IsTrue, length, subst, sym, arith}
+use Rattle.std.proofs.Common.{◌+◌, ◌^◌, ◌<◌, ◌≤◌, ◌↔◌, ℕ, IsTrue, subst, sym, arith}
 use Rattle.std.specs.Option.{SomeIff}
 use Rattle.vr_types.specs.Fields.{four}
 use Rattle.vr_relative.specs.Searched.{is_from}

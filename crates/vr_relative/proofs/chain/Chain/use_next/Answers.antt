@@ -9,5 +9,9 @@ overflow_add-self c =
     < length c.self.inside.areas.items * c.self.inside.layout.geometry.area =
     subst (λ (now : ChainNow). now.used < length now.areas * now.part.geometry.area)
     (sym c.self.view_is) c.requires in
-    omega (arith, unused, intervals-below c.self.inside.layout c.self.inside.areas.items
-    c.self.inside.used c.self.invariant.0)
+    omega (
+      arith,
+      unused,
+      intervals-below c.self.inside.layout c.self.inside.areas.items
+          c.self.inside.used c.self.invariant.0,
+    )
