@@ -14,3 +14,12 @@ pub mod Meeting
 pub mod Refreshing
 pub mod Looking
 pub mod WritingSlots
+pub mod Longer
+pub mod LastArea
+pub mod LongerPuts
+pub mod Extending
+pub mod Unreached
+pub mod EmptyEnd
+pub mod LastPuts
+pub mod AddInterval
+pub mod LinkArea
