@@ -9,6 +9,7 @@ pub mod FirstRead
 pub mod NextPlaces
 pub mod SlotSet
 pub mod SetAdds
+pub mod HeldBlocks
 pub mod Setting
 pub mod Meeting
 pub mod Refreshing
@@ -23,3 +24,4 @@ pub mod EmptyEnd
 pub mod LastPuts
 pub mod AddInterval
 pub mod LinkArea
+pub mod Owning

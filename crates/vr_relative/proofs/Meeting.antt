@@ -1,8 +1,6 @@
 -- The places that were met, as another is.
-use Rattle.std.proofs.Common.{◌≡◌, ◌<◌, ◌≤◌, ◌+◌, ℕ, zero, suc, Bool, true, false, List, []}
-use Rattle.std.proofs.Common.{◌∷◌, take, All, refl, sym, ap, ◌∙◌, arith, min}
-use Rattle.std.proofs.Common.{subst}
-use Rattle.std.proofs.Common.{length}
+use Rattle.std.proofs.Common.{◌≡◌, ◌<◌, ◌≤◌, ◌+◌, ℕ, zero, suc, Bool, true, false, List, [], ◌∷◌}
+use Rattle.std.proofs.Common.{take, All, refl, sym, ap, ◌∙◌, arith, min, subst, length}
 use Rattle.std.proofs.lemmas.List.Elements.{All-cons, All-head, All-nil, All-tail}
 use Rattle.std.specs.Prelude.{IfOk, OnOk, bytes_eq, cond, filter, not}
 use Rattle.std.specs.declared.result.Result.{Result}
@@ -57,29 +55,6 @@ module _ (a b : Met) (place : List ℕ) where
       (drops place a.place (b.place ∷ []) here
       ∙ leaves place b.place [] (λ same. apart refl (here ∙ sym same))))
   next-first (suc (suc (suc n))) some few here apart = absurd (omega (arith, few))
-
-  -- it is the one before
-  pub next-second : (n : ℕ) → n ≡ 2 → b.place ≡ place → (a.place ≡ place → ⊥)
-      → met_places (take n (b ∷ a ∷ [])) ≡ met_next (met_places (first-of n)) place
-  next-second n two here apart =
-      ap (λ (k : ℕ). met_places (take k (b ∷ a ∷ []))) two
-      ∙ ap (λ (p : List ℕ). p ∷ a.place ∷ []) here
-      ∙ sym (ap (λ (ps : List (List ℕ)). place ∷ take 1 ps)
-      (leaves place a.place (b.place ∷ []) apart
-      ∙ ap (λ (ps : List (List ℕ)). a.place ∷ ps) (drops place b.place [] here)))
-      ∙ sym (ap (λ (k : ℕ). met_next (met_places (first-of k)) place) two)
-
-  -- it is none of them
-  pub met-none : (n : ℕ) → n ≤ 2 → (0 < n → a.place ≡ place → ⊥)
-      → (n ≡ 2 → b.place ≡ place → ⊥) → HasMetPlace (first-of n) place → ⊥
-  met-none zero few first second has = absurd (omega (arith, has.1))
-  met-none (suc zero) few first second (zero, within, is) = first (omega arith) is
-  met-none (suc zero) few first second (suc k, within, is) = absurd (omega (arith, within))
-  met-none (suc (suc zero)) few first second (zero, within, is) = first (omega arith) is
-  met-none (suc (suc zero)) few first second (suc zero, within, is) = second refl is
-  met-none (suc (suc zero)) few first second (suc (suc k), within, is) =
-      absurd (omega (arith, within))
-  met-none (suc (suc (suc n))) few first second has = absurd (omega (arith, few))
 
   -- a new one comes before the last of the others
   pub next-new : (n : ℕ) (new : Met) → n ≤ 2 → new.place ≡ place
@@ -151,11 +126,6 @@ pub first-has : (n : ℕ) (a b : Met) (place : List ℕ) → 0 < n → a.place �
 first-has zero a b place some here = absurd (omega (arith, some))
 first-has (suc n) a b place some here = (0, omega arith, here)
 
--- a place of a slot has four bytes
-pub slot-length : (place : List ℕ) → IsSlotPlace place → length place ≡ 4
-slot-length place is =
-    ap (λ (bytes : List ℕ). length bytes) is.bytes ∙ length-four (number_of place)
-
 -- what follows where there is an answer
 pub on-ok-more : {X E : Type 0} (r : Result X E) (P Q : Type 0) → (P → Q) → OnOk r P → OnOk r Q
 on-ok-more (Ok x) P Q more is = more is
@@ -165,7 +135,3 @@ pub if-ok-more : {X E : Type 0} (r : Result X E) (P Q : X → Type 0) → ((x : 
     → IfOk r P → IfOk r Q
 if-ok-more (Ok x) P Q more is = more x is
 if-ok-more (Err e) P Q more is = is
-
-pub on-ok-from : {X E : Type 0} (r : Result X E) (P : Type 0) → P → OnOk r P
-on-ok-from (Ok x) P is = is
-on-ok-from (Err e) P is = tt

@@ -1,7 +1,6 @@
 -- The block of a place's slot in an image: by the areas that are kept, and on the way to the place.
-use Rattle.std.proofs.Common.{◌≡◌, ◌≢◌, ◌+◌, ◌-◌, ◌*◌, ◌/◌, ◌%◌, ◌<◌, ◌≤◌, ℕ, Bool, true, false}
-use Rattle.std.proofs.Common.{List, [], ◌∷◌, length, Option, Some, None, refl, sym, ap, subst, ◌∙◌}
-use Rattle.std.proofs.Common.{arith}
+use Rattle.std.proofs.Common.{◌≡◌, ◌-◌, ◌*◌, ◌<◌, ◌≤◌, ℕ, Bool, true, false, List, [], ◌∷◌, length}
+use Rattle.std.proofs.Common.{Option, Some, None, refl, sym, ap, ◌∙◌, arith}
 use Rattle.std.specs.Prelude.{cond}
 use Rattle.std.proofs.lemmas.Nat.{div-add-mod'}
 use Rattle.vr_types.specs.Content.{Item}
@@ -10,15 +9,15 @@ use Rattle.vr_types.specs.Fields.{four}
 use Rattle.vr_types.specs.Geometry.{area_count}
 use Rattle.vr_types.specs.Image.{Block, Image, block_at}
 use Rattle.vr_space.specs.Known.{Known}
-use Rattle.vr_space.specs.Rosters.{Chains, IsChained, IsNumbered, IsOf, Numbered, interval_way}
-use Rattle.vr_space.specs.Rosters.{areas_from, roster_block}
+use Rattle.vr_space.specs.Rosters.{IsChained, IsNumbered, IsOf, Numbered, interval_way, areas_from}
+use Rattle.vr_space.specs.Rosters.{roster_block}
 use Rattle.vr_space.specs.Slots.{IsSlotPlace, KnowsChain, chain_block, interval_of, is_slot_place}
 use Rattle.vr_space.specs.Slots.{number_of, slot_in, slot_read, slot_way, slots_of}
 use Rattle.vr_space.specs.Way.{Found, MayFind, Way, found_on}
 use Rattle.vr_space.proofs.CallerLemmas.{chain-ends, chain-reaches, place-is, place-tested}
 use Rattle.vr_relative.proofs.Reached.{AreAllowed, AreStable, ComesFrom, block-same, block_from}
-use Rattle.vr_relative.proofs.Reached.{comes-from, one-interval}
-use Rattle.vr_relative.proofs.Reached.{way-finds, way-may, way-reads, way_at}
+use Rattle.vr_relative.proofs.Reached.{comes-from, one-interval, way-finds, way-may, way-reads}
+use Rattle.vr_relative.proofs.Reached.{way_at}
 
 -- the block of its interval, where the place is a slot's and the chain has it
 abbrev pub block_for : Numbered → Image → List ℕ → Option ℕ
@@ -132,14 +131,13 @@ module _ (part : Numbered) (Own : ℕ → Type 0) (Interval : Block → Type 0) 
           let intervals : interval_of part one ≡ interval_of part other =
           one-interval part Own Interval image count (interval_of part one)
           (interval_of part other) part.first block chain mine yours in
-          let whole : interval_of part one * slots_of part ≡ interval_of part other * slots_of part =
-          ap (λ (n : ℕ). n * slots_of part) intervals in
+          let before = ap (λ (n : ℕ). n * slots_of part) intervals in
           let numbers : number_of one ≡ number_of other =
           omega (
             arith,
             div-add-mod' (number_of one - 1) (slots_of part),
             div-add-mod' (number_of other - 1) (slots_of part),
-            whole,
+            before,
             slots,
             here.some,
             there.some,

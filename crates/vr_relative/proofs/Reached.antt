@@ -1,7 +1,7 @@
 -- The block that a way over a chain comes to where the rosters are as an image has them: one at
 -- most, and no two intervals have the same.
-use Rattle.std.proofs.Common.{◌≡◌, ◌+◌, ◌-◌, ◌*◌, ◌<◌, ◌≤◌, ℕ, zero, suc, Bool, true, false, List}
-use Rattle.std.proofs.Common.{[], ◌∷◌, length, Option, Some, None, refl, sym, ap, subst, ◌∙◌, arith}
+use Rattle.std.proofs.Common.{◌≡◌, ◌+◌, ◌-◌, ◌<◌, ◌≤◌, ℕ, zero, suc, Bool, true, false, List, []}
+use Rattle.std.proofs.Common.{◌∷◌, length, Option, Some, None, refl, sym, ap, subst, ◌∙◌, arith}
 use Rattle.std.proofs.Common.{⊎_elim}
 use Rattle.std.specs.Prelude.{cond, nat_lt}
 use Rattle.std.proofs.Math.Nat.{mul-le-mul_right}
@@ -265,8 +265,11 @@ module _ (part : Numbered) (Own : ℕ → Type 0) (Interval : Block → Type 0) 
             area = area;
             interval = n;
             left = suc k;
-            below = omega (arith, ltb-true n used within,
-                used-most part (block_at image (roster_block part area)) here.roster);
+            below = omega (
+              arith,
+              ltb-true n used within,
+              used-most part (block_at image (roster_block part area)) here.roster,
+            );
             is = same;
             has = subst (λ (at : ℕ). Interval (block_at image at)) same
                 (here.intervals n (ltb-true n used within)
@@ -279,8 +282,11 @@ module _ (part : Numbered) (Own : ℕ → Type 0) (Interval : Block → Type 0) 
           comes-more (length (areas_from part image k after))
           (suc (length (after_next [] (areas_from part image k)
           (roster_at part image area).next))) block
-          (omega (arith, ap (λ (next : Option ℕ).
-          length (after_next [] (areas_from part image k) next)) follows))
+          (omega (
+            arith,
+            ap (λ (next : Option ℕ).
+                length (after_next [] (areas_from part image k) next)) follows,
+          ))
           (more after rule.1 found)
 
   -- a block of an area is none of the areas that come after it
@@ -327,8 +333,11 @@ module _ (part : Numbered) (Own : ℕ → Type 0) (Interval : Block → Type 0) 
       mine n within is =
           let same : interval_in part area n ≡ block = cc in
           subst (IsInArea part area) same (interval-inside part area n
-          (omega (arith, ltb-true n used within,
-          used-most part (block_at image (roster_block part area)) here.roster)))
+          (omega (
+            arith,
+            ltb-true n used within,
+            used-most part (block_at image (roster_block part area)) here.roster,
+          )))
 
       by_used : (below : Bool) → nat_lt i used ≡ below → (under : Bool)
           → nat_lt j used ≡ under → (next : Option ℕ)

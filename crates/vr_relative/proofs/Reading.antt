@@ -1,12 +1,10 @@
 -- Blocks that are intervals of slots, as they are read.
 use Rattle.std.proofs.Common.{◌≡◌, ◌<◌, ◌≤◌, ◌+◌, ℕ, zero, suc, Bool, true, false, List, [], ◌∷◌}
-use Rattle.std.proofs.Common.{length, drop, Option, Some, None, refl, sym, ap, subst, ◌∙◌, arith}
-use Rattle.std.proofs.Common.{IsTrue, ◌↔◌, true≢false, add-one, ⊎_elim}
-use Rattle.std.specs.Prelude.{◌≢◌, cond, option_and_then, slice_get}
-use Rattle.std.specs.List.{AllByRecursion}
+use Rattle.std.proofs.Common.{length, drop, Some, None, refl, sym, ap, subst, ◌∙◌, arith, IsTrue}
+use Rattle.std.proofs.Common.{◌↔◌, true≢false, ⊎_elim}
+use Rattle.std.specs.Prelude.{cond, option_and_then, slice_get}
 use Rattle.std.proofs.lemmas.Bool.{cases_lt}
 use Rattle.std.proofs.lemmas.Option.{slice_get_past}
-use Rattle.vr_types.specs.Content.{Item}
 use Rattle.vr_types.specs.Content.Item.{Standing}
 use Rattle.vr_types.specs.Image.{Block}
 use Rattle.vr_ci_match.specs.declared.form.Form.TheVariants as forms

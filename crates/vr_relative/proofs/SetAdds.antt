@@ -1,8 +1,8 @@
 -- A put into an interval of the chain with one slot set: what a crash may find on each way then.
-use Rattle.std.proofs.Common.{◌≡◌, ◌≢◌, ◌⊎◌, inl, inr, ⊎_elim, ◌<◌, ◌≤◌, ℕ, zero, suc, Bool, IsTrue}
+use Rattle.std.proofs.Common.{◌≡◌, ◌≢◌, ◌⊎◌, inl, inr, ⊎_elim, ◌<◌, ℕ, zero, suc, Bool, IsTrue}
 use Rattle.std.proofs.Common.{true, false, List, [], ◌∷◌, length, Option, Some, None, refl, sym, ap}
 use Rattle.std.proofs.Common.{subst, ◌∙◌, arith, true≢false}
-use Rattle.std.specs.Prelude.{Contains, nat_eq, nat_lt}
+use Rattle.std.specs.Prelude.{Contains, nat_eq}
 use Rattle.std.specs.List.{list_any}
 use Rattle.std.specs.Option.{option_map}
 use Rattle.std.proofs.lemmas.Bool.{cases_lt}
@@ -13,29 +13,30 @@ use Rattle.vr_types.specs.Blocks.{Puts}
 use Rattle.vr_types.specs.Content.{Item}
 use Rattle.vr_types.specs.Content.Item.{Standing}
 use Rattle.vr_types.specs.Geometry.{area_count}
-use Rattle.vr_types.specs.Image.{Block, Image, MayAlso, block_at}
+use Rattle.vr_types.specs.Image.{Block, MayAlso, block_at}
 use Rattle.vr_types.specs.Regions.{Touches}
 use Rattle.vr_types.specs.Seen.{Left, Seen}
 use Rattle.vr_types.proofs.CallerLemmas.{cur-elsewhere, puts-touches}
 use Rattle.vr_seqset.specs.Reading.{roster_in}
 use Rattle.vr_space.specs.Keyed.{items_of}
 use Rattle.vr_space.specs.Owners.{Owners}
-use Rattle.vr_space.specs.Part.{AddsTo, DueMoreAt, HasOnly, HasRoom, InPart, IsDueTo, Just, MayHold}
+use Rattle.vr_space.specs.Part.{AddsTo, DueMoreAt, HasOnly, HasRoom, InPart, Just, MayHold}
 use Rattle.vr_space.specs.Part.{MayAlsoHold, RelativeShape, SetsOne, Shape, item_of}
 use Rattle.vr_space.specs.Room.{Lengths}
 use Rattle.vr_space.specs.Rosters.{Chains, IsChained, IsChainedBy, IsInArea, IsNextOf, IsOf}
-use Rattle.vr_space.specs.Rosters.{IsOwnArea, Numbered, chain_of, interval_in, roster_block, used_of}
+use Rattle.vr_space.specs.Rosters.{IsOwnArea, Numbered, chain_of, interval_in, roster_block}
+use Rattle.vr_space.specs.Rosters.{used_of}
 use Rattle.vr_space.specs.Slots.{AreSlotsAtRest, AreSlotsSound, IsRestingArea, IsSlots, KeepsSlots}
 use Rattle.vr_space.specs.Slots.{slot_in, slot_item, slot_read, slot_way}
 use Rattle.vr_space.specs.Way.{MayFind, MayOnceForced, found_on}
-use Rattle.vr_space.proofs.CallerLemmas.{IsPartBlock, area-owned, areas-same, chain-here, chain-less}
-use Rattle.vr_space.proofs.CallerLemmas.{holds-less, interval-inside, only-weaken, rest-sound}
-use Rattle.vr_space.proofs.CallerLemmas.{room-image, roster-inside, slots-put, sound-image}
-use Rattle.vr_space.proofs.CallerLemmas.{sound-less, used-most, used-same}
+use Rattle.vr_space.proofs.CallerLemmas.{IsPartBlock, area-owned, areas-same, chain-here}
+use Rattle.vr_space.proofs.CallerLemmas.{chain-less, holds-less, interval-inside, only-weaken}
+use Rattle.vr_space.proofs.CallerLemmas.{rest-sound, room-image, roster-inside, slots-put}
+use Rattle.vr_space.proofs.CallerLemmas.{sound-image, sound-less, used-most, used-same}
 use Rattle.vr_relative.specs.Written.{IsSlotSet}
 use Rattle.vr_relative.proofs.PlaceBlock.{block_for, one-place, place-finds, place-from, place-may}
 use Rattle.vr_relative.proofs.PlaceBlock.{place-reads, place-same, way_for}
-use Rattle.vr_relative.proofs.Reached.{AreAllowed, AreStable, ComesFrom, roster-apart, way_at}
+use Rattle.vr_relative.proofs.Reached.{AreAllowed, ComesFrom, roster-apart, way_at}
 use Rattle.vr_relative.proofs.SlotSet.{slot-here, slot-other}
 
 -- what is seen, and what a put may leave beside it
@@ -97,7 +98,8 @@ chain-put part Own Wider may new n bytes wider each off slots (suc k) area chain
             (λ old. by.intervals interval below block old)
             (λ put. subst (IsSlots part) (sym put.1) slots)
             (each area chain.0 (interval_in part area interval)
-            (interval-inside part area interval (omega (arith, below, used-most part top by.roster)))
+            (interval-inside part area interval
+            (omega (arith, below, used-most part top by.roster)))
             block there);
         next = next-put (roster_in top).used part.geometry.area
             (Chains part Own (IsSlots part) may k) (Chains part Wider (IsSlots part) new k)

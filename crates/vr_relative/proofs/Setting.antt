@@ -1,14 +1,12 @@
 -- A record set in a slot of the chain, or none where the slot isn't there.
-use Rattle.std.proofs.Common.{◌≡◌, ◌<◌, ◌≤◌, ◌-◌, ◌*◌, ◌/◌, ◌%◌, ℕ, zero, suc, ⊎_elim}
-use Rattle.std.proofs.Common.{ Bool, IsTrue, true, false, List, [], ◌∷◌}
-use Rattle.std.proofs.Common.{length}
-use Rattle.std.proofs.Common.{Option, Some, None, refl, sym, ap, subst, ◌∙◌, arith, eqb-true}
-use Rattle.std.proofs.Common.{eq-eqb, true≢false}
-use Rattle.std.specs.Prelude.{Contains, IfSome, cond, nat_eq, nat_lt, slice_index}
+use Rattle.std.proofs.Common.{◌≡◌, ◌<◌, ◌≤◌, ◌-◌, ℕ, Bool, IsTrue, true, false, List, [], ◌∷◌}
+use Rattle.std.proofs.Common.{length, Option, Some, None, refl, sym, ap, subst, ◌∙◌, arith}
+use Rattle.std.proofs.Common.{eqb-true, eq-eqb, true≢false}
+use Rattle.std.specs.Prelude.{IfSome, cond, nat_eq, nat_lt}
 use Rattle.std.specs.Option.{option_map}
-use Rattle.std.proofs.Math.Nat.{div-mul-le_self, mod-lt, mul-le-mul_right}
-use Rattle.std.proofs.lemmas.Bool.{cases_lt, ltb-true}
-use Rattle.std.proofs.lemmas.List.Elements.{All-nil, Contains-get_or}
+use Rattle.std.proofs.Math.Nat.{mod-lt}
+use Rattle.std.proofs.lemmas.Bool.{ltb-true}
+use Rattle.std.proofs.lemmas.List.Elements.{All-nil}
 use Rattle.vr_types.specs.Blocks.{Keeps, Puts}
 use Rattle.vr_types.specs.Content.Item.{Standing}
 use Rattle.vr_types.specs.Image.{Block, Image, block_at}
@@ -19,16 +17,15 @@ use Rattle.vr_space.specs.Known.{Known}
 use Rattle.vr_space.specs.Met.{Met}
 use Rattle.vr_space.specs.Owners.{Owners}
 use Rattle.vr_space.specs.Part.{CanSet, HasRoom, InPart, IsRecordOf, IsSound, Just, Nothing}
-use Rattle.vr_space.specs.Part.{InHeld, RelativeShape, SetsOne}
+use Rattle.vr_space.specs.Part.{RelativeShape, SetsOne}
 use Rattle.vr_space.specs.Room.{Lengths}
-use Rattle.vr_space.specs.Rosters.{IsChained, IsInArea, IsOf, Numbered, chain_of, used_of}
-use Rattle.vr_space.specs.Slots.{AreSlotsAtRest, IsNumberedOn, IsRestingArea, IsSlotMet, IsSlotPlace, IsSlots}
-use Rattle.vr_space.specs.Slots.{KnowsChain, chain_block, interval_of, number_of, slot_fits, slot_in}
-use Rattle.vr_space.specs.Slots.{slot_read, slots_of}
+use Rattle.vr_space.specs.Rosters.{IsChained, IsOf, Numbered, chain_of, used_of}
+use Rattle.vr_space.specs.Slots.{IsRestingArea, IsSlotMet, IsSlotPlace, IsSlots, KnowsChain}
+use Rattle.vr_space.specs.Slots.{chain_block, interval_of, number_of, slot_fits, slot_in, slot_read}
 use Rattle.vr_space.specs.Way.{found_on}
 use Rattle.vr_space.proofs.CallerLemmas.{adds-weaken, due-at-then, due-keeps, keeps-adds}
-use Rattle.vr_space.proofs.CallerLemmas.{interval-inside, keeps-rooms, nothing-then, rest-keeps}
-use Rattle.vr_space.proofs.CallerLemmas.{rest-sound, room-keeps, set-fits, slots-some}
+use Rattle.vr_space.proofs.CallerLemmas.{keeps-rooms, nothing-then, rest-keeps, rest-sound}
+use Rattle.vr_space.proofs.CallerLemmas.{room-keeps, set-fits, slots-some}
 use Rattle.vr_relative.specs.Chain.{ChainNow, IsChainOf}
 use Rattle.vr_relative.specs.Setting.{IsReady, IsSetNow, MaySet, refreshed}
 use Rattle.vr_relative.specs.Written.{IsSlotSet}
@@ -293,46 +290,6 @@ module _ (part : Numbered) (kept : Lengths) (known : Known) (place : List ℕ)
     rests = λ owners rests.
         done.rests owners (rest-keeps tells told (RelativeShape part) owners a m call rests);
   }
-
--- the blocks are there
-pub on-keeps : (part : Numbered) (tells : Bool) (a m : Seen) → Keeps tells a m
-    → IsNumberedOn part a → IsNumberedOn part m
-on-keeps part tells a m call on = record {
-  part_is = on.part_is;
-  blocks = omega (arith, on.blocks, call.count_same);
-  size = call.size_same ∙ on.size;
-}
-
--- a used interval is one of the areas that are held
-pub block-held : (chain : ChainNow) (known : Known) (interval n : ℕ)
-    → chain.used ≤ length chain.areas * chain.part.geometry.area → interval < chain.used
-    → n ≡ chain_block chain.part chain.areas interval → known.areas ≡ chain.areas
-    → InHeld (RelativeShape chain.part) known n
-block-held chain known interval n fits within is same =
-    let whole : ℕ = chain.part.geometry.area in
-    let some : 0 < whole = some-area (length chain.areas) whole (omega (arith, fits, within)) in
-    let there : interval / whole < length chain.areas =
-    div-below interval (length chain.areas) whole some (omega (arith, fits, within)) in (
-      slice_index chain.areas (interval / whole),
-      subst (λ (areas : List ℕ). Contains areas (slice_index chain.areas (interval / whole)))
-          (sym same) (Contains-get_or chain.areas (interval / whole) 0 there),
-      subst (IsInArea chain.part (slice_index chain.areas (interval / whole))) (sym is)
-          (interval-inside chain.part (slice_index chain.areas (interval / whole))
-          (interval % whole) (mod-lt interval some)),
-    )
-  where
-    some-area : (count whole : ℕ) → 0 < count * whole → 0 < whole
-    some-area count zero less = omega (arith, less)
-    some-area count (suc whole) less = omega arith
-
-    div-below : (n count whole : ℕ) → 0 < whole → n < count * whole → n / whole < count
-    div-below n count whole some less = ⊎_elim (λ below. below)
-        (λ past. absurd (omega (
-          arith,
-          less,
-          div-mul-le_self n whole,
-          mul-le-mul_right {m = count} {n = n / whole} whole past,
-        ))) (cases_lt (n / whole) count)
 
 -- the same chain
 pub chain-keeps : (chain : ChainNow) (tells : Bool) → IsTrue tells → (a m : Seen)

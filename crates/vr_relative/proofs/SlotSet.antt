@@ -6,14 +6,13 @@ use Rattle.std.specs.Option.{option_map}
 use Rattle.std.proofs.lemmas.Bool.{cases_lt}
 use Rattle.std.proofs.lemmas.List.{get_or-set_other, get_or-set_same, length-set}
 use Rattle.std.proofs.lemmas.Option.{slice_get-get_or, slice_get_past}
-use Rattle.vr_types.specs.Content.{Item}
 use Rattle.vr_types.specs.Content.Item.{Standing}
 use Rattle.vr_types.specs.Image.{Block}
 use Rattle.vr_ci.specs.Interval as ci
 use Rattle.vr_space.specs.Keyed.{items_of}
 use Rattle.vr_space.specs.Rosters.{Numbered}
 use Rattle.vr_space.specs.Slots.{slot_item, standing_in}
-use Rattle.vr_relative.specs.Written.{IsSlotSet, empty_slot, slot_given}
+use Rattle.vr_relative.specs.Written.{IsSlotSet, slot_given}
 
 -- what is put at one place of a list is there
 get-set : (items : List ci.Item) (slot : ℕ) (item : ci.Item) → slot < length items

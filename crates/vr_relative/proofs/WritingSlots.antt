@@ -1,30 +1,26 @@
 -- Writing slots one after another.
-use Rattle.std.proofs.Common.{◌≡◌, ◌≢◌, ◌<◌, ◌≤◌, ◌+◌, ◌-◌, ◌*◌, ◌/◌, ◌++◌, ℕ, zero, suc, Bool, true}
-use Rattle.std.proofs.Common.{false, List, [], ◌∷◌, length, drop, take, Option, Some, None, refl}
-use Rattle.std.proofs.Common.{sym, ap, subst, ◌∙◌, arith, replicate, true≢false, ◌↔◌, eqb-true}
-use Rattle.std.proofs.Common.{eq-eqb}
-use Rattle.std.specs.Prelude.{IfSome, IsErr, OnOk, get_or, nat_eq, slice_get, slice_set}
+use Rattle.std.proofs.Common.{◌≡◌, ◌<◌, ◌≤◌, ◌+◌, ◌-◌, ◌*◌, ◌++◌, ℕ, zero, suc, Bool, true, false}
+use Rattle.std.proofs.Common.{List, [], ◌∷◌, length, drop, take, Option, Some, None, refl, sym, ap}
+use Rattle.std.proofs.Common.{subst, ◌∙◌, arith, replicate, true≢false, eqb-true, eq-eqb}
+use Rattle.std.specs.Prelude.{IfSome, get_or, nat_eq, slice_get, slice_set}
 use Rattle.std.specs.List.{AllByRecursion}
-use Rattle.std.specs.Result.{is_err}
-use Rattle.std.specs.declared.result.Result.{Result}
-use Rattle.std.specs.declared.result.Result.TheVariants.{Ok, Err}
 use Rattle.std.proofs.Math.Nat.{div-mul-le_self, mul-le-mul_right}
 use Rattle.std.proofs.lemmas.List.{get_or-set_other, get_or-set_same, length-replicate, length-set}
-use Rattle.std.proofs.lemmas.List.{replicate-append-replicate, take_all, take_more}
+use Rattle.std.proofs.lemmas.List.{take_all, take_more}
 use Rattle.std.proofs.lemmas.Option.{get_or_from_slice_get, slice_get_within}
 use Rattle.vr_types.specs.Image.{Block}
 use Rattle.vr_ci_match.specs.declared.form.Form.{Form}
 use Rattle.vr_ci_match.specs.declared.form.Form.TheVariants as forms
 use Rattle.vr_ci_match.specs.declared.form.Shape.TheVariants as shapes
-use Rattle.vr_ci_match.specs.Laid.{slots_in}
 use Rattle.vr_ci.specs.Interval as ci
-use Rattle.vr_ci.specs.Writer.{Holds, IsComplete, IsItemLength, SlotsAdded, form_of, size_of, written}
+use Rattle.vr_ci.specs.Writer.{Holds, IsItemLength, size_of}
 use Rattle.vr_ci.specs.declared.writer.CiWriter.{CiWriter}
-use Rattle.vr_ci.proofs.CallerLemmas.{interval_says, room-append, written_item}
+use Rattle.vr_ci.proofs.CallerLemmas.{interval_says, room-append}
 use Rattle.vr_space.specs.Keyed.{items_of}
-use Rattle.vr_space.specs.Rosters.{IsNumbered, Numbered}
+use Rattle.vr_space.specs.Rosters.{Numbered}
 use Rattle.vr_space.specs.Slots.{IsSlots, slots_of}
-use Rattle.vr_relative.specs.Written.{AreSlotItems, HasSlotRoom, empty_slot, slot_given, slot_made}
+use Rattle.vr_relative.specs.Written.{AreSlotItems, HasSlotRoom, IsSlotSet, empty_slot, slot_given}
+use Rattle.vr_relative.specs.Written.{slot_made}
 use Rattle.vr_relative.proofs.Reading.{drop-first, drop-next}
 
 -- ---- one slot
@@ -34,41 +30,6 @@ pub item-length : (form : Form) (most n : ℕ) → form ≡ forms.Slots most →
     → IsItemLength form n
 item-length form most n same some is =
     subst (λ (f : Form). IsItemLength f n) (sym same) (omega (arith, some, is), is)
-
--- it has room
-pub not-full : (part : Numbered) (w : CiWriter) (n : ℕ) {E : Type 0} (result : Result Unit E)
-    → ((items : List ci.Item) → Holds w items
-    → (IsErr result ↔ (size_of w - 4 < ci.room items + (n + 3))))
-    → n ≡ part.most → HasSlotRoom part w → is_err result ≡ true → ⊥
-not-full part w n result full long has err =
-    omega (arith, (full has.items has.holds).0 err, long, has.room)
-
-pub was-added : {X E : Type 0} (result : Result X E) (P : Type 0) → is_err result ≡ false
-    → OnOk result P → P
-was-added (Ok x) P ok is = is
-was-added (Err e) P ok is = absurd (true≢false ok)
-
--- what is written is a slot, or what is made of it
-pub made-kept : (part : Numbered) (bytes : Option (List ℕ)) (one : ci.Item) (item : List ℕ)
-    (live made : Bool) → one.bytes ≡ item → one.live ≡ live → ci.IsItem one → made ≡ false
-    → written item live ≡ slot_made part made bytes one
-made-kept part bytes one item live made same lives fits is =
-    ap (λ (b : List ℕ). written b live) (sym same)
-    ∙ ap (λ (b : Bool). written one.bytes b) (sym lives)
-    ∙ written_item one fits
-    ∙ sym (ap (λ (b : Bool). slot_made part b bytes one) is)
-
-pub made-some : (part : Numbered) (one : ci.Item) (bytes : List ℕ) (made : Bool)
-    → made ≡ true → written bytes true ≡ slot_made part made (Some bytes) one
-made-some part one bytes made is =
-    sym (ap (λ (b : Bool). slot_made part b (Some bytes) one) is)
-
-pub made-none : (part : Numbered) (one : ci.Item) (item : List ℕ) (made : Bool)
-    → length item ≡ part.most → made ≡ true
-    → written item false ≡ slot_made part made None one
-made-none part one item made long is =
-    ap (λ (n : ℕ). let empty : ci.Item = record { bytes = replicate n 0; live = false } in empty)
-    long ∙ sym (ap (λ (b : Bool). slot_made part b None one) is)
 
 -- ---- the room of several
 
@@ -117,7 +78,7 @@ module _ (part : Numbered) (slot : ℕ) (bytes : Option (List ℕ)) (all : List 
   making-starts left w same holds = record {
     left_is = same;
     holds = holds;
-    room = refl;
+    room = omega arith;
   }
 
   module _ (left after : List ci.Item) (at : ℕ) (w : CiWriter) (item : ci.Item)
@@ -181,8 +142,11 @@ module _ (part : Numbered) (slot : ℕ) (bytes : Option (List ℕ)) (all : List 
     making-more new given holds =
         let one : ci.Item = slot_made part (nat_eq at slot) bytes item in
         let more : take (at + 1) set ≡ take at set ++ one ∷ [] =
-        take_more set at item (omega (arith, next-below,
-        length-set all slot (slot_given part bytes)))
+        take_more set at item (omega (
+          arith,
+          next-below,
+          length-set all slot (slot_given part bytes),
+        ))
         ∙ ap (λ (x : ci.Item). take at set ++ x ∷ []) made-is in
         let next : suc at ≡ at + 1 = omega arith in
         record {
@@ -202,8 +166,12 @@ module _ (part : Numbered) (slot : ℕ) (bytes : Option (List ℕ)) (all : List 
       → IsMaking part slot bytes all left at w → Holds w set
   making-ends left at w whole making =
       subst (Holds w)
-      (take_all at set (omega (arith, whole, are.count,
-      length-set all slot (slot_given part bytes)))) making.holds
+      (take_all at set (omega (
+        arith,
+        whole,
+        are.count,
+        length-set all slot (slot_given part bytes),
+      ))) making.holds
 
 -- ---- empty slots
 
@@ -213,7 +181,7 @@ pub record IsEmptying (part : Numbered) (at : ℕ) (w : CiWriter) : Type 0 where
   pub room : ci.room (replicate at (empty_slot part)) ≡ at * (part.most + 3)
 
 pub emptying-starts : (part : Numbered) (w : CiWriter) → Holds w [] → IsEmptying part 0 w
-emptying-starts part w holds = record { holds = holds; room = refl }
+emptying-starts part w holds = record { holds = holds; room = omega arith }
 
 pub emptying-room : (part : Numbered) (at : ℕ) (w : CiWriter) → IsEmptying part at w
     → 0 < part.most → at < slots_of part → size_of w ≡ part.geometry.size → HasSlotRoom part w
@@ -224,39 +192,7 @@ emptying-room part at w emptying some below size = record {
   room = omega (arith, emptying.room, size, slots-room part at below);
 }
 
-pub emptying-more : (part : Numbered) (at : ℕ) (w new : CiWriter) (slot : List ℕ)
-    → IsEmptying part at w → length slot ≡ part.most
-    → Holds new (replicate at (empty_slot part) ++ written slot false ∷ [])
-    → IsEmptying part (at + 1) new
-emptying-more part at w new slot emptying long holds =
-    let one : written slot false ≡ empty_slot part =
-    ap (λ (n : ℕ). let empty : ci.Item = record { bytes = replicate n 0; live = false } in empty)
-    long in
-    let more : replicate at (empty_slot part) ++ written slot false ∷ []
-    ≡ replicate (at + 1) (empty_slot part) =
-    ap (λ (x : ci.Item). replicate at (empty_slot part) ++ x ∷ []) one
-    ∙ replicate-append-replicate at 1 (empty_slot part) in
-    record {
-      holds = subst (Holds new) more holds;
-      room = omega (
-        arith,
-        ap ci.room (sym more),
-        room-append (replicate at (empty_slot part)) (written slot false ∷ []),
-        emptying.room,
-        ap (λ (x : ci.Item). length x.bytes) one,
-        length-replicate {A = ℕ} part.most 0,
-      );
-    }
-
 -- ---- the whole interval
-
--- as many slots as the form has
-pub slots-complete : (part : Numbered) (w : CiWriter) (items : List ci.Item)
-    → form_of w ≡ forms.Slots part.most → size_of w ≡ part.geometry.size → Holds w items
-    → length items ≡ slots_of part → IsComplete w
-slots-complete part w items form size holds count =
-    subst (λ (f : Form). SlotsAdded f (size_of w) w.added) (sym form)
-    (holds.added ∙ count ∙ ap (λ (n : ℕ). slots_in n part.most) (sym size))
 
 pub slots-written : (part : Numbered) (form : Form) (out : Block) (items : List ci.Item)
     → form ≡ forms.Slots part.most → length out ≡ part.geometry.size
@@ -286,3 +222,22 @@ slots-written part form out items same long is =
       },
       sym said,
     )
+
+-- with one of them set
+pub set-written : (part : Numbered) (form : Form) (old out : Block) (slot : ℕ)
+    (bytes : Option (List ℕ)) (items : List ci.Item) → form ≡ forms.Slots part.most
+    → length out ≡ part.geometry.size
+    → ci.IsInterval form out (record {
+      shape = shapes.Records;
+      items = slice_set items slot (slot_given part bytes);
+      busy = false;
+    })
+    → items ≡ items_of old → IsSlotSet part slot bytes old out
+set-written part form old out slot bytes items same long is read =
+    let both = slots-written part form out (slice_set items slot (slot_given part bytes)) same long
+    is in
+    record {
+      slots = both.0;
+      items = both.1
+          ∙ ap (λ (xs : List ci.Item). slice_set xs slot (slot_given part bytes)) read;
+    }

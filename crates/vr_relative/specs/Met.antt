@@ -1,6 +1,5 @@
 -- What is kept of the intervals of the slots that were met last. The rules are this project's own.
 use Rattle.std.specs.Prelude.{◌≡◌, ◌<◌, ℕ, List, [], ◌∷◌, None, Contains, map, take, vec_len}
-use Rattle.vr_types.specs.Image.{Block}
 use Rattle.vr_space.specs.Met.{Met}
 use Rattle.vr_space.specs.Rosters.{Numbered}
 use Rattle.vr_relative.specs.declared.met.MetBlock.{MetBlock}

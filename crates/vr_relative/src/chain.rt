@@ -3,6 +3,8 @@ ghost use Rattle.std.specs.Prelude.{◌≡◌, ◌≤◌, ◌<◌, ◌+◌, ◌-
 ghost use Rattle.std.specs.Prelude.{◌≢◌, All, IfOk, IfSome, IsTrue, None, false, length, nat_lt};
 ghost use Rattle.std.specs.Int.{div_ceil};
 ghost use Rattle.vr_types.specs.Geometry.{area_count};
+ghost use Rattle.vr_space.specs.Known.{Known};
+ghost use Rattle.vr_space.specs.Part.{InHeld, RelativeShape};
 ghost use Rattle.vr_space.specs.Rosters.{roster_block};
 ghost use Rattle.vr_space.specs.Slots.{IsSlotPlace, chain_block, interval_of, slot_room_by};
 ghost use Rattle.vr_space.specs.Slots.{slots_of};
@@ -83,15 +85,28 @@ impl Chain {
         ensures used { IfSome result (λ n. interval < self.now.used) }
         ensures block { IfSome result
             (λ n. n ≡ chain_block self.now.part self.now.areas interval) }
+        ensures held { IfSome result (λ n. (known : Known) → known.areas ≡ self.now.areas
+            → InHeld (RelativeShape self.now.part) known n) }
         ensures below { IfSome result (λ n. n < self.now.part.geometry.blocks) }
         ensures none { result ≡ None → self.now.used ≤ interval }
     {
         if interval >= self.used {
             return None;
         }
+        Some(self.block_in(interval))
+    }
+
+    /// The same of an interval that is used. Its area is one of the chain, and has it.
+    fn block_in(&self, interval: u32) -> u32
+        requires { interval < self.now.used }
+        ensures block { result ≡ chain_block self.now.part self.now.areas interval }
+        ensures area { interval / self.now.part.geometry.area < length self.now.areas }
+        ensures inside { interval % self.now.part.geometry.area < self.now.part.geometry.area }
+        ensures below { result < self.now.part.geometry.blocks }
+    {
         let whole = self.layout.geometry.area;
         let area = self.areas[(interval / whole) as usize];
-        Some(self.layout.interval_in(area, interval % whole))
+        self.layout.interval_in(area, interval % whole)
     }
 
     /// The interval of a slot, by the slot's number.
@@ -127,6 +142,8 @@ impl Chain {
             × (interval_of self.now.part place.now < self.now.used)) }
         ensures block { IfSome result (λ n. n ≡ chain_block self.now.part self.now.areas
             (interval_of self.now.part place.now)) }
+        ensures held { IfSome result (λ n. (known : Known) → known.areas ≡ self.now.areas
+            → InHeld (RelativeShape self.now.part) known n) }
         ensures below { IfSome result (λ n. n < self.now.part.geometry.blocks) }
         ensures none { result ≡ None → IsSlotPlace place.now
             → self.now.used ≤ interval_of self.now.part place.now }

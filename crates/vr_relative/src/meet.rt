@@ -8,8 +8,8 @@ ghost use Rattle.vr_space.specs.Met.{met_next};
 ghost use Rattle.vr_space.specs.Rosters.{Numbered};
 ghost use Rattle.vr_space.specs.Slots.{IsNumberedOn, IsSlotMet, IsSlotPlace};
 ghost use Rattle.vr_relative.specs.Chain.{IsChainOf};
-ghost use Rattle.vr_relative.specs.Met.{AreMetsOf, HasMetPlace, IsFirst, IsMetOf, met_in, met_places};
-ghost use Rattle.vr_relative.specs.Met.{mets_in};
+ghost use Rattle.vr_relative.specs.Met.{AreMetsOf, HasMetPlace, IsFirst, IsMetOf, met_in};
+ghost use Rattle.vr_relative.specs.Met.{met_places, mets_in};
 
 use crate::chain::Chain;
 use crate::met::{MetBlock, Mets};
@@ -40,6 +40,14 @@ pub(crate) fn no_mets(alloc: Global, layout: &ChainLayout) -> Result<Mets, OutOf
         second,
         filled: 0,
     })
+}
+
+/// Forgets what was met.
+pub(crate) fn forget(mets: &mut Mets)
+    ensures none { mets_in mets.new ≡ [] }
+    ensures room { (part : Numbered) → AreMetsOf part mets.old → AreMetsOf part mets.new }
+{
+    mets.filled = 0;
 }
 
 /// Makes the interval of a place the one that was met last, if it is one of the two.

@@ -6,7 +6,7 @@ ghost use Rattle.vr_relative.specs.Setting.{put_of};
 use crate::chain::Chain;
 use crate::extend::extend;
 use crate::look::look_in;
-use crate::meet::{meet, no_mets};
+use crate::meet::{forget, meet, no_mets};
 use crate::met::Mets;
 use crate::next::next_in;
 use crate::number::slot_number;
@@ -134,8 +134,14 @@ impl Part for Relative {
     ) -> Result<StageKind, DeviceFault> {
         let mets = &self.mets;
         let sample = mets.first.bytes.as_slice();
-        extend(&mut self.chain, blocks, space, sample, self.out.as_mut_slice())?;
-        self.mets.filled = 0;
+        extend(
+            &mut self.chain,
+            blocks,
+            space,
+            sample,
+            self.out.as_mut_slice(),
+        )?;
+        forget(&mut self.mets);
         Ok(StageKind::Extend)
     }
 

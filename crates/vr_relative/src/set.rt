@@ -38,7 +38,6 @@ fn refresh(mets: &mut Mets, number: u32, bytes: &[u8])
     requires first { length bytes.now ≡ vec_len mets.old.first.bytes }
     requires second { length bytes.now ≡ vec_len mets.old.second.bytes }
     ensures met { mets_in mets.new ≡ map (refreshed number bytes.now) (mets_in mets.old) }
-    ensures filled { mets.new.filled ≡ mets.old.filled }
     ensures room { (part : Numbered) → AreMetsOf part mets.old → AreMetsOf part mets.new }
 {
     refresh_block(&mut mets.first, number, bytes);

@@ -48,13 +48,7 @@ pub(crate) fn slot_at<'a>(layout: &ChainLayout, block: &'a [u8], slot: u32) -> O
         return None;
     };
     match view.iter().nth(slot as usize) {
-        Some((bytes, live)) => {
-            if live {
-                Some(bytes)
-            } else {
-                None
-            }
-        }
+        Some((bytes, live)) => { if live { Some(bytes) } else { None } }
         None => None,
     }
 }

@@ -1,11 +1,11 @@
 use Rattle.std.proofs.Common.{arith}
 use Rattle.vr_types.proofs.CallerLemmas.{keeps-none}
-use Rattle.vr_relative.proofs.Meeting.{slot-length}
+use Rattle.vr_relative.proofs.Numbers.{place-length}
 use Rattle.vr_relative.proofs.meet.fill.Goals as goal
 
 pub set-requires : goal.set-requires
 set-requires g c =
-    omega (arith, slot-length c.args.place.now c.requires.place, c.requires.room.place)
+    omega (arith, place-length c.args.place.now c.requires.place, c.requires.room.place)
 
 pub returns-in_default-clause-keeps : goal.returns-in_default-clause-keeps
 returns-in_default-clause-keeps g c =

@@ -1,4 +1,4 @@
-use Rattle.std.proofs.Common.{sym, ◌∙◌, arith}
+use Rattle.std.proofs.Common.{◌∙◌, arith}
 use Rattle.vr_relative.proofs.Numbers.{number-read, place-length, place-of}
 use Rattle.vr_relative.proofs.number.slot_number.Goals as goal
 

@@ -1,14 +1,14 @@
-use Rattle.std.proofs.Common.{All, [], refl, sym, ap, ◌∙◌, subst, true≢false, arith}
-use Rattle.std.proofs.lemmas.List.Elements.{All-map, All-nil, All-weaker}
+use Rattle.std.proofs.Common.{All, refl, sym, ap, ◌∙◌, subst, true≢false, arith}
+use Rattle.std.proofs.lemmas.List.Elements.{All-map, All-weaker}
 use Rattle.vr_types.specs.Seen.{Left}
 use Rattle.vr_types.proofs.CallerLemmas.{all-one, cur-put, keeps-none}
 use Rattle.vr_space.specs.Met.{Met}
-use Rattle.vr_space.specs.Part.{given}
+use Rattle.vr_space.specs.Part.{InHeld, RelativeShape, given}
 use Rattle.vr_space.specs.Slots.{IsSlotMet}
 use Rattle.vr_relative.specs.Met.{met_in, met_places, mets_in}
 use Rattle.vr_relative.specs.Setting.{refreshed}
 use Rattle.vr_relative.proofs.Refreshing.{places-refreshed}
-use Rattle.vr_relative.proofs.Setting.{block-held, chain-set, done-set, may-keeps, may-set, past-set}
+use Rattle.vr_relative.proofs.Setting.{chain-set, done-set, may-keeps, may-set, past-set}
 use Rattle.vr_relative.proofs.Setting.{refresh-met, written-set}
 use Rattle.vr_relative.proofs.set.put_set.Goals as goal
 
@@ -37,10 +37,10 @@ returns-then-not-write_set-clause-may g c told kept known ready =
     let of = c.requires.chain told in
     let n = c.in-Some.block in
     let wrote = written-set chain kept known place item a ready of c.requires.place left n
-    c.write_set.new.out c.write_set.result c.layout.result.now c.as_slice.result.now
+    c.write_set.new.out c.write_set.result c.layout.result.now c.as_slice-met.result.now
     c.slot_of.result (met_in c.met_at.result.now) c.in-Some.ensures.used.1 c.in-Some.ensures.block
     c.layout.ensures c.met_at.ensures.place
-    (c.met_at.ensures.met chain.part a.cur (c.requires.met told)) c.as_slice.ensures.value
+    (c.met_at.ensures.met chain.part a.cur (c.requires.met told)) c.as_slice-met.ensures.value
     c.slot_of.ensures c.write_set.ensures.written in
     absurd (true≢false (sym wrote.ok ∙ c.if-not-write_set.true))
 
@@ -54,10 +54,10 @@ returns-then-not-write_set-clause-done g c told kept known ready =
     let of = c.requires.chain told in
     let n = c.in-Some.block in
     let wrote = written-set chain kept known place item a ready of c.requires.place left n
-    c.write_set.new.out c.write_set.result c.layout.result.now c.as_slice.result.now
+    c.write_set.new.out c.write_set.result c.layout.result.now c.as_slice-met.result.now
     c.slot_of.result (met_in c.met_at.result.now) c.in-Some.ensures.used.1 c.in-Some.ensures.block
     c.layout.ensures c.met_at.ensures.place
-    (c.met_at.ensures.met chain.part a.cur (c.requires.met told)) c.as_slice.ensures.value
+    (c.met_at.ensures.met chain.part a.cur (c.requires.met told)) c.as_slice-met.ensures.value
     c.slot_of.ensures c.write_set.ensures.written in
     absurd (true≢false (sym wrote.ok ∙ c.if-not-write_set.true))
 
@@ -71,10 +71,10 @@ returns-in_err-put-clause-may g c told kept known ready =
     let of = c.requires.chain told in
     let n = c.in-Some.block in
     let wrote = written-set chain kept known place item a ready of c.requires.place left n
-    c.write_set.new.out c.write_set.result c.layout.result.now c.as_slice.result.now
+    c.write_set.new.out c.write_set.result c.layout.result.now c.as_slice-met.result.now
     c.slot_of.result (met_in c.met_at.result.now) c.in-Some.ensures.used.1 c.in-Some.ensures.block
     c.layout.ensures c.met_at.ensures.place
-    (c.met_at.ensures.met chain.part a.cur (c.requires.met told)) c.as_slice.ensures.value
+    (c.met_at.ensures.met chain.part a.cur (c.requires.met told)) c.as_slice-met.ensures.value
     c.slot_of.ensures c.write_set.ensures.written in
     may-set chain kept known place item a ready of c.requires.place left n wrote.at
     c.write_set.new.out wrote.set g.B.Blocks.tells told (g.B.Blocks.seen c.put.new.self)
@@ -90,10 +90,10 @@ returns-clause-may g c told kept known ready =
     let of = c.requires.chain told in
     let n = c.in-Some.block in
     let wrote = written-set chain kept known place item a ready of c.requires.place left n
-    c.write_set.new.out c.write_set.result c.layout.result.now c.as_slice.result.now
+    c.write_set.new.out c.write_set.result c.layout.result.now c.as_slice-met.result.now
     c.slot_of.result (met_in c.met_at.result.now) c.in-Some.ensures.used.1 c.in-Some.ensures.block
     c.layout.ensures c.met_at.ensures.place
-    (c.met_at.ensures.met chain.part a.cur (c.requires.met told)) c.as_slice.ensures.value
+    (c.met_at.ensures.met chain.part a.cur (c.requires.met told)) c.as_slice-met.ensures.value
     c.slot_of.ensures c.write_set.ensures.written in
     may-set chain kept known place item a ready of c.requires.place left n wrote.at
     c.write_set.new.out wrote.set g.B.Blocks.tells told (g.B.Blocks.seen c.put.new.self)
@@ -114,10 +114,10 @@ returns-clause-done g c told kept known ready =
     let of = c.requires.chain told in
     let n = c.in-Some.block in
     let wrote = written-set chain kept known place item a ready of c.requires.place left n
-    c.write_set.new.out c.write_set.result c.layout.result.now c.as_slice.result.now
+    c.write_set.new.out c.write_set.result c.layout.result.now c.as_slice-met.result.now
     c.slot_of.result (met_in c.met_at.result.now) c.in-Some.ensures.used.1 c.in-Some.ensures.block
     c.layout.ensures c.met_at.ensures.place
-    (c.met_at.ensures.met chain.part a.cur (c.requires.met told)) c.as_slice.ensures.value
+    (c.met_at.ensures.met chain.part a.cur (c.requires.met told)) c.as_slice-met.ensures.value
     c.slot_of.ensures c.write_set.ensures.written in
     let b = g.B.Blocks.seen c.put.new.self in
     let now = cur-put a n c.write_set.new.out
@@ -136,10 +136,10 @@ returns-clause-chain g c told kept known ready =
     let of = c.requires.chain told in
     let n = c.in-Some.block in
     let wrote = written-set chain kept known place item a ready of c.requires.place left n
-    c.write_set.new.out c.write_set.result c.layout.result.now c.as_slice.result.now
+    c.write_set.new.out c.write_set.result c.layout.result.now c.as_slice-met.result.now
     c.slot_of.result (met_in c.met_at.result.now) c.in-Some.ensures.used.1 c.in-Some.ensures.block
     c.layout.ensures c.met_at.ensures.place
-    (c.met_at.ensures.met chain.part a.cur (c.requires.met told)) c.as_slice.ensures.value
+    (c.met_at.ensures.met chain.part a.cur (c.requires.met told)) c.as_slice-met.ensures.value
     c.slot_of.ensures c.write_set.ensures.written in
     chain-set chain kept known place item a ready of c.requires.place left n wrote.at
     c.write_set.new.out wrote.set g.B.Blocks.tells told (g.B.Blocks.seen c.put.new.self)
@@ -155,10 +155,10 @@ returns-clause-met g c told kept known ready =
     let of = c.requires.chain told in
     let n = c.in-Some.block in
     let wrote = written-set chain kept known place item a ready of c.requires.place left n
-    c.write_set.new.out c.write_set.result c.layout.result.now c.as_slice.result.now
+    c.write_set.new.out c.write_set.result c.layout.result.now c.as_slice-met.result.now
     c.slot_of.result (met_in c.met_at.result.now) c.in-Some.ensures.used.1 c.in-Some.ensures.block
     c.layout.ensures c.met_at.ensures.place
-    (c.met_at.ensures.met chain.part a.cur (c.requires.met told)) c.as_slice.ensures.value
+    (c.met_at.ensures.met chain.part a.cur (c.requires.met told)) c.as_slice-met.ensures.value
     c.slot_of.ensures c.write_set.ensures.written in
     let b = g.B.Blocks.seen c.put.new.self in
     let now = cur-put a n c.write_set.new.out
@@ -172,3 +172,17 @@ returns-clause-met g c told kept known ready =
     (refresh-met chain kept known place item a ready of c.requires.place left n wrote.at
     c.write_set.new.out wrote.set g.B.Blocks.tells told b c.put.ensures.after now)
     (mets_in c.args.mets.now) (c.requires.met told)))
+
+pub returns-in_default-clause-met : goal.returns-in_default-clause-met
+returns-in_default-clause-met g c told kept known ready = c.requires.met told
+
+pub returns-then-not-write_set-clause-met : goal.returns-then-not-write_set-clause-met
+returns-then-not-write_set-clause-met g c told kept known ready = c.requires.met told
+
+pub returns-clause-room : goal.returns-clause-room
+returns-clause-room g c = c.refresh.ensures.room c.args.chain.now.part c.requires.room
+
+pub returns-clause-put : goal.returns-clause-put
+returns-clause-put g c = λ known same.
+    all-one (InHeld (RelativeShape c.args.chain.now.part) known) c.in-Some.block
+    (c.in-Some.ensures.held known same)

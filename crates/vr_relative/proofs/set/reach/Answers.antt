@@ -1,4 +1,3 @@
-use Rattle.std.proofs.Common.{refl, sym, ◌∙◌}
 use Rattle.vr_types.proofs.CallerLemmas.{keeps-none}
 use Rattle.vr_relative.specs.Met.{met_in}
 use Rattle.vr_relative.proofs.Meeting.{first-has, on-ok-more}
@@ -15,6 +14,3 @@ returns-clause-has g c =
     on-ok-more c.meet.result _ _
     (λ first. first-has mets.filled (met_in mets.first) (met_in mets.second) c.args.place.now
     first.some first.here) c.meet.ensures.first
-
-pub returns-clause-known : goal.returns-clause-known
-returns-clause-known g c = λ has. absurd (c.has.ensures.none c.if-has.false has)

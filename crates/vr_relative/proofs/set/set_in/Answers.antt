@@ -1,23 +1,12 @@
-use Rattle.std.proofs.Common.{All, refl, sym, ◌∙◌, subst}
+use Rattle.std.proofs.Common.{All, sym, subst}
 use Rattle.vr_types.specs.Image.{Image}
 use Rattle.vr_space.specs.Part.{given}
 use Rattle.vr_space.specs.Slots.{IsSlotMet}
 use Rattle.vr_relative.specs.Met.{mets_in}
 use Rattle.vr_relative.specs.Setting.{put_of}
-use Rattle.vr_relative.proofs.Meeting.{if-ok-more, on-ok-from, on-ok-more}
-use Rattle.vr_relative.proofs.Setting.{chain-keeps, done-then, may-keeps, may-then, on-keeps}
-use Rattle.vr_relative.proofs.Setting.{ready-keeps}
+use Rattle.vr_relative.proofs.Meeting.{if-ok-more, on-ok-more}
+use Rattle.vr_relative.proofs.Setting.{done-then, may-keeps, may-then, ready-keeps}
 use Rattle.vr_relative.proofs.set.set_in.Goals as goal
-
-pub put_set-requires-clause-on : goal.put_set-requires-clause-on
-put_set-requires-clause-on g c =
-    on-keeps c.args.chain.now.part g.B.Blocks.tells (g.B.Blocks.seen c.args.blocks.now)
-    (g.B.Blocks.seen c.reach.new.blocks) c.reach.ensures.keeps c.requires.on
-
-pub put_set-requires-clause-chain : goal.put_set-requires-clause-chain
-put_set-requires-clause-chain g c told =
-    chain-keeps c.args.chain.now g.B.Blocks.tells told (g.B.Blocks.seen c.args.blocks.now)
-    (g.B.Blocks.seen c.reach.new.blocks) c.reach.ensures.keeps (c.requires.chain told)
 
 pub put_set-requires-clause-met : goal.put_set-requires-clause-met
 put_set-requires-clause-met g c told =
@@ -89,8 +78,3 @@ returns-clause-met g c told =
     (λ all kept known ready. all kept known
     (ready-keeps part kept known place item B.tells told a m c.reach.ensures.keeps ready))
     (c.put_set.ensures.met told)
-
-pub returns-clause-places : goal.returns-clause-places
-returns-clause-places g c has =
-    on-ok-from c.put_set.result _
-    (c.put_set.ensures.places ∙ (c.reach.ensures.known has).1)

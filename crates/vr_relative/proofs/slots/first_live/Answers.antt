@@ -1,4 +1,4 @@
-use Rattle.std.proofs.Common.{◌≡◌, ◌≤◌, ◌<◌, [], ◌∷◌, arith, rules, refl, sym, ◌∙◌, length}
+use Rattle.std.proofs.Common.{◌≡◌, ◌<◌, [], ◌∷◌, arith, rules, sym, ◌∙◌}
 use Rattle.vr_ci.specs.Interval as ci
 use Rattle.vr_space.specs.Keyed.{items_of}
 use Rattle.vr_space.specs.Slots.{slots_of}
@@ -26,7 +26,8 @@ returns-then-is_found-clause-some c = λ slots.
       live = c.in-Some-next.live;
     } in
     let cut : c.loop-slot.slots ≡ item ∷ c.next.new.self = search rules in
-    let below : c.loop-slot.slot < slots_of c.args.layout.now = omega (arith, c.slots-slot-end.ensures.count) in
+    let below : c.loop-slot.slot < slots_of c.args.layout.now =
+    omega (arith, c.slots-slot-end.ensures.count) in
     passing-finds c.args.layout.now c.args.block.now c.args.from c.loop-slot.slots c.next.new.self
     c.loop-slot.slot c.in-Some-next.field-0-0.now c.in-Some-next.live c.loop-slot.invariant cut
     c.is_found.result c.is_found.ensures c.if-is_found.true below

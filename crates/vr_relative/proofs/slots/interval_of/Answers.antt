@@ -1,4 +1,4 @@
-use Rattle.std.proofs.Common.{◌≡◌, ap, true≢false, sym, ◌∙◌, ◌-◌}
+use Rattle.std.proofs.Common.{ap, ◌∙◌}
 use Rattle.vr_space.specs.Rosters.{Numbered}
 use Rattle.vr_relative.proofs.Reading.{items-read, no-slots, read-slots, slots-read}
 use Rattle.vr_relative.proofs.slots.interval_of.Goals as goal

@@ -1,5 +1,5 @@
 use Rattle.std.proofs.Common.{arith, refl, ◌∙◌}
-use Rattle.vr_relative.proofs.WritingSlots.{emptying-more, emptying-room, emptying-starts}
+use Rattle.vr_relative.proofs.WritingSlots.{emptying-room, emptying-starts}
 use Rattle.vr_relative.proofs.writing.add_empty.Goals as goal
 
 pub loop-i-init : goal.loop-i-init

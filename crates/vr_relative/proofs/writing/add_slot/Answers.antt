@@ -1,6 +1,6 @@
 use Rattle.std.proofs.Common.{length}
 use Rattle.vr_ci.specs.Writer.{form_of}
-use Rattle.vr_relative.proofs.WritingSlots.{item-length, not-full, was-added}
+use Rattle.vr_relative.proofs.WritingSlots.{item-length}
 use Rattle.vr_relative.proofs.writing.add_slot.Goals as goal
 
 pub add-requires : goal.add-requires

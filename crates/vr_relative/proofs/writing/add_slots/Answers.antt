@@ -1,7 +1,5 @@
-use Rattle.std.proofs.Common.{◌≡◌, ◌≤◌, ◌<◌, [], ◌∷◌, arith, length, rules, refl, sym, ◌∙◌}
-use Rattle.std.specs.Prelude.{nat_eq}
+use Rattle.std.proofs.Common.{◌≡◌, [], ◌∷◌, arith, rules, refl, sym, ◌∙◌}
 use Rattle.vr_ci.specs.Interval as ci
-use Rattle.vr_ci.specs.Writer.{size_of}
 use Rattle.vr_space.specs.Part.{given}
 use Rattle.vr_relative.proofs.Reading.{drop-none}
 use Rattle.vr_relative.proofs.WritingSlots.{making-ends, making-more, making-starts, next-item}
@@ -14,7 +12,7 @@ unreachable-requires c =
     omega (
       arith,
       drop-none c.args.view.now.items c.loop-at.at
-      (sym c.loop-at.invariant.making.left_is ∙ gone),
+          (sym c.loop-at.invariant.making.left_is ∙ gone),
       c.requires.items.count,
       c.slots-at-end.ensures.count,
     )
@@ -53,3 +51,21 @@ returns-clause-added c =
     making-ends c.args.layout.now c.args.slot (given c.args.bytes) c.args.view.now.items
     c.requires.items c.loop-at.slots c.loop-at.at c.loop-at.writer
     (omega (arith, c.slots-at-end.ensures.count)) c.loop-at.invariant.making
+
+pub loop-at-preserved : goal.loop-at-preserved
+loop-at-preserved c =
+    let item : ci.Item = record { bytes = c.in-Some.item.now; live = c.in-Some.live } in
+    let cut : c.loop-at.slots ≡ item ∷ c.next.new.self = search rules in
+    let making = c.loop-at.invariant.making in
+    record {
+      form = c.add_made.ensures.form ∙ c.loop-at.invariant.form;
+      size = c.add_made.ensures.size ∙ c.loop-at.invariant.size;
+      buffer = c.add_made.ensures.buffer ∙ c.loop-at.invariant.buffer;
+      making = making-more c.args.layout.now c.args.slot (given c.args.bytes)
+          c.args.view.now.items c.requires.items c.loop-at.slots c.next.new.self c.loop-at.at
+          c.loop-at.writer item cut making c.add_made.new.writer c.requires.given
+          (c.add_made.ensures.added _ item making.holds refl refl
+          (next-item c.args.layout.now c.args.slot (given c.args.bytes) c.args.view.now.items
+          c.requires.items c.loop-at.slots c.next.new.self c.loop-at.at c.loop-at.writer item cut
+          making));
+    }
