@@ -1,6 +1,8 @@
 -- An interval more of the last area: it is written empty and forced, then the roster that counts it.
-use Rattle.std.proofs.Common.{◌≡◌, ◌<◌, ◌≤◌, ◌+◌, ◌-◌, ◌*◌, ◌++◌, ℕ, Bool, IsTrue, List, [], ◌∷◌, length}
+use Rattle.std.proofs.Common.{◌≡◌, ◌<◌, ◌≤◌, ◌+◌, ◌-◌, ◌*◌, ◌++◌, ℕ, zero, suc, Bool, IsTrue, List, []}
+use Rattle.std.proofs.Common.{◌∷◌, length}
 use Rattle.std.proofs.Common.{All, Option, None, get_or, sym, ap, subst, ◌∙◌, arith}
+use Rattle.std.proofs.Math.Nat.{suc-mul}
 use Rattle.std.proofs.lemmas.List.{length-append}
 use Rattle.vr_types.specs.Blocks.{Puts}
 use Rattle.vr_types.specs.Image.{Block}
@@ -53,6 +55,15 @@ unused-in-last chain now in-last unused =
     ≡ (in-last.before + 1) * chain.part.geometry.area =
     ap (λ (n : ℕ). n * chain.part.geometry.area) in-last.count in
     omega (arith, unused, all, in-last.sum)
+
+-- one of them at least isn't used, where not all are
+pub last-below : (used areas whole last : ℕ) → 0 < whole → used < areas * whole
+    → last ≡ used - (areas - 1) * whole → last + 1 ≤ whole
+last-below used zero whole last some unused is = absurd (omega (arith, unused))
+last-below used (suc areas) whole last some unused is =
+    let before : (suc areas - 1) * whole ≡ areas * whole =
+    ap (λ (n : ℕ). n * whole) (omega arith) in
+    omega (arith, some, unused, is, before, suc-mul areas whole)
 
 module _ (chain : ChainNow) (tells : Bool) (told : IsTrue tells) (a b : Seen) (n last used : ℕ)
     (bytes : Block) (left : Left a a.cur) (of : IsChainOf chain a.cur)

@@ -11,7 +11,8 @@ use Rattle.vr_types.specs.Content.{Item}
 use Rattle.vr_types.specs.Image.{Block, Image, block_at}
 use Rattle.vr_ci.specs.Interval as ci
 use Rattle.vr_seqset.specs.Reading.{roster_in}
-use Rattle.vr_seqset.specs.Roster.{Roster}
+use Rattle.vr_seqset.specs.Roster.{IsRoster, Roster}
+use Rattle.vr_seqset.proofs.CallerLemmas.{roster_is}
 use Rattle.vr_space.specs.Rosters.{Chains, IsChainedBy, IsNextOf, Numbered, chain_way, interval_in}
 use Rattle.vr_space.specs.Rosters.{after_next, roster_at, roster_block, way_by}
 use Rattle.vr_space.specs.Slots.{IsSlots, slot_item, slot_read, slots_of, standing_in}
@@ -151,3 +152,20 @@ module _ (part : Numbered) (image : Image) (Wider : ℕ → Type 0) (new : ℕ �
             (Chains part Wider (IsSlots part) new k)
             (λ interval below. absurd (omega (arith, below))),
       )
+
+-- ---- a roster that is written
+
+pub made-roster : (part : Numbered) (used : ℕ) (next : Option ℕ) (block : Block)
+    → IsRoster part.geometry.area block (record { used = used; part = part.part; next = next })
+    → length block ≡ part.geometry.size → IsMadeRoster part used next block
+made-roster part used next block is size =
+    let roster : Roster = record { used = used; part = part.part; next = next } in
+    let has : roster_in block ≡ roster = roster_is part.geometry.area block roster is in
+    record {
+      roster = record {
+        spelled = subst (IsRoster part.geometry.area block) (sym has) is;
+        size = size;
+        number = ap (λ (r : Roster). r.part) has;
+      };
+      has = has;
+    }

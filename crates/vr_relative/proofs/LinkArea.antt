@@ -2,6 +2,7 @@
 -- the last area, which leads to it.
 use Rattle.std.proofs.Common.{◌≡◌, ◌≢◌, ◌<◌, ◌≤◌, ◌+◌, ◌*◌, ◌++◌, ℕ, Bool, IsTrue, List, [], ◌∷◌}
 use Rattle.std.proofs.Common.{length, All, Option, Some, None, sym, ap, subst, ◌∙◌, arith}
+use Rattle.std.proofs.Math.Nat.{suc-mul}
 use Rattle.std.proofs.lemmas.List.Elements.{All-head, All-weaker}
 use Rattle.vr_types.specs.Blocks.{Puts}
 use Rattle.vr_types.specs.Geometry.{area_count}
@@ -72,6 +73,21 @@ whole-in-last chain now in-last whole =
     ≡ (in-last.before + 1) * chain.part.geometry.area =
     ap (λ (n : ℕ). n * chain.part.geometry.area) in-last.count in
     omega (arith, whole, all, in-last.sum)
+
+-- and with an area more, not all are
+pub room-more : (used areas whole more : ℕ) → used ≡ areas * whole → 0 < whole → more ≡ areas + 1
+    → used < more * whole
+room-more used areas whole more is some count =
+    let all : more * whole ≡ (areas + 1) * whole = ap (λ (n : ℕ). n * whole) count in
+    omega (arith, is, some, all, suc-mul areas whole)
+
+-- the roster that leads to an area, as the part has it
+pub made-with : (layout part : Numbered) (whole area : ℕ) (bytes : Block) → layout ≡ part
+    → whole ≡ part.geometry.area → IsMadeRoster layout whole (Some area) bytes
+    → IsMadeRoster part part.geometry.area (Some area) bytes
+made-with layout part whole area bytes same all made =
+    subst (λ (used : ℕ). IsMadeRoster part used (Some area) bytes) all
+    (subst (λ (is : Numbered). IsMadeRoster is whole (Some area) bytes) same made)
 
 -- ---- the three puts
 

@@ -66,8 +66,8 @@ fn put_roster<B: Blocks>(
     ensures out { length out.new ≡ length out.old }
     ensures cause { HasWriteCause (B.faults blocks.old) (B.faults blocks.new) result }
 {
-    let whole = layout.geometry.area as u16;
-    write_roster(used as u16, layout.part.0, next, whole, out);
+    let part = layout.part.0;
+    write_roster(used as u16, part, next, layout.geometry.area as u16, out);
     settle(blocks, n, out)
 }
 
