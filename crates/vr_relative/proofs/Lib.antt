@@ -25,3 +25,4 @@ pub mod LastPuts
 pub mod AddInterval
 pub mod LinkArea
 pub mod Owning
+pub mod AddArea
