@@ -15,4 +15,14 @@ pub mod Meeting
 pub mod Refreshing
 pub mod Looking
 pub mod WritingSlots
+pub mod Longer
+pub mod LastArea
+pub mod LongerPuts
+pub mod Extending
+pub mod Unreached
+pub mod EmptyEnd
+pub mod LastPuts
+pub mod AddInterval
+pub mod LinkArea
 pub mod Owning
+pub mod AddArea

@@ -1,14 +1,16 @@
 -- What an interval more, or an area more, leaves of a relative part. The rules are this project's
 -- own.
 use Rattle.std.specs.Prelude.{◌≡◌, ℕ, List, [], Option}
+use Rattle.vr_types.specs.Image.{Block}
 use Rattle.vr_types.specs.Regions.{Touches}
 use Rattle.vr_types.specs.Seen.{Seen}
 use Rattle.vr_types.specs.declared.unit.PartNo.{PartNo}
+use Rattle.vr_seqset.specs.Reading.{roster_in}
 use Rattle.vr_space.specs.Room.{Lengths}
 use Rattle.vr_space.specs.Owners.{Owners}
 use Rattle.vr_space.specs.Part.{AddsTo, DueMore, HasKeptRoom, HasRoom, InPart, IsAtRest, MayGrow}
 use Rattle.vr_space.specs.Part.{Nothing, RelativeShape, SameRecords}
-use Rattle.vr_space.specs.Rosters.{Numbered}
+use Rattle.vr_space.specs.Rosters.{IsRosterOf, Numbered}
 
 -- Whether it failed or not: nothing is added to what places may hold, and what is kept has room, in
 -- the image of each moment and from then on.
@@ -32,3 +34,9 @@ pub record IsExtended (part : Numbered) (areas after : List (Option PartNo)) (ol
         → IsAtRest (RelativeShape part) owners old → IsAtRest (RelativeShape part) grown new
     pub stays : (owners : Owners) → after ≡ areas → IsAtRest (RelativeShape part) owners old
         → IsAtRest (RelativeShape part) owners new
+
+-- The block is the roster that a part's area has with so many intervals used and this area next.
+pub record IsMadeRoster (part : Numbered) (used : ℕ) (next : Option ℕ) (block : Block) : Type 0
+  where
+    pub roster : IsRosterOf part block
+    pub has : roster_in block ≡ record { used = used; part = part.part; next = next }

@@ -1,6 +1,6 @@
 //! The chain of a part's areas, in memory.
 ghost use Rattle.std.specs.Prelude.{◌≡◌, ◌≤◌, ◌<◌, ◌+◌, ◌-◌, ◌*◌, ◌/◌, ◌%◌, ◌++◌, ◌∷◌, [], ℕ, List};
-ghost use Rattle.std.specs.Prelude.{IfOk, IfSome, IsTrue, None, false, length, nat_lt};
+ghost use Rattle.std.specs.Prelude.{◌≢◌, All, IfOk, IfSome, IsTrue, None, false, length, nat_lt};
 ghost use Rattle.std.specs.Int.{div_ceil};
 ghost use Rattle.vr_types.specs.Geometry.{area_count};
 ghost use Rattle.vr_space.specs.Known.{Known};
@@ -239,10 +239,15 @@ impl Chain {
         }
     }
 
-    /// Whether there is room for an area more.
-    pub(crate) fn has_room(&self) -> bool
-        ensures { result ≡ nat_lt (length self.now.areas) (area_count self.now.part.geometry) }
+    /// Whether an area may be added: it is one of the volume, the chain doesn't have it yet, and
+    /// there is room for it.
+    pub(crate) fn takes(&self, area: u32) -> bool
+        ensures there { IsTrue result → area < area_count self.now.part.geometry }
+        ensures room { IsTrue result
+            → length self.now.areas < area_count self.now.part.geometry }
+        ensures apart { IsTrue result → All (λ other. other ≢ area) self.now.areas }
     {
-        (self.areas.len() as u32) < self.layout.geometry.areas()
+        let count = self.layout.geometry.areas();
+        area < count && (self.areas.len() as u32) < count && !self.areas.contains(&area)
     }
 }

@@ -1,18 +1,75 @@
 //! One interval more at the end of the chain, in its last area or in one that is claimed.
-ghost use Rattle.std.specs.Prelude.{◌≡◌, ◌<◌, ◌*◌, List, Option, IsTrue, OnErr, OnOk, length};
+ghost use Rattle.std.specs.Prelude.{◌≡◌, ◌≢◌, ◌<◌, ◌≤◌, ◌*◌, List, All, Option, Some, IsTrue, OnErr};
+ghost use Rattle.std.specs.Prelude.{OnOk, length};
+ghost use Rattle.vr_types.specs.Blocks.{Puts};
 ghost use Rattle.vr_types.specs.Faults.{HasWriteCause};
+ghost use Rattle.vr_types.specs.Fields.{IsArea};
+ghost use Rattle.vr_types.specs.Geometry.{area_count};
+ghost use Rattle.vr_types.specs.Seen.{Only};
+ghost use Rattle.vr_types.specs.Space.{least_free};
 ghost use Rattle.vr_types.specs.declared.unit.StageKind.TheVariants as stages;
 ghost use Rattle.vr_types.specs.declared.unit.PartNo.{PartNo};
 ghost use Rattle.vr_space.specs.Part.{HasKeptRoom, IsQuiet, OwnersAfter, RelativeShape, part_no};
 ghost use Rattle.vr_space.specs.Room.{Lengths};
 ghost use Rattle.vr_space.specs.Slots.{IsNumberedOn};
 ghost use Rattle.vr_relative.specs.Chain.{IsChainOf};
-ghost use Rattle.vr_relative.specs.Extended.{IsExtended, MayExtend};
+ghost use Rattle.vr_relative.specs.Extended.{IsExtended, IsMadeRoster, MayExtend};
+ghost use Rattle.vr_relative.specs.Written.{AreSlotsEmpty};
 
 use crate::chain::Chain;
 use crate::writing::write_empty;
 use vr_seqset::write_roster;
+use vr_space::ChainLayout;
 use vr_types::{Blocks, DeviceFault, Space, settle};
+
+/// Makes a block an empty interval, and forces it. `sample` is any block.
+fn put_empty<B: Blocks>(
+    layout: &ChainLayout,
+    blocks: &mut B,
+    n: u32,
+    sample: &[u8],
+    out: &mut [u8],
+) -> Result<(), DeviceFault>
+    requires block { n < (B.seen blocks.old).count }
+    requires whole { (B.seen blocks.old).size ≡ layout.now.geometry.size }
+    requires sample { length sample.now ≡ layout.now.geometry.size }
+    requires out { length out.old ≡ layout.now.geometry.size }
+    ensures empty { AreSlotsEmpty layout.now out.new }
+    ensures ok { IsTrue B.tells → OnOk result
+        (Only (B.seen blocks.new) n (λ block. block ≡ out.new)) }
+    ensures after { Puts B.tells n out.new (B.seen blocks.old) (B.seen blocks.new) }
+    ensures out { length out.new ≡ length out.old }
+    ensures cause { HasWriteCause (B.faults blocks.old) (B.faults blocks.new) result }
+{
+    write_empty(layout, sample, out);
+    settle(blocks, n, out)
+}
+
+/// Makes a block the roster of an area of the part, and forces it.
+fn put_roster<B: Blocks>(
+    layout: &ChainLayout,
+    blocks: &mut B,
+    n: u32,
+    used: u32,
+    next: Option<u32>,
+    out: &mut [u8],
+) -> Result<(), DeviceFault>
+    requires block { n < (B.seen blocks.old).count }
+    requires whole { (B.seen blocks.old).size ≡ layout.now.geometry.size }
+    requires out { length out.old ≡ layout.now.geometry.size }
+    requires used { used ≤ layout.now.geometry.area }
+    requires next { IsArea next }
+    ensures roster { IsMadeRoster layout.now used next out.new }
+    ensures ok { IsTrue B.tells → OnOk result
+        (Only (B.seen blocks.new) n (λ block. block ≡ out.new)) }
+    ensures after { Puts B.tells n out.new (B.seen blocks.old) (B.seen blocks.new) }
+    ensures out { length out.new ≡ length out.old }
+    ensures cause { HasWriteCause (B.faults blocks.old) (B.faults blocks.new) result }
+{
+    let part = layout.part.0;
+    write_roster(used as u16, part, next, layout.geometry.area as u16, out);
+    settle(blocks, n, out)
+}
 
 /// The next interval of the last area is written empty and forced, then the roster that counts it.
 fn add_interval<B: Blocks>(
@@ -42,20 +99,60 @@ fn add_interval<B: Blocks>(
 {
     let area = chain.last();
     let used = chain.used_of_last();
-    let whole = chain.layout().geometry.area;
-    if used >= whole {
-        return Ok(());
-    }
-    write_empty(chain.layout(), sample, out);
-    settle(blocks, chain.layout().interval_in(area, used), out)?;
-    write_roster(used as u16 + 1, chain.layout().part.0, None, whole as u16, out);
-    settle(blocks, chain.layout().roster_block(area), out)?;
+    let interval = chain.layout().interval_in(area, used);
+    put_empty(chain.layout(), blocks, interval, sample, out)?;
+    let roster = chain.layout().roster_block(area);
+    put_roster(chain.layout(), blocks, roster, used + 1, None, out)?;
     chain.use_next();
     Ok(())
 }
 
-/// The least free area is written with one empty interval and forced; then the roster of the last
-/// area leads to it, and is forced; then the area is claimed. Where no area is free, nothing is
+/// An area that the chain doesn't have is written with one empty interval and forced; then the
+/// roster of the last area leads to it, and is forced.
+fn link_area<B: Blocks>(
+    chain: &mut Chain,
+    blocks: &mut B,
+    area: u32,
+    sample: &[u8],
+    out: &mut [u8],
+) -> Result<(), DeviceFault>
+    requires on { IsNumberedOn chain.old.part (B.seen blocks.old) }
+    requires sample { length sample.now ≡ chain.old.part.geometry.size }
+    requires out { length out.old ≡ chain.old.part.geometry.size }
+    requires there { area < area_count chain.old.part.geometry }
+    requires room { length chain.old.areas < area_count chain.old.part.geometry }
+    requires apart { All (λ other. other ≢ area) chain.old.areas }
+    requires whole { chain.old.used ≡ length chain.old.areas * chain.old.part.geometry.area }
+    requires chain { IsTrue B.tells → IsChainOf chain.old (B.seen blocks.old).cur }
+    ensures may { IsTrue B.tells → (areas : List (Option PartNo)) (kept : Lengths)
+        → least_free areas ≡ Some area
+        → HasKeptRoom (RelativeShape chain.old.part) kept (B.seen blocks.old)
+        → IsQuiet (RelativeShape chain.old.part) (B.seen blocks.old)
+        → MayExtend chain.old.part areas kept (B.seen blocks.old) (B.seen blocks.new) }
+    ensures done { IsTrue B.tells → OnOk result ((areas after : List (Option PartNo))
+        → least_free areas ≡ Some area → after ≢ areas
+        → IsQuiet (RelativeShape chain.old.part) (B.seen blocks.old)
+        → IsExtended chain.old.part areas after (B.seen blocks.old) (B.seen blocks.new)
+        × IsChainOf chain.new (B.seen blocks.new).cur) }
+    ensures part { chain.new.part ≡ chain.old.part }
+    ensures out { length out.new ≡ length out.old }
+    ensures count { (B.seen blocks.new).count ≡ (B.seen blocks.old).count }
+    ensures size { (B.seen blocks.new).size ≡ (B.seen blocks.old).size }
+    ensures cause { HasWriteCause (B.faults blocks.old) (B.faults blocks.new) result }
+{
+    let interval = chain.layout().interval_in(area, 0);
+    put_empty(chain.layout(), blocks, interval, sample, out)?;
+    let roster = chain.layout().roster_block(area);
+    put_roster(chain.layout(), blocks, roster, 1, None, out)?;
+    let last = chain.layout().roster_block(chain.last());
+    let whole = chain.layout().geometry.area;
+    put_roster(chain.layout(), blocks, last, whole, Some(area), out)?;
+    chain.add_area(area);
+    chain.use_next();
+    Ok(())
+}
+
+/// An area more: the least free one is linked, then claimed. Where no area is free, nothing is
 /// done.
 fn add_area<B: Blocks>(
     chain: &mut Chain,
@@ -89,20 +186,11 @@ fn add_area<B: Blocks>(
     let Some(area) = space.least_free() else {
         return Ok(());
     };
-    if area.0 >= chain.layout().geometry.areas() || !chain.has_room() {
+    if !chain.takes(area.0) {
         return Ok(());
     }
-    let whole = chain.layout().geometry.area as u16;
-    let part = chain.layout().part.0;
-    write_empty(chain.layout(), sample, out);
-    settle(blocks, chain.layout().interval_in(area.0, 0), out)?;
-    write_roster(1, part, None, whole, out);
-    settle(blocks, chain.layout().roster_block(area.0), out)?;
-    write_roster(whole, part, Some(area.0), whole, out);
-    settle(blocks, chain.layout().roster_block(chain.last()), out)?;
-    space.claim(chain.layout().part);
-    chain.add_area(area.0);
-    chain.use_next();
+    link_area(chain, blocks, area.0, sample, out)?;
+    space.mark(area, chain.layout().part);
     Ok(())
 }
 
