@@ -1,7 +1,7 @@
 -- An interval more of the last area: it is written empty and forced, then the roster that counts it.
 use Rattle.std.proofs.Common.{◌≡◌, ◌<◌, ◌≤◌, ◌+◌, ◌-◌, ◌*◌, ◌++◌, ℕ, zero, suc, Bool, IsTrue, List, []}
 use Rattle.std.proofs.Common.{◌∷◌, length}
-use Rattle.std.proofs.Common.{All, Option, None, get_or, sym, ap, subst, ◌∙◌, arith}
+use Rattle.std.proofs.Common.{All, Option, None, get_or, refl, sym, ap, subst, ◌∙◌, arith}
 use Rattle.std.proofs.Math.Nat.{suc-mul}
 use Rattle.std.proofs.lemmas.List.{length-append}
 use Rattle.vr_types.specs.Blocks.{Puts}
@@ -11,13 +11,15 @@ use Rattle.vr_types.specs.declared.unit.PartNo.{PartNo}
 use Rattle.vr_space.specs.Owners.{Owners}
 use Rattle.vr_space.specs.Part.{InPart, IsQuiet, MayGrow, RelativeShape}
 use Rattle.vr_space.specs.Room.{Lengths}
-use Rattle.vr_space.specs.Rosters.{IsInArea, Numbered, chain_of, interval_in, roster_at, roster_block}
-use Rattle.vr_space.specs.Slots.{AreSlotsAtRest, KeepsSlots}
-use Rattle.vr_space.proofs.CallerLemmas.{interval-inside}
+use Rattle.vr_space.specs.Rosters.{IsInArea, IsNumbered, Numbered, chain_of, interval_in}
+use Rattle.vr_space.specs.Rosters.{roster_at, roster_block, used_of}
+use Rattle.vr_space.specs.Slots.{AreSlotsAtRest, IsRestingArea, IsSlots, KeepsSlots}
+use Rattle.vr_space.proofs.CallerLemmas.{area-owned, interval-inside, roster-inside}
 use Rattle.vr_relative.specs.Chain.{ChainNow, IsChainOf}
 use Rattle.vr_relative.specs.Extended.{IsExtended, IsMadeRoster, MayExtend}
 use Rattle.vr_relative.specs.Written.{AreSlotsEmpty}
 use Rattle.vr_relative.proofs.Extending.{KeepsChain, done-then, keeps-of, keeps-quiet, may-then}
+use Rattle.vr_relative.proofs.LastArea.{IsLast}
 use Rattle.vr_relative.proofs.LastPuts.{IsEnd, counted-done, counted-may, counted-of, end-of}
 use Rattle.vr_relative.proofs.Unreached.{IsUnreached, next-unreached, unreached-keeps, unreached-may}
 
@@ -57,46 +59,66 @@ unused-in-last chain now in-last unused =
     omega (arith, unused, all, in-last.sum)
 
 -- one of them at least isn't used, where not all are
-pub last-below : (used areas whole last : ℕ) → 0 < whole → used < areas * whole
-    → last ≡ used - (areas - 1) * whole → last + 1 ≤ whole
+last-below : (used areas whole last : ℕ) → 0 < whole → used < areas * whole
+    → last ≡ used - (areas - 1) * whole → last < whole
 last-below used zero whole last some unused is = absurd (omega (arith, unused))
 last-below used (suc areas) whole last some unused is =
     let before : (suc areas - 1) * whole ≡ areas * whole =
     ap (λ (n : ℕ). n * whole) (omega arith) in
     omega (arith, some, unused, is, before, suc-mul areas whole)
 
-module _ (chain : ChainNow) (tells : Bool) (told : IsTrue tells) (a b : Seen) (n last used : ℕ)
+pub next-below : (chain : ChainNow) (used : ℕ) → IsNumbered chain.part
+    → chain.used < length chain.areas * chain.part.geometry.area
+    → used ≡ chain.used - (length chain.areas - 1) * chain.part.geometry.area
+    → used < chain.part.geometry.area
+next-below chain used numbered =
+    last-below chain.used (length chain.areas) chain.part.geometry.area used
+    (omega (arith, numbered.allowed.some_intervals))
+
+module _ (chain : ChainNow) (tells : Bool) (told : IsTrue tells) (a b : Seen) (last used : ℕ)
     (bytes : Block) (left : Left a a.cur) (of : IsChainOf chain a.cur)
     (unused : chain.used < length chain.areas * chain.part.geometry.area)
     (is-end : IsEnd chain.areas last)
     (used-is : used ≡ chain.used - (length chain.areas - 1) * chain.part.geometry.area)
-    (at : n ≡ interval_in chain.part last used) (call : Puts tells n bytes a b)
-    (below : n < a.count) (quiet : IsQuiet (RelativeShape chain.part) a) where
+    (call : Puts tells (interval_in chain.part last used) bytes a b)
+    (quiet : IsQuiet (RelativeShape chain.part) a) where
   abbrev part : Numbered
   part = chain.part
+
+  abbrev n : ℕ
+  n = interval_in part last used
+
+  end : (owners : Owners) → AreSlotsAtRest part owners a
+      → IsLast part (IsRestingArea part owners a) (IsSlots part) a.cur a.may (chain_of part a.cur)
+      (used_of part a.cur) last
+  end = end-of chain a left of last is-end
 
   in-last : UsedInLast chain (roster_at part a.cur last).used
   in-last = used-in-last chain a left of last is-end quiet
 
-  next : interval_in part last (roster_at part a.cur last).used ≡ n
-  next = ap (interval_in part last)
-      (used-is-last chain (roster_at part a.cur last).used used in-last used-is) ∙ sym at
+  same : (roster_at part a.cur last).used ≡ used
+  same = used-is-last chain (roster_at part a.cur last).used used in-last used-is
+
+  now-unused : (roster_at part a.cur last).used < part.geometry.area
+  now-unused = unused-in-last chain (roster_at part a.cur last).used in-last unused
 
   off : All (IsUnreached part a.cur n) (chain_of part a.cur)
-  off k d short = subst (λ (m : ℕ). IsUnreached part a.cur m (get_or (chain_of part a.cur) k d)) next
-      (next-unreached part a.cur last (get_or (chain_of part a.cur) k d)
-      (unused-in-last chain (roster_at part a.cur last).used in-last unused))
+  off k d short =
+      subst (λ (at : ℕ).
+      IsUnreached part a.cur (interval_in part last at) (get_or (chain_of part a.cur) k d)) same
+      (next-unreached part a.cur last (get_or (chain_of part a.cur) k d) now-unused)
 
   inside : IsInArea part last n
-  inside = subst (IsInArea part last) next
-      (interval-inside part last (roster_at part a.cur last).used
-      (unused-in-last chain (roster_at part a.cur last).used in-last unused))
+  inside = interval-inside part last used (omega (arith, same, now-unused))
+
+  below : n < a.count
+  below = (area-owned part quiet.0 a quiet.1.on last (end quiet.0 quiet.1).own.own n inside).0
 
   mine : (areas : List (Option PartNo)) (owners grown : Owners)
       → MayGrow (RelativeShape part) areas owners grown → AreSlotsAtRest part owners a
       → InPart (RelativeShape part) grown n
-  mine areas owners grown grows rests = grows.kept n part.part
-      ((end-of chain a left of last is-end owners rests).own.own.owned n inside)
+  mine areas owners grown grows rests =
+      grows.kept n part.part ((end owners rests).own.own.owned n inside)
 
   -- the empty interval
   pub empty-may : (areas : List (Option PartNo)) (kept : Lengths) → KeepsSlots chain.part kept a.may
@@ -105,9 +127,18 @@ module _ (chain : ChainNow) (tells : Bool) (told : IsTrue tells) (a b : Seen) (n
       kept quiet keeps (mine areas)
 
   module _ (only : Only b n (λ (block : Block). block ≡ bytes)) (after : Left b b.cur)
-      (empty : AreSlotsEmpty chain.part bytes) (c : Seen) (roster : ℕ) (top : Block)
-      (at-top : roster ≡ roster_block chain.part last) (put : Puts tells roster top b c)
-      (roster-below : roster < b.count) (made : IsMadeRoster chain.part (used + 1) None top) where
+      (empty : AreSlotsEmpty chain.part bytes) (c : Seen) (top : Block)
+      (put : Puts tells (roster_block chain.part last) top b c)
+      (made : IsMadeRoster chain.part (used + 1) None top) where
+    abbrev roster : ℕ
+    roster = roster_block part last
+
+    roster-below : roster < b.count
+    roster-below =
+        let here = area-owned part quiet.0 a quiet.1.on last (end quiet.0 quiet.1).own.own roster
+        (roster-inside part last) in
+        omega (arith, here.0, call.count_same)
+
     keeps : KeepsChain part a b
     keeps = unreached-keeps part tells told a b n bytes call left below off only after quiet
 
@@ -132,7 +163,7 @@ module _ (chain : ChainNow) (tells : Bool) (told : IsTrue tells) (a b : Seen) (n
     fresh : Only b (interval_in part last (roster_at part b.cur last).used) (AreSlotsEmpty part)
     fresh block may = subst (AreSlotsEmpty part)
         (sym (only block (subst (λ (m : ℕ). b.may m block)
-        (ap (interval_in part last) used-then ∙ sym at) may))) empty
+        (ap (interval_in part last) used-then) may))) empty
 
     -- and the roster
     pub roster-may : (areas : List (Option PartNo)) (kept : Lengths)
@@ -141,9 +172,9 @@ module _ (chain : ChainNow) (tells : Bool) (told : IsTrue tells) (a b : Seen) (n
         let early = empty-may areas kept room in
         may-then part areas a b c keeps kept early
         (counted-may chain tells told b c roster top put after roster-below of-then last is-end
-        at-top made-then unused-then fresh areas kept quiet-then early.room)
+        refl made-then unused-then fresh areas kept quiet-then early.room)
 
-    pub roster-done : Only c roster (λ (block : Block). block ≡ top) → Left c c.cur
+    pub roster-done : Only c (roster_block chain.part last) (λ (block : Block). block ≡ top) → Left c c.cur
         → (areas : List (Option PartNo)) → IsExtended chain.part areas areas a c
         × IsChainOf (record {
           part = chain.part;
@@ -153,7 +184,7 @@ module _ (chain : ChainNow) (tells : Bool) (told : IsTrue tells) (a b : Seen) (n
     roster-done forced last-left areas = (
       done-then part areas a b c keeps areas
           (counted-done chain tells told b c roster top put after roster-below of-then last is-end
-          at-top made-then unused-then fresh forced last-left quiet-then areas),
-      counted-of chain tells told b c roster top put after roster-below of-then last is-end at-top
+          refl made-then unused-then fresh forced last-left quiet-then areas),
+      counted-of chain tells told b c roster top put after roster-below of-then last is-end refl
           made-then unused-then fresh forced last-left quiet-then,
     )

@@ -1,7 +1,7 @@
 -- An area more of the chain: it is written with one empty interval and forced, then the roster of
 -- the last area, which leads to it.
 use Rattle.std.proofs.Common.{◌≡◌, ◌≢◌, ◌<◌, ◌≤◌, ◌+◌, ◌*◌, ◌++◌, ℕ, Bool, IsTrue, List, [], ◌∷◌}
-use Rattle.std.proofs.Common.{length, All, Option, Some, None, sym, ap, subst, ◌∙◌, arith}
+use Rattle.std.proofs.Common.{length, All, Option, Some, None, sym, ap, subst, ◌∙◌, arith, refl}
 use Rattle.std.proofs.Math.Nat.{suc-mul}
 use Rattle.std.proofs.lemmas.List.Elements.{All-head, All-weaker}
 use Rattle.vr_types.specs.Blocks.{Puts}
@@ -16,8 +16,8 @@ use Rattle.vr_space.specs.Owners.{Owners}
 use Rattle.vr_space.specs.Part.{InPart, IsQuiet, MayGrow, RelativeShape}
 use Rattle.vr_space.specs.Room.{Lengths}
 use Rattle.vr_space.specs.Rosters.{IsInArea, Numbered, chain_of, interval_in, roster_at, roster_block}
-use Rattle.vr_space.specs.Slots.{AreSlotsAtRest, KeepsSlots}
-use Rattle.vr_space.proofs.CallerLemmas.{interval-inside, roster-inside}
+use Rattle.vr_space.specs.Slots.{AreSlotsAtRest, IsNumberedOn, KeepsSlots}
+use Rattle.vr_space.proofs.CallerLemmas.{area-below, area-owned, interval-inside, roster-inside}
 use Rattle.vr_relative.specs.Chain.{ChainNow, IsChainOf}
 use Rattle.vr_relative.specs.Extended.{IsExtended, IsMadeRoster, MayExtend}
 use Rattle.vr_relative.specs.Written.{AreSlotsEmpty}
@@ -81,139 +81,153 @@ room-more used areas whole more is some count =
     let all : more * whole ≡ (areas + 1) * whole = ap (λ (n : ℕ). n * whole) count in
     omega (arith, is, some, all, suc-mul areas whole)
 
--- the roster that leads to an area, as the part has it
-pub made-with : (layout part : Numbered) (whole area : ℕ) (bytes : Block) → layout ≡ part
-    → whole ≡ part.geometry.area → IsMadeRoster layout whole (Some area) bytes
-    → IsMadeRoster part part.geometry.area (Some area) bytes
-made-with layout part whole area bytes same all made =
-    subst (λ (used : ℕ). IsMadeRoster part used (Some area) bytes) all
-    (subst (λ (is : Numbered). IsMadeRoster is whole (Some area) bytes) same made)
-
 -- ---- the three puts
 
-module _ (chain : ChainNow) (tells : Bool) (told : IsTrue tells) (a b c : Seen)
-    (n roster area : ℕ) (bytes top : Block) (left : Left a a.cur) (of : IsChainOf chain a.cur)
+module _ (chain : ChainNow) (tells : Bool) (told : IsTrue tells) (a b : Seen) (area : ℕ)
+    (bytes : Block) (left : Left a a.cur) (of : IsChainOf chain a.cur)
     (apart : All (λ (other : ℕ). other ≢ area) chain.areas)
-    (there : area < area_count chain.part.geometry)
-    (at : n ≡ interval_in chain.part area 0) (call : Puts tells n bytes a b) (below : n < a.count)
-    (only : Only b n (λ (block : Block). block ≡ bytes)) (after : Left b b.cur)
-    (empty : AreSlotsEmpty chain.part bytes) (at-top : roster ≡ roster_block chain.part area)
-    (put : Puts tells roster top b c) (roster-below : roster < b.count)
-    (made : IsMadeRoster chain.part 1 None top)
-    (quiet : IsQuiet (RelativeShape chain.part) a) where
+    (there : area < area_count chain.part.geometry) (on : IsNumberedOn chain.part a)
+    (call : Puts tells (interval_in chain.part area 0) bytes a b) where
   abbrev part : Numbered
   part = chain.part
 
   some : 0 < part.geometry.area
-  some = omega (arith, quiet.1.on.part_is.allowed.some_intervals)
+  some = omega (arith, on.part_is.allowed.some_intervals)
+
+  abbrev n : ℕ
+  n = interval_in part area 0
 
   n-inside : IsInArea part area n
-  n-inside = subst (IsInArea part area) (sym at) (interval-inside part area 0 some)
+  n-inside = interval-inside part area 0 some
 
-  roster-inside-area : IsInArea part area roster
-  roster-inside-area = subst (IsInArea part area) (sym at-top) (roster-inside part area)
+  below : (m : ℕ) → IsInArea part area m → m < a.count
+  below m inside = omega (arith, area-below part area m there inside, on.blocks)
 
-  first : KeepsChain part a b
-  first = outside-keeps chain tells told a b n area bytes left of apart n-inside call below quiet
-      only after
+  -- its empty interval
+  pub fresh-may : (areas : List (Option PartNo)) (kept : Lengths) → least_free areas ≡ Some area
+      → KeepsSlots chain.part kept a.may → IsQuiet (RelativeShape chain.part) a
+      → MayExtend chain.part areas kept a b
+  fresh-may areas kept least keeps quiet = outside-may chain tells told a b n area bytes left of
+      apart n-inside call (below n n-inside) quiet areas kept least keeps
 
-  of-b : IsChainOf chain b.cur
-  of-b = keeps-of chain a b first of
+  module _ (only : Only b (interval_in chain.part area 0) (λ (block : Block). block ≡ bytes))
+      (after : Left b b.cur) (empty : AreSlotsEmpty chain.part bytes) (c : Seen) (top : Block)
+      (put : Puts tells (roster_block chain.part area) top b c)
+      (made : IsMadeRoster chain.part 1 None top) (quiet : IsQuiet (RelativeShape chain.part) a)
+      where
+    abbrev roster : ℕ
+    roster = roster_block part area
 
-  quiet-b : IsQuiet (RelativeShape part) b
-  quiet-b = keeps-quiet part a b first quiet
+    roster-below : roster < b.count
+    roster-below =
+        omega (arith, below roster (roster-inside part area), call.count_same)
 
-  -- its roster
-  pub top-may : (areas : List (Option PartNo)) (kept : Lengths) → least_free areas ≡ Some area
-      → KeepsSlots chain.part kept a.may → MayExtend chain.part areas kept a c
-  top-may areas kept least keeps =
-      let early = outside-may chain tells told a b n area bytes left of apart n-inside call below
-      quiet areas kept least keeps in
-      may-then part areas a b c first kept early
-      (outside-may chain tells told b c roster area top after of-b apart roster-inside-area put
-      roster-below quiet-b areas kept least early.room)
+    first : KeepsChain part a b
+    first = outside-keeps chain tells told a b n area bytes left of apart n-inside call
+        (below n n-inside) quiet only after
 
-  module _ (forced : Only c roster (λ (block : Block). block ≡ top)) (settled : Left c c.cur)
-      (d : Seen) (last link : ℕ) (bound : Block) (is-end : IsEnd chain.areas last)
-      (few : length chain.areas < area_count chain.part.geometry)
-      (whole : chain.used ≡ length chain.areas * chain.part.geometry.area)
-      (at-link : link ≡ roster_block chain.part last) (tie : Puts tells link bound c d)
-      (link-below : link < c.count)
-      (leads : IsMadeRoster chain.part chain.part.geometry.area (Some area) bound) where
-    second : KeepsChain part b c
-    second = outside-keeps chain tells told b c roster area top after of-b apart roster-inside-area
-        put roster-below quiet-b forced settled
+    of-b : IsChainOf chain b.cur
+    of-b = keeps-of chain a b first of
 
-    both : KeepsChain part a c
-    both = keeps-then part a b c first second
+    quiet-b : IsQuiet (RelativeShape part) b
+    quiet-b = keeps-quiet part a b first quiet
 
-    of-c : IsChainOf chain c.cur
-    of-c = keeps-of chain a c both of
+    -- its roster
+    pub top-may : (areas : List (Option PartNo)) (kept : Lengths) → least_free areas ≡ Some area
+        → KeepsSlots chain.part kept a.may → MayExtend chain.part areas kept a c
+    top-may areas kept least keeps =
+        let early = fresh-may areas kept least keeps quiet in
+        may-then part areas a b c first kept early
+        (outside-may chain tells told b c roster area top after of-b apart
+        (roster-inside part area) put roster-below quiet-b areas kept least early.room)
 
-    quiet-c : IsQuiet (RelativeShape part) c
-    quiet-c = keeps-quiet part a c both quiet
+    module _ (forced : Only c (roster_block chain.part area) (λ (block : Block). block ≡ top))
+        (settled : Left c c.cur) (d : Seen) (last : ℕ) (bound : Block) (is-end : IsEnd chain.areas last)
+        (few : length chain.areas < area_count chain.part.geometry)
+        (whole : chain.used ≡ length chain.areas * chain.part.geometry.area)
+        (tie : Puts tells (roster_block chain.part last) bound c d)
+        (leads : IsMadeRoster chain.part chain.part.geometry.area (Some area) bound) where
+      abbrev link : ℕ
+      link = roster_block part last
 
-    other : last ≢ area
-    other = last-other chain c settled of-c last area is-end apart quiet-c
+      second : KeepsChain part b c
+      second = outside-keeps chain tells told b c roster area top after of-b apart
+          (roster-inside part area) put roster-below quiet-b forced settled
 
-    whole-last : (roster_at part c.cur last).used ≡ part.geometry.area
-    whole-last = whole-in-last chain (roster_at part c.cur last).used
-        (used-in-last chain c settled of-c last is-end quiet-c) whole
+      both : KeepsChain part a c
+      both = keeps-then part a b c first second
 
-    top-made : Only c (roster_block part area) (IsMadeRoster part 1 None)
-    top-made block may = subst (IsMadeRoster part 1 None)
-        (sym (forced block (subst (λ (m : ℕ). c.may m block) (sym at-top) may))) made
+      of-c : IsChainOf chain c.cur
+      of-c = keeps-of chain a c both of
 
-    n-apart : n ≢ roster
-    n-apart same = roster-apart part area area 0 some (sym at-top ∙ sym same ∙ at)
+      quiet-c : IsQuiet (RelativeShape part) c
+      quiet-c = keeps-quiet part a c both quiet
 
-    fresh : Only c (interval_in part area 0) (AreSlotsEmpty part)
-    fresh block may = subst (AreSlotsEmpty part)
-        (sym (only-elsewhere tells b c n roster top (λ (block : Block). block ≡ bytes) told
-        (omega (arith, below, call.count_same)) n-apart put only block
-        (subst (λ (m : ℕ). c.may m block) (sym at) may))) empty
+      other : last ≢ area
+      other = last-other chain c settled of-c last area is-end apart quiet-c
 
-    count-same : c.count ≡ a.count
-    count-same = put.count_same ∙ call.count_same
+      whole-last : (roster_at part c.cur last).used ≡ part.geometry.area
+      whole-last = whole-in-last chain (roster_at part c.cur last).used
+          (used-in-last chain c settled of-c last is-end quiet-c) whole
 
-    n-below : interval_in part area 0 < c.count
-    n-below = omega (arith, below, at, count-same)
+      top-made : Only c (roster_block part area) (IsMadeRoster part 1 None)
+      top-made block may = subst (IsMadeRoster part 1 None) (sym (forced block may)) made
 
-    top-below : roster_block part area < c.count
-    top-below = omega (arith, roster-below, at-top, put.count_same)
+      n-apart : n ≢ roster
+      n-apart same = roster-apart part area area 0 some (sym same)
 
-    -- the roster that leads to it
-    pub link-may : (areas : List (Option PartNo)) (kept : Lengths) → least_free areas ≡ Some area
-        → KeepsSlots chain.part kept a.may → MayExtend chain.part areas kept a d
-    link-may areas kept least keeps =
-        let early = top-may areas kept least keeps in
-        may-then part areas a c d both kept early
-        (linked-may chain tells told c d link bound tie settled link-below of-c last is-end at-link
-        area other there few whole-last leads top-made fresh top-below n-below some areas kept least
-        quiet-c early.room)
+      fresh : Only c (interval_in part area 0) (AreSlotsEmpty part)
+      fresh block may = subst (AreSlotsEmpty part)
+          (sym (only-elsewhere tells b c n roster top (λ (block : Block). block ≡ bytes) told
+          (omega (arith, below n n-inside, call.count_same)) n-apart put only block may)) empty
 
-    top-stable : Only c (roster_block part area)
-        (λ (block : Block). block ≡ block_at c.cur (roster_block part area))
-    top-stable block may =
-        let is : block ≡ top = forced block (subst (λ (m : ℕ). c.may m block) (sym at-top) may) in
-        let now : block_at c.cur roster ≡ top =
-        forced (block_at c.cur roster)
-        (settled.each roster (omega (arith, roster-below, put.count_same))) in
-        is ∙ sym now ∙ ap (block_at c.cur) at-top
+      count-same : c.count ≡ a.count
+      count-same = put.count_same ∙ call.count_same
 
-    pub link-done : Only d link (λ (block : Block). block ≡ bound) → Left d d.cur
-        → (areas after : List (Option PartNo)) → least_free areas ≡ Some area → after ≢ areas
-        → IsExtended chain.part areas after a d
-        × IsChainOf (record {
-          part = chain.part;
-          areas = chain.areas ++ area ∷ [];
-          used = chain.used + 1;
-        }) d.cur
-    link-done tied ended areas claimed least differs = (
-      done-then part areas a c d both claimed
-          (linked-done chain tells told c d link bound tie settled link-below of-c last is-end
-          at-link area other there few whole-last leads top-made fresh top-below n-below some tied
-          ended quiet-c areas claimed least differs top-stable),
-      linked-of chain tells told c d link bound tie settled link-below of-c last is-end at-link area
-          other there few whole-last leads top-made fresh top-below n-below some tied ended quiet-c,
-    )
+      n-below : interval_in part area 0 < c.count
+      n-below = omega (arith, below n n-inside, count-same)
+
+      top-below : roster_block part area < c.count
+      top-below = omega (arith, roster-below, put.count_same)
+
+      link-below : link < c.count
+      link-below =
+          let end = end-of chain c settled of-c last is-end quiet-c.0 quiet-c.1 in
+          (area-owned part quiet-c.0 c quiet-c.1.on last end.own.own link
+          (roster-inside part last)).0
+
+      -- the roster that leads to it
+      pub link-may : (areas : List (Option PartNo)) (kept : Lengths) → least_free areas ≡ Some area
+          → KeepsSlots chain.part kept a.may → MayExtend chain.part areas kept a d
+      link-may areas kept least keeps =
+          let early = top-may areas kept least keeps in
+          may-then part areas a c d both kept early
+          (linked-may chain tells told c d link bound tie settled link-below of-c last is-end refl
+          area other there few whole-last leads top-made fresh top-below n-below some areas kept
+          least quiet-c early.room)
+
+      top-stable : Only c (roster_block part area)
+          (λ (block : Block). block ≡ block_at c.cur (roster_block part area))
+      top-stable block may =
+          let is : block ≡ top = forced block may in
+          let now : block_at c.cur roster ≡ top =
+          forced (block_at c.cur roster)
+          (settled.each roster (omega (arith, roster-below, put.count_same))) in
+          is ∙ sym now
+
+      pub link-done : Only d (roster_block chain.part last) (λ (block : Block). block ≡ bound)
+          → Left d d.cur → (areas after : List (Option PartNo)) → least_free areas ≡ Some area
+          → after ≢ areas → IsExtended chain.part areas after a d
+          × IsChainOf (record {
+            part = chain.part;
+            areas = chain.areas ++ area ∷ [];
+            used = chain.used + 1;
+          }) d.cur
+      link-done tied ended areas claimed least differs = (
+        done-then part areas a c d both claimed
+            (linked-done chain tells told c d link bound tie settled link-below of-c last is-end refl
+            area other there few whole-last leads top-made fresh top-below n-below some tied
+            ended quiet-c areas claimed least differs top-stable),
+        linked-of chain tells told c d link bound tie settled link-below of-c last is-end refl area
+            other there few whole-last leads top-made fresh top-below n-below some tied ended quiet-c,
+      )

@@ -72,6 +72,13 @@ impl Chain {
         &self.layout
     }
 
+    /// How many intervals an area has.
+    pub(crate) fn intervals(&self) -> u32
+        ensures { result ≡ self.now.part.geometry.area }
+    {
+        self.layout.geometry.area
+    }
+
     /// How many intervals are used.
     pub fn used(&self) -> u32
         ensures { result ≡ self.now.used }

@@ -11,6 +11,7 @@ ghost use Rattle.vr_types.specs.declared.unit.StageKind.TheVariants as stages;
 ghost use Rattle.vr_types.specs.declared.unit.PartNo.{PartNo};
 ghost use Rattle.vr_space.specs.Part.{HasKeptRoom, IsQuiet, OwnersAfter, RelativeShape, part_no};
 ghost use Rattle.vr_space.specs.Room.{Lengths};
+ghost use Rattle.vr_space.specs.Rosters.{interval_in, roster_block};
 ghost use Rattle.vr_space.specs.Slots.{IsNumberedOn};
 ghost use Rattle.vr_relative.specs.Chain.{IsChainOf};
 ghost use Rattle.vr_relative.specs.Extended.{IsExtended, IsMadeRoster, MayExtend};
@@ -19,56 +20,60 @@ ghost use Rattle.vr_relative.specs.Written.{AreSlotsEmpty};
 use crate::chain::Chain;
 use crate::writing::write_empty;
 use vr_seqset::write_roster;
-use vr_space::ChainLayout;
 use vr_types::{Blocks, DeviceFault, Space, settle};
 
-/// Makes a block an empty interval, and forces it. `sample` is any block.
+/// Makes an interval of an area empty, and forces it. `sample` is any block.
 fn put_empty<B: Blocks>(
-    layout: &ChainLayout,
+    chain: &Chain,
     blocks: &mut B,
-    n: u32,
+    area: u32,
+    interval: u32,
     sample: &[u8],
     out: &mut [u8],
 ) -> Result<(), DeviceFault>
-    requires block { n < (B.seen blocks.old).count }
-    requires whole { (B.seen blocks.old).size ≡ layout.now.geometry.size }
-    requires sample { length sample.now ≡ layout.now.geometry.size }
-    requires out { length out.old ≡ layout.now.geometry.size }
-    ensures empty { AreSlotsEmpty layout.now out.new }
-    ensures ok { IsTrue B.tells → OnOk result
-        (Only (B.seen blocks.new) n (λ block. block ≡ out.new)) }
-    ensures after { Puts B.tells n out.new (B.seen blocks.old) (B.seen blocks.new) }
+    requires on { IsNumberedOn chain.now.part (B.seen blocks.old) }
+    requires area { area < area_count chain.now.part.geometry }
+    requires interval { interval < chain.now.part.geometry.area }
+    requires sample { length sample.now ≡ chain.now.part.geometry.size }
+    requires out { length out.old ≡ chain.now.part.geometry.size }
+    ensures empty { AreSlotsEmpty chain.now.part out.new }
+    ensures ok { IsTrue B.tells → OnOk result (Only (B.seen blocks.new)
+        (interval_in chain.now.part area interval) (λ block. block ≡ out.new)) }
+    ensures after { Puts B.tells (interval_in chain.now.part area interval) out.new
+        (B.seen blocks.old) (B.seen blocks.new) }
     ensures out { length out.new ≡ length out.old }
     ensures cause { HasWriteCause (B.faults blocks.old) (B.faults blocks.new) result }
 {
-    write_empty(layout, sample, out);
-    settle(blocks, n, out)
+    write_empty(chain.layout(), sample, out);
+    settle(blocks, chain.layout().interval_in(area, interval), out)
 }
 
-/// Makes a block the roster of an area of the part, and forces it.
+/// Writes the roster of an area, and forces it.
 fn put_roster<B: Blocks>(
-    layout: &ChainLayout,
+    chain: &Chain,
     blocks: &mut B,
-    n: u32,
+    area: u32,
     used: u32,
     next: Option<u32>,
     out: &mut [u8],
 ) -> Result<(), DeviceFault>
-    requires block { n < (B.seen blocks.old).count }
-    requires whole { (B.seen blocks.old).size ≡ layout.now.geometry.size }
-    requires out { length out.old ≡ layout.now.geometry.size }
-    requires used { used ≤ layout.now.geometry.area }
+    requires on { IsNumberedOn chain.now.part (B.seen blocks.old) }
+    requires area { area < area_count chain.now.part.geometry }
+    requires used { used ≤ chain.now.part.geometry.area }
     requires next { IsArea next }
-    ensures roster { IsMadeRoster layout.now used next out.new }
-    ensures ok { IsTrue B.tells → OnOk result
-        (Only (B.seen blocks.new) n (λ block. block ≡ out.new)) }
-    ensures after { Puts B.tells n out.new (B.seen blocks.old) (B.seen blocks.new) }
+    requires out { length out.old ≡ chain.now.part.geometry.size }
+    ensures roster { IsMadeRoster chain.now.part used next out.new }
+    ensures ok { IsTrue B.tells → OnOk result (Only (B.seen blocks.new)
+        (roster_block chain.now.part area) (λ block. block ≡ out.new)) }
+    ensures after { Puts B.tells (roster_block chain.now.part area) out.new
+        (B.seen blocks.old) (B.seen blocks.new) }
     ensures out { length out.new ≡ length out.old }
     ensures cause { HasWriteCause (B.faults blocks.old) (B.faults blocks.new) result }
 {
+    let layout = chain.layout();
     let part = layout.part.0;
     write_roster(used as u16, part, next, layout.geometry.area as u16, out);
-    settle(blocks, n, out)
+    settle(blocks, layout.roster_block(area), out)
 }
 
 /// The next interval of the last area is written empty and forced, then the roster that counts it.
@@ -97,12 +102,10 @@ fn add_interval<B: Blocks>(
     ensures size { (B.seen blocks.new).size ≡ (B.seen blocks.old).size }
     ensures cause { HasWriteCause (B.faults blocks.old) (B.faults blocks.new) result }
 {
-    let area = chain.last();
+    let last = chain.last();
     let used = chain.used_of_last();
-    let interval = chain.layout().interval_in(area, used);
-    put_empty(chain.layout(), blocks, interval, sample, out)?;
-    let roster = chain.layout().roster_block(area);
-    put_roster(chain.layout(), blocks, roster, used + 1, None, out)?;
+    put_empty(chain, blocks, last, used, sample, out)?;
+    put_roster(chain, blocks, last, used + 1, None, out)?;
     chain.use_next();
     Ok(())
 }
@@ -140,13 +143,10 @@ fn link_area<B: Blocks>(
     ensures size { (B.seen blocks.new).size ≡ (B.seen blocks.old).size }
     ensures cause { HasWriteCause (B.faults blocks.old) (B.faults blocks.new) result }
 {
-    let interval = chain.layout().interval_in(area, 0);
-    put_empty(chain.layout(), blocks, interval, sample, out)?;
-    let roster = chain.layout().roster_block(area);
-    put_roster(chain.layout(), blocks, roster, 1, None, out)?;
-    let last = chain.layout().roster_block(chain.last());
-    let whole = chain.layout().geometry.area;
-    put_roster(chain.layout(), blocks, last, whole, Some(area), out)?;
+    put_empty(chain, blocks, area, 0, sample, out)?;
+    put_roster(chain, blocks, area, 1, None, out)?;
+    let last = chain.last();
+    put_roster(chain, blocks, last, chain.intervals(), Some(area), out)?;
     chain.add_area(area);
     chain.use_next();
     Ok(())

@@ -1,4 +1,4 @@
-use Rattle.std.proofs.Common.{◌∙◌, ap, length, subst, sym}
+use Rattle.std.proofs.Common.{◌≡◌, ◌∙◌, ap, subst, sym}
 use Rattle.vr_space.specs.Rosters.{Numbered}
 use Rattle.vr_relative.specs.Extended.{IsMadeRoster}
 use Rattle.vr_relative.proofs.EmptyEnd.{made-roster}
@@ -13,8 +13,9 @@ returns-clause-roster g c =
       geometry = inside.geometry;
       most = inside.most;
     } in
+    let is : part ≡ c.args.chain.now.part = c.layout.view_is ∙ c.layout-layout.ensures in
     subst (λ (layout : Numbered).
-    IsMadeRoster layout c.args.used c.args.next c.write_roster.new.out) c.layout.view_is
+    IsMadeRoster layout c.args.used c.args.next c.write_roster.new.out) is
     (made-roster part c.args.used c.args.next c.write_roster.new.out c.write_roster.ensures
     (c.write_roster.auto.out ∙ c.requires.out
-    ∙ ap (λ (layout : Numbered). layout.geometry.size) (sym c.layout.view_is)))
+    ∙ ap (λ (layout : Numbered). layout.geometry.size) (sym is)))
