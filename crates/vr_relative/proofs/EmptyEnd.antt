@@ -46,44 +46,44 @@ slot-empty part slot block empty =
 module _ (part : Numbered) (new : ℕ → Block → Type 0) (area used : ℕ) (top : Block)
     (made : IsMadeRoster part (used + 1) None top)
     (fresh : (block : Block) → new (interval_in part area used) block → AreSlotsEmpty part block)
-    where
-  -- nothing is found there
-  pub end-none : (slot k n : ℕ) (item : Option Item) → used ≤ n
-      → MayFind new item (way_by part (slot_read slot) n area
-      (chain_way part (slot_read slot) k (n - part.geometry.area)) (roster_in top))
-      → item ≡ None
-  end-none slot k n item past found =
-      by_test (nat_lt n (used + 1)) refl
-      (subst (λ (roster : Roster). MayFind new item (way_by part (slot_read slot) n area
-      (chain_way part (slot_read slot) k (n - part.geometry.area)) roster)) made.has found)
-    where
-      by_test : (below : Bool) → nat_lt n (used + 1) ≡ below
-          → MayFind new item (cond below (slot_read slot (interval_in part area n)) (Found None))
-          → item ≡ None
-      by_test true is has =
-          let same : n ≡ used = omega (arith, past, ltb-true n (used + 1) is) in
-          has.2 ∙ slot-empty part slot has.0
-          (fresh has.0 (subst (λ (at : ℕ). new (interval_in part area at) has.0) same has.1))
-      by_test false is has = has
+  where
+    -- nothing is found there
+    pub end-none : (slot k n : ℕ) (item : Option Item) → used ≤ n
+        → MayFind new item (way_by part (slot_read slot) n area
+        (chain_way part (slot_read slot) k (n - part.geometry.area)) (roster_in top))
+        → item ≡ None
+    end-none slot k n item past found =
+        by_test (nat_lt n (used + 1)) refl
+        (subst (λ (roster : Roster). MayFind new item (way_by part (slot_read slot) n area
+        (chain_way part (slot_read slot) k (n - part.geometry.area)) roster)) made.has found)
+      where
+        by_test : (below : Bool) → nat_lt n (used + 1) ≡ below
+            → MayFind new item (cond below (slot_read slot (interval_in part area n)) (Found None))
+            → item ≡ None
+        by_test true is has =
+            let same : n ≡ used = omega (arith, past, ltb-true n (used + 1) is) in
+            has.2 ∙ slot-empty part slot has.0
+            (fresh has.0 (subst (λ (at : ℕ). new (interval_in part area at) has.0) same has.1))
+        by_test false is has = has
 
-  -- and it is a chain that ends there
-  pub end-chained : (After : ℕ → Type 0)
-      → ((interval : ℕ) → interval < used → (block : Block)
-      → new (interval_in part area interval) block → IsSlots part block)
-      → IsChainedBy part (IsSlots part) new area After top
-  end-chained After before = record {
-    roster = made.roster;
-    intervals = λ interval below block may.
-        let most : interval < used + 1 =
-        subst (λ (roster : Roster). interval < roster.used) made.has below in
-        ⊎_elim (λ less. before interval less block may)
-        (λ least.
-        let same : interval ≡ used = omega (arith, most, least) in
-        (fresh block (subst (λ (at : ℕ). new (interval_in part area at) block) same may)).slots)
-        (cases_lt interval used);
-    next = subst (λ (roster : Roster).
-        IsNextOf roster.used part.geometry.area After roster.next) (sym made.has) tt;
-  }
+    -- and it is a chain that ends there
+    pub end-chained : (After : ℕ → Type 0)
+        → ((interval : ℕ) → interval < used → (block : Block)
+        → new (interval_in part area interval) block → IsSlots part block)
+        → IsChainedBy part (IsSlots part) new area After top
+    end-chained After before = record {
+      roster = made.roster;
+      intervals = λ interval below block may.
+          let most : interval < used + 1 =
+          subst (λ (roster : Roster). interval < roster.used) made.has below in
+          ⊎_elim (λ less. before interval less block may)
+          (λ least.
+          let same : interval ≡ used = omega (arith, most, least) in
+          (fresh block (subst (λ (at : ℕ). new (interval_in part area at) block) same may)).slots)
+          (cases_lt interval used);
+      next = subst (λ (roster : Roster).
+          IsNextOf roster.used part.geometry.area After roster.next) (sym made.has) tt;
+    }
 
 -- ---- the last area of an image
 

@@ -114,120 +114,120 @@ module _ (chain : ChainNow) (tells : Bool) (told : IsTrue tells) (a b : Seen) (a
       (after : Left b b.cur) (empty : AreSlotsEmpty chain.part bytes) (c : Seen) (top : Block)
       (put : Puts tells (roster_block chain.part area) top b c)
       (made : IsMadeRoster chain.part 1 None top) (quiet : IsQuiet (RelativeShape chain.part) a)
-      where
-    abbrev roster : ℕ
-    roster = roster_block part area
+    where
+      abbrev roster : ℕ
+      roster = roster_block part area
 
-    roster-below : roster < b.count
-    roster-below =
-        omega (arith, below roster (roster-inside part area), call.count_same)
+      roster-below : roster < b.count
+      roster-below =
+          omega (arith, below roster (roster-inside part area), call.count_same)
 
-    first : KeepsChain part a b
-    first = outside-keeps chain tells told a b n area bytes left of apart n-inside call
-        (below n n-inside) quiet only after
+      first : KeepsChain part a b
+      first = outside-keeps chain tells told a b n area bytes left of apart n-inside call
+          (below n n-inside) quiet only after
 
-    of-b : IsChainOf chain b.cur
-    of-b = keeps-of chain a b first of
+      of-b : IsChainOf chain b.cur
+      of-b = keeps-of chain a b first of
 
-    quiet-b : IsQuiet (RelativeShape part) b
-    quiet-b = keeps-quiet part a b first quiet
+      quiet-b : IsQuiet (RelativeShape part) b
+      quiet-b = keeps-quiet part a b first quiet
 
-    -- its roster
-    pub top-may : (areas : List (Option PartNo)) (kept : Lengths) → least_free areas ≡ Some area
-        → KeepsSlots chain.part kept a.may → MayExtend chain.part areas kept a c
-    top-may areas kept least keeps =
-        let early = fresh-may areas kept least keeps quiet in
-        may-then part areas a b c first kept early
-        (outside-may chain tells told b c roster area top after of-b apart
-        (roster-inside part area) put roster-below quiet-b areas kept least early.room)
+      -- its roster
+      pub top-may : (areas : List (Option PartNo)) (kept : Lengths) → least_free areas ≡ Some area
+          → KeepsSlots chain.part kept a.may → MayExtend chain.part areas kept a c
+      top-may areas kept least keeps =
+          let early = fresh-may areas kept least keeps quiet in
+          may-then part areas a b c first kept early
+          (outside-may chain tells told b c roster area top after of-b apart
+          (roster-inside part area) put roster-below quiet-b areas kept least early.room)
 
-    module _ (forced : Only c (roster_block chain.part area) (λ (block : Block). block ≡ top))
-        (settled : Left c c.cur) (d : Seen) (last : ℕ) (bound : Block) (is-end : IsEnd chain.areas last)
-        (few : length chain.areas < area_count chain.part.geometry)
-        (whole : chain.used ≡ length chain.areas * chain.part.geometry.area)
-        (tie : Puts tells (roster_block chain.part last) bound c d)
-        (leads : IsMadeRoster chain.part chain.part.geometry.area (Some area) bound) where
-      abbrev link : ℕ
-      link = roster_block part last
+      module _ (forced : Only c (roster_block chain.part area) (λ (block : Block). block ≡ top))
+          (settled : Left c c.cur) (d : Seen) (last : ℕ) (bound : Block) (is-end : IsEnd chain.areas last)
+          (few : length chain.areas < area_count chain.part.geometry)
+          (whole : chain.used ≡ length chain.areas * chain.part.geometry.area)
+          (tie : Puts tells (roster_block chain.part last) bound c d)
+          (leads : IsMadeRoster chain.part chain.part.geometry.area (Some area) bound) where
+        abbrev link : ℕ
+        link = roster_block part last
 
-      second : KeepsChain part b c
-      second = outside-keeps chain tells told b c roster area top after of-b apart
-          (roster-inside part area) put roster-below quiet-b forced settled
+        second : KeepsChain part b c
+        second = outside-keeps chain tells told b c roster area top after of-b apart
+            (roster-inside part area) put roster-below quiet-b forced settled
 
-      both : KeepsChain part a c
-      both = keeps-then part a b c first second
+        both : KeepsChain part a c
+        both = keeps-then part a b c first second
 
-      of-c : IsChainOf chain c.cur
-      of-c = keeps-of chain a c both of
+        of-c : IsChainOf chain c.cur
+        of-c = keeps-of chain a c both of
 
-      quiet-c : IsQuiet (RelativeShape part) c
-      quiet-c = keeps-quiet part a c both quiet
+        quiet-c : IsQuiet (RelativeShape part) c
+        quiet-c = keeps-quiet part a c both quiet
 
-      other : last ≢ area
-      other = last-other chain c settled of-c last area is-end apart quiet-c
+        other : last ≢ area
+        other = last-other chain c settled of-c last area is-end apart quiet-c
 
-      whole-last : (roster_at part c.cur last).used ≡ part.geometry.area
-      whole-last = whole-in-last chain (roster_at part c.cur last).used
-          (used-in-last chain c settled of-c last is-end quiet-c) whole
+        whole-last : (roster_at part c.cur last).used ≡ part.geometry.area
+        whole-last = whole-in-last chain (roster_at part c.cur last).used
+            (used-in-last chain c settled of-c last is-end quiet-c) whole
 
-      top-made : Only c (roster_block part area) (IsMadeRoster part 1 None)
-      top-made block may = subst (IsMadeRoster part 1 None) (sym (forced block may)) made
+        top-made : Only c (roster_block part area) (IsMadeRoster part 1 None)
+        top-made block may = subst (IsMadeRoster part 1 None) (sym (forced block may)) made
 
-      n-apart : n ≢ roster
-      n-apart same = roster-apart part area area 0 some (sym same)
+        n-apart : n ≢ roster
+        n-apart same = roster-apart part area area 0 some (sym same)
 
-      fresh : Only c (interval_in part area 0) (AreSlotsEmpty part)
-      fresh block may = subst (AreSlotsEmpty part)
-          (sym (only-elsewhere tells b c n roster top (λ (block : Block). block ≡ bytes) told
-          (omega (arith, below n n-inside, call.count_same)) n-apart put only block may)) empty
+        fresh : Only c (interval_in part area 0) (AreSlotsEmpty part)
+        fresh block may = subst (AreSlotsEmpty part)
+            (sym (only-elsewhere tells b c n roster top (λ (block : Block). block ≡ bytes) told
+            (omega (arith, below n n-inside, call.count_same)) n-apart put only block may)) empty
 
-      count-same : c.count ≡ a.count
-      count-same = put.count_same ∙ call.count_same
+        count-same : c.count ≡ a.count
+        count-same = put.count_same ∙ call.count_same
 
-      n-below : interval_in part area 0 < c.count
-      n-below = omega (arith, below n n-inside, count-same)
+        n-below : interval_in part area 0 < c.count
+        n-below = omega (arith, below n n-inside, count-same)
 
-      top-below : roster_block part area < c.count
-      top-below = omega (arith, roster-below, put.count_same)
+        top-below : roster_block part area < c.count
+        top-below = omega (arith, roster-below, put.count_same)
 
-      link-below : link < c.count
-      link-below =
-          let end = end-of chain c settled of-c last is-end quiet-c.0 quiet-c.1 in
-          (area-owned part quiet-c.0 c quiet-c.1.on last end.own.own link
-          (roster-inside part last)).0
+        link-below : link < c.count
+        link-below =
+            let end = end-of chain c settled of-c last is-end quiet-c.0 quiet-c.1 in
+            (area-owned part quiet-c.0 c quiet-c.1.on last end.own.own link
+            (roster-inside part last)).0
 
-      -- the roster that leads to it
-      pub link-may : (areas : List (Option PartNo)) (kept : Lengths) → least_free areas ≡ Some area
-          → KeepsSlots chain.part kept a.may → MayExtend chain.part areas kept a d
-      link-may areas kept least keeps =
-          let early = top-may areas kept least keeps in
-          may-then part areas a c d both kept early
-          (linked-may chain tells told c d link bound tie settled link-below of-c last is-end refl
-          area other there few whole-last leads top-made fresh top-below n-below some areas kept
-          least quiet-c early.room)
+        -- the roster that leads to it
+        pub link-may : (areas : List (Option PartNo)) (kept : Lengths) → least_free areas ≡ Some area
+            → KeepsSlots chain.part kept a.may → MayExtend chain.part areas kept a d
+        link-may areas kept least keeps =
+            let early = top-may areas kept least keeps in
+            may-then part areas a c d both kept early
+            (linked-may chain tells told c d link bound tie settled link-below of-c last is-end refl
+            area other there few whole-last leads top-made fresh top-below n-below some areas kept
+            least quiet-c early.room)
 
-      top-stable : Only c (roster_block part area)
-          (λ (block : Block). block ≡ block_at c.cur (roster_block part area))
-      top-stable block may =
-          let is : block ≡ top = forced block may in
-          let now : block_at c.cur roster ≡ top =
-          forced (block_at c.cur roster)
-          (settled.each roster (omega (arith, roster-below, put.count_same))) in
-          is ∙ sym now
+        top-stable : Only c (roster_block part area)
+            (λ (block : Block). block ≡ block_at c.cur (roster_block part area))
+        top-stable block may =
+            let is : block ≡ top = forced block may in
+            let now : block_at c.cur roster ≡ top =
+            forced (block_at c.cur roster)
+            (settled.each roster (omega (arith, roster-below, put.count_same))) in
+            is ∙ sym now
 
-      pub link-done : Only d (roster_block chain.part last) (λ (block : Block). block ≡ bound)
-          → Left d d.cur → (areas after : List (Option PartNo)) → least_free areas ≡ Some area
-          → after ≢ areas → IsExtended chain.part areas after a d
-          × IsChainOf (record {
-            part = chain.part;
-            areas = chain.areas ++ area ∷ [];
-            used = chain.used + 1;
-          }) d.cur
-      link-done tied ended areas claimed least differs = (
-        done-then part areas a c d both claimed
-            (linked-done chain tells told c d link bound tie settled link-below of-c last is-end refl
-            area other there few whole-last leads top-made fresh top-below n-below some tied
-            ended quiet-c areas claimed least differs top-stable),
-        linked-of chain tells told c d link bound tie settled link-below of-c last is-end refl area
-            other there few whole-last leads top-made fresh top-below n-below some tied ended quiet-c,
-      )
+        pub link-done : Only d (roster_block chain.part last) (λ (block : Block). block ≡ bound)
+            → Left d d.cur → (areas after : List (Option PartNo)) → least_free areas ≡ Some area
+            → after ≢ areas → IsExtended chain.part areas after a d
+            × IsChainOf (record {
+              part = chain.part;
+              areas = chain.areas ++ area ∷ [];
+              used = chain.used + 1;
+            }) d.cur
+        link-done tied ended areas claimed least differs = (
+          done-then part areas a c d both claimed
+              (linked-done chain tells told c d link bound tie settled link-below of-c last is-end refl
+              area other there few whole-last leads top-made fresh top-below n-below some tied
+              ended quiet-c areas claimed least differs top-stable),
+          linked-of chain tells told c d link bound tie settled link-below of-c last is-end refl area
+              other there few whole-last leads top-made fresh top-below n-below some tied ended quiet-c,
+        )

@@ -189,8 +189,11 @@ module _ (part : Numbered) (Own Wider : ℕ → Type 0) (image : Image) (more : 
             let below : n < (roster_at part image area).used =
             ltb-true n (roster_at part image area).used is in
             read n below
-            (omega (arith, below,
-            used-most part (block_at image (roster_block part area)) by.roster))
+            (omega (
+              arith,
+              below,
+              used-most part (block_at image (roster_block part area)) by.roster,
+            ))
             (longer-reads top (nat_lt n (roster_in top).used) refl
             (lt-ltb n (roster_in top).used
             (omega (arith, below, longer.used))) has)
@@ -234,5 +237,8 @@ chain-with part Own P Interval image may stable (suc k) area chain all = (
         → Chains part (λ at. Own at × P at) Interval may k after)
         → IsNextOf used part.geometry.area (Chains part (λ at. Own at × P at) Interval may k) next
     by_next used None rule has goes = tt
-    by_next used (Some after) rule has goes = (rule.0, goes after rule.1
-        (All-tail P area (areas_from part image k after) has))
+    by_next used (Some after) rule has goes = (
+      rule.0,
+      goes after rule.1
+          (All-tail P area (areas_from part image k after) has),
+    )
