@@ -1,11 +1,11 @@
 //! DEFINE, ALTER and DELETE on the catalog, which stays as it is.
 
-use crate::answers::{Answer, Stop, say, say_number, say_text};
-use crate::desk::Desk;
+use crate::desk::CatalogDesk;
 use crate::records::kind_of;
 use crate::shown::say_entry;
-use crate::words::{byte_of, name_of, name_or_none, parted, small_of, word_of};
+use crate::words::{name_of, name_or_none};
 use std::alloc::Global;
+use vr_case_table::{Answer, Answers, Stop, byte_of, parted, small_of, word_of};
 use vr_catalog::{
     Alter, CatFault, Change, Changes, DataOptions, Define, FreeSpace, NameList, NewEntry,
     ShareOptions, SpaceUnit, alter, define, delete,
@@ -13,13 +13,13 @@ use vr_catalog::{
 
 /// DEFINE: `cluster NAME KIND KEYS SIZES [spanned]`, `alternate NAME BASE KEYS SIZES [unique]` or
 /// `path NAME BASE`.
-pub fn define_one(alloc: Global, desk: &Desk, rest: &str, out: &mut String) -> Answer {
+pub fn define_one(alloc: Global, desk: &CatalogDesk, rest: &str, out: &mut Answers) -> Answer {
     let (what, rest) = parted(rest);
     let (name, rest) = parted(rest);
     let name = name_of(alloc, name)?;
     let what = new_entry(alloc, what, rest)?;
     let order = Define { name, what };
-    say_result(out, define(alloc, &desk.catalog, &order, &desk.geometry))
+    say_result(define(alloc, &desk.catalog, &order, &desk.geometry), out)
 }
 
 /// What is defined.
@@ -89,7 +89,7 @@ fn options<'a>(alloc: Global, rest: &'a str) -> Result<(DataOptions, &'a str), S
 }
 
 /// ALTER: `NAME [name NEW] [free A,B] [share A,B]`.
-pub fn alter_one(alloc: Global, desk: &Desk, rest: &str, out: &mut String) -> Answer {
+pub fn alter_one(alloc: Global, desk: &CatalogDesk, rest: &str, out: &mut Answers) -> Answer {
     let (name, rest) = parted(rest);
     let mut order = Alter {
         name: name_of(alloc, name)?,
@@ -97,15 +97,21 @@ pub fn alter_one(alloc: Global, desk: &Desk, rest: &str, out: &mut String) -> An
         free_space: None,
         share_options: None,
     };
+    put_values(alloc, &mut order, rest)?;
+    say_result(alter(alloc, &desk.catalog, &order), out)
+}
+
+/// The values of an ALTER.
+fn put_values(alloc: Global, order: &mut Alter, rest: &str) -> Answer {
     let mut words = rest.split_whitespace();
     for _ in 0..3 {
         let Some(word) = words.next() else {
-            break;
+            return Ok(());
         };
         let value = words.next().ok_or(Stop::Line)?;
-        put_value(alloc, &mut order, word, value)?;
+        put_value(alloc, order, word, value)?;
     }
-    say_result(out, alter(alloc, &desk.catalog, &order))
+    Ok(())
 }
 
 /// One value of an ALTER.
@@ -137,52 +143,57 @@ fn put_value(alloc: Global, order: &mut Alter, word: &str, value: &str) -> Answe
 }
 
 /// DELETE: `NAME..`.
-pub fn delete_some(alloc: Global, desk: &Desk, rest: &str, out: &mut String) -> Answer {
+pub fn delete_some(alloc: Global, desk: &CatalogDesk, rest: &str, out: &mut Answers) -> Answer {
     let mut names = NameList::new(alloc);
+    add_names(alloc, &mut names, rest)?;
+    say_result(delete(alloc, &desk.catalog, &names), out)
+}
+
+fn add_names(alloc: Global, names: &mut NameList, rest: &str) -> Answer {
     for word in rest.split_whitespace() {
         names.push(name_of(alloc, word)?)?;
-    }
-    say_result(out, delete(alloc, &desk.catalog, &names))
-}
-
-/// Writes the changes, or the fault and its code.
-fn say_result(out: &mut String, answered: Result<Changes, CatFault>) -> Answer {
-    match answered {
-        Ok(changes) => say_changes(out, changes.as_slice()),
-        Err(CatFault::Memory) => Err(Stop::Memory),
-        Err(fault) => {
-            say_number(out, "code ", fault.code() as u64)?;
-            say_number(out, " fault ", fault.number() as u64)
-        }
-    }
-}
-
-fn say_changes(out: &mut String, changes: &[Change]) -> Answer {
-    if changes.is_empty() {
-        return say(out, "nothing");
-    }
-    let mut before = "";
-    for change in changes {
-        say(out, before)?;
-        before = "; ";
-        say_change(out, change)?;
     }
     Ok(())
 }
 
-fn say_change(out: &mut String, change: &Change) -> Answer {
+/// Writes the changes, or the fault and its code.
+fn say_result(answered: Result<Changes, CatFault>, out: &mut Answers) -> Answer {
+    match answered {
+        Ok(changes) => say_changes(changes.as_slice(), out),
+        Err(CatFault::Memory) => return Err(Stop::Memory),
+        Err(fault) => {
+            out.say_number("code ", fault.code() as u64);
+            out.say_number(" fault ", fault.number() as u64);
+        }
+    }
+    Ok(())
+}
+
+fn say_changes(changes: &[Change], out: &mut Answers) {
+    if changes.is_empty() {
+        return out.say("nothing");
+    }
+    let mut before = "";
+    for change in changes {
+        out.say(before);
+        before = "; ";
+        say_change(change, out);
+    }
+}
+
+fn say_change(change: &Change, out: &mut Answers) {
     match change {
         Change::Add(entry) => {
-            say(out, "add ")?;
-            say_entry(out, entry)
+            out.say("add ");
+            say_entry(entry, out);
         }
         Change::Update(entry) => {
-            say(out, "update ")?;
-            say_entry(out, entry)
+            out.say("update ");
+            say_entry(entry, out);
         }
         Change::Erase(name) => {
-            say(out, "erase ")?;
-            say_text(out, name.as_slice())
+            out.say("erase ");
+            out.say_bytes(name.as_slice());
         }
     }
 }

@@ -1,16 +1,15 @@
 //! The reader of records beside a plain, slow program, over all records that differ in one byte or
 //! in two.
 
-use crate::answers::{Answer, Stop, say, say_number};
-use crate::desk::Desk;
+use crate::desk::CatalogDesk;
 use crate::plain::is_record;
 use crate::records::entry_of;
-use crate::words::{parted, size_of};
 use std::alloc::Global;
+use vr_case_table::{Answer, Answers, Stop, parted, size_of};
 
 /// How many records were judged, how many of them spell an entry, and how many are judged
 /// otherwise.
-#[derive(Drop)]
+#[derive(Clone, Copy)]
 struct Judged {
     inputs: u64,
     spelled: u64,
@@ -19,7 +18,7 @@ struct Judged {
 
 /// `byte` judges each record that differs from the record in one byte; `bytes FIRST SECOND` each
 /// that has other values in two.
-pub fn judge(alloc: Global, desk: &Desk, rest: &str, out: &mut String) -> Answer {
+pub fn judge(alloc: Global, desk: &CatalogDesk, rest: &str, out: &mut Answers) -> Answer {
     let (what, places) = parted(rest);
     let mut judged = Judged {
         inputs: 0,
@@ -29,11 +28,7 @@ pub fn judge(alloc: Global, desk: &Desk, rest: &str, out: &mut String) -> Answer
     let mut record = Vec::from_slice(alloc, desk.record.as_slice())?;
     let record = record.as_mut_slice();
     match what {
-        "byte" => {
-            for place in 0..record.len() {
-                each_value(alloc, record, place, &mut judged)?;
-            }
-        }
+        "byte" => each_place(alloc, record, &mut judged)?,
         "bytes" => {
             let (first, second) = parted(places);
             let second = size_of(second)?;
@@ -41,10 +36,19 @@ pub fn judge(alloc: Global, desk: &Desk, rest: &str, out: &mut String) -> Answer
         }
         _ => return Err(Stop::Line),
     }
-    say_number(out, "", judged.inputs)?;
-    say_number(out, " records, ", judged.spelled)?;
-    say_number(out, " of entries, ", judged.differ)?;
-    say(out, " differ")
+    out.say_number("", judged.inputs);
+    out.say_number(" records, ", judged.spelled);
+    out.say_number(" of entries, ", judged.differ);
+    out.say(" differ");
+    Ok(())
+}
+
+/// Judges the record with each value of each byte.
+fn each_place(alloc: Global, record: &mut [u8], judged: &mut Judged) -> Answer {
+    for place in 0..record.len() {
+        each_value(alloc, record, place, judged)?;
+    }
+    Ok(())
 }
 
 /// Judges the record with each value of a byte, and leaves it as it was.

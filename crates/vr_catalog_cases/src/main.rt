@@ -1,76 +1,33 @@
-//! Cases of the catalog and of alternate keys from a text table: catalog records byte by byte, each
-//! misspelling, each fault of DEFINE, ALTER and DELETE alone and two together, and the pairs of an
-//! alternate index. It stands on `vr_catalog` and `vr_altkey`. Each line of its input has a
-//! question, ` -> ` and the answer that is wanted. It asks the public calls, prints each line whose
-//! answer differs, and at the end how many lines there were and how many differ; the status is 1
-//! where one differs. What it promises is that it is safe and ends: what the answers show is
+//! Cases of the catalog, of alternate keys and of before-images from a text table: catalog records
+//! byte by byte, each misspelling, each fault of DEFINE, ALTER and DELETE alone and two together,
+//! the pairs of an alternate index, worked units of recovery, and plain, slow programs beside them.
+//! It stands on `vr_catalog`, `vr_altkey`, `vr_undo` and `vr_case_table`. Each line of its input
+//! has a question, ` -> ` and the answer that is wanted. It asks the public calls, prints each line
+//! whose answer differs, and at the end how many lines there were and how many differ; the status
+//! is 1 where one differs. What it promises is that it is safe and ends: what the answers show is
 //! tested, and its whole output is compared.
 #![tactic(auto)]
 
-mod answers;
+mod befores;
 mod commands;
 mod desk;
 mod judge;
 mod pairs;
 mod plain;
+mod plain_undo;
 mod question;
 mod records;
 mod shown;
+mod spelling;
+mod undo_judge;
 mod words;
 
-use crate::answers::Stop;
-use crate::desk::Desk;
-use crate::question::answer;
-use std::alloc::{AllocError, Global};
+use crate::desk::CatalogDesk;
 use std::io;
 use std::process::ExitCode;
-
-/// How many lines were asked, and how many of them differ.
-#[derive(Clone, Copy)]
-struct Tally {
-    lines: u64,
-    differ: u64,
-}
+use vr_case_table::run;
 
 fn main(rt: HostRuntime) -> io::Result<ExitCode> {
-    let tally = run(&rt)?;
-    let lines = tally.lines;
-    let differ = tally.differ;
-    println!(rt; "{lines} lines, {differ} differ")?;
-    Ok(ExitCode::from(if differ == 0 { 0 } else { 1 }))
-}
-
-/// Asks each line of the input. Empty lines and those that begin with `#` are skipped.
-fn run<R: Input + Print + AllocGlobal>(rt: &R) -> io::Result<Tally> {
-    let mut tally = Tally {
-        lines: 0,
-        differ: 0,
-    };
-    let mut desk = Desk::new(rt.alloc());
-    for line in rt.lines(rt.alloc()) {
-        let line = line?;
-        let line = line.as_str();
-        if line.is_empty() || line.starts_with("#") {
-            continue;
-        }
-        let (asked, wanted) = line.split_once(" -> ").unwrap_or((line, "ok"));
-        let got = got(rt.alloc(), &mut desk, asked)?;
-        tally.lines = tally.lines.saturating_add(1);
-        if got.as_str() != wanted {
-            tally.differ = tally.differ.saturating_add(1);
-            let got = got.as_str();
-            println!(rt; "{asked} -> {got}, but {wanted} is wanted")?;
-        }
-    }
-    Ok(tally)
-}
-
-/// The answer to a question. A line that is not a question has an answer that says so.
-fn got(alloc: Global, desk: &mut Desk, asked: &str) -> Result<String, AllocError> {
-    let mut out = String::new(alloc);
-    match answer(alloc, desk, asked, &mut out) {
-        Ok(()) => Ok(out),
-        Err(Stop::Memory) => Err(AllocError),
-        Err(Stop::Line) => String::from_str(alloc, "no question"),
-    }
+    let mut desk = CatalogDesk::new(rt.alloc());
+    run(&rt, &mut desk)
 }

@@ -1,30 +1,30 @@
 //! An entry as a line shows it.
 
-use crate::answers::{Answer, say, say_number, say_text};
+use vr_case_table::Answers;
 use vr_catalog::{CatEntry, EntryKind, SpaceUnit};
 use vr_types::{Kind, Name};
 
 /// Writes every field of an entry.
-pub fn say_entry(out: &mut String, entry: &CatEntry) -> Answer {
-    say(out, kind_word(entry.entry_kind))?;
-    say(out, organisation(entry.kind))?;
-    say_flags(out, entry)?;
-    say_number(out, " part ", entry.part.0 as u64)?;
+pub fn say_entry(entry: &CatEntry, out: &mut Answers) {
+    out.say(kind_word(entry.entry_kind));
+    out.say(organisation(entry.kind));
+    say_flags(entry, out);
+    out.say_number(" part ", entry.part.0 as u64);
     if let Some(related) = entry.related {
-        say_number(out, " over ", related.0 as u64)?;
+        out.say_number(" over ", related.0 as u64);
     }
     say_pair(
-        out,
         " keys ",
         entry.key_length as u64,
         entry.key_offset as u64,
-    )?;
-    say_pair(out, " sizes ", entry.average as u64, entry.maximum as u64)?;
+        out,
+    );
+    say_pair(" sizes ", entry.average as u64, entry.maximum as u64, out);
     if let Some(area) = entry.first_area {
-        say_number(out, " area ", area.0 as u64)?;
+        out.say_number(" area ", area.0 as u64);
     }
-    say_shares(out, entry)?;
-    say_names(out, entry)
+    say_shares(entry, out);
+    say_names(entry, out)
 }
 
 /// Cluster, alternate index or path.
@@ -46,56 +46,55 @@ fn organisation(kind: Option<Kind>) -> &'static str {
     }
 }
 
-fn say_flags(out: &mut String, entry: &CatEntry) -> Answer {
+fn say_flags(entry: &CatEntry, out: &mut Answers) {
     if entry.spanned {
-        say(out, " spanned")?;
+        out.say(" spanned");
     }
     if entry.unique {
-        say(out, " unique")?;
+        out.say(" unique");
     }
     if entry.built {
-        say(out, " built")?;
+        out.say(" built");
     }
-    Ok(())
 }
 
-fn say_pair(out: &mut String, word: &str, first: u64, second: u64) -> Answer {
-    say_number(out, word, first)?;
-    say_number(out, ",", second)
+fn say_pair(word: &str, first: u64, second: u64, out: &mut Answers) {
+    out.say_number(word, first);
+    out.say_number(",", second)
 }
 
-fn say_shares(out: &mut String, entry: &CatEntry) -> Answer {
+fn say_shares(entry: &CatEntry, out: &mut Answers) {
     let free = entry.free_space;
-    say_pair(out, " free ", free.interval as u64, free.area as u64)?;
+    say_pair(" free ", free.interval as u64, free.area as u64, out);
     let share = entry.share_options;
-    say_pair(out, " share ", share.regions as u64, share.systems as u64)?;
+    say_pair(" share ", share.regions as u64, share.systems as u64, out);
     let unit = match entry.space {
         SpaceUnit::Unstated => "none",
         SpaceUnit::Cylinders => "cylinders",
         SpaceUnit::Tracks => "tracks",
         SpaceUnit::Records => "records",
     };
-    say(out, " space ")?;
-    say(out, unit)?;
-    say_pair(out, ",", entry.primary as u64, entry.secondary as u64)?;
-    say_number(out, " ci ", entry.interval_size as u64)
+    out.say(" space ");
+    out.say(unit);
+    say_pair(",", entry.primary as u64, entry.secondary as u64, out);
+    out.say_number(" ci ", entry.interval_size as u64)
 }
 
-fn say_names(out: &mut String, entry: &CatEntry) -> Answer {
-    say(out, " names ")?;
-    say_text(out, entry.name.as_slice())?;
-    say_name(out, &entry.data_name)?;
-    say_name(out, &entry.index_name)?;
-    say_name(out, &entry.storage_class)?;
-    say_name(out, &entry.data_class)?;
-    say_name(out, &entry.management_class)
+fn say_names(entry: &CatEntry, out: &mut Answers) {
+    out.say(" names ");
+    out.say_bytes(entry.name.as_slice());
+    say_name(&entry.data_name, out);
+    say_name(&entry.index_name, out);
+    say_name(&entry.storage_class, out);
+    say_name(&entry.data_class, out);
+    say_name(&entry.management_class, out)
 }
 
 /// A comma and a name, or nothing after the comma where there is none.
-fn say_name(out: &mut String, name: &Option<Name>) -> Answer {
-    say(out, ",")?;
+fn say_name(name: &Option<Name>, out: &mut Answers) {
+    out.say(",");
     match name {
-        None => Ok(()),
-        Some(name) => say_text(out, name.as_slice()),
+        None => {}
+        Some(name) => out.say_bytes(name.as_slice()),
     }
 }

@@ -1,38 +1,8 @@
-//! Words of a line: numbers, names, bytes.
+//! Words of a line: names and pieces of a record.
 
-use crate::answers::{Answer, Stop};
 use std::alloc::Global;
-use vr_text::number;
+use vr_case_table::{Answer, Stop, digits_of, size_of, small_of};
 use vr_types::{Name, NameFault, dataset_name};
-
-/// The first word of a text and what stands after it, which may be nothing.
-pub fn parted(text: &str) -> (&str, &str) {
-    text.split_once(' ').unwrap_or((text, ""))
-}
-
-/// A number that a word spells.
-pub fn size_of(word: &str) -> Result<usize, Stop> {
-    let value = number(word).ok_or(Stop::Line)?;
-    usize::try_from(value).ok().ok_or(Stop::Line)
-}
-
-/// A number of one byte that a word spells.
-pub fn byte_of(word: &str) -> Result<u8, Stop> {
-    let value = number(word).ok_or(Stop::Line)?;
-    u8::try_from(value).ok().ok_or(Stop::Line)
-}
-
-/// A number of two bytes that a word spells.
-pub fn small_of(word: &str) -> Result<u16, Stop> {
-    let value = number(word).ok_or(Stop::Line)?;
-    u16::try_from(value).ok().ok_or(Stop::Line)
-}
-
-/// A number of four bytes that a word spells.
-pub fn word_of(word: &str) -> Result<u32, Stop> {
-    let value = number(word).ok_or(Stop::Line)?;
-    u32::try_from(value).ok().ok_or(Stop::Line)
-}
 
 /// A name that a word spells.
 pub fn name_of(alloc: Global, word: &str) -> Result<Name, Stop> {
@@ -49,15 +19,6 @@ pub fn name_or_none(alloc: Global, word: &str) -> Result<Option<Name>, Stop> {
         return Ok(None);
     }
     Ok(Some(name_of(alloc, word)?))
-}
-
-/// The bytes that hexadecimal digits spell.
-pub fn bytes_of(alloc: Global, digits: &str) -> Result<Vec<u8>, Stop> {
-    match hex::decode(alloc, digits) {
-        Ok(bytes) => Ok(bytes),
-        Err(hex::FromHexError::OutOfMemory) => Err(Stop::Memory),
-        Err(_) => Err(Stop::Line),
-    }
 }
 
 /// Puts pieces into bytes: `@PLACE` says where the next ones stand, `HEX` and `HEX*COUNT` what they
@@ -80,7 +41,7 @@ fn put_piece(alloc: Global, bytes: &mut [u8], at: usize, piece: &str) -> Result<
     }
     let (digits, count) = piece.split_once('*').unwrap_or((piece, "1"));
     let count = small_of(count)?;
-    let digits = bytes_of(alloc, digits)?;
+    let digits = digits_of(alloc, digits)?;
     let mut at = at;
     for _ in 0..count {
         at = put_bytes(bytes, at, digits.as_slice()).ok_or(Stop::Line)?;

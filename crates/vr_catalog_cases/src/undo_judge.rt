@@ -1,8 +1,8 @@
 //! What is kept beside the plain program, over all sequences of calls of a length.
 
-use crate::answers::{Answer, Stop, say_number};
-use crate::plain::{PlainUndo, Row};
+use crate::plain_undo::{PlainUndo, Row};
 use std::alloc::Global;
+use vr_case_table::{Answer, Answers, Stop};
 use vr_space::{Kept, Whence};
 use vr_types::{PartNo, Place, Unit, place};
 use vr_undo::{Before, Undo};
@@ -11,19 +11,26 @@ use vr_undo::{Before, Undo};
 const CALLS: u32 = 14;
 
 /// Runs all sequences of that many calls, and writes how many differ.
-pub fn judge(alloc: Global, length: u32, out: &mut String) -> Answer {
-    let mut sequences = 1u32;
-    for _ in 0..length {
-        sequences = sequences.checked_mul(CALLS).ok_or(Stop::Line)?;
-    }
+pub fn judge(alloc: Global, length: u32, out: &mut Answers) -> Answer {
+    let sequences = sequences_of(length)?;
     let mut differ = 0u64;
     for sequence in 0..sequences {
         if !agree(alloc, sequence, length)? {
             differ = differ.saturating_add(1);
         }
     }
-    say_number(out, "", differ)?;
-    say_number(out, " differ of ", u64::from(sequences))
+    out.say_number("", differ);
+    out.say_number(" differ of ", u64::from(sequences));
+    Ok(())
+}
+
+/// How many sequences of that many calls there are.
+fn sequences_of(length: u32) -> Result<u32, Stop> {
+    let mut sequences = 1u32;
+    for _ in 0..length {
+        sequences = sequences.checked_mul(CALLS).ok_or(Stop::Line)?;
+    }
+    Ok(sequences)
 }
 
 /// Whether both answer the calls of a sequence alike, and show the same at its end.
